@@ -1,0 +1,11 @@
+use Rattle.std.proofs.Common.{rules}
+use Rattle.std.proofs.lemmas.List.Sorted.{answers_always}
+use Rattle.tracing_tree_core.proofs.SpanLists.{searched_id}
+use Rattle.tracing_tree_core.proofs.registry.spans.position.Goals as goal
+
+-- the closure gives a span's number
+pub returns : goal.returns
+returns c =
+    let facts = c.binary_search_by_key.ensures in
+    let by_key = facts.position (λ span. span.id.0) (answers_always _ _ _ (λ f a r g called. search rules)) in
+    rw c.ok.ensures.value (searched_id c.args.nodes.now c.args.id _ c.requires facts.bound by_key)

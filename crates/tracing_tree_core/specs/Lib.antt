@@ -1,0 +1,14 @@
+pub mod Settings
+pub mod Ids
+pub mod Equal
+pub mod Texts
+pub mod Clock
+pub mod Spans
+pub mod Forest
+pub mod Block
+pub mod Picture
+pub mod Outputs
+pub mod Buffered
+pub mod Lookup
+pub mod Registered
+pub mod Drawings

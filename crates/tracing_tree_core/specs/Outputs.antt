@@ -1,0 +1,54 @@
+-- What outputs and timers do with text.
+use Rattle.std.specs.Prelude.{◌≡◌, ◌≢◌, ℕ, ◌+◌, ◌<◌, ◌≤◌, Bool, IsTrue, List, [], ◌++◌, length, Option, None, Result, Ok, Err, MatchResult, IsSomeAnd}
+use Rattle.std.specs.Io.KnownBytes.{Appends}
+use Rattle.tracing_tree_core.specs.declared.format.output.OutputFault.{OutputFault}
+use Rattle.tracing_tree_core.specs.declared.format.Refusal.{Refusal}
+use Rattle.tracing_tree_core.specs.declared.format.Refusal.TheVariants as Refused
+use Rattle.tracing_tree_core.specs.declared.time.TimeFault.{TimeFault}
+use Rattle.tracing_tree_core.specs.declared.time.TimeFault.TheVariants.{Memory, Fault}
+
+-- a write takes some of the piece, or all of it where writes are whole
+pub record TakesSome (whole : Bool) (piece : List ℕ) (taken : ℕ) : Type 0 where
+  pub within : taken ≤ length piece
+  pub some : 0 < length piece → 0 < taken
+  pub all : IsTrue whole → taken ≡ length piece
+
+-- a write leaves the count of faults, and a refused one raises it by one
+abbrev pub CountsFault : ℕ → ℕ → Result ℕ OutputFault → Type 0
+CountsFault old new result = MatchResult result (λ taken. new ≡ old) (λ fault. new ≡ old + 1)
+
+-- a timer appended what it states, or left the text: at a fault of its value, or for want of memory
+abbrev pub AppendsStated : Option (List ℕ) → List ℕ → List ℕ → Result (Unit {0}) TimeFault → Type 0
+AppendsStated stated old new (Ok done) = IsSomeAnd stated (λ text. new ≡ old ++ text)
+AppendsStated stated old new (Err Memory) = new ≡ old
+AppendsStated stated old new (Err Fault) = (stated ≡ None) × (new ≡ old)
+
+-- a beginning of a text that isn't the whole
+pub record IsCutShort (text front : List ℕ) : Type 0 where
+  pub rest : List ℕ
+  pub whole : text ≡ front ++ rest
+  pub cut : rest ≢ []
+
+-- a fault of the writer: its count rose, and what was written is cut short, or nothing where writes are whole
+pub record LeavesCut (whole : Bool) (text : List ℕ) (old new : Option (List ℕ)) (old_faults new_faults : ℕ) : Type 0 where
+  pub rose : old_faults < new_faults
+  pub front : List ℕ
+  pub cut : IsCutShort text front
+  pub appends : Appends old new front
+  pub nothing : IsTrue whole → front ≡ []
+
+-- an output in memory: what it holds, and how many writes were refused
+pub record TapeView : Type 0 where
+  pub bytes : List ℕ
+  pub faults : ℕ
+
+-- All of a text is written, or what is written is cut short. Where writes are whole a fault writes nothing.
+abbrev pub WritesWhole : Bool → List ℕ → Result (Unit {0}) OutputFault → Option (List ℕ) → Option (List ℕ) → ℕ → ℕ → Type 0
+WritesWhole whole text (Ok done) old new old_faults new_faults = Appends old new text × (new_faults ≡ old_faults)
+WritesWhole whole text (Err fault) old new old_faults new_faults =
+    LeavesCut whole text old new old_faults new_faults × (new_faults ≡ old_faults + 1)
+
+-- a fault of a timer as a refusal of a call
+abbrev pub RefusesFault : TimeFault → Refusal → Type 0
+RefusesFault Memory refusal = refusal ≡ Refused.Memory
+RefusesFault Fault refusal = refusal ≡ Refused.Timer

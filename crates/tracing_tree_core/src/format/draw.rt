@@ -1,0 +1,289 @@
+//! The drawing of rows: what docs/FORMATS.md, "Drawing", says of frames, lines and wrap marks.
+
+ghost use Rattle.std.specs.List.{repeat};
+ghost use Rattle.std.specs.Prelude.{◌≡◌, ◌+◌, ◌<◌, ◌++◌, ◌∷◌, [], false, OnOk, string_bytes, if◌then◌else◌};
+ghost use Rattle.std.specs.Str.Lines.{strip_carriage_return};
+ghost use Rattle.tracing_tree_core.specs.Drawings.{HasRoom, corner_pieces, frame_pieces, pushed_text, row_of, span_pieces};
+ghost use Rattle.tracing_tree_core.specs.Picture.{drawn_row, edge_frame, first_frame, frame_text, is_last_before_wrap, is_too_wide, later_frame, mark_after_corner, mark_before_corner, mark_line, picture, row_frame, wrapped_level};
+ghost use Rattle.tracing_tree_core.specs.Texts.{prefix_text};
+
+use super::{Config, Context, SpanMode};
+use std::alloc::AllocError;
+
+// A row that is being drawn: everything but its block.
+#[derive(Clone, Copy)]
+pub(super) struct Drawing<'a> {
+    pub(super) config: &'a Config,
+    pub(super) context: &'a Context,
+    pub(super) mode: SpanMode,
+    pub(super) level: usize,
+}
+
+// What stands between the prefix and the text of a line: spaces, a branch, so many of a filler, and a corner.
+#[derive(Clone, Copy)]
+struct Frame {
+    spaces: usize,
+    branch: &'static str,
+    filler: &'static str,
+    filled: usize,
+    corner: &'static str,
+}
+
+impl Frame {
+    // Spaces and a branch alone.
+    fn plain(spaces: usize, branch: &'static str) -> Frame
+        ensures { pushed_text result ≡ frame_pieces spaces branch.now [] 0 [] }
+    {
+        Frame {
+            spaces,
+            branch,
+            filler: "",
+            filled: 0,
+            corner: "",
+        }
+    }
+
+    // Two corners in these columns, with a line between them.
+    fn corners(left: &'static str, right: &'static str, from: usize, to: usize) -> Frame
+        requires { from < to }
+        ensures { pushed_text result ≡ corner_pieces left.now right.now from to }
+    {
+        Frame {
+            spaces: from,
+            branch: left,
+            filler: "─",
+            filled: to - from - 1,
+            corner: right,
+        }
+    }
+
+    // The corners of a span's row. If it is verbose they stand half an amount further right; an amount of 1 leaves no room for
+    // them then.
+    fn span(
+        left: &'static str,
+        right: &'static str,
+        verbose: bool,
+        amount: usize,
+        before: usize,
+    ) -> Frame
+        requires amount { 0 < amount }
+        requires fits { before + amount < 18_446_744_073_709_551_616 }
+        ensures { pushed_text result ≡ span_pieces left.now right.now verbose amount before }
+    {
+        if !verbose {
+            return Frame::corners(left, right, before, before + amount);
+        }
+        if amount < 2 {
+            return Frame::plain(before, "  ");
+        }
+        Frame::corners(left, right, before + amount / 2, before + amount)
+    }
+
+    // Appends the pieces in order.
+    fn push(&self, out: &mut String) -> Result<(), AllocError>
+        ensures { OnOk result (string_bytes out.new ≡ string_bytes out.old ++ pushed_text self.now) }
+    {
+        push_repeated(out, " ", self.spaces)?;
+        out.push_str(self.branch)?;
+        push_repeated(out, self.filler, self.filled)?;
+        out.push_str(self.corner)
+    }
+}
+
+// At the left edge only the corner of a span's row is drawn.
+fn edge_frame(mode: SpanMode) -> Frame
+    ensures { pushed_text result ≡ frame_text (edge_frame mode) }
+{
+    match mode {
+        SpanMode::Open { .. } | SpanMode::Retrace { .. } => Frame::plain(0, "┐"),
+        SpanMode::Close { .. } => Frame::plain(0, "┘"),
+        SpanMode::PreOpen | SpanMode::PostClose | SpanMode::Event => Frame::plain(0, ""),
+    }
+}
+
+// The first line of a row further right, where so many columns stand before the branch.
+fn first_frame(mode: SpanMode, amount: usize, before: usize) -> Frame
+    requires amount { 0 < amount }
+    requires fits { before + amount < 18_446_744_073_709_551_616 }
+    ensures { pushed_text result ≡ frame_text (first_frame mode amount before) }
+{
+    let parent = before + (amount / 2).max(1);
+    match mode {
+        SpanMode::PreOpen => Frame::corners("└", "┐", before, parent),
+        SpanMode::PostClose => Frame::corners("┌", "┘", before, parent),
+        SpanMode::Open { verbose } | SpanMode::Retrace { verbose } => {
+            Frame::span("└", "┐", verbose, amount, before)
+        }
+        SpanMode::Close { verbose } => Frame::span("┌", "┘", verbose, amount, before),
+        SpanMode::Event => Frame {
+            spaces: before,
+            branch: "├",
+            filler: "─",
+            filled: amount - 1,
+            corner: "",
+        },
+    }
+}
+
+// A later line of a row further right.
+fn later_frame(mode: SpanMode, amount: usize, before: usize) -> Frame
+    ensures { pushed_text result ≡ frame_text (later_frame mode amount before) }
+{
+    let branch = match mode {
+        SpanMode::Open { .. } | SpanMode::Retrace { .. } => "  │",
+        SpanMode::Close { .. } => " │",
+        SpanMode::PreOpen | SpanMode::PostClose | SpanMode::Event => "│",
+    };
+    Frame {
+        spaces: before,
+        branch,
+        filler: " ",
+        filled: amount,
+        corner: "",
+    }
+}
+
+// The corner of the wrap mark that stands before a row that closes.
+fn corner_before(mode: SpanMode) -> Option<char>
+    ensures { result ≡ mark_before_corner mode }
+{
+    match mode {
+        SpanMode::Close { .. } | SpanMode::PostClose => Some('┐'),
+        _ => None,
+    }
+}
+
+// The corner of the wrap mark that stands after a row that opens.
+fn corner_after(mode: SpanMode) -> Option<char>
+    ensures { result ≡ mark_after_corner mode }
+{
+    match mode {
+        SpanMode::PreOpen | SpanMode::Open { .. } => Some('┘'),
+        _ => None,
+    }
+}
+
+// Appends a text so many times, with one growth.
+fn push_repeated(out: &mut String, text: &str, times: usize) -> Result<(), AllocError>
+    ensures { OnOk result (string_bytes out.new ≡ string_bytes out.old ++ repeat times text.now) }
+{
+    let room = text.len().checked_mul(times).ok_or(AllocError)?;
+    out.reserve(room)?;
+    for _ in 0..times {
+        out.push_str(text)?;
+    }
+    Ok(())
+}
+
+// A line before a line end loses one carriage return.
+fn without_return(line: &str) -> &str
+    ensures { result.now ≡ strip_carriage_return line.now }
+{
+    line.strip_suffix('\r').unwrap_or(line)
+}
+
+impl Drawing<'_> {
+    // Appends the lines of a block, and before or after them the row's wrap mark.
+    pub(super) fn row(&self, out: &mut String, block: &str) -> Result<(), AllocError>
+        requires { is_too_wide self.now.config.now (row_of self.now block.now) ≡ false }
+        ensures { OnOk result (string_bytes out.new ≡ string_bytes out.old ++ drawn_row self.now.config.now (row_of self.now block.now)) }
+    {
+        self.mark(out, corner_before(self.mode))?;
+        self.lines(out, block)?;
+        self.mark(out, corner_after(self.mode))
+    }
+
+    // Appends the lines of a block. With lines an empty last part is a line too, and also the last loses its carriage return.
+    fn lines(&self, out: &mut String, block: &str) -> Result<(), AllocError>
+        requires { HasRoom self.now }
+        ensures { OnOk result (string_bytes out.new ≡ string_bytes out.old ++ picture self.now.config.now (row_of self.now block.now)) }
+    {
+        let mut frame = self.frame(true);
+        let mut rest = block;
+        while let Some((line, others)) = rest.split_once('\n') {
+            self.line(out, frame, without_return(line))?;
+            frame = self.frame(false);
+            rest = others;
+        }
+        if self.config.indent_lines() {
+            return self.line(out, frame, without_return(rest));
+        }
+        if rest.is_empty() {
+            return Ok(());
+        }
+        self.line(out, frame, rest)
+    }
+
+    // Appends one line.
+    fn line(&self, out: &mut String, frame: Frame, text: &str) -> Result<(), AllocError>
+        ensures { OnOk result (string_bytes out.new ≡ string_bytes out.old
+            ++ (prefix_text self.now.config.now self.now.context.now ++ pushed_text frame ++ text.now ++ 10 ∷ [])) }
+    {
+        self.config.push_prefix(out, self.context)?;
+        frame.push(out)?;
+        out.push_str(text)?;
+        out.push_str("\n")
+    }
+
+    // The level that counts for the indent.
+    fn wrapped_level(&self) -> usize
+        ensures value { result ≡ wrapped_level self.now.config.now self.now.level }
+        ensures below { result + 1 < 18_446_744_073_709_551_616 }
+    {
+        self.level % self.config.wraparound()
+    }
+
+    // The frame of the first line, or that of each later one.
+    fn frame(&self, first: bool) -> Frame
+        requires { HasRoom self.now }
+        ensures { pushed_text result ≡ frame_text (row_frame self.now.config.now self.now.mode self.now.level (if first then 0 else 1)) }
+    {
+        let wrapped = self.wrapped_level();
+        let amount = self.config.indent_amount();
+        if !self.config.indent_lines() {
+            return Frame::plain(wrapped * amount, if first { " " } else { "   " });
+        }
+        let used = match self.mode {
+            SpanMode::PreOpen | SpanMode::PostClose => wrapped + 1,
+            _ => wrapped,
+        };
+        if used == 0 {
+            return edge_frame(self.mode);
+        }
+        if amount == 0 {
+            return Frame::plain(0, "");
+        }
+        let before = used * amount - amount;
+        if first {
+            first_frame(self.mode, amount, before)
+        } else {
+            later_frame(self.mode, amount, before)
+        }
+    }
+
+    // Whether the levels wrap round behind this one.
+    fn is_last_before_wrap(&self) -> bool
+        ensures { result ≡ is_last_before_wrap self.now.config.now self.now.level }
+    {
+        let wraparound = self.config.wraparound();
+        self.config.indent_lines() && self.level > 0 && self.level % wraparound == wraparound - 1
+    }
+
+    // Where the levels wrap round behind this one, a line up to the indent and the corner, if the row has one.
+    fn mark(&self, out: &mut String, corner: Option<char>) -> Result<(), AllocError>
+        requires { HasRoom self.now }
+        ensures { OnOk result (string_bytes out.new ≡ string_bytes out.old ++ mark_line self.now.config.now (row_of self.now []) corner) }
+    {
+        let Some(corner) = corner else {
+            return Ok(());
+        };
+        if !self.is_last_before_wrap() {
+            return Ok(());
+        }
+        let indent = self.wrapped_level() * self.config.indent_amount();
+        self.config.push_prefix(out, self.context)?;
+        push_repeated(out, "─", indent)?;
+        out.push(corner)?;
+        out.push_str("\n")
+    }
+}

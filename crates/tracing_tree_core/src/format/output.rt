@@ -1,0 +1,188 @@
+//! Outputs, which take bytes and count the writes that they refuse.
+
+ghost use Rattle.std.specs.Prelude.{◌≡◌, ℕ, ◌+◌, ◌-◌, ◌<◌, ◌≤◌, List, [], Bool, Option, Some, IfOk, IfSome, IfNone, length, take};
+ghost use Rattle.std.specs.Io.KnownBytes.{Appends, Keeps, WriteAppends};
+ghost use Rattle.tracing_tree_core.specs.Outputs.{TakesSome, CountsFault, WritesWhole};
+
+use std::alloc::Global;
+use std::io::{ErrorKind, Write};
+use std::marker::Model;
+
+/// A write that was refused.
+#[derive(Clone, Copy, Debug, PartialEq, Eq)]
+pub struct OutputFault;
+
+/// Something that takes bytes and counts its faults.
+pub trait Output {
+    /// The bytes that it has taken, where they are known.
+    ghost contents: { Self → Option (List ℕ) };
+
+    /// How many writes it has refused.
+    ghost fault_count: { Self → ℕ };
+
+    ghost WHOLE: { Bool };
+
+    /// Whether each accepted write is taken whole.
+    const WHOLE: bool;
+
+    /// Takes some of the bytes: at least one and at most all of a nonempty slice, and all where `WHOLE`. Answers how many.
+    /// A refused write leaves what was taken, and raises the count of faults by one.
+    fn write(&mut self, bytes: &[u8]) -> Result<usize, OutputFault>
+        requires { fault_count self.old < 18_446_744_073_709_551_615 }
+        ensures taken { IfOk result (TakesSome WHOLE bytes.now) }
+        ensures contents { WriteAppends (contents self.old) (contents self.new) result bytes.now }
+        ensures count { CountsFault (fault_count self.old) (fault_count self.new) result };
+
+    /// How many writes it has refused.
+    fn faults(&self) -> u64
+        ensures { result ≡ fault_count self.now };
+}
+
+// Writes all bytes, in as many writes as it takes.
+pub(crate) fn write_whole<O: Output>(bytes: &[u8], out: &mut O) -> Result<(), OutputFault>
+    requires { O.fault_count out.old < 18_446_744_073_709_551_615 }
+    ensures { WritesWhole O.WHOLE bytes.now result (O.contents out.old) (O.contents out.new) (O.fault_count out.old) (O.fault_count out.new) }
+{
+    let mut rest = bytes;
+    while !rest.is_empty() {
+        let taken = out.write(rest)?;
+        rest = &rest[taken..];
+    }
+    Ok(())
+}
+
+/// An output in memory. Each write is taken whole; a growth that is refused is its fault.
+#[derive(Drop)]
+pub struct Tape {
+    bytes: Vec<u8>,
+    faults: u64,
+}
+
+impl Model for Tape {
+    ghost use Rattle.tracing_tree_core.specs.Outputs.{TapeView};
+
+    ghost Value = { TapeView };
+
+    ghost view = { λ t. record { bytes = t.bytes.items; faults = t.faults } };
+}
+
+impl Tape {
+    /// An output that holds nothing. Takes no memory.
+    pub fn new(alloc: Global) -> Tape
+        ensures { result ≡ record { bytes = []; faults = 0 } }
+    {
+        Tape {
+            bytes: Vec::new(alloc),
+            faults: 0,
+        }
+    }
+
+    /// The bytes that it has taken.
+    pub fn bytes(&self) -> &[u8]
+        ensures { result.now ≡ self.now.bytes }
+    {
+        self.bytes.as_slice()
+    }
+}
+
+impl Output for Tape {
+    ghost use Rattle.std.specs.Prelude.{true, Some};
+
+    ghost contents = { λ t. Some t.bytes };
+
+    ghost fault_count = { λ t. t.faults };
+
+    ghost WHOLE = { true };
+
+    const WHOLE: bool = true;
+
+    fn write(&mut self, bytes: &[u8]) -> Result<usize, OutputFault> {
+        match self.bytes.extend_from_slice(bytes) {
+            Ok(()) => Ok(bytes.len()),
+            Err(_) => {
+                self.faults += 1;
+                Err(OutputFault)
+            }
+        }
+    }
+
+    fn faults(&self) -> u64 {
+        self.faults
+    }
+}
+
+// A write that a signal interrupts is tried again eight times.
+const TRIES: u32 = 9;
+
+// Writes once, and again where it is interrupted. A count of 0 is refused.
+fn write_tried<W: Write>(writer: &mut W, bytes: &[u8]) -> Option<usize>
+    ensures bound { IfSome result (λ n. n ≤ length bytes.now) }
+    ensures some { IfSome result (λ n. 0 < length bytes.now → 0 < n) }
+    ensures ok { IfSome result (λ n. Appends (W.contents writer.old) (W.contents writer.new) (take n bytes.now)) }
+    ensures err { IfNone result (Keeps (W.contents writer.old) (W.contents writer.new)) }
+{
+    for _try in 0..TRIES {
+        match writer.write(bytes) {
+            Ok(0) if !bytes.is_empty() => return None,
+            Ok(taken) => return Some(taken),
+            Err(e) => {
+                if e.kind() != ErrorKind::Interrupted {
+                    return None;
+                }
+            }
+        }
+    }
+    None
+}
+
+/// An output over a writer of std. An interrupted write is tried again at most 8 times; still interrupted, a count of 0 or
+/// another error is a fault.
+#[derive(Drop)]
+pub struct Wrap<W: Write> {
+    writer: W,
+    faults: u64,
+}
+
+impl<W: Write> Wrap<W> {
+    /// An output over this writer, without faults.
+    pub fn new(writer: W) -> Wrap<W>
+        ensures bytes { ⟦<Wrap<W> as Output>⟧.contents result ≡ W.contents writer }
+        ensures faults { ⟦<Wrap<W> as Output>⟧.fault_count result ≡ 0 }
+    {
+        Wrap { writer, faults: 0 }
+    }
+
+    /// The writer again.
+    pub fn into_inner(self) -> W
+        ensures { W.contents result ≡ ⟦<Wrap<W> as Output>⟧.contents self }
+    {
+        let Wrap { writer, faults: _ } = self;
+        writer
+    }
+}
+
+impl<W: Write> Output for Wrap<W> {
+    ghost use Rattle.std.specs.Prelude.{false};
+
+    ghost contents = { λ w. W.contents w.writer };
+
+    ghost fault_count = { λ w. w.faults };
+
+    ghost WHOLE = { false };
+
+    const WHOLE: bool = false;
+
+    fn write(&mut self, bytes: &[u8]) -> Result<usize, OutputFault> {
+        match write_tried(&mut self.writer, bytes) {
+            Some(taken) => Ok(taken),
+            None => {
+                self.faults += 1;
+                Err(OutputFault)
+            }
+        }
+    }
+
+    fn faults(&self) -> u64 {
+        self.faults
+    }
+}

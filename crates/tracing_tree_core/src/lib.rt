@@ -1,0 +1,9 @@
+//! Spans, their texts and their drawing: the base of `tracing_tree`.
+#![tactic(auto)]
+
+pub mod field;
+pub mod format;
+pub mod registry;
+pub mod style;
+pub mod text;
+pub mod time;

@@ -1,0 +1,66 @@
+//! Spans: what they are made of, which are live, and looking at them.
+
+ghost use Rattle.std.specs.Prelude.{◌≡◌};
+ghost use Rattle.tracing_tree_core.specs.Forest.{named_parent};
+
+pub mod lookup;
+pub mod node;
+pub mod spans;
+
+use crate::field::Fields;
+pub use crate::format::{Context, Id};
+use crate::style::Level;
+use crate::text::Text;
+pub use lookup::LookupSpan;
+pub use node::{Data, SpanRef};
+pub use spans::Registry;
+
+/// The parent that a new span or an event names.
+#[derive(Clone, Copy, Debug, PartialEq, Eq)]
+pub enum Parent {
+    /// None.
+    Root,
+
+    /// The current span, if there is one.
+    Current,
+
+    /// This one, current or not.
+    Of(Id),
+}
+
+impl Parent {
+    /// The parent that is meant where this is the current span, whether it is live or not.
+    pub fn named(self, current: Option<Id>) -> Option<Id>
+        ensures { result ≡ named_parent self current }
+    {
+        match self {
+            Parent::Root => None,
+            Parent::Current => current,
+            Parent::Of(id) => Some(id),
+        }
+    }
+}
+
+/// What a new span is made of.
+#[derive(Debug, Drop, PartialEq, Eq)]
+pub struct Attributes {
+    pub name: Text,
+    pub target: Text,
+    pub parent: Parent,
+    pub fields: Fields,
+}
+
+/// Fields that come later.
+#[derive(Debug, Drop, PartialEq, Eq)]
+pub struct Record {
+    pub fields: Fields,
+}
+
+/// An event.
+#[derive(Debug, Drop, PartialEq, Eq)]
+pub struct Event {
+    pub level: Level,
+    pub target: Text,
+    pub parent: Parent,
+    pub fields: Fields,
+}
