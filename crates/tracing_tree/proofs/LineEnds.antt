@@ -1,0 +1,123 @@
+-- Where lines end in the bytes that a reader shows, and which line comes first.
+use Rattle.std.proofs.Common.{◌≡◌, ℕ, ◌+◌, ◌<◌, ◌==◌, Bool, true, false, not, List, [], ◌∷◌, ◌++◌, length, take, get_or, Option, Some, None, Ok, position, refl, sym, ap, subst, ◌∙◌, arith, append_assoc, append-nil, eqb-true}
+use Rattle.std.specs.Io.KnownBytes.{Consumes, Keeps, IsAtEnd}
+use Rattle.std.proofs.lemmas.Grind.{common_steps}
+use Rattle.std.proofs.lemmas.List.{take_more}
+use Rattle.std.proofs.lemmas.List.Elements.{All-append}
+use Rattle.std.proofs.lemmas.List.Sums.{fails_before_first}
+use Rattle.std.proofs.lemmas.List.Quantifiers.{position-Some}
+use Rattle.std.proofs.lemmas.List.Splits.{slice_split_at, slice_split_none, length-slice_split}
+use Rattle.std.proofs.KnownBytes.{Consumes-nil, Consumes-trans}
+use Rattle.tracing_tree_core.specs.Picture.{parts_of}
+use Rattle.tracing_tree.specs.Spelled.{input_lines, without_empty_last}
+use Rattle.tracing_tree.specs.LineReads.{HasNoLineEnd, TakesPart, TakesNothing, TakesLine, ReadsNext}
+
+-- a line end
+abbrev pub is_end : ℕ → Bool
+is_end byte = byte == 10
+
+-- ---- the bytes that a reader shows
+
+-- what stands before the first line end, and up to it
+pub record EndsAt (held : List ℕ) (i : ℕ) : Type 0 where
+  pub clean : HasNoLineEnd (take i held)
+  pub through : take (i + 1) held ≡ take i held ++ 10 ∷ []
+  pub inside : i < length held
+
+-- no byte before the first line end is one
+before_first_end : (held : List ℕ) (i : ℕ) → i < length held → ((k : ℕ) → k < i → is_end (get_or held k 0) ≡ false) → HasNoLineEnd (take i held)
+before_first_end held i inside none = λ k d lt. grind (arith, common_steps, none k)
+
+-- the place of the first line end
+pub ends_at : (held : List ℕ) (i : ℕ) → position is_end held ≡ Some i → EndsAt held i
+ends_at held i e =
+    let found = position-Some is_end held i 0 e in
+    record {
+      clean = before_first_end held i found.0 found.2;
+      through = take_more held i 0 found.0 ∙ ap (λ byte. take i held ++ byte ∷ []) (eqb-true (get_or held i 0) 10 found.1);
+      inside = found.0;
+    }
+
+-- bytes without a place of a line end have none
+pub has_no_end : (held : List ℕ) → position is_end held ≡ None → HasNoLineEnd held
+has_no_end held e = λ k d lt. fails_before_first is_end held k d (grind (arith, common_steps))
+
+-- ---- the lines of an input
+
+-- only the last part may be left out
+first_stays : (part : List ℕ) (parts : List (List ℕ)) → 0 < length parts → without_empty_last (part ∷ parts) ≡ part ∷ without_empty_last parts
+first_stays part [] some = absurd (omega arith)
+first_stays part (next ∷ parts) some = refl
+
+-- a line that a line end ends is the first
+pub first_line_of : (line rest : List ℕ) → HasNoLineEnd line → input_lines (line ++ 10 ∷ rest) ≡ line ∷ input_lines rest
+first_line_of line rest clean =
+    let some : 0 < length (parts_of rest) = omega (arith, length-slice_split is_end rest) in
+    ap without_empty_last (slice_split_at is_end line 10 rest clean refl) ∙ first_stays line (parts_of rest) some
+
+-- one that isn't empty is the only one
+pub only_line_of : (line : List ℕ) → HasNoLineEnd line → (length line == 0) ≡ false → input_lines line ≡ line ∷ []
+only_line_of line clean some = ap without_empty_last (slice_split_none is_end line clean) ∙ rw some refl
+
+-- ---- what was read of a line
+
+-- the bytes of a line that were read so far
+pub record IsWithinLine (known left : Option (List ℕ)) (line : List ℕ) : Type 0 where
+  pub clean : HasNoLineEnd line
+  pub taken : Consumes known left line
+
+-- nothing is read at first
+pub nothing_read : (known : Option (List ℕ)) (line : List ℕ) → line ≡ [] → IsWithinLine known known line
+nothing_read known line e = rw e (record { clean = λ k d lt. absurd (omega arith); taken = Consumes-nil known })
+
+-- a further part of the line
+pub reads_on : (known middle left : Option (List ℕ)) (old new : List ℕ) → IsWithinLine known middle old → TakesPart [] middle left old new → IsWithinLine known left new
+reads_on known middle left old new so_far more =
+    let taken : Consumes middle left more.part = subst (Consumes middle left) (append-nil more.part) more.taken in
+    rw more.added (record {
+      clean = All-append (λ byte. is_end byte ≡ false) old more.part so_far.clean more.within;
+      taken = Consumes-trans known middle left old more.part so_far.taken taken;
+    })
+
+-- an interrupted look reads nothing
+pub reads_nothing : (known middle left : Option (List ℕ)) (old new : List ℕ) → IsWithinLine known middle old → TakesNothing middle left old new → IsWithinLine known left new
+reads_nothing known middle left old new so_far none =
+    rw none.same (record { clean = so_far.clean; taken = kept known middle left old so_far.taken none.kept })
+  where
+    kept : (a b c : Option (List ℕ)) (bytes : List ℕ) → Consumes a b bytes → Keeps b c → Consumes a c bytes
+    kept None b c bytes p q = tt
+    kept (Some x) None c bytes p q = absurd p
+    kept (Some x) (Some y) None bytes p q = absurd q
+    kept (Some x) (Some y) (Some z) bytes p q = p ∙ ap (λ rest. bytes ++ rest) (sym q)
+
+-- the line end was read
+pub reads_line_end : (known middle left : Option (List ℕ)) (old new : List ℕ) → IsWithinLine known middle old → TakesPart (10 ∷ []) middle left old new → TakesLine known left new
+reads_line_end None middle left old new so_far last = tt
+reads_line_end (Some x) None left old new so_far last = absurd so_far.taken
+reads_line_end (Some x) (Some y) None old new so_far last = absurd last.taken
+reads_line_end (Some x) (Some y) (Some z) old new so_far last =
+    let clean : HasNoLineEnd (old ++ last.part) = All-append (λ byte. is_end byte ≡ false) old last.part so_far.clean last.within in
+    let whole : x ≡ (old ++ last.part) ++ 10 ∷ z = so_far.taken ∙ ap (λ rest. old ++ rest) (last.taken ∙ append_assoc last.part (10 ∷ []) z)
+    ∙ sym (append_assoc old last.part (10 ∷ z)) in
+    rw last.added (ap input_lines whole ∙ first_line_of (old ++ last.part) z clean)
+
+-- the input ended, within the line or before it
+pub reads_input_end : (known middle left : Option (List ℕ)) (old new : List ℕ) (empty : Bool) → IsWithinLine known middle old → TakesNothing middle left old new →
+    IsAtEnd middle → empty ≡ (length new == 0) → ReadsNext known left new (Ok (not empty))
+reads_input_end None middle left old new true so_far none end is = tt
+reads_input_end None middle left old new false so_far none end is = tt
+reads_input_end (Some x) None left old new empty so_far none end is = absurd so_far.taken
+reads_input_end (Some x) (Some y) None old new empty so_far none end is = absurd none.kept
+reads_input_end (Some x) (Some y) (Some z) old new true so_far none end is =
+    let empty : length new ≡ 0 = eqb-true (length new) 0 (sym is) in
+    let whole : x ≡ [] = so_far.taken ∙ ap (λ rest. old ++ rest) end ∙ append-nil old ∙ sym none.same ∙ nothing new empty in
+    ap input_lines whole
+  where
+    nothing : (bytes : List ℕ) → length bytes ≡ 0 → bytes ≡ []
+    nothing [] e = refl
+    nothing (b ∷ bytes) e = cc
+reads_input_end (Some x) (Some y) (Some z) old new false so_far none end is =
+    let whole : x ≡ new = so_far.taken ∙ ap (λ rest. old ++ rest) end ∙ append-nil old ∙ sym none.same in
+    let last : z ≡ [] = none.kept ∙ end in
+    let clean : HasNoLineEnd new = rw none.same so_far.clean in
+    ap input_lines whole ∙ only_line_of new clean (sym is) ∙ ap (λ rest. new ∷ input_lines rest) (sym last)

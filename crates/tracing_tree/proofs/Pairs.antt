@@ -1,0 +1,43 @@
+-- Arrays that are no pair.
+use Rattle.std.specs.Prelude.{◌≡◌, ℕ, List, [], ◌∷◌, ◌++◌, length, Option, Some, None, refl}
+use Rattle.serde_json.specs.Data.{Data, null, boolean, number, string, array, object, Items, no_items, item}
+use Rattle.serde_json.specs.View.{view, items_view}
+use Rattle.serde_json.specs.declared.value.Value.{Value}
+use Rattle.tracing_tree_core.specs.declared.field.Field.{Field}
+use Rattle.tracing_tree.specs.Spelled.{pair_field}
+
+one_item : (d : Data) → pair_field (item d no_items) ≡ None
+one_item null = refl
+one_item (boolean b) = refl
+one_item (number n) = refl
+one_item (string s) = refl
+one_item (array ds) = refl
+one_item (object ms) = refl
+
+third_item : (s : List ℕ) (d e : Data) (others : Items) → pair_field (item (string s) (item d (item e others))) ≡ None
+third_item s null e others = refl
+third_item s (boolean b) e others = refl
+third_item s (number n) e others = refl
+third_item s (string t) e others = refl
+third_item s (array ds) e others = refl
+third_item s (object ms) e others = refl
+
+three_items : (c d e : Data) (others : Items) → pair_field (item c (item d (item e others))) ≡ None
+three_items null d e others = refl
+three_items (boolean b) d e others = refl
+three_items (number n) d e others = refl
+three_items (string s) d e others = third_item s d e others
+three_items (array ds) d e others = refl
+three_items (object ms) d e others = refl
+
+-- an array that isn't of two items is no field
+pub no_pair : (vs : List Value) → (length vs ≡ 2 → ⊥) → pair_field (items_view vs) ≡ None
+no_pair [] other = refl
+no_pair (v ∷ []) other = one_item (view v)
+no_pair (v ∷ w ∷ []) other = absurd (other refl)
+no_pair (v ∷ w ∷ x ∷ more) other = three_items (view v) (view w) (view x) (items_view more)
+
+-- fields, and then those of the rest, if they can be read
+abbrev pub behind : List Field → Option (List Field) → Option (List Field)
+behind done None = None
+behind done (Some others) = Some (done ++ others)

@@ -1,0 +1,75 @@
+-- What readers of a line's value answer.
+use Rattle.std.specs.Prelude.{◌≡◌, ◌||◌, Bool, false, List, ℕ, Option, Some, None, is_some, Result, Ok, Err, ⊤, codes}
+use Rattle.serde_json.specs.Data.{Data}
+use Rattle.serde_json.specs.Written.{has_float}
+use Rattle.tracing_tree_core.specs.Settings.{Settings}
+use Rattle.tracing_tree_core.specs.declared.format.Context.{Context}
+use Rattle.tracing_tree_core.specs.declared.time.Moment.{Moment}
+use Rattle.tracing_tree.specs.Spelled.{value_at, no_clock, object_settings, line_object, SpellsSettings, IsMomentIn, context_in, object_call, SpellsCall}
+use Rattle.tracing_tree.specs.declared.call.Call.{Call}
+use Rattle.tracing_tree.specs.declared.lines.LineCause.{LineCause}
+use Rattle.tracing_tree.specs.declared.lines.LineCause.TheVariants.{Settings as NoSettings, NotACall, Read, Memory, Refused}
+
+-- the cause is want of memory, or this one for that reason
+abbrev pub IsUnlessMemory : LineCause → Type 0 → LineCause → Type 0
+IsUnlessMemory blamed reason NoSettings = (blamed ≡ NoSettings) × reason
+IsUnlessMemory blamed reason NotACall = (blamed ≡ NotACall) × reason
+IsUnlessMemory blamed reason Read = ⊥
+IsUnlessMemory blamed reason Memory = ⊤
+IsUnlessMemory blamed reason (Refused refusal) = ⊥
+
+-- what is spelled is answered, and `NotACall` where nothing is; or memory was refused
+abbrev pub Reads : {A : Type 0} → Option A → Result A LineCause → Type 0
+Reads spelled (Ok value) = spelled ≡ Some value
+Reads spelled (Err cause) = IsUnlessMemory NotACall (spelled ≡ None) cause
+
+-- a key of settings that can't be set yet has a value
+abbrev pub asks_for_more : Data → Bool
+asks_for_more value =
+    is_some (value_at (codes "span_retrace") value) || is_some (value_at (codes "deferred_spans") value)
+    || is_some (value_at (codes "close_retrace") value) || is_some (value_at (codes "timer") value)
+
+-- the settings that a value spells, if it spells some that can be set
+abbrev pub ReadsSettings : Data → Option Settings → Type 0
+ReadsSettings value (Some settings) = (asks_for_more value ≡ false) × (object_settings value ≡ Some (settings, no_clock))
+ReadsSettings value None = asks_for_more value ≡ false → object_settings value ≡ None
+
+-- the line spells these settings, and they can be set
+pub record SpellsFirst (line : List ℕ) (settings : Settings) : Type 0 where
+  pub value : Data
+  pub object : line_object line ≡ Some value
+  pub built : asks_for_more value ≡ false
+  pub spelled : SpellsSettings line settings no_clock
+
+-- the settings that the first line spells
+abbrev pub ReadsFirst : List ℕ → Result Settings LineCause → Type 0
+ReadsFirst line (Ok settings) = SpellsFirst line settings
+ReadsFirst line (Err cause) = IsUnlessMemory NoSettings ((settings : Settings) → ¬ SpellsFirst line settings) cause
+
+-- the moment that a value spells, if it spells one
+abbrev pub ReadsMoment : Data → Option Moment → Type 0
+ReadsMoment value (Some moment) = IsMomentIn value moment
+ReadsMoment value None = (moment : Moment) → ¬ IsMomentIn value moment
+
+-- the context that a value spells
+abbrev pub ReadsContext : Data → Result Context LineCause → Type 0
+ReadsContext value (Ok context) = IsMomentIn value context.moment × (context_in value context.moment ≡ Some context)
+ReadsContext value (Err cause) =
+    IsUnlessMemory NotACall ((moment : Moment) → IsMomentIn value moment → context_in value moment ≡ None) cause
+
+-- the value holds no float, and spells this call at a moment that it spells
+pub record ValueSpells (value : Data) (call : Call) : Type 0 where
+  pub no_float : has_float value ≡ false
+  pub moment : Moment
+  pub timed : IsMomentIn value moment
+  pub spelled : object_call value moment ≡ Some call
+
+-- the call that a value spells
+abbrev pub ReadsCall : Data → Result Call LineCause → Type 0
+ReadsCall value (Ok call) = ValueSpells value call
+ReadsCall value (Err cause) = IsUnlessMemory NotACall ((call : Call) → ¬ ValueSpells value call) cause
+
+-- the call that a line spells
+abbrev pub ReadsLine : List ℕ → Result Call LineCause → Type 0
+ReadsLine line (Ok call) = SpellsCall line call
+ReadsLine line (Err cause) = IsUnlessMemory NotACall ((call : Call) → ¬ SpellsCall line call) cause

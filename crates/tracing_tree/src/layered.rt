@@ -1,0 +1,204 @@
+//! A registry with a layer, which take each call whole, or refuse it and say why.
+
+ghost use Rattle.std.specs.Prelude.{◌≡◌, ◌<◌, false, None, OnErr, IfOk};
+ghost use Rattle.tracing_tree_core.specs.Ids.{id_of};
+ghost use Rattle.tracing_tree_core.specs.Forest.{empty_forest};
+ghost use Rattle.tracing_tree.specs.Layers.{state_of, IsFixed};
+ghost use Rattle.tracing_tree.specs.Built.{IsBuilt};
+ghost use Rattle.tracing_tree.specs.Answered.{IsAnswered};
+ghost use Rattle.tracing_tree.specs.Headline.{IsRunOf};
+
+use crate::call::{Call, Reply};
+use crate::layer::HierarchicalLayer;
+use std::alloc::{AllocError, Global};
+use std::marker::Model;
+use tracing_tree_core::field::Fields;
+use tracing_tree_core::format::{Context, Id, Output, Refusal};
+use tracing_tree_core::registry::{Attributes, Event, LookupSpan, Record, Registry};
+use tracing_tree_core::time::FormatTime;
+
+/// A registry with a layer. An accepted call changes both and writes its text. A refused one leaves the spans, their marks and the
+/// last span as they were; after `Timer` and `Writer` the layer has failed besides, and after `Writer` a beginning of the text may
+/// be out.
+#[derive(Drop)]
+pub struct Layered<W: Output, FT: FormatTime> {
+    registry: Registry,
+    layer: HierarchicalLayer<W, FT>,
+}
+
+impl<W: Output, FT: FormatTime> Model for Layered<W, FT> {
+    ghost use Rattle.tracing_tree.specs.Layers.{LayeredView};
+
+    ghost Value = { LayeredView W FT };
+
+    ghost view = { λ l. record { forest = l.registry; layer = l.layer } };
+}
+
+impl<W: Output, FT: FormatTime> Layered<W, FT> {
+    /// No spans, and this layer. The first id is 1. It asks that the layer is fresh: it has no last span and hasn't failed.
+    pub fn new(alloc: Global, layer: HierarchicalLayer<W, FT>) -> Layered<W, FT>
+        requires last { layer.last ≡ None }
+        requires sound { layer.failed ≡ false }
+        ensures { result ≡ record { forest = empty_forest (id_of 1); layer = layer } }
+    {
+        Layered::starting_at(alloc, 1, layer)
+    }
+
+    /// No spans, and this layer. The first id is this. It asks the same of the layer as `new`.
+    pub fn starting_at(alloc: Global, first: u64, layer: HierarchicalLayer<W, FT>) -> Layered<W, FT>
+        requires last { layer.last ≡ None }
+        requires sound { layer.failed ≡ false }
+        ensures { result ≡ record { forest = empty_forest (id_of first); layer = layer } }
+    {
+        Layered {
+            registry: Registry::starting_at(alloc, first),
+            layer,
+        }
+    }
+
+    /// The writer, with all that was written.
+    pub fn writer(&self) -> &W
+        ensures { result.now ≡ self.now.layer.writer }
+    {
+        self.layer.writer()
+    }
+
+    /// The live spans.
+    pub fn registry(&self) -> &Registry
+        ensures { result.now ≡ self.now.forest }
+    {
+        &self.registry
+    }
+
+    /// The layer.
+    pub fn layer(&self) -> &HierarchicalLayer<W, FT>
+        ensures { result.now ≡ self.now.layer }
+    {
+        &self.layer
+    }
+
+    /// The registry and the layer by themselves.
+    pub fn into_parts(self) -> (Registry, HierarchicalLayer<W, FT>)
+        ensures registry { result.0 ≡ self.forest }
+        ensures layer { result.1 ≡ self.layer }
+    {
+        let Layered { registry, layer } = self;
+        (registry, layer)
+    }
+
+    /// Makes a call: the registry's part of it, the layer's rows, and the reply.
+    ///
+    /// `Failed` after an earlier call was refused for the timer or the writer; `NotHeld` of a parent, a span to be cloned or a
+    /// handle to be closed that isn't there; `TooMany` where no id or no further handle is left; `TooWide` where a row's level used times
+    /// the amount passes `usize`; `Timer` and `Writer` for their faults; `Memory` where memory is refused.
+    pub fn call(&mut self, call: Call) -> Result<Reply, Refusal>
+        ensures answered { IsBuilt self.old.layer.settings →
+            IsAnswered self.old.layer.settings (FT.timer self.old.layer.timer) call result (state_of self.old) (state_of self.new) W.WHOLE
+            (W.contents self.old.layer.writer) (W.contents self.new.layer.writer) (W.fault_count self.old.layer.writer) (W.fault_count self.new.layer.writer) }
+        ensures fixed { IsFixed self.old.layer self.new.layer }
+    {
+        if self.layer.failed() {
+            return Err(Refusal::Failed);
+        }
+        match call {
+            Call::New(attributes, context) => self.new_span(attributes, &context),
+            Call::Clone(id) => self.clone_span(id),
+            Call::Record(id, Record { fields }) => self.record(id, fields),
+            Call::Event(event, context) => self.event(&event, &context),
+            Call::Close(id, context) => self.close(id, &context),
+        }
+    }
+
+    /// Makes calls one after another, and answers each, in order. Room for the answers is taken first: on `AllocError` nothing
+    /// has changed.
+    pub fn run(
+        &mut self,
+        alloc: Global,
+        calls: Vec<Call>,
+    ) -> Result<Vec<Result<Reply, Refusal>>, AllocError>
+        ensures run { IfOk result (λ answers. IsBuilt self.old.layer.settings →
+            IsRunOf self.old.layer.settings (FT.timer self.old.layer.timer) calls.items answers.items (state_of self.old) (state_of self.new)
+            W.WHOLE (W.contents self.old.layer.writer) (W.contents self.new.layer.writer) (W.fault_count self.old.layer.writer) (W.fault_count self.new.layer.writer)) }
+        ensures fixed { IsFixed self.old.layer self.new.layer }
+        ensures err { OnErr result (self.new ≡ self.old) }
+    {
+        let mut answers = Vec::with_capacity(alloc, calls.len())?;
+        for call in calls {
+            let answer = self.call(call);
+            answers.push_reserved(answer);
+        }
+        Ok(answers)
+    }
+
+    // A refusal of the layer takes the new span and its id back.
+    fn new_span(&mut self, attributes: Attributes, context: &Context) -> Result<Reply, Refusal>
+        requires { self.old.layer.failed ≡ false }
+        ensures answered { IsBuilt self.old.layer.settings →
+            IsAnswered self.old.layer.settings (FT.timer self.old.layer.timer) (Call.New attributes context.now) result (state_of self.old) (state_of self.new) W.WHOLE
+            (W.contents self.old.layer.writer) (W.contents self.new.layer.writer) (W.fault_count self.old.layer.writer) (W.fault_count self.new.layer.writer) }
+        ensures fixed { IsFixed self.old.layer self.new.layer }
+    {
+        let id = self.registry.new_span(attributes, context)?;
+        if let Err(refusal) = self.layer.on_new_span(id, &mut self.registry, context) {
+            self.registry.take_back(id);
+            return Err(refusal);
+        }
+        Ok(Reply::Span(id))
+    }
+
+    #[tactic(auto, using(crate::proofs::TurnLaws::turn_of_closes_built))]
+    // The rows of all that closes are written before anything is removed.
+    fn close(&mut self, id: Id, context: &Context) -> Result<Reply, Refusal>
+        requires { self.old.layer.failed ≡ false }
+        ensures answered { IsBuilt self.old.layer.settings →
+            IsAnswered self.old.layer.settings (FT.timer self.old.layer.timer) (Call.Close id context.now) result (state_of self.old) (state_of self.new) W.WHOLE
+            (W.contents self.old.layer.writer) (W.contents self.new.layer.writer) (W.fault_count self.old.layer.writer) (W.fault_count self.new.layer.writer) }
+        ensures fixed { IsFixed self.old.layer self.new.layer }
+    {
+        let closing = self.registry.closing(self.layer.allocator(), id)?;
+        if let Err(refusal) = self
+            .layer
+            .on_closes(closing.as_slice(), &self.registry, context)
+        {
+            return Err(refusal);
+        }
+        Ok(Reply::Closed(self.registry.try_close(id)?))
+    }
+
+    // Nothing is drawn.
+    fn clone_span(&mut self, id: Id) -> Result<Reply, Refusal>
+        requires { self.old.layer.failed ≡ false }
+        ensures answered { IsBuilt self.old.layer.settings →
+            IsAnswered self.old.layer.settings (FT.timer self.old.layer.timer) (Call.Clone id) result (state_of self.old) (state_of self.new) W.WHOLE
+            (W.contents self.old.layer.writer) (W.contents self.new.layer.writer) (W.fault_count self.old.layer.writer) (W.fault_count self.new.layer.writer) }
+        ensures fixed { IsFixed self.old.layer self.new.layer }
+    {
+        Ok(Reply::Cloned(self.registry.clone_span(id)?))
+    }
+
+    // Nothing is drawn.
+    fn record(&mut self, id: Id, fields: Fields) -> Result<Reply, Refusal>
+        requires { self.old.layer.failed ≡ false }
+        ensures answered { IsBuilt self.old.layer.settings →
+            IsAnswered self.old.layer.settings (FT.timer self.old.layer.timer) (Call.Record id (record { fields = fields })) result (state_of self.old) (state_of self.new) W.WHOLE
+            (W.contents self.old.layer.writer) (W.contents self.new.layer.writer) (W.fault_count self.old.layer.writer) (W.fault_count self.new.layer.writer) }
+        ensures fixed { IsFixed self.old.layer self.new.layer }
+    {
+        self.registry.record(id, fields)?;
+        Ok(Reply::Done)
+    }
+
+    // Nothing changes but the text.
+    fn event(&mut self, event: &Event, context: &Context) -> Result<Reply, Refusal>
+        requires { self.old.layer.failed ≡ false }
+        ensures answered { IsBuilt self.old.layer.settings →
+            IsAnswered self.old.layer.settings (FT.timer self.old.layer.timer) (Call.Event event.now context.now) result (state_of self.old) (state_of self.new) W.WHOLE
+            (W.contents self.old.layer.writer) (W.contents self.new.layer.writer) (W.fault_count self.old.layer.writer) (W.fault_count self.new.layer.writer) }
+        ensures fixed { IsFixed self.old.layer self.new.layer }
+    {
+        if let Err(refusal) = self.layer.on_event(event, &self.registry, context) {
+            return Err(refusal);
+        }
+        Ok(Reply::Done)
+    }
+}

@@ -1,0 +1,263 @@
+//! The program's lines: the first spells settings, each further one a call.
+
+mod call;
+mod context;
+mod read;
+mod settings;
+mod value;
+
+ghost use Rattle.std.specs.Prelude.{◌≡◌, IfErr, IfSome, MatchResult};
+ghost use Rattle.std.specs.Io.Buffered.{reader_remaining};
+ghost use Rattle.tracing_tree_core.specs.Clock.{no_timer};
+ghost use Rattle.tracing_tree.specs.Built.{IsBuilt};
+ghost use Rattle.tracing_tree.specs.BuiltLines.{EndsUnbuilt, IsBeforeCalls, LeavesBuiltRun, OpensWith};
+ghost use Rattle.tracing_tree.specs.Layers.{state_of, IsFixed};
+ghost use Rattle.tracing_tree.specs.Lines.{CountsEnd, status_of};
+ghost use Rattle.tracing_tree.specs.LineSteps.{JudgesLine, CountsJudged, RunsOver};
+ghost use Rattle.tracing_tree.specs.Spelled.{input_lines};
+
+use crate::layer::HierarchicalLayer;
+use crate::layered::Layered;
+use call::call_of_line;
+use read::{is_skipped, read_line};
+use settings::settings_of_line;
+use std::alloc::{AllocError, AllocFailed, Global};
+use std::fmt;
+use std::io::{BufRead, BufReader, Read};
+use thiserror::Error;
+use tracing_tree_core::format::{Config, Output, Refusal};
+
+/// Why a line ended the run.
+#[derive(Clone, Copy, Debug, PartialEq, Eq, Error)]
+pub enum LineCause {
+    /// The first line isn't there, or spells no settings.
+    #[error("settings")]
+    Settings,
+
+    /// A further line spells no call.
+    #[error("not a call")]
+    NotACall,
+
+    /// The input could not be read.
+    #[error("read")]
+    Read,
+
+    /// Memory was refused before the line's call was made.
+    #[error("memory")]
+    Memory,
+
+    /// The line's call was refused.
+    #[error(transparent)]
+    Refused(Refusal),
+}
+
+impl From<Refusal> for LineCause {
+    ghost use Rattle.std.specs.Prelude.{◌≡◌};
+    ghost use Rattle.tracing_tree.specs.declared.lines.LineCause.TheVariants.{Refused};
+
+    ghost from_gives = { λ refusal cause. cause ≡ Refused refusal };
+
+    fn from(refusal: Refusal) -> LineCause {
+        LineCause::Refused(refusal)
+    }
+}
+
+impl From<AllocError> for LineCause {
+    ghost use Rattle.std.specs.Prelude.{◌≡◌};
+    ghost use Rattle.tracing_tree.specs.declared.lines.LineCause.TheVariants.{Memory};
+
+    ghost from_gives = { λ _ cause. cause ≡ Memory };
+
+    fn from(_error: AllocError) -> LineCause {
+        LineCause::Memory
+    }
+}
+
+impl<T: Drop> From<AllocFailed<T>> for LineCause {
+    ghost use Rattle.std.specs.Prelude.{◌≡◌};
+    ghost use Rattle.tracing_tree.specs.declared.lines.LineCause.TheVariants.{Memory};
+
+    ghost from_gives = { λ _ cause. cause ≡ Memory };
+
+    fn from(_error: AllocFailed<T>) -> LineCause {
+        LineCause::Memory
+    }
+}
+
+/// The line that ended the run, and why. It is shown as `line N: CAUSE`.
+#[derive(Clone, Copy, Debug, PartialEq, Eq)]
+pub struct LineFault {
+    /// The line's number; the first line is 1.
+    pub line: u64,
+
+    /// Why the run ended there.
+    pub cause: LineCause,
+}
+
+impl fmt::Display for LineFault {
+    fn fmt<W: fmt::Write>(&self, f: &mut fmt::Formatter<W>) -> fmt::Result {
+        let line = self.line;
+        let cause = self.cause;
+        write!(f, "line {line}: {cause}")
+    }
+}
+
+/// What a run over lines leaves.
+#[derive(Drop)]
+pub struct LinesRun<W: Output> {
+    /// The writer, with all that was written.
+    pub writer: W,
+
+    /// How many calls were accepted.
+    pub accepted: u64,
+
+    /// The line that ended the run; none where the input was run to its end.
+    pub fault: Option<LineFault>,
+}
+
+// The bytes that are asked of the reader at a time.
+const BLOCK: usize = 64 * 1024;
+
+/// Runs the calls that the input's lines spell, under the settings that its first line spells, and draws them into the writer.
+/// It asks that the writer has no faults.
+///
+/// The run ends after the first line that spells no call or whose call is refused: that line's number and the cause are the
+/// fault. A line of spaces, tabs and carriage returns alone is counted and skipped. An interrupted read is tried again at most
+/// eight times in a row; `Read` is the cause of another error, of 2^64 - 1 reads of a line that doesn't end, and of line number
+/// 2^64 - 1, which isn't judged. `Memory` is the cause where memory is refused; of line 1 where the buffer of the input can't
+/// be made.
+pub fn run_lines<R: Read, W: Output>(alloc: Global, reader: R, writer: W) -> LinesRun<W>
+where
+    R: Drop,
+    W: Drop,
+    requires { W.fault_count writer ≡ 0 }
+    ensures ran { IfSome (R.remaining reader) (λ input.
+        LeavesBuiltRun W.WHOLE input result.accepted result.fault (W.contents writer) (W.contents result.writer)) }
+    ensures counted { CountsEnd result.fault (W.fault_count writer) (W.fault_count result.writer) }
+{
+    let opened = open(alloc, reader);
+    let (mut lines, config) = match opened {
+        Ok(opened) => opened,
+        Err(cause) => {
+            let fault = Some(LineFault { line: 1, cause });
+            return LinesRun {
+                writer,
+                accepted: 0,
+                fault,
+            };
+        }
+    };
+    let layer = HierarchicalLayer::with_config(alloc, config, writer);
+    let mut layered = Layered::new(alloc, layer);
+    let (accepted, fault) = run_calls(alloc, &mut lines, &mut layered);
+    let (_registry, layer) = layered.into_parts();
+    LinesRun {
+        writer: layer.into_writer(),
+        accepted,
+        fault,
+    }
+}
+
+// The lines behind the first, and the settings that the first spells.
+fn open<R: Read>(alloc: Global, reader: R) -> Result<(BufReader<R>, Config), LineCause>
+where
+    R: Drop,
+    ensures opened { MatchResult result
+        (λ opened. OpensWith (R.remaining reader) (reader_remaining R.remaining opened.0) opened.1)
+        (λ cause. IfSome (R.remaining reader) (λ input. EndsUnbuilt input cause)) }
+    ensures early { IfErr result IsBeforeCalls }
+{
+    let Ok(mut lines) = BufReader::with_capacity(alloc, BLOCK, reader) else {
+        return Err(LineCause::Memory);
+    };
+    let mut line = Vec::new(alloc);
+    if !read_line(&mut lines, &mut line)? {
+        return Err(LineCause::Settings);
+    }
+    let config = settings_of_line(alloc, line.as_slice())?;
+    Ok((lines, config))
+}
+
+// Makes the calls that the lines spell, from the second line on. Answers how many were accepted, and the fault that ended it.
+fn run_calls<B: BufRead, W: Output>(
+    alloc: Global,
+    lines: &mut B,
+    layered: &mut Layered<W, ()>,
+) -> (u64, Option<LineFault>)
+    ensures ran { IsBuilt layered.old.layer.settings → IfSome (B.remaining lines.old) (λ input.
+        RunsOver W.WHOLE layered.old.layer.settings no_timer (state_of layered.old) (input_lines input) result.0 result.1
+        (W.contents layered.old.layer.writer) (W.contents layered.new.layer.writer)) }
+    ensures counted { IsBuilt layered.old.layer.settings →
+        CountsEnd result.1 (W.fault_count layered.old.layer.writer) (W.fault_count layered.new.layer.writer) }
+{
+    let mut line = Vec::new(alloc);
+    let mut accepted = 0;
+    for number in 2..u64::MAX {
+        match run_line(alloc, lines, &mut line, layered) {
+            Ok(Judged::End) => return (accepted, None),
+            Ok(Judged::Skipped) => {}
+            Ok(Judged::Accepted) => accepted += 1,
+            Err(cause) => {
+                let fault = LineFault {
+                    line: number,
+                    cause,
+                };
+                return (accepted, Some(fault));
+            }
+        }
+    }
+    let fault = LineFault {
+        line: u64::MAX,
+        cause: LineCause::Read,
+    };
+    (accepted, Some(fault))
+}
+
+// What became of a line.
+enum Judged {
+    // There is none.
+    End,
+    Skipped,
+    // Its call was accepted.
+    Accepted,
+}
+
+// Reads one line, and makes the call that it spells.
+fn run_line<B: BufRead, W: Output>(
+    alloc: Global,
+    lines: &mut B,
+    line: &mut Vec<u8>,
+    layered: &mut Layered<W, ()>,
+) -> Result<Judged, LineCause>
+    ensures judged { IsBuilt layered.old.layer.settings →
+        JudgesLine W.WHOLE layered.old.layer.settings no_timer (state_of layered.old) (state_of layered.new)
+        (W.contents layered.old.layer.writer) (W.contents layered.new.layer.writer) (B.remaining lines.old) (B.remaining lines.new) result }
+    ensures counted { IsBuilt layered.old.layer.settings →
+        CountsJudged result (W.fault_count layered.old.layer.writer) (W.fault_count layered.new.layer.writer) }
+    ensures fixed { IsFixed layered.old.layer layered.new.layer }
+{
+    if !read_line(lines, line)? {
+        return Ok(Judged::End);
+    }
+    if is_skipped(line.as_slice()) {
+        return Ok(Judged::Skipped);
+    }
+    let call = call_of_line(alloc, line.as_slice())?;
+    layered.call(call)?;
+    Ok(Judged::Accepted)
+}
+
+/// The exit status of the program after a run that ended so: 2 for the settings, 1 for any other fault, and without a fault 0
+/// if the last text went out and 1 if not.
+pub fn status(fault: &Option<LineFault>, flushed: bool) -> u8
+    ensures { result ≡ status_of fault.now flushed }
+{
+    match fault {
+        None if flushed => 0,
+        None => 1,
+        Some(fault) => match fault.cause {
+            LineCause::Settings => 2,
+            _ => 1,
+        },
+    }
+}

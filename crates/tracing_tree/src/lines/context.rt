@@ -1,0 +1,78 @@
+//! What goes with each call.
+
+ghost use Rattle.std.specs.Prelude.{◌≡◌};
+ghost use Rattle.serde_json.specs.View.{view};
+ghost use Rattle.tracing_tree.specs.Readers.{Reads, ReadsMoment, ReadsContext};
+ghost use Rattle.tracing_tree.specs.Spelled.{id_value, current_in, thread_name_in, wall_in};
+
+use super::LineCause;
+use super::value::{text_value, value_at, whole_or};
+use jiff::Timestamp;
+use serde_json::Value;
+use std::alloc::Global;
+use tracing_tree_core::format::{Context, Id};
+use tracing_tree_core::text::Text;
+use tracing_tree_core::time::Moment;
+
+// What the value spells of the context of its call. `NotACall` where a part can't be read, `Memory` where memory is refused.
+pub(super) fn context_in(alloc: Global, value: &Value) -> Result<Context, LineCause>
+    ensures { ReadsContext (view value.now) result }
+{
+    let moment = moment_in(value).ok_or(LineCause::NotACall)?;
+    let current = current_in(value).ok_or(LineCause::NotACall)?;
+    let thread_id = whole_or(1, value, "thread").ok_or(LineCause::NotACall)?;
+    let thread_name = thread_name_in(alloc, value)?;
+    Ok(Context {
+        current,
+        thread_id,
+        thread_name,
+        moment,
+    })
+}
+
+// The current span, if there is one. None where it can't be read.
+fn current_in(value: &Value) -> Option<Option<Id>>
+    ensures { result ≡ current_in (view value.now) }
+{
+    match value_at(value, "current") {
+        Some(current) => Some(Some(id_value(current)?)),
+        None => Some(None),
+    }
+}
+
+// The name of the thread, if it has one.
+fn thread_name_in(alloc: Global, value: &Value) -> Result<Option<Text>, LineCause>
+    ensures { Reads (thread_name_in (view value.now)) result }
+{
+    match value_at(value, "thread_name") {
+        Some(name) => Ok(Some(text_value(alloc, name)?)),
+        None => Ok(None),
+    }
+}
+
+// When the call happens. None where it can't be read.
+fn moment_in(value: &Value) -> Option<Moment>
+    ensures { ReadsMoment (view value.now) result }
+{
+    let mono = whole_or(0, value, "mono")?;
+    let nanosecond = wall_in(value)?;
+    let wall = Timestamp::from_nanosecond(i128::from(nanosecond)).unwrap();
+    Some(Moment { mono, wall })
+}
+
+// Nanoseconds on the wall's clock since 1970. None where they can't be read.
+fn wall_in(value: &Value) -> Option<i64>
+    ensures { result ≡ wall_in (view value.now) }
+{
+    match value_at(value, "wall") {
+        Some(wall) => wall.as_i64(),
+        None => Some(0),
+    }
+}
+
+// A span's number.
+pub(super) fn id_value(value: &Value) -> Option<Id>
+    ensures { result ≡ id_value (view value.now) }
+{
+    Some(Id(value.as_u64()?))
+}

@@ -1,0 +1,89 @@
+//! Lines of a reader.
+
+ghost use Rattle.std.specs.Prelude.{◌≡◌, ◌==◌, position};
+ghost use Rattle.tracing_tree.specs.Spelled.{is_skipped};
+ghost use Rattle.tracing_tree.specs.LineReads.{ReadsPart, ReadsNext};
+
+use super::LineCause;
+use std::io::{BufRead, ErrorKind};
+
+// A read that a signal interrupts is tried again eight times.
+const TRIES: u32 = 9;
+
+// Where a part of a line ends.
+enum Part {
+    // At the end of the line.
+    Line,
+    // At the end of the input.
+    Input,
+    // Within the line.
+    Inside,
+    // Nowhere: the read was interrupted.
+    Interrupted,
+}
+
+// Reads the next line, without its line end, in place of what `line` held. Answers whether there is one: what stands behind
+// the last line end is a line if it isn't empty.
+pub(super) fn read_line<B: BufRead>(reader: &mut B, line: &mut Vec<u8>) -> Result<bool, LineCause>
+    ensures { ReadsNext (B.remaining reader.old) (B.remaining reader.new) line.new.items result }
+{
+    line.clear();
+    let mut tries = TRIES;
+    for _part in 0..u64::MAX {
+        match read_part(reader, line)? {
+            Part::Line => return Ok(true),
+            Part::Input => return Ok(!line.is_empty()),
+            Part::Inside => tries = TRIES,
+            Part::Interrupted if tries > 1 => tries -= 1,
+            Part::Interrupted => return Err(LineCause::Read),
+        }
+    }
+    Err(LineCause::Read)
+}
+
+// Puts what the reader holds of the line at the end of `line`.
+fn read_part<B: BufRead>(reader: &mut B, line: &mut Vec<u8>) -> Result<Part, LineCause>
+    ensures { ReadsPart (B.remaining reader.old) (B.remaining reader.new) line.old.items line.new.items result }
+{
+    let held = match reader.fill_buf() {
+        Ok(held) => held,
+        Err(error) => {
+            return if error.kind() == ErrorKind::Interrupted {
+                Ok(Part::Interrupted)
+            } else {
+                Err(LineCause::Read)
+            };
+        }
+    };
+    if held.is_empty() {
+        return Ok(Part::Input);
+    }
+    match line_end(held) {
+        Some(end) => {
+            line.extend_from_slice(&held[..end])?;
+            reader.consume(end + 1);
+            Ok(Part::Line)
+        }
+        None => {
+            let length = held.len();
+            line.extend_from_slice(held)?;
+            reader.consume(length);
+            Ok(Part::Inside)
+        }
+    }
+}
+
+// Where the first line end stands.
+fn line_end(held: &[u8]) -> Option<usize>
+    ensures { result ≡ position (λ byte. byte == 10) held.now }
+{
+    held.iter().position(|byte| *byte == b'\n')
+}
+
+// Whether the line is spaces, tabs and carriage returns alone.
+pub(super) fn is_skipped(line: &[u8]) -> bool
+    ensures { result ≡ is_skipped line.now }
+{
+    line.iter()
+        .all(|byte| *byte == b' ' || *byte == b'\t' || *byte == b'\r')
+}
