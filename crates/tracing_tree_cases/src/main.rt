@@ -1,0 +1,116 @@
+//! Runs the worked cases that lie where it runs, and tells how many of each folder passed.
+//!
+//! A case is four files: `NAME.in` is what the program reads, `NAME.out` and `NAME.err` what it writes on standard output and
+//! standard error, and `NAME.status` its exit status.
+#![tactic(auto)]
+
+use std::alloc::{AllocError, Global};
+use std::path::Path;
+use std::rt::Files;
+use std::{fs, io};
+use tracing_tree::format::Tape;
+use tracing_tree::{LineFault, run_lines, status};
+
+// The folders of cases.
+const FOLDERS: [&str; 4] = ["drawing", "first", "lines", "registry"];
+
+// How many cases there are, and how many of them passed.
+#[derive(Clone, Copy)]
+struct Tally {
+    cases: u64,
+    passed: u64,
+}
+
+impl Tally {
+    // No cases.
+    const NONE: Tally = Tally {
+        cases: 0,
+        passed: 0,
+    };
+
+    // One more case.
+    fn counted(self, passed: bool) -> Tally {
+        Tally {
+            cases: self.cases.saturating_add(1),
+            passed: self.passed.saturating_add(u64::from(passed)),
+        }
+    }
+
+    // The cases of both.
+    fn with(self, other: Tally) -> Tally {
+        Tally {
+            cases: self.cases.saturating_add(other.cases),
+            passed: self.passed.saturating_add(other.passed),
+        }
+    }
+}
+
+fn main(rt: HostRuntime) -> io::Result<()> {
+    let mut total = Tally::NONE;
+    for folder in FOLDERS {
+        let tally = run_folder(&rt, folder)?;
+        tell(&rt, folder, tally)?;
+        total = total.with(tally);
+    }
+    tell(&rt, "total", total)
+}
+
+// Prints a tally under a name.
+fn tell(rt: &impl Print, name: &str, tally: Tally) -> io::Result<()> {
+    let Tally { cases, passed } = tally;
+    println!(rt; "{name}: {passed} of {cases}")
+}
+
+// Runs the cases of a folder. Those that fail are named on standard error.
+fn run_folder<R: AllocGlobal + Clone + Drop + Eprint + Files>(
+    rt: &R,
+    folder: &str,
+) -> io::Result<Tally> {
+    let mut tally = Tally::NONE;
+    for entry in fs::read_dir(rt, folder)? {
+        let entry = entry?;
+        let Some(case) = input_name(entry.path()) else {
+            continue;
+        };
+        let passed = passes(rt, case)?;
+        if !passed {
+            eprintln!(rt; "failed: {case}")?;
+        }
+        tally = tally.counted(passed);
+    }
+    Ok(tally)
+}
+
+// The name of the case whose input lies there, if it is an input.
+fn input_name(path: Path<'_>) -> Option<&str> {
+    path.to_str()?.strip_suffix(".in")
+}
+
+// Whether a run of the case writes what its files say.
+fn passes<R: AllocGlobal + Files>(rt: &R, case: &str) -> io::Result<bool> {
+    let alloc = rt.alloc();
+    let input = read_part(rt, case, "in")?;
+    let run = run_lines(alloc, input.as_slice(), Tape::new(alloc));
+    let told = fault_line(alloc, &run.fault)?;
+    let ended = format!(in alloc; "{}", status(&run.fault, true))?;
+    let out = read_part(rt, case, "out")?;
+    let err = read_part(rt, case, "err")?;
+    let wanted = read_part(rt, case, "status")?;
+    let drawn = run.writer.bytes() == out.as_slice();
+    let blamed = told.as_bytes() == err.as_slice();
+    Ok(drawn && blamed && ended.as_bytes() == wanted.trim_ascii())
+}
+
+// One file of a case.
+fn read_part<R: AllocGlobal + Files>(rt: &R, case: &str, part: &str) -> io::Result<Vec<u8>> {
+    let path = format!(in rt.alloc(); "{case}.{part}")?;
+    fs::read(rt, path.as_str())
+}
+
+// What the program writes on standard error.
+fn fault_line(alloc: Global, fault: &Option<LineFault>) -> Result<String, AllocError> {
+    match fault {
+        Some(fault) => format!(in alloc; "{fault}\n"),
+        None => Ok(String::new(alloc)),
+    }
+}

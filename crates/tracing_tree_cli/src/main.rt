@@ -1,0 +1,43 @@
+//! The program: draws the calls that standard input spells, as a tree on standard output.
+#![tactic(auto)]
+
+use std::io;
+use std::io::{BufWriter, Write};
+use std::process::ExitCode;
+use tracing_tree::format::Wrap;
+use tracing_tree::{LineCause, LineFault, LinesRun, run_lines, status};
+
+fn main(rt: HostRuntime) -> ExitCode {
+    let (fault, flushed) = draw(&rt);
+    tell(&rt, &fault, flushed);
+    ExitCode::from(status(&fault, flushed))
+}
+
+// Draws the tree. Answers the fault that ended the run, if one did, and whether the last text went out.
+fn draw<R: AllocGlobal + Input + Print>(rt: &R) -> (Option<LineFault>, bool) {
+    let alloc = rt.alloc();
+    let Ok(writer) = BufWriter::new(alloc, io::writer(rt)) else {
+        let fault = LineFault {
+            line: 1,
+            cause: LineCause::Memory,
+        };
+        return (Some(fault), true);
+    };
+    let LinesRun {
+        writer,
+        accepted: _,
+        fault,
+    } = run_lines(alloc, rt.reader(), Wrap::new(writer));
+    let flushed = writer.into_inner().flush().is_ok();
+    (fault, flushed)
+}
+
+// Puts the fault on standard error. A fault of standard error itself changes nothing.
+fn tell(rt: &impl Eprint, fault: &Option<LineFault>, flushed: bool) {
+    let told = match fault {
+        Some(fault) => eprintln!(rt; "{fault}"),
+        None if flushed => Ok(()),
+        None => eprintln!(rt; "end: writer"),
+    };
+    let _ = told;
+}
