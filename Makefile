@@ -1,5 +1,5 @@
-# Everything needs the kit's command `rt` and nothing else.
-.PHONY: demo build test
+# `demo`, `build` and `test` need the kit's command `rt` and nothing else; `bench` needs Python 3 besides, and `faults` a C compiler too.
+.PHONY: demo build test bench faults
 
 # Draws the example.
 demo: build
@@ -12,6 +12,16 @@ build:
 	@test -x crates/tracing_tree_cli/out/tracing_tree_cli || { cat bin/build.log; exit 1; }
 	@cp crates/tracing_tree_cli/out/tracing_tree_cli bin/tracing_tree
 
-# The whole gate: every proof from nothing, the must-fail edits, the tests and the programs.
+# The whole gate: what must not compile, every proof from nothing, the must-fail edits, the tests and the programs.
 test:
+	@misuse/run.sh
 	@rt ci
+
+# Times the program on inputs that it makes itself. It asserts nothing.
+bench: build
+	@python3 scripts/bench.py bin/tracing_tree
+
+# Refuses the program each allocation, each read and each write in turn, and looks at what it leaves.
+faults: build
+	@$(CC) -O1 -shared -fPIC -o bin/refuse.so scripts/refuse.c -ldl
+	@python3 scripts/refuse.py bin/tracing_tree bin/refuse.so examples/*.jsonl

@@ -1,0 +1,19 @@
+//! Tests of the public calls, each once on its happy path, and of what no proof shows.
+#![tactic(auto)]
+
+#[cfg(test)]
+mod calls;
+#[cfg(test)]
+mod lines;
+#[cfg(test)]
+mod lone;
+#[cfg(test)]
+mod making;
+#[cfg(test)]
+mod outputs;
+#[cfg(test)]
+mod readme;
+#[cfg(test)]
+mod registry;
+#[cfg(test)]
+mod texts;

@@ -1,0 +1,146 @@
+//! What no contract says of lines: the texts of faults, and readers that fail.
+
+use std::alloc::Global;
+use std::io;
+use std::io::{ErrorKind, Read};
+use std::process::Abort;
+use std::test::*;
+use tracing_tree::format::{Id, Refusal, Tape};
+use tracing_tree::lines::{LineCause, LineFault, run_lines};
+
+// A reader that gives one byte at a time. Behind the first `calm` bytes it fails `times` times before each.
+#[derive(Drop)]
+struct Hesitant<'a> {
+    rest: &'a [u8],
+    calm: u32,
+    times: u32,
+    left: u32,
+    kind: ErrorKind,
+}
+
+impl<'a> Hesitant<'a> {
+    fn new(text: &'a [u8], calm: u32, times: u32, kind: ErrorKind) -> Hesitant<'a> {
+        Hesitant {
+            rest: text,
+            calm,
+            times,
+            left: times,
+            kind,
+        }
+    }
+}
+
+impl Read for Hesitant<'_> {
+    fn read(&mut self, buf: &mut [u8]) -> io::Result<usize> {
+        if self.calm > 0 {
+            self.calm -= 1;
+        } else if self.left > 0 {
+            self.left -= 1;
+            return Err(io::Error::from(self.kind));
+        } else {
+            self.left = self.times;
+        }
+        let Some((first, rest)) = self.rest.split_first() else {
+            return Ok(0);
+        };
+        let Some(place) = buf.first_mut() else {
+            return Ok(0);
+        };
+        *place = *first;
+        self.rest = rest;
+        Ok(1)
+    }
+}
+
+// Three lines, of which the last two are skipped; the third begins behind four bytes.
+const THREE_LINES: &[u8] = b"{}\n\n \t\n";
+
+// The fault of a run over the three lines, by a reader that fails so.
+fn fault_of(alloc: Global, calm: u32, times: u32, kind: ErrorKind) -> Option<LineFault> {
+    let reader = Hesitant::new(THREE_LINES, calm, times, kind);
+    run_lines(alloc, reader, Tape::new(alloc)).fault
+}
+
+fn read_fault(line: u64) -> Option<LineFault> {
+    Some(LineFault {
+        line,
+        cause: LineCause::Read,
+    })
+}
+
+#[test]
+fn interruptions(rt: HostRuntime) {
+    let alloc = rt.alloc();
+    assert_eq!(rt; fault_of(alloc, 0, 8, ErrorKind::Interrupted), None);
+    assert_eq!(rt;
+        fault_of(alloc, 0, 9, ErrorKind::Interrupted),
+        read_fault(1)
+    );
+    assert_eq!(rt;
+        fault_of(alloc, 1, 9, ErrorKind::Interrupted),
+        read_fault(1)
+    );
+    assert_eq!(rt;
+        fault_of(alloc, 3, 9, ErrorKind::Interrupted),
+        read_fault(2)
+    );
+    assert_eq!(rt;
+        fault_of(alloc, 4, 9, ErrorKind::Interrupted),
+        read_fault(3)
+    );
+    assert_eq!(rt;
+        fault_of(alloc, 6, 9, ErrorKind::Interrupted),
+        read_fault(3)
+    );
+    // The end of the input is read as a fourth line.
+    assert_eq!(rt;
+        fault_of(alloc, 7, 9, ErrorKind::Interrupted),
+        read_fault(4)
+    );
+}
+
+#[test]
+fn errors(rt: HostRuntime) {
+    let alloc = rt.alloc();
+    assert_eq!(rt; fault_of(alloc, 0, 1, ErrorKind::BrokenPipe), read_fault(1));
+    assert_eq!(rt; fault_of(alloc, 5, 1, ErrorKind::BrokenPipe), read_fault(3));
+}
+
+// Compares the text of a fault in line 3.
+fn reads_as(rt: &(impl Abort + AllocGlobal), cause: LineCause, wanted: &str) -> Result<(), Fail> {
+    let fault = LineFault { line: 3, cause };
+    let text = format!(in rt.alloc(); "{fault}")?;
+    assert_eq!(rt; text.as_str(), wanted);
+    Ok(())
+}
+
+#[test]
+fn texts(rt: HostRuntime) -> Result<(), Fail> {
+    reads_as(&rt, LineCause::Settings, "line 3: settings")?;
+    reads_as(&rt, LineCause::NotACall, "line 3: not a call")?;
+    reads_as(&rt, LineCause::Read, "line 3: read")?;
+    reads_as(&rt, LineCause::Memory, "line 3: memory")
+}
+
+#[test]
+fn texts_of_refusals(rt: HostRuntime) -> Result<(), Fail> {
+    reads_as(
+        &rt,
+        LineCause::Refused(Refusal::NotHeld(Id(7))),
+        "line 3: not held 7",
+    )?;
+    reads_as(
+        &rt,
+        LineCause::Refused(Refusal::TooWide),
+        "line 3: too wide",
+    )?;
+    reads_as(
+        &rt,
+        LineCause::Refused(Refusal::TooMany),
+        "line 3: too many",
+    )?;
+    reads_as(&rt, LineCause::Refused(Refusal::Memory), "line 3: memory")?;
+    reads_as(&rt, LineCause::Refused(Refusal::Timer), "line 3: timer")?;
+    reads_as(&rt, LineCause::Refused(Refusal::Writer), "line 3: writer")?;
+    reads_as(&rt, LineCause::Refused(Refusal::Failed), "line 3: failed")
+}

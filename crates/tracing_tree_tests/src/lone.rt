@@ -1,0 +1,79 @@
+//! A registry of one's own: a single root.
+
+use std::alloc::{AllocError, Global};
+use tracing_tree::field::Fields;
+use tracing_tree::format::Id;
+use tracing_tree::registry::{Data, LookupSpan, SpanRef};
+use tracing_tree::text::Text;
+
+/// One root, with the id 1.
+#[derive(Drop)]
+pub struct Lone {
+    name: Text,
+    target: Text,
+    data: Data,
+}
+
+impl Lone {
+    /// A root of this name, without fields.
+    pub fn new(alloc: Global, name: &str) -> Result<Lone, AllocError> {
+        Ok(Lone {
+            name: Text::from_str(alloc, name)?,
+            target: Text::from_str(alloc, "")?,
+            data: Data {
+                start: 0,
+                fields: Fields::new(alloc),
+                written: false,
+            },
+        })
+    }
+}
+
+impl LookupSpan for Lone {
+    ghost use Rattle.std.specs.Prelude.{[], ◌∷◌, None};
+    ghost use Rattle.tracing_tree_core.specs.Ids.{id_of};
+
+    ghost forest = { λ lone. record {
+      spans = record { id = id_of 1; parent = None; name = lone.name; target = lone.target; kept = lone.«data»; handles = 1 } ∷ [];
+      next = None;
+    } };
+
+    fn span(&self, id: Id) -> Option<SpanRef<'_>> {
+        if id.0 != 1 {
+            return None;
+        }
+        Some(SpanRef::new(id, None, &self.name, &self.target, &self.data))
+    }
+
+    fn parent(&self, _id: Id) -> Option<Id> {
+        None
+    }
+
+    fn path(&self, alloc: Global, id: Id) -> Result<Vec<Id>, AllocError> {
+        let mut path = Vec::new(alloc);
+        if id.0 == 1 {
+            path.push(id)?;
+        }
+        Ok(path)
+    }
+
+    fn data(&self, id: Id) -> Option<&Data> {
+        if id.0 != 1 {
+            return None;
+        }
+        Some(&self.data)
+    }
+
+    fn record(&mut self, id: Id, fields: Fields) -> Result<(), AllocError> {
+        if id.0 != 1 {
+            return Ok(());
+        }
+        self.data.fields.append(fields)
+    }
+
+    fn set_written(&mut self, id: Id) {
+        if id.0 == 1 {
+            self.data.written = true;
+        }
+    }
+}

@@ -1,0 +1,116 @@
+//! Outputs that take little, are interrupted, or fault.
+
+use crate::making::{lined_over, made, told};
+use std::io;
+use std::io::{ErrorKind, Write};
+use std::test::*;
+use tracing_tree::call::{Call, Reply};
+use tracing_tree::format::{Id, Output, OutputFault, Refusal, Wrap};
+use tracing_tree::registry::LookupSpan;
+use tracing_tree::style::Level;
+
+// A writer that is interrupted so many times, and then takes at most a piece of what it is given.
+#[derive(Drop)]
+struct Halting {
+    taken: Vec<u8>,
+    piece: usize,
+    interruptions: u32,
+}
+
+impl Write for Halting {
+    fn write(&mut self, bytes: &[u8]) -> io::Result<usize> {
+        if self.interruptions > 0 {
+            self.interruptions -= 1;
+            return Err(io::Error::from(ErrorKind::Interrupted));
+        }
+        let piece = self.piece.min(bytes.len());
+        self.taken.extend_from_slice(&bytes[..piece])?;
+        Ok(piece)
+    }
+
+    fn flush(&mut self) -> io::Result<()> {
+        Ok(())
+    }
+}
+
+#[test]
+fn wraps_a_writer(rt: HostRuntime) -> Result<(), Fail> {
+    for (piece, interruptions, wanted) in [
+        (3, 0, Ok(3)),
+        (9, 8, Ok(4)),
+        (9, 9, Err(OutputFault)),
+        (0, 0, Err(OutputFault)),
+    ] {
+        let mut wrap = Wrap::new(Halting {
+            taken: Vec::new(rt.alloc()),
+            piece,
+            interruptions,
+        });
+        assert_eq!(rt; wrap.write(b"abcd"), wanted);
+        let faults = if wanted.is_ok() { 0 } else { 1 };
+        assert_eq!(rt; wrap.faults(), faults);
+        let taken = wanted.unwrap_or(0).min(4);
+        assert_eq!(rt; wrap.into_inner().taken.as_slice(), &b"abcd"[..taken]);
+    }
+    Ok(())
+}
+
+// Takes three bytes at a time, and refuses the write of one number, counted from 1, once.
+#[derive(Drop)]
+struct Choppy {
+    taken: Vec<u8>,
+    writes: u32,
+    stop: u32,
+}
+
+impl Write for Choppy {
+    fn write(&mut self, bytes: &[u8]) -> io::Result<usize> {
+        self.writes = self.writes.wrapping_add(1);
+        if self.writes == self.stop {
+            return Err(io::Error::from(ErrorKind::BrokenPipe));
+        }
+        let piece = bytes.len().min(3);
+        self.taken.extend_from_slice(&bytes[..piece])?;
+        Ok(piece)
+    }
+
+    fn flush(&mut self) -> io::Result<()> {
+        Ok(())
+    }
+}
+
+#[test]
+fn fails_with_its_writer(rt: HostRuntime) -> Result<(), Fail> {
+    let alloc = rt.alloc();
+    for (stop, left) in [(3, "┐a \n"), (4, "┐a \n└")] {
+        let writer = Choppy {
+            taken: Vec::new(alloc),
+            writes: 0,
+            stop,
+        };
+        let mut layered = lined_over(alloc, Wrap::new(writer));
+        assert_eq!(rt;
+            layered.call(made(alloc, "a", None)?),
+            Ok(Reply::Span(Id(1)))
+        );
+        assert_eq!(rt;
+            layered.call(made(alloc, "b", Some(1))?),
+            Err(Refusal::Writer)
+        );
+        assert_eq!(rt; layered.layer().failed(), true);
+        assert_eq!(rt; layered.layer().last_span(), Some(Id(1)));
+        assert_eq!(rt; layered.registry().span(Id(2)).is_none(), true);
+        assert_eq!(rt;
+            layered.call(told(alloc, Level::Info, "x", None)?),
+            Err(Refusal::Failed)
+        );
+        assert_eq!(rt; layered.call(Call::Clone(Id(1))), Err(Refusal::Failed));
+        assert_eq!(rt; layered.writer().faults(), 1);
+        let (_registry, layer) = layered.into_parts();
+        assert_eq!(rt;
+            layer.into_writer().into_inner().taken.as_slice(),
+            left.as_bytes()
+        );
+    }
+    Ok(())
+}

@@ -1,0 +1,52 @@
+/* Preloaded into the program, this refuses the call of REFUSE_KIND (malloc, read or write) with the number REFUSE_AT, counted
+ * from 1. */
+#define _GNU_SOURCE
+#include <dlfcn.h>
+#include <errno.h>
+#include <stdlib.h>
+#include <string.h>
+#include <sys/types.h>
+
+static long counted;
+
+static int refused(const char *kind)
+{
+    const char *wanted = getenv("REFUSE_KIND");
+    const char *at = getenv("REFUSE_AT");
+    return wanted && at && strcmp(wanted, kind) == 0 && ++counted == atol(at);
+}
+
+void *malloc(size_t size)
+{
+    void *(*real)(size_t) = dlsym(RTLD_NEXT, "malloc");
+    return refused("malloc") ? NULL : real(size);
+}
+
+void *realloc(void *old, size_t size)
+{
+    void *(*real)(void *, size_t) = dlsym(RTLD_NEXT, "realloc");
+    return refused("malloc") ? NULL : real(old, size);
+}
+
+static ssize_t failed(void)
+{
+    errno = EIO;
+    return -1;
+}
+
+ssize_t read(int file, void *bytes, size_t size)
+{
+    ssize_t (*real)(int, void *, size_t) = dlsym(RTLD_NEXT, "read");
+    return refused("read") ? failed() : real(file, bytes, size);
+}
+
+ssize_t write(int file, const void *bytes, size_t size)
+{
+    ssize_t (*real)(int, const void *, size_t) = dlsym(RTLD_NEXT, "write");
+    return file == 1 && refused("write") ? failed() : real(file, bytes, size);
+}
+
+ssize_t __write(int file, const void *bytes, size_t size)
+{
+    return write(file, bytes, size);
+}
