@@ -1,13 +1,14 @@
 -- Lists of spans in the order of their ids: where a span lies, and what an edit at its place does.
 use Rattle.std.proofs.Common.{◌≡◌, ℕ, zero, suc, ◌<◌, ◌≤◌, nat_lt, Bool, true, false, not, List, [], ◌∷◌, length, get_or, set, map, find, filter, slice_get, Option, Some, None, MatchOption, Result, Ok, Err, if◌then◌else◌, arith, refl, sym, ap, ◌∙◌, subst}
 use Rattle.std.specs.List.{list_all, remove}
+use Rattle.std.specs.Option.{option_map_or}
 use Rattle.std.specs.Result.{result_ok}
 use Rattle.std.specs.List.Sorted.{IsSearchInRange, IsBinarySearchResult, IsNonDecreasingBy}
 use Rattle.std.specs.Ordering.{nat_cmp, ordering_index}
 use Rattle.std.proofs.lemmas.Bool.{eqb-true, and_parts}
 use Rattle.std.proofs.lemmas.Bool.Decides.{nat_tests}
 use Rattle.std.proofs.lemmas.Cmp.{ranked}
-use Rattle.std.proofs.lemmas.Option.{slice_get-get_or, same_Some}
+use Rattle.std.proofs.lemmas.Option.{slice_get-get_or, slice_get_within, same_Some}
 use Rattle.tracing_tree_core.specs.Ids.{id_of}
 use Rattle.tracing_tree_core.specs.Spans.{Span}
 use Rattle.tracing_tree_core.specs.Forest.{has_id}
@@ -104,6 +105,19 @@ searched_id spans i (Err at) rising within parted = find-nowhere spans i none
       | true ↦ (λ e. lower_not (get_or spans k d) i (ranked (get_or spans k d).id.0 i.0 _ (sym ((parted (comparisons_rise spans i rising)).0 k d (omega arith) (grind (arith, nat_tests))))))
       | false ↦ (λ e. higher_not (get_or spans k d) i (ranked (get_or spans k d).id.0 i.0 _ (sym ((parted (comparisons_rise spans i rising)).1 k d (grind (arith, nat_tests)) h))))
     ] refl
+
+-- the span at a place has the id, so that is where it lies
+pub found_at : (spans : List Span) (i : Id) (at : ℕ) → IsRising spans → option_map_or (has_id i) (slice_get spans at) false ≡ true → IsFound spans i (Some at)
+found_at spans i at rising here = by (slice_get spans at) refl
+  where
+    by : (read : Option Span) → slice_get spans at ≡ read → IsFound spans i (Some at)
+    by None e =
+        let nowhere : false ≡ true = rw e at here in
+        absurd cc
+    by (Some d) e =
+        let own : has_id i d ≡ true = rw e at here in
+        let same : d.id ≡ i = ap id_of (eqb-true d.id.0 i.0 own) in
+        (slice_get_within spans at d e, subst (λ j. find (has_id j) spans ≡ slice_get spans at) same (find-at spans at d rising e ∙ sym e))
 
 -- above a span no other has its id
 unchanged : (change : Span → Span) (i : Id) (spans : List Span) → all_above i.0 spans ≡ true →

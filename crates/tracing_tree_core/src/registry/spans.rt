@@ -1,7 +1,8 @@
 //! The live spans.
 
-ghost use Rattle.std.specs.Prelude.{◌≡◌, ◌-◌, ◌<◌, ◌++◌, List, Some, None, IfOk, OnOk, IfSome, MatchOption, slice_get, find, length, not, ◌==◌, ◌&&◌, Option, reverse};
+ghost use Rattle.std.specs.Prelude.{◌≡◌, ◌-◌, ◌<◌, ◌++◌, List, Some, None, IfOk, OnOk, IfSome, MatchOption, slice_get, find, length, false, not, ◌==◌, ◌&&◌, Option, reverse};
 ghost use Rattle.std.specs.List.{list_any};
+ghost use Rattle.std.specs.Option.{option_map_or};
 ghost use Rattle.tracing_tree_core.specs.Ids.{id_of};
 ghost use Rattle.tracing_tree_core.specs.Spans.{Span};
 ghost use Rattle.tracing_tree_core.specs.Forest.{Forest, IsForest, has_id, empty_forest, any_unless_live, path_of, path_of_any, id_after, going_up, without_spans, take_back};
@@ -16,7 +17,7 @@ use std::marker::Model;
 
 /// The live spans and the next id. A span is live while it has a handle or a live child.
 ///
-/// The spans lie in the order of their ids, so that each is found by a binary search.
+/// The spans lie in the order of their ids, so that each is found by a binary search, or at once where few have gone.
 #[derive(Drop)]
 pub struct Registry {
     nodes: Vec<Node>,
@@ -189,12 +190,35 @@ fn following(id: Id) -> Option<Id>
     id.0.checked_add(1).map(Id)
 }
 
-// Where the span of this id lies among spans in the order of their ids.
+// Where the span of this id lies among spans in the order of their ids. Where none between the oldest and it is gone, it's one
+// look, which matters where spans are many and far apart in memory.
 fn position(nodes: &[Node], id: Id) -> Option<usize>
     requires { IsRising nodes.now }
     ensures { MatchOption result (find (has_id id) nodes.now ≡ None) (λ at. (at < length nodes.now) × (find (has_id id) nodes.now ≡ slice_get nodes.now at)) }
 {
+    let place = likely_place(nodes, id);
+    if is_at(nodes, place, id) {
+        return Some(place);
+    }
     nodes.binary_search_by_key(&id.0, |node| node.id().0).ok()
+}
+
+// Where the span of this id lies if none between the oldest and it is gone.
+fn likely_place(nodes: &[Node], id: Id) -> usize {
+    match nodes.first() {
+        Some(oldest) => id.0.wrapping_sub(oldest.id().0) as usize,
+        None => 0,
+    }
+}
+
+// Whether the span of this id lies there.
+fn is_at(nodes: &[Node], place: usize, id: Id) -> bool
+    ensures { result ≡ option_map_or (has_id id) (slice_get nodes.now place) false }
+{
+    match nodes.get(place) {
+        Some(node) => node.id() == id,
+        None => false,
+    }
 }
 
 // Puts the ids that close above this one behind the others, the lowest first.
