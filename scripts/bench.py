@@ -1,4 +1,3 @@
-#!/usr/bin/env python3
 """Times the program on inputs that it makes itself, the same each time, and prints for each: calls a second, output MB a second,
 peak memory, and how much longer ten times as many calls took (10 is linear). It asserts nothing. A peak below Python's own, some
 14 MiB, shows as that.

@@ -1,4 +1,3 @@
-#!/usr/bin/env python3
 """Refuses the program each allocation, each read and each write in turn, and looks at what it leaves.
 
 After a refusal the program must end with status 1, name the line and the cause, and have written what it writes of the lines
