@@ -1,6 +1,6 @@
 //! What no contract says of lines: the texts of faults, and readers that fail.
 
-use std::alloc::Global;
+use std::alloc::{AllocError, Global};
 use std::io;
 use std::io::{ErrorKind, Read};
 use std::process::Abort;
@@ -104,6 +104,32 @@ fn errors(rt: HostRuntime) {
     let alloc = rt.alloc();
     assert_eq!(rt; fault_of(alloc, 0, 1, ErrorKind::BrokenPipe), read_fault(1));
     assert_eq!(rt; fault_of(alloc, 5, 1, ErrorKind::BrokenPipe), read_fault(3));
+}
+
+// Settings, a line of so many spaces, and a line that spells no call.
+fn long_line(alloc: Global, spaces: usize) -> Result<String, AllocError> {
+    let mut text = String::new(alloc);
+    text.push_str("{}\n")?;
+    text.push_str(" ".repeat(alloc, spaces)?.as_str())?;
+    text.push_str("\n{\n")?;
+    Ok(text)
+}
+
+// A line may come in many parts, and be longer than the buffer of the input.
+#[test]
+fn long_lines(rt: HostRuntime) -> Result<(), Fail> {
+    let alloc = rt.alloc();
+    let wanted = Some(LineFault {
+        line: 3,
+        cause: LineCause::NotACall,
+    });
+    let parts = long_line(alloc, 5_000)?;
+    let reader = Hesitant::new(parts.as_bytes(), u32::MAX, 0, ErrorKind::BrokenPipe);
+    assert_eq!(rt; run_lines(alloc, reader, Tape::new(alloc)).fault, wanted);
+    let blocks = long_line(alloc, 200_000)?;
+    let ran = run_lines(alloc, blocks.as_bytes(), Tape::new(alloc));
+    assert_eq!(rt; ran.fault, wanted);
+    Ok(())
 }
 
 // Compares the text of a fault in line 3.

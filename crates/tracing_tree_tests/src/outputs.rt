@@ -1,11 +1,13 @@
 //! Outputs that take little, are interrupted, or fault.
 
 use crate::making::{lined_over, made, told};
+use std::alloc::Global;
 use std::io;
 use std::io::{ErrorKind, Write};
 use std::test::*;
 use tracing_tree::call::{Call, Reply};
 use tracing_tree::format::{Id, Output, OutputFault, Refusal, Wrap};
+use tracing_tree::lines::{LineCause, LineFault, run_lines};
 use tracing_tree::registry::LookupSpan;
 use tracing_tree::style::Level;
 
@@ -79,16 +81,21 @@ impl Write for Choppy {
     }
 }
 
+impl Choppy {
+    fn new(alloc: Global, stop: u32) -> Choppy {
+        Choppy {
+            taken: Vec::new(alloc),
+            writes: 0,
+            stop,
+        }
+    }
+}
+
 #[test]
 fn fails_with_its_writer(rt: HostRuntime) -> Result<(), Fail> {
     let alloc = rt.alloc();
     for (stop, left) in [(3, "┐a \n"), (4, "┐a \n└")] {
-        let writer = Choppy {
-            taken: Vec::new(alloc),
-            writes: 0,
-            stop,
-        };
-        let mut layered = lined_over(alloc, Wrap::new(writer));
+        let mut layered = lined_over(alloc, Wrap::new(Choppy::new(alloc, stop)));
         assert_eq!(rt;
             layered.call(made(alloc, "a", None)?),
             Ok(Reply::Span(Id(1)))
@@ -113,4 +120,28 @@ fn fails_with_its_writer(rt: HostRuntime) -> Result<(), Fail> {
         );
     }
     Ok(())
+}
+
+// Settings, and two calls that open spans.
+const TWO_SPANS: &[u8] = br#"{"indent_lines": true}
+{"call": "new", "name": "a"}
+{"call": "new", "name": "b", "current": 1}
+"#;
+
+#[test]
+fn blames_the_line_of_the_fault(rt: HostRuntime) {
+    let alloc = rt.alloc();
+    for (stop, accepted, line, left) in [
+        (1, 0, 2, ""),
+        (2, 0, 2, "┐"),
+        (3, 1, 3, "┐a \n"),
+        (4, 1, 3, "┐a \n└"),
+    ] {
+        let ran = run_lines(alloc, TWO_SPANS, Wrap::new(Choppy::new(alloc, stop)));
+        let cause = LineCause::Refused(Refusal::Writer);
+        assert_eq!(rt; ran.fault, Some(LineFault { line, cause }));
+        assert_eq!(rt; ran.accepted, accepted);
+        assert_eq!(rt; ran.writer.faults(), 1);
+        assert_eq!(rt; ran.writer.into_inner().taken.as_slice(), left.as_bytes());
+    }
 }
