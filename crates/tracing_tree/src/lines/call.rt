@@ -176,7 +176,8 @@ fn fields_value(alloc: Global, value: &Value) -> Result<Fields, LineCause>
 fn item_fields(alloc: Global, items: &Vec<Value>) -> Result<Fields, LineCause>
     ensures { Reads (item_fields (items_view items.now.items)) result }
 {
-    let mut fields = Vec::with_capacity(alloc, items.len())?;
+    // Not of the exact size: so a span's list has room for the first fields that are recorded later.
+    let mut fields = Vec::new(alloc);
     for item in items {
         fields.push(field_value(alloc, item)?)?;
     }

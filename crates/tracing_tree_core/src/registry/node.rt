@@ -37,15 +37,15 @@ impl Data {
     }
 }
 
-// A span as it is kept.
+// A span as it is kept. What clones and records touch stands at its head, close together in memory.
 #[derive(Drop)]
 pub(crate) struct Node {
     pub(crate) id: Id,
+    pub(crate) handles: u64,
     pub(crate) parent: Option<Id>,
+    pub(crate) kept: Data,
     pub(crate) name: Text,
     pub(crate) target: Text,
-    pub(crate) kept: Data,
-    pub(crate) handles: u64,
 }
 
 impl Model for Node {
