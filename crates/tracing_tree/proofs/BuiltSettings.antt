@@ -154,6 +154,7 @@ concludes whole (Some input) (Some rest) settings accepted fault old new opened 
         begins = record { line = opened.line; lines = opened.first; spelled = opened.spelled.spelled };
         judged = r.judged;
         within = r.within;
+        counted = r.counted;
         calls = r.calls;
         spelled = r.spelled;
         count = r.count;

@@ -1,5 +1,5 @@
 -- Runs over lines: one line more, and what the run leaves at its end.
-use Rattle.std.proofs.Common.{◌≡◌, ℕ, ◌+◌, Bool, true, false, not, List, [], ◌∷◌, ◌++◌, length, take, Option, Some, None, IfSome, Ok, Err, refl, sym, ap, subst, ◌∙◌, arith, append_assoc, append-nil, length-append, MatchBool}
+use Rattle.std.proofs.Common.{◌≡◌, ℕ, ◌+◌, ◌<◌, ◌≤◌, Bool, true, false, not, List, [], ◌∷◌, ◌++◌, length, take, Option, Some, None, IfSome, Ok, Err, refl, sym, ap, subst, ◌∙◌, arith, append_assoc, append-nil, length-append, MatchBool}
 use Rattle.std.specs.Prelude.{slice_get, IsSomeAnd, ⊤}
 use Rattle.std.specs.Io.KnownBytes.{Appends, Keeps}
 use Rattle.std.proofs.KnownBytes.{Keeps-refl, Appends-trans, Appends-kept}
@@ -16,7 +16,7 @@ use Rattle.tracing_tree.specs.Run.{Run, run, run_by_cause, no_call, then_run, ca
 use Rattle.tracing_tree.specs.Answered.{IsAnswered, Writes}
 use Rattle.tracing_tree.specs.Spelled.{input_lines, is_skipped, SpellsCall, SpellCalls}
 use Rattle.tracing_tree.specs.Readers.{IsUnlessMemory}
-use Rattle.tracing_tree.specs.Lines.{EndsRun, IsLeftBehind, IsLeftByFault, is_from_outside}
+use Rattle.tracing_tree.specs.Lines.{EndsRun, IsCounted, IsLeftBehind, IsLeftByFault, is_from_outside, last_number}
 use Rattle.tracing_tree.specs.LineReads.{TakesLine, HasNoLine}
 use Rattle.tracing_tree.specs.LineSteps.{MakesCall, MakesNone, SkipsLine, FailsLine, JudgesLine, RunsOver}
 use Rattle.tracing_tree.specs.declared.call.Call.{Call}
@@ -190,6 +190,14 @@ module _ (settings : Settings) (timer : Timer) (first : State) where
   abbrev Ends : Bool → List (List ℕ) → ℕ → Option LineFault → Option (List ℕ) → Option (List ℕ) → Type 0
   Ends whole lines accepted fault old new = RunsOver whole settings timer first lines accepted fault old new
 
+  -- the run came to this line, and this cause may end it there
+  abbrev MayEndAt : ℕ → LineCause → Type 0
+  MayEndAt number cause = (number ≤ last_number) × (number ≡ last_number → cause ≡ Read)
+
+  -- at an earlier line each cause may
+  may_end : (number : ℕ) (cause : LineCause) → number < last_number → MayEndAt number cause
+  may_end number cause below = (omega (arith, below), λ last. absurd (omega (arith, below, last)))
+
   -- the line behind others
   line_behind : (done after : List (List ℕ)) (line : List ℕ) → slice_get (done ++ line ∷ after) (length done) ≡ Some line
   line_behind [] after line = refl
@@ -207,16 +215,17 @@ module _ (settings : Settings) (timer : Timer) (first : State) where
 
   -- the end of the input
   pub finishes : (whole : Bool) (known middle : Option (List ℕ)) (accepted number : ℕ) (state next : State) (old mid new : Option (List ℕ)) →
-      IsKnownSoFar known middle accepted number state old mid → HasNoLine middle × MakesNone state next mid new →
+      number < last_number → IsKnownSoFar known middle accepted number state old mid → HasNoLine middle × MakesNone state next mid new →
       IfSome known (λ input. Ends whole (input_lines input) accepted None old new)
-  finishes whole None middle accepted number state next old mid new so_far h = tt
-  finishes whole (Some x) None accepted number state next old mid new so_far h = absurd so_far
-  finishes whole (Some x) (Some y) accepted number state next old mid new so_far h =
+  finishes whole None middle accepted number state next old mid new below so_far h = tt
+  finishes whole (Some x) None accepted number state next old mid new below so_far h = absurd so_far
+  finishes whole (Some x) (Some y) accepted number state next old mid new below so_far h =
       let lines = input_lines x in
       let all : lines ≡ so_far.done = so_far.apart ∙ ap (λ rest. so_far.done ++ rest) h.0 ∙ append-nil so_far.done in
       record {
         judged = length so_far.done;
         within = omega (arith, ap length all);
+        counted = (omega (arith, so_far.number_is, below), tt);
         calls = so_far.calls;
         spelled = subst (λ front. SpellCalls front so_far.calls) (sym (ap (take (length so_far.done)) so_far.apart ∙ take-append_seam so_far.done _)) so_far.spelled;
         count = so_far.count;
@@ -230,13 +239,14 @@ module _ (settings : Settings) (timer : Timer) (first : State) where
 
   -- a fault from outside
   pub breaks : (whole : Bool) (known middle : Option (List ℕ)) (accepted number : ℕ) (state next : State) (old mid new : Option (List ℕ)) (cause : LineCause) →
-      is_from_outside cause ≡ true → IsKnownSoFar known middle accepted number state old mid → Keeps mid new →
+      is_from_outside cause ≡ true → MayEndAt number cause → IsKnownSoFar known middle accepted number state old mid → Keeps mid new →
       IfSome known (λ input. Ends whole (input_lines input) accepted (Some (record { line = number; cause = cause })) old new)
-  breaks whole None middle accepted number state next old mid new cause outside so_far kept = tt
-  breaks whole (Some x) None accepted number state next old mid new cause outside so_far kept = absurd so_far
-  breaks whole (Some x) (Some y) accepted number state next old mid new cause outside so_far kept = record {
+  breaks whole None middle accepted number state next old mid new cause outside reached so_far kept = tt
+  breaks whole (Some x) None accepted number state next old mid new cause outside reached so_far kept = absurd so_far
+  breaks whole (Some x) (Some y) accepted number state next old mid new cause outside reached so_far kept = record {
     judged = length so_far.done;
     within = omega (arith, ap length so_far.apart, length-append so_far.done (input_lines y));
+    counted = (omega (arith, so_far.number_is, reached.0), reached.1);
     calls = so_far.calls;
     spelled = subst (λ front. SpellCalls front so_far.calls) (sym (ap (take (length so_far.done)) so_far.apart ∙ take-append_seam so_far.done _)) so_far.spelled;
     count = so_far.count;
@@ -250,9 +260,9 @@ module _ (settings : Settings) (timer : Timer) (first : State) where
 
   -- a line that was read whole is to blame
   blames : (whole : Bool) (lines others after : List (List ℕ)) (line : List ℕ) (accepted number : ℕ) (state : State) (old mid new : Option (List ℕ)) (cause : LineCause)
-      (front : List ℕ) → IsSoFar lines others accepted number state old mid → others ≡ line ∷ after → EndsRun settings timer state line cause →
+      (front : List ℕ) → number < last_number → IsSoFar lines others accepted number state old mid → others ≡ line ∷ after → EndsRun settings timer state line cause →
       IsLeftBehind whole settings timer state line cause front → Appends mid new front → Ends whole lines accepted (Some (record { line = number; cause = cause })) old new
-  blames whole lines others after line accepted number state old mid new cause front so_far e ends left appends =
+  blames whole lines others after line accepted number state old mid new cause front below so_far e ends left appends =
       let r : Run = run settings timer first so_far.calls in
       let fault : LineFault = record { line = number; cause = cause } in
       let apart : lines ≡ so_far.done ++ line ∷ after = so_far.apart ∙ ap (λ rest. so_far.done ++ rest) e in
@@ -261,6 +271,7 @@ module _ (settings : Settings) (timer : Timer) (first : State) where
       record {
         judged = length so_far.done;
         within = omega (arith, ap length so_far.apart, length-append so_far.done others);
+        counted = (omega (arith, so_far.number_is, below), λ last. absurd (omega (arith, below, last)));
         calls = so_far.calls;
         spelled = subst (λ front. SpellCalls front so_far.calls) (sym (ap (take (length so_far.done)) so_far.apart ∙ take-append_seam so_far.done _)) so_far.spelled;
         count = so_far.count;
@@ -291,37 +302,37 @@ module _ (settings : Settings) (timer : Timer) (first : State) where
 
   -- a line that spells nothing
   pub fails : (whole : Bool) (known middle left : Option (List ℕ)) (accepted number : ℕ) (state next : State) (old mid new : Option (List ℕ)) →
-      IsKnownSoFar known middle accepted number state old mid → FailsLine middle left × MakesNone state next mid new →
+      number < last_number → IsKnownSoFar known middle accepted number state old mid → FailsLine middle left × MakesNone state next mid new →
       IfSome known (λ input. Ends whole (input_lines input) accepted (Some (record { line = number; cause = NotACall })) old new)
-  fails whole None middle left accepted number state next old mid new so_far h = tt
-  fails whole (Some x) None left accepted number state next old mid new so_far h = absurd so_far
-  fails whole (Some x) (Some y) None accepted number state next old mid new so_far h = absurd h.0.first
-  fails whole (Some x) (Some y) (Some z) accepted number state next old mid new so_far h =
-      blames whole (input_lines x) (input_lines y) (input_lines z) h.0.line accepted number state old mid new NotACall [] so_far h.0.first h.0.nothing refl
+  fails whole None middle left accepted number state next old mid new below so_far h = tt
+  fails whole (Some x) None left accepted number state next old mid new below so_far h = absurd so_far
+  fails whole (Some x) (Some y) None accepted number state next old mid new below so_far h = absurd h.0.first
+  fails whole (Some x) (Some y) (Some z) accepted number state next old mid new below so_far h =
+      blames whole (input_lines x) (input_lines y) (input_lines z) h.0.line accepted number state old mid new NotACall [] below so_far h.0.first h.0.nothing refl
       (Appends-kept mid mid new [] (appends_none mid) h.1.kept)
 
   -- a line whose call is refused
   pub refuses : (whole : Bool) (known middle left : Option (List ℕ)) (accepted number : ℕ) (state next : State) (old mid new : Option (List ℕ)) (refusal : Refusal) →
-      IsKnownSoFar known middle accepted number state old mid → MakesCall whole settings timer state next mid new middle left (Err refusal) →
+      number < last_number → IsKnownSoFar known middle accepted number state old mid → MakesCall whole settings timer state next mid new middle left (Err refusal) →
       IfSome known (λ input. Ends whole (input_lines input) accepted (Some (record { line = number; cause = Refused refusal })) old new)
-  refuses whole None middle left accepted number state next old mid new refusal so_far m = tt
-  refuses whole (Some x) None left accepted number state next old mid new refusal so_far m = absurd so_far
-  refuses whole (Some x) (Some y) None accepted number state next old mid new refusal so_far m = absurd m.first
-  refuses whole (Some x) (Some y) (Some z) accepted number state next old mid new refusal so_far m =
+  refuses whole None middle left accepted number state next old mid new refusal below so_far m = tt
+  refuses whole (Some x) None left accepted number state next old mid new refusal below so_far m = absurd so_far
+  refuses whole (Some x) (Some y) None accepted number state next old mid new refusal below so_far m = absurd m.first
+  refuses whole (Some x) (Some y) (Some z) accepted number state next old mid new refusal below so_far m =
       let (front, left, appends) = leaves whole state m.line m.call refusal mid new m.old_faults m.new_faults m.spelled m.answered.written in
-      blames whole (input_lines x) (input_lines y) (input_lines z) m.line accepted number state old mid new (Refused refusal) front so_far m.first
+      blames whole (input_lines x) (input_lines y) (input_lines z) m.line accepted number state old mid new (Refused refusal) front below so_far m.first
       (m.call, m.spelled, m.answered.answer) left appends
 
   -- a line that ends the run
   pub stops : (whole : Bool) (known middle left : Option (List ℕ)) (accepted number : ℕ) (state next : State) (old mid new : Option (List ℕ)) (cause : LineCause) →
-      IsKnownSoFar known middle accepted number state old mid → JudgesLine whole settings timer state next mid new middle left (Err cause) →
+      number < last_number → IsKnownSoFar known middle accepted number state old mid → JudgesLine whole settings timer state next mid new middle left (Err cause) →
       IfSome known (λ input. Ends whole (input_lines input) accepted (Some (record { line = number; cause = cause })) old new)
-  stops whole known middle left accepted number state next old mid new NoSettings so_far h = absurd h
-  stops whole known middle left accepted number state next old mid new NotACall so_far h =
-      fails whole known middle left accepted number state next old mid new so_far h
-  stops whole known middle left accepted number state next old mid new Read so_far h =
-      breaks whole known middle accepted number state next old mid new Read refl so_far h.kept
-  stops whole known middle left accepted number state next old mid new Memory so_far h =
-      breaks whole known middle accepted number state next old mid new Memory refl so_far h.kept
-  stops whole known middle left accepted number state next old mid new (Refused refusal) so_far h =
-      refuses whole known middle left accepted number state next old mid new refusal so_far h
+  stops whole known middle left accepted number state next old mid new NoSettings below so_far h = absurd h
+  stops whole known middle left accepted number state next old mid new NotACall below so_far h =
+      fails whole known middle left accepted number state next old mid new below so_far h
+  stops whole known middle left accepted number state next old mid new Read below so_far h =
+      breaks whole known middle accepted number state next old mid new Read refl (may_end number Read below) so_far h.kept
+  stops whole known middle left accepted number state next old mid new Memory below so_far h =
+      breaks whole known middle accepted number state next old mid new Memory refl (may_end number Memory below) so_far h.kept
+  stops whole known middle left accepted number state next old mid new (Refused refusal) below so_far h =
+      refuses whole known middle left accepted number state next old mid new refusal below so_far h

@@ -163,6 +163,7 @@ settings_alone = inr (
     begins = record { line = codes "{}"; lines = refl; spelled = ((codes "{}", (refl, refl)), refl) };
     judged = 0;
     within = omega arith;
+    counted = (omega arith, tt);
     calls = [];
     spelled = tt;
     count = refl;
@@ -200,6 +201,7 @@ ended_early = inr (
     };
     judged = 1;
     within = omega arith;
+    counted = (omega arith, λ last. absurd (omega (arith, last)));
     calls = made (codes "a") outside ∷ [];
     spelled = (first_line, tt);
     count = refl;

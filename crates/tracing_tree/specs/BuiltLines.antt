@@ -15,8 +15,8 @@ abbrev pub LacksBuilt : List ℕ → Type 0
 LacksBuilt input =
     (line : List ℕ) (others : List (List ℕ)) (settings : Settings) → input_lines input ≡ line ∷ others → ¬ (SpellsFirst line settings)
 
--- Line 1 may end the run for this cause. The settings fault comes only where no settings that can be set begin the input, and
--- the line is no call.
+-- Line 1 may end the run for this cause: for the settings only where none that can be set begin the input. No call stands
+-- there, so none is to blame.
 abbrev pub EndsUnbuilt : List ℕ → LineCause → Type 0
 EndsUnbuilt input NoSettings = LacksBuilt input
 EndsUnbuilt input NotACall = ⊥

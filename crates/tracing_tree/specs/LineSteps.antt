@@ -9,7 +9,7 @@ use Rattle.tracing_tree.specs.State.{State}
 use Rattle.tracing_tree.specs.Run.{run}
 use Rattle.tracing_tree.specs.Answered.{IsAnswered}
 use Rattle.tracing_tree.specs.Spelled.{is_skipped, SpellsCall, SpellCalls, SpellsNothing}
-use Rattle.tracing_tree.specs.Lines.{IsFaultBehind, IsLeftByFault, CountsCause}
+use Rattle.tracing_tree.specs.Lines.{IsCounted, IsFaultBehind, IsLeftByFault, CountsCause}
 use Rattle.tracing_tree.specs.LineReads.{TakesLine, HasNoLine}
 use Rattle.tracing_tree.specs.declared.call.Call.{Call}
 use Rattle.tracing_tree.specs.declared.call.Reply.{Reply}
@@ -73,6 +73,7 @@ pub record RunsOver (whole : Bool) (settings : Settings) (timer : Timer) (first 
     (old new : Option (List ℕ)) : Type 0 where
   pub judged : ℕ
   pub within : judged ≤ length lines
+  pub counted : IsCounted judged fault
   pub calls : List Call
   pub spelled : SpellCalls (take judged lines) calls
   pub count : accepted ≡ length calls

@@ -49,8 +49,8 @@ IsFaultBehind settings timer state others judged fault =
     (fault.line ≡ judged + 2)
     × (is_from_outside fault.cause ≡ false → IsSomeAnd (slice_get others judged) (λ line. EndsRun settings timer state line fault.cause))
 
--- Line 1 may end the run for this cause. The settings fault comes only where no settings begin the input, and the line is
--- no call.
+-- Line 1 may end the run for this cause: for the settings only where none begin the input. No call stands there, so none is
+-- to blame.
 abbrev pub EndsAtFirst : List ℕ → LineCause → Type 0
 EndsAtFirst input NoSettings = LacksSettings input
 EndsAtFirst input NotACall = ⊥
@@ -65,6 +65,14 @@ pub record StopsAtFirst (input : List ℕ) (accepted : ℕ) (fault : Option Line
   pub blamed : fault ≡ Some (record { line = 1; cause = cause })
   pub none : accepted ≡ 0
 
+-- Lines are counted up to this number. The line that has it isn't judged: a run that comes so far ends there by `Read`.
+abbrev pub last_number : ℕ
+last_number = 18_446_744_073_709_551_615
+
+-- so many lines behind the first may be judged, and no other cause ends the run at the last number
+abbrev pub IsCounted : ℕ → Option LineFault → Type 0
+IsCounted judged fault = (judged + 1 < last_number) × IfSome fault (λ fault. fault.line ≡ last_number → fault.cause ≡ Read)
+
 -- the run of the calls that lines spell, under the settings of the first line
 abbrev pub lines_run : Settings → TimerChoice → List Call → Run
 lines_run settings timer calls = run settings (chosen_timer timer) (opening_state (id_of 1)) calls
@@ -78,6 +86,7 @@ pub record RunsLines (input : List ℕ) (accepted : ℕ) (fault : Option LineFau
   pub begins : BeginsWith input settings timer others
   pub judged : ℕ
   pub within : judged ≤ length others
+  pub counted : IsCounted judged fault
   pub calls : List Call
   pub spelled : SpellCalls (take judged others) calls
   pub count : accepted ≡ length calls

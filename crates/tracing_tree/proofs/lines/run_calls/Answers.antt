@@ -22,14 +22,14 @@ returns-in-Ok-End-clause-ran g c = λ built.
     let layer = c.args.layered.now.layer in
     let judged = rw (ap (λ l. l.settings) c.loop-number.invariant.fixed) at c.run_line.ensures.judged in
     let ended = rw (c.in-Ok-End.is, c.in-Ok-End.field-0-is) at (judged built) in
-    finishes layer.settings no_timer (state_of c.args.layered.now) g.W.Output.WHOLE _ _ _ _ _ _ _ _ _ (c.loop-number.invariant.so_far built) ended
+    finishes layer.settings no_timer (state_of c.args.layered.now) g.W.Output.WHOLE _ _ _ _ _ _ _ _ _ (omega arith) (c.loop-number.invariant.so_far built) ended
 
 pub returns-in-Err-clause-ran : goal.returns-in-Err-clause-ran
 returns-in-Err-clause-ran g c = λ built.
     let layer = c.args.layered.now.layer in
     let judged = rw (ap (λ l. l.settings) c.loop-number.invariant.fixed) at c.run_line.ensures.judged in
     let ended = rw c.in-Err.is at (judged built) in
-    stops layer.settings no_timer (state_of c.args.layered.now) g.W.Output.WHOLE _ _ _ _ _ _ _ _ _ _ c.in-Err.cause (c.loop-number.invariant.so_far built) ended
+    stops layer.settings no_timer (state_of c.args.layered.now) g.W.Output.WHOLE _ _ _ _ _ _ _ _ _ _ c.in-Err.cause (omega arith) (c.loop-number.invariant.so_far built) ended
 
 pub loop-number-preserved : goal.loop-number-preserved
 loop-number-preserved g c = record {
@@ -71,4 +71,4 @@ returns-clause-ran g c = λ built.
     let layer = c.args.layered.now.layer in
     let last : c.loop-number.number ≡ 18_446_744_073_709_551_615 = omega arith in
     let so_far = rw last at (c.loop-number.invariant.so_far built) in
-    breaks layer.settings no_timer (state_of c.args.layered.now) g.W.Output.WHOLE _ _ _ _ _ (state_of c.loop-number.layered) _ _ _ Read refl so_far (Keeps-refl _)
+    breaks layer.settings no_timer (state_of c.args.layered.now) g.W.Output.WHOLE _ _ _ _ _ (state_of c.loop-number.layered) _ _ _ Read refl (omega arith, λ last. refl) so_far (Keeps-refl _)
