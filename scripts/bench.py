@@ -1,9 +1,10 @@
 """Times the program on inputs that it makes itself, the same each time, and prints for each: calls a second, output MB a second,
-peak memory, and how much longer ten times as many calls took (10 is linear). It asserts nothing. A peak below Python's own, some
-14 MiB, shows as that.
+peak memory, and how much longer ten times as many calls took (10 is linear); and then what a call costs among many live spans. It
+asserts nothing. A peak below Python's own, some 14 MiB, shows as that.
 
 usage: bench.py PROGRAM
 """
+import itertools
 import json
 import os
 import subprocess
@@ -59,10 +60,14 @@ def roots(spans):
         yield close(i)
 
 
-def live(spans, calls):
-    """So many live spans, and clones and records spread over them."""
+def opened(spans):
+    """Roots that all live at once."""
     for _ in range(spans):
         yield new("span")
+
+
+def spread(spans, calls):
+    """Clones and records, in turn, spread over so many spans."""
     for n in range(calls):
         i = n * 7919 % spans + 1
         if n % 2 == 0:
@@ -71,31 +76,61 @@ def live(spans, calls):
             yield {"call": "record", "id": i, "fields": [["k", "v"]]}
 
 
-def timed(program, settings, calls):
-    """Runs the program on these calls: how many, seconds, bytes written, peak memory in KiB, and its status."""
-    with tempfile.NamedTemporaryFile("w", suffix=".jsonl") as file, tempfile.TemporaryFile() as out:
-        file.write(json.dumps(settings) + "\n")
-        count = 0
-        for call in calls:
-            file.write(json.dumps(call, separators=(",", ":")) + "\n")
-            count += 1
-        file.flush()
-        with open(file.name, "rb") as source:
-            began = time.perf_counter()
-            child = subprocess.Popen([program], stdin=source, stdout=out)
-            _, status, used = os.wait4(child.pid, 0)
-            seconds = time.perf_counter() - began
-            child.returncode = os.waitstatus_to_exitcode(status)
-        return count, seconds, os.fstat(out.fileno()).st_size, used.ru_maxrss, child.returncode
+def oldest(calls):
+    """So many closes, each of the oldest span."""
+    for i in range(1, calls + 1):
+        yield close(i)
+
+
+def write(file, settings, calls):
+    """Writes an input, and answers how many calls it has."""
+    count = 0
+    file.write(json.dumps(settings) + "\n")
+    for call in calls:
+        file.write(json.dumps(call, separators=(",", ":")) + "\n")
+        count += 1
+    file.flush()
+    return count
+
+
+def run(program, path):
+    """Runs the program on an input: seconds, bytes written, peak memory in KiB, and its status."""
+    with open(path, "rb") as source, tempfile.TemporaryFile() as out:
+        began = time.perf_counter()
+        child = subprocess.Popen([program], stdin=source, stdout=out)
+        _, status, used = os.wait4(child.pid, 0)
+        seconds = time.perf_counter() - began
+        child.returncode = os.waitstatus_to_exitcode(status)
+        return seconds, os.fstat(out.fileno()).st_size, used.ru_maxrss, child.returncode
 
 
 def report(name, program, settings, calls, before=None):
-    count, seconds, size, peak, status = timed(program, settings, calls)
+    with tempfile.NamedTemporaryFile("w", suffix=".jsonl") as file:
+        count = write(file, settings, calls)
+        seconds, size, peak, status = run(program, file.name)
     ratio = f"  ratio {seconds / before:5.2f}" if before else ""
     fault = "" if status == 0 else f"  STATUS {status}"
     print(f"{name:34} {count:9} calls {count / seconds:12,.0f} calls/s {size / seconds / 1e6:8.2f} MB/s {peak / 1024:8.1f} MiB"
           f" {seconds:8.3f} s{ratio}{fault}", flush=True)
     return seconds
+
+
+def best(program, calls):
+    """The shortest of three runs of these calls, in seconds."""
+    with tempfile.NamedTemporaryFile("w", suffix=".jsonl") as file:
+        write(file, LINES, calls)
+        return min(run(program, file.name)[0] for _ in range(3))
+
+
+def report_live(program, spans):
+    """What a call costs among so many live spans, beyond what it takes to make them and to let go of them."""
+    without = best(program, opened(spans))
+    for name, count, calls in (
+        ("a clone or a record", 1_000_000, spread(spans, 1_000_000)),
+        ("a close of the oldest", 100, oldest(100)),
+    ):
+        cost = best(program, itertools.chain(opened(spans), calls)) - without
+        print(f"{name:22} of {spans:9,} live spans {cost / count * 1e6:12.3f} us", flush=True)
 
 
 def main():
@@ -109,7 +144,7 @@ def main():
     for spans in (10_000, 100_000):
         report("live roots", program, LINES, roots(spans))
     for spans in (1_000, 100_000, 1_000_000):
-        report(f"clones and records, {spans} live", program, LINES, live(spans, 1_000_000))
+        report_live(program, spans)
 
 
 main()

@@ -122,9 +122,10 @@ pub record WritesLines {input : List ℕ} {accepted : ℕ} {fault : Option LineF
       (slice_get r.others r.judged) fault front
   pub appends : Appends old new (lines_text r ++ front)
 
--- the count of the writer's faults, by the cause that ended the run: it rose where the writer is to blame, and stayed elsewhere
+-- the count of the writer's faults, by the cause that ended the run: it rose by one where the writer is to blame, and stayed
+-- elsewhere
 abbrev pub CountsCause : LineCause → ℕ → ℕ → Type 0
-CountsCause (Refused Writer) old_faults new_faults = old_faults < new_faults
+CountsCause (Refused Writer) old_faults new_faults = new_faults ≡ old_faults + 1
 CountsCause cause old_faults new_faults = new_faults ≡ old_faults
 
 -- the same of a fault, if there is one

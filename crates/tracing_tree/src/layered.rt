@@ -1,6 +1,6 @@
 //! A registry with a layer, which take each call whole, or refuse it and say why.
 
-ghost use Rattle.std.specs.Prelude.{◌≡◌, ◌<◌, false, None, OnErr, IfOk};
+ghost use Rattle.std.specs.Prelude.{◌≡◌, ◌≢◌, ◌<◌, [], false, None, OnErr, IfOk};
 ghost use Rattle.tracing_tree_core.specs.Ids.{id_of};
 ghost use Rattle.tracing_tree_core.specs.Forest.{empty_forest};
 ghost use Rattle.tracing_tree.specs.Layers.{state_of, IsFixed};
@@ -110,7 +110,7 @@ impl<W: Output, FT: FormatTime> Layered<W, FT> {
     }
 
     /// Makes calls one after another, and answers each, in order. Room for the answers is taken first: on `AllocError` nothing
-    /// has changed.
+    /// has changed. No calls need no room.
     pub fn run(
         &mut self,
         alloc: Global,
@@ -121,6 +121,7 @@ impl<W: Output, FT: FormatTime> Layered<W, FT> {
             W.WHOLE (W.contents self.old.layer.writer) (W.contents self.new.layer.writer) (W.fault_count self.old.layer.writer) (W.fault_count self.new.layer.writer)) }
         ensures fixed { IsFixed self.old.layer self.new.layer }
         ensures err { OnErr result (self.new ≡ self.old) }
+        ensures room { OnErr result (calls.items ≢ []) }
     {
         let mut answers = Vec::with_capacity(alloc, calls.len())?;
         for call in calls {

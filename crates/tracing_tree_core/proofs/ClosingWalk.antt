@@ -42,6 +42,17 @@ pub one-up : (forest : Forest) → IsForest forest → (i : Id) (s : Span) (ids 
 one-up forest formed i s ids whole h way =
     append_assoc ids (i ∷ []) (way_up forest s.parent) ∙ ap (λ xs. ids ++ xs) (sym (way-step forest formed i s h)) ∙ way
 
+-- a list with an element in it isn't empty
+holds_one : {A : Type 0} (before after : List A) (x : A) → ¬ (before ++ x ∷ after ≡ [])
+holds_one [] after x e = cc
+holds_one (y ∷ before) after x e = cc
+
+-- where a span is met on the way up from an id, that is live
+pub way-live : (forest : Forest) → IsForest forest → (i first : Id) (s : Span) (ids : List Id) → span_at forest i ≡ Some s →
+    ids ++ way_up forest (Some i) ≡ way_up forest (Some first) → ¬ (span_at forest first ≡ None)
+way-live forest formed i first s ids h way gone =
+    holds_one ids (way_up forest s.parent) i (ap (λ xs. ids ++ xs) (sym (way-step forest formed i s h)) ∙ way ∙ way-none forest formed first gone)
+
 -- from an id that a search of a slice of the spans did not find there is no way
 pub way-lost : (slice spans : List Span) (next : Option Id) (o : Option Id) (i : Id) → IsForest (forest_of spans next) →
     slice ≡ spans → find (has_id i) slice ≡ None → o ≡ Some i → way_up (forest_of spans next) o ≡ []

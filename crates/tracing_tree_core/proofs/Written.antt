@@ -16,7 +16,7 @@ nothing_done (x ∷ done) h = absurd (h (omega arith))
 pub cut_so_far : (whole : Bool) (a b c : Option (List ℕ)) (all done rest : List ℕ) (m n : ℕ) → all ≡ done ++ rest → 0 < length rest →
     Appends a b done → Keeps b c → n ≡ m + 1 → (IsTrue whole → 0 < length done → rest ≡ []) → LeavesCut whole all a c m n
 cut_so_far whole a b c all done rest m n e more p q rose none = record {
-  rose = omega arith;
+  rose = rose;
   front = done;
   cut = record { rest = rest; whole = e; cut = not_empty rest more };
   appends = Appends-kept a b c done p q;

@@ -29,9 +29,9 @@ pub record IsCutShort (text front : List ℕ) : Type 0 where
   pub whole : text ≡ front ++ rest
   pub cut : rest ≢ []
 
--- a fault of the writer: its count rose, and what was written is cut short, or nothing where writes are whole
+-- a fault of the writer: its count rose by one, and what was written is cut short, or nothing where writes are whole
 pub record LeavesCut (whole : Bool) (text : List ℕ) (old new : Option (List ℕ)) (old_faults new_faults : ℕ) : Type 0 where
-  pub rose : old_faults < new_faults
+  pub rose : new_faults ≡ old_faults + 1
   pub front : List ℕ
   pub cut : IsCutShort text front
   pub appends : Appends old new front
@@ -45,8 +45,7 @@ pub record TapeView : Type 0 where
 -- All of a text is written, or what is written is cut short. Where writes are whole a fault writes nothing.
 abbrev pub WritesWhole : Bool → List ℕ → Result (Unit {0}) OutputFault → Option (List ℕ) → Option (List ℕ) → ℕ → ℕ → Type 0
 WritesWhole whole text (Ok done) old new old_faults new_faults = Appends old new text × (new_faults ≡ old_faults)
-WritesWhole whole text (Err fault) old new old_faults new_faults =
-    LeavesCut whole text old new old_faults new_faults × (new_faults ≡ old_faults + 1)
+WritesWhole whole text (Err fault) old new old_faults new_faults = LeavesCut whole text old new old_faults new_faults
 
 -- a fault of a timer as a refusal of a call
 abbrev pub RefusesFault : TimeFault → Refusal → Type 0

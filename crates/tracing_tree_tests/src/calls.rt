@@ -33,6 +33,37 @@ fn draws_a_tree(rt: HostRuntime) -> Result<(), Fail> {
     Ok(())
 }
 
+// So many roots live at once, and close again in the order in which they were made.
+#[test]
+fn draws_many_spans(rt: HostRuntime) -> Result<(), Fail> {
+    let alloc = rt.alloc();
+    let count = 3_000;
+    let mut calls = Vec::new(alloc);
+    let mut wanted = String::new(alloc);
+    for _ in 0..count {
+        calls.push(made(alloc, "a", None)?)?;
+        wanted.push_str("┐a \n")?;
+    }
+    for id in 1..=count {
+        calls.push(closed(id))?;
+        wanted.push_str("┘\n")?;
+    }
+    let mut layered = lined(alloc);
+    let answers = layered.run(alloc, calls)?;
+    assert_eq!(rt; answers.iter().all(|answer| answer.is_ok()), true);
+    assert_eq!(rt; layered.writer().bytes(), wanted.as_bytes());
+    Ok(())
+}
+
+#[test]
+fn runs_no_calls(rt: HostRuntime) -> Result<(), Fail> {
+    let alloc = rt.alloc();
+    let mut layered = lined(alloc);
+    let answers = layered.run(alloc, Vec::new(alloc))?;
+    assert_eq!(rt; answers.is_empty(), true);
+    Ok(())
+}
+
 #[test]
 fn gives_out_the_greatest_id(rt: HostRuntime) -> Result<(), Fail> {
     let alloc = rt.alloc();

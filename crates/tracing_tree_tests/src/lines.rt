@@ -132,6 +132,16 @@ fn long_lines(rt: HostRuntime) -> Result<(), Fail> {
     Ok(())
 }
 
+// Nothing is read behind the line that ended the run.
+#[test]
+fn reads_no_further(rt: HostRuntime) {
+    let alloc = rt.alloc();
+    let mut reader = Hesitant::new(b"{}\n{\n{}\n", u32::MAX, 0, ErrorKind::BrokenPipe);
+    let ran = run_lines(alloc, &mut reader, Tape::new(alloc));
+    assert_eq!(rt; ran.fault.map(|fault| fault.line), Some(2));
+    assert_eq!(rt; reader.rest, b"{}\n".as_slice());
+}
+
 // Compares the text of a fault in line 3.
 fn reads_as(rt: &(impl Abort + AllocGlobal), cause: LineCause, wanted: &str) -> Result<(), Fail> {
     let fault = LineFault { line: 3, cause };

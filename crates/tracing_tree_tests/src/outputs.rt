@@ -6,17 +6,18 @@ use std::io;
 use std::io::{ErrorKind, Write};
 use std::test::*;
 use tracing_tree::call::{Call, Reply};
-use tracing_tree::format::{Id, Output, OutputFault, Refusal, Wrap};
+use tracing_tree::format::{Id, Output, OutputFault, Refusal, Tape, Wrap};
 use tracing_tree::lines::{LineCause, LineFault, run_lines};
 use tracing_tree::registry::LookupSpan;
 use tracing_tree::style::Level;
 
-// A writer that is interrupted so many times, and then takes at most a piece of what it is given.
+// A writer that is interrupted so many times, and then takes at most a piece of what it is given. It counts its flushes.
 #[derive(Drop)]
 struct Halting {
     taken: Vec<u8>,
     piece: usize,
     interruptions: u32,
+    flushes: u32,
 }
 
 impl Write for Halting {
@@ -31,6 +32,7 @@ impl Write for Halting {
     }
 
     fn flush(&mut self) -> io::Result<()> {
+        self.flushes = self.flushes.wrapping_add(1);
         Ok(())
     }
 }
@@ -47,28 +49,39 @@ fn wraps_a_writer(rt: HostRuntime) -> Result<(), Fail> {
             taken: Vec::new(rt.alloc()),
             piece,
             interruptions,
+            flushes: 0,
         });
         assert_eq!(rt; wrap.write(b"abcd"), wanted);
         let faults = if wanted.is_ok() { 0 } else { 1 };
         assert_eq!(rt; wrap.faults(), faults);
         let taken = wanted.unwrap_or(0).min(4);
-        assert_eq!(rt; wrap.into_inner().taken.as_slice(), &b"abcd"[..taken]);
+        let writer = wrap.into_inner();
+        assert_eq!(rt; writer.taken.as_slice(), &b"abcd"[..taken]);
+        assert_eq!(rt; writer.flushes, 0);
     }
     Ok(())
 }
 
-// Takes three bytes at a time, and refuses the write of one number, counted from 1, once.
+#[test]
+fn tape_takes_nothing(rt: HostRuntime) {
+    let mut tape = Tape::new(rt.alloc());
+    assert_eq!(rt; tape.write(b""), Ok(0));
+    assert_eq!(rt; tape.faults(), 0);
+}
+
+// Takes three bytes at a time, and refuses the write of one number, counted from 1: that one alone, or all from it on.
 #[derive(Drop)]
 struct Choppy {
     taken: Vec<u8>,
     writes: u32,
     stop: u32,
+    broken: bool,
 }
 
 impl Write for Choppy {
     fn write(&mut self, bytes: &[u8]) -> io::Result<usize> {
         self.writes = self.writes.wrapping_add(1);
-        if self.writes == self.stop {
+        if self.writes == self.stop || (self.broken && self.writes > self.stop) {
             return Err(io::Error::from(ErrorKind::BrokenPipe));
         }
         let piece = bytes.len().min(3);
@@ -82,11 +95,12 @@ impl Write for Choppy {
 }
 
 impl Choppy {
-    fn new(alloc: Global, stop: u32) -> Choppy {
+    fn new(alloc: Global, stop: u32, broken: bool) -> Choppy {
         Choppy {
             taken: Vec::new(alloc),
             writes: 0,
             stop,
+            broken,
         }
     }
 }
@@ -94,8 +108,13 @@ impl Choppy {
 #[test]
 fn fails_with_its_writer(rt: HostRuntime) -> Result<(), Fail> {
     let alloc = rt.alloc();
-    for (stop, left) in [(3, "┐a \n"), (4, "┐a \n└")] {
-        let mut layered = lined_over(alloc, Wrap::new(Choppy::new(alloc, stop)));
+    for (stop, broken, left) in [
+        (3, false, "┐a \n"),
+        (3, true, "┐a \n"),
+        (4, false, "┐a \n└"),
+        (4, true, "┐a \n└"),
+    ] {
+        let mut layered = lined_over(alloc, Wrap::new(Choppy::new(alloc, stop, broken)));
         assert_eq!(rt;
             layered.call(made(alloc, "a", None)?),
             Ok(Reply::Span(Id(1)))
@@ -131,13 +150,15 @@ const TWO_SPANS: &[u8] = br#"{"indent_lines": true}
 #[test]
 fn blames_the_line_of_the_fault(rt: HostRuntime) {
     let alloc = rt.alloc();
-    for (stop, accepted, line, left) in [
-        (1, 0, 2, ""),
-        (2, 0, 2, "┐"),
-        (3, 1, 3, "┐a \n"),
-        (4, 1, 3, "┐a \n└"),
+    for (stop, broken, accepted, line, left) in [
+        (1, false, 0, 2, ""),
+        (2, true, 0, 2, "┐"),
+        (3, false, 1, 3, "┐a \n"),
+        (3, true, 1, 3, "┐a \n"),
+        (4, false, 1, 3, "┐a \n└"),
     ] {
-        let ran = run_lines(alloc, TWO_SPANS, Wrap::new(Choppy::new(alloc, stop)));
+        let writer = Wrap::new(Choppy::new(alloc, stop, broken));
+        let ran = run_lines(alloc, TWO_SPANS, writer);
         let cause = LineCause::Refused(Refusal::Writer);
         assert_eq!(rt; ran.fault, Some(LineFault { line, cause }));
         assert_eq!(rt; ran.accepted, accepted);

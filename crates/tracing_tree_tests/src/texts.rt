@@ -1,11 +1,13 @@
 //! Texts, blocks, settings and single rows.
 
 use crate::making::at;
+use std::alloc::Global;
 use std::test::*;
 use tracing_tree::field::Field;
 use tracing_tree::format::{Buffers, Config, Refusal, SpanMode, Tape, write_span_mode};
 use tracing_tree::style::{ColorLevel, Level, Style, styled};
 use tracing_tree::text::Text;
+use tracing_tree::time::{FormatTime, TimeFault};
 
 #[test]
 fn paints_texts(rt: HostRuntime) -> Result<(), Fail> {
@@ -115,4 +117,25 @@ fn refuses_what_is_too_wide(rt: HostRuntime) -> Result<(), Fail> {
         assert_eq!(rt; bufs.indent_buf.as_str(), "");
     }
     Ok(())
+}
+
+// What a timer appends at the start of 1970, and for an elapsed nanosecond.
+fn texts_of_timer<F: FormatTime>(alloc: Global, timer: &F) -> Result<String, TimeFault> {
+    let mut text = String::new(alloc);
+    timer.format_time(&at(None).moment, &mut text)?;
+    timer.style_timestamp(true, 1, &mut text)?;
+    Ok(text)
+}
+
+#[test]
+fn no_timer_appends_nothing(rt: HostRuntime) {
+    let alloc = rt.alloc();
+    assert_eq!(rt;
+        texts_of_timer(alloc, &()).is_ok_and(|text| text.is_empty()),
+        true
+    );
+    assert_eq!(rt;
+        texts_of_timer(alloc, &&()).is_ok_and(|text| text.is_empty()),
+        true
+    );
 }

@@ -25,9 +25,11 @@ pub trait LookupSpan {
         ensures parent { result ≡ parent_of (forest self.now) id }
         ensures formed { IsForest (forest self.now) };
 
-    /// The path of a span, from its root down to it; empty for an id that isn't live. `AllocError` where memory is refused.
+    /// The path of a span, from its root down to it; empty for an id that isn't live, which takes no memory. `AllocError` where
+    /// memory is refused.
     fn path(&self, alloc: Global, id: Id) -> Result<Vec<Id>, AllocError>
         ensures path { IfOk result (λ path. path.items ≡ path_of (forest self.now) id) }
+        ensures live { OnErr result (span_at (forest self.now) id ≡ None → ⊥) }
         ensures formed { IsForest (forest self.now) };
 
     /// What is kept with a live span.

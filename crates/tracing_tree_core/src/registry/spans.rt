@@ -1,11 +1,11 @@
 //! The live spans.
 
-ghost use Rattle.std.specs.Prelude.{◌≡◌, ◌-◌, ◌<◌, ◌++◌, List, Some, None, IfOk, OnOk, IfSome, MatchOption, slice_get, find, length, false, not, ◌==◌, ◌&&◌, Option, reverse};
+ghost use Rattle.std.specs.Prelude.{◌≡◌, ◌-◌, ◌<◌, ◌++◌, List, Some, None, IfOk, OnErr, OnOk, IfSome, MatchOption, slice_get, find, length, false, not, ◌==◌, ◌&&◌, Option, reverse};
 ghost use Rattle.std.specs.List.{list_any};
 ghost use Rattle.std.specs.Option.{option_map_or};
 ghost use Rattle.tracing_tree_core.specs.Ids.{id_of};
 ghost use Rattle.tracing_tree_core.specs.Spans.{Span};
-ghost use Rattle.tracing_tree_core.specs.Forest.{Forest, IsForest, has_id, empty_forest, any_unless_live, path_of, path_of_any, id_after, going_up, without_spans, take_back};
+ghost use Rattle.tracing_tree_core.specs.Forest.{Forest, IsForest, has_id, empty_forest, span_at, any_unless_live, path_of, path_of_any, id_after, going_up, without_spans, take_back};
 ghost use Rattle.tracing_tree_core.specs.Registered.{IsNewSpan, IsCloned, IsClosed, ListsClosing, AsksLastHandle, IsNewest, IsKept, IsRising, alone, going_after, is_other_child, lacks_others};
 
 use super::node::Node;
@@ -146,9 +146,11 @@ impl Registry {
         Ok(ids)
     }
 
-    /// The span, its parent, and so on up to its root; empty for an id that isn't live. `AllocError` where memory is refused.
+    /// The span, its parent, and so on up to its root; empty for an id that isn't live, which takes no memory. `AllocError`
+    /// where memory is refused.
     pub fn scope(&self, alloc: Global, id: Id) -> Result<Vec<Id>, AllocError>
         ensures scope { IfOk result (λ scope. scope.items ≡ reverse (path_of self.now id)) }
+        ensures live { OnErr result (span_at self.now id ≡ None → ⊥) }
         ensures formed { IsForest self.now }
     {
         let mut scope = Vec::new(alloc);
