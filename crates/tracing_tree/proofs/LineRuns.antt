@@ -16,7 +16,7 @@ use Rattle.tracing_tree.specs.Run.{Run, run, run_by_cause, no_call, then_run, ca
 use Rattle.tracing_tree.specs.Answered.{IsAnswered, Writes}
 use Rattle.tracing_tree.specs.Spelled.{input_lines, is_skipped, SpellsCall, SpellCalls}
 use Rattle.tracing_tree.specs.Readers.{IsUnlessMemory}
-use Rattle.tracing_tree.specs.Lines.{EndsRun, IsCounted, IsLeftBehind, IsLeftByFault, is_from_outside, last_number}
+use Rattle.tracing_tree.specs.Lines.{EndsRun, IsLeftBehind, IsLeftByFault, is_from_outside, last_number}
 use Rattle.tracing_tree.specs.LineReads.{TakesLine, HasNoLine}
 use Rattle.tracing_tree.specs.LineSteps.{MakesCall, MakesNone, SkipsLine, FailsLine, JudgesLine, RunsOver}
 use Rattle.tracing_tree.specs.declared.call.Call.{Call}
