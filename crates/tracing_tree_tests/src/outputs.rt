@@ -156,6 +156,8 @@ fn blames_the_line_of_the_fault(rt: HostRuntime) {
         (3, false, 1, 3, "┐a \n"),
         (3, true, 1, 3, "┐a \n"),
         (4, false, 1, 3, "┐a \n└"),
+        (5, true, 1, 3, "┐a \n└─"),
+        (6, false, 1, 3, "┐a \n└─┐"),
     ] {
         let writer = Wrap::new(Choppy::new(alloc, stop, broken));
         let ran = run_lines(alloc, TWO_SPANS, writer);
