@@ -1,16 +1,30 @@
 # `demo`, `build` and `test` need the kit's command `rt` and nothing else; `bench` needs Python 3 besides, and `faults` a C compiler too.
-.PHONY: demo build test bench faults
+.PHONY: demo build read laws test bench faults
 
 # Draws the example.
 demo: build
 	@bin/tracing_tree < examples/first.jsonl
 
-# Proves and builds the program, and leaves it at bin/tracing_tree. A run on no input ends with status 2, which is no fault here.
-build:
+# Proves and builds the programs, and leaves them at bin/tracing_tree and bin/tracing_tree_read. A run on no input ends with status 2,
+# which is no fault here.
+build: read
 	@mkdir -p bin
 	@cd crates/tracing_tree_cli && { rt run < /dev/null > ../../bin/build.log 2>&1 || true; }
 	@test -x crates/tracing_tree_cli/out/tracing_tree_cli || { cat bin/build.log; exit 1; }
 	@cp crates/tracing_tree_cli/out/tracing_tree_cli bin/tracing_tree
+
+# Proves and builds the program that reads, and leaves it at bin/tracing_tree_read.
+read:
+	@mkdir -p bin
+	@cd crates/tracing_tree_read && { rt run < /dev/null > ../../bin/read.log 2>&1 || true; }
+	@test -x crates/tracing_tree_read/out/tracing_tree_read || { cat bin/read.log; exit 1; }
+	@cp crates/tracing_tree_read/out/tracing_tree_read bin/tracing_tree_read
+
+# Outside the gate: draws and reads random rows, reads random changes of drawings, and draws random calls under settings that retrace
+# and looks in the text alone for each event's ancestors.
+laws: build
+	@cd crates/tracing_tree_rows_laws && rt run -- 10000 2> ../../bin/laws.log || { cat ../../bin/laws.log; exit 1; }
+	@python3 scripts/reading_law.py bin/tracing_tree
 
 # The whole gate: what must not compile, every proof from nothing, the must-fail edits, the tests and the programs.
 test:
@@ -20,6 +34,8 @@ test:
 # Times the program on inputs that it makes itself. It asserts nothing.
 bench: build
 	@python3 scripts/bench.py bin/tracing_tree
+	@cd crates/tracing_tree_rows_bench && { rt run < /dev/null > ../../bin/rows_bench.log 2>&1 || true; }
+	@python3 scripts/bench_rows.py bin/tracing_tree crates/tracing_tree_rows_bench/out/tracing_tree_rows_bench
 
 # Refuses the program each allocation, each read and each write in turn, and looks at what it leaves.
 faults: build

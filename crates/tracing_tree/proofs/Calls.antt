@@ -6,13 +6,14 @@ use Rattle.tracing_tree_core.specs.Settings.{Settings, default_settings}
 use Rattle.tracing_tree_core.specs.Ids.{id_of}
 use Rattle.tracing_tree_core.specs.Texts.{rendered_field}
 use Rattle.tracing_tree_core.specs.Clock.{no_timer}
-use Rattle.tracing_tree_core.specs.declared.format.Context.{Context}
+use Rattle.tracing_tree_core.specs.declared.context.Context.{Context}
 use Rattle.tracing_tree_core.specs.declared.field.Field.{Field}
 use Rattle.tracing_tree_core.specs.declared.registry.Parent.{Parent}
 use Rattle.tracing_tree_core.specs.declared.registry.Parent.TheVariants.{Current}
 use Rattle.tracing_tree_core.specs.declared.style.Level.{Level}
 use Rattle.tracing_tree_core.specs.declared.style.Level.TheVariants.{Info, Warn}
 use Rattle.tracing_tree.specs.State.{State, opening_state}
+use Rattle.tracing_tree.specs.Seen.{SeenWriter}
 use Rattle.tracing_tree.specs.Run.{run, text_of}
 use Rattle.tracing_tree.specs.declared.call.Call.{Call}
 use Rattle.tracing_tree.specs.declared.call.Call.TheVariants.{New, Event, Close}
@@ -88,3 +89,7 @@ written_after_root settings calls = written_after settings (made (codes "a") out
 -- at this time on the clock that only goes forward
 abbrev pub at_mono : ℕ → Context → Context
 at_mono mono context = record context { moment = record context.moment { mono = mono } }
+
+-- a writer in memory that holds these bytes
+abbrev pub holding : List ℕ → SeenWriter
+holding bytes = record { bytes = Some bytes; faults = 0; whole = true }

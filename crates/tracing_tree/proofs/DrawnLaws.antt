@@ -1,24 +1,30 @@
--- Rows that are drawn one behind another are drawn together.
-use Rattle.std.proofs.Common.{◌≡◌, ◌≢◌, ◌⊎◌, suc, take, drop, ℕ, Bool, true, false, if◌then◌else◌, ◌||◌, List, [], ◌∷◌, ◌++◌, Option, None, Some, Result, Ok, Err, refl, sym, ap, subst, ◌∙◌, inl, inr, append_assoc, append-nil}
+-- Rows that are drawn one after another are drawn together.
+use Rattle.std.proofs.Common.{◌≡◌, ◌≢◌, ◌⊎◌, suc, take, drop, ℕ, Bool, true, false, if◌then◌else◌, ◌||◌, List, [], ◌∷◌, ◌++◌, None, Some, Option, Result, Ok, Err, is_ok, string_bytes, refl, sym, ap, subst, ◌∙◌, inl, inr, append_assoc, append-nil}
 use Rattle.std.proofs.lemmas.Grind.{flat_map-append}
+use Rattle.std.proofs.lemmas.List.{map-append}
 use Rattle.std.proofs.lemmas.List.Folds.{list_any-append}
 use Rattle.tracing_tree_core.specs.Settings.{Settings}
-use Rattle.tracing_tree_core.specs.Buffered.{BuffersView, AddsRow}
+use Rattle.tracing_tree_core.specs.Buffered.{BuffersView}
 use Rattle.tracing_tree_core.specs.Picture.{Row, draw, drawn_row, is_too_wide, unnamed_row}
-use Rattle.tracing_tree_core.specs.declared.format.Refusal.{Refusal}
-use Rattle.tracing_tree_core.specs.declared.format.Refusal.TheVariants.{NotHeld, TooWide, TooMany, Memory, Timer, Writer, Failed}
+use Rattle.tracing_tree_core.specs.declared.context.Refusal.{Refusal}
+use Rattle.tracing_tree_core.specs.declared.context.Refusal.TheVariants.{NotHeld, TooWide, TooMany, Memory, Timer, Writer, Failed}
 use Rattle.tracing_tree_core.specs.Forest.{Forest, IsForest, is_live, if_live, path_of, path_of_any}
-use Rattle.tracing_tree_core.specs.declared.format.Id.{Id}
+use Rattle.tracing_tree_core.specs.declared.context.Id.{Id}
+use Rattle.tracing_tree_core.specs.declared.context.Context.{Context}
 use Rattle.tracing_tree_core.proofs.PathLaws.{path_of-none}
-use Rattle.tracing_tree.specs.Refused.{draws_too_wide}
-use Rattle.tracing_tree_core.specs.declared.format.Context.{Context}
 use Rattle.std.specs.Option.{option_or}
 use Rattle.std.specs.Bool.{then_some}
-use Rattle.std.specs.Io.KnownBytes.{Appends, Keeps}
+use Rattle.std.specs.Io.KnownBytes.{Appends}
 use Rattle.std.proofs.KnownBytes.{Keeps-refl}
 use Rattle.tracing_tree_core.specs.Outputs.{IsCutShort, LeavesCut}
-use Rattle.tracing_tree.specs.Answered.{Writes}
-use Rattle.tracing_tree.specs.Drawn.{IsAllowed, IsWritten, Sends, rows_of_close, rows_of_closes, DrawsRows, IsUndrawn, has_no_row, rows_cause}
+use Rattle.tracing_tree.specs.State.{Turn}
+use Rattle.tracing_tree.specs.Seen.{SeenWriter}
+use Rattle.tracing_tree.specs.Refused.{draws_too_wide}
+use Rattle.tracing_tree.specs.Rows.{then_turn, turn_of_row, turn_of_closes}
+use Rattle.tracing_tree.specs.Plan.{PlanView, rows_of_planned, row_of_planned, turn_of_plan}
+use Rattle.tracing_tree.specs.Drawn.{AddsRow, DrawsRows, Drafts, IsBlank, IsUndrawn, IsWritten, Sends, has_no_id, has_no_row, rows_cause, when_ok}
+use Rattle.tracing_tree.specs.declared.layer.page.Page.{Page}
+use Rattle.tracing_tree.specs.declared.layer.plan.PlannedRow.{PlannedRow}
 
 pub draw-append : (settings : Settings) (first second : List Row) → draw settings (first ++ second) ≡ draw settings first ++ draw settings second
 draw-append settings first second = flat_map-append (drawn_row settings) first second
@@ -29,8 +35,8 @@ pub draws_too_wide-append : (settings : Settings) (first second : List Row) →
 draws_too_wide-append settings first second = list_any-append (is_too_wide settings) first second
 
 -- no row at all is drawn
-pub draws_none : (settings : Settings) (bufs : BuffersView) → DrawsRows settings [] false (Ok tt) bufs bufs
-draws_none settings bufs = (refl, λ i. record bufs { indent_buf = sym (append-nil bufs.indent_buf) i })
+pub draws_none : (settings : Settings) (page : Page) → DrawsRows settings [] false (Ok tt) page page
+draws_none settings page = (refl, refl, sym (append-nil (string_bytes page.text)))
 
 -- ---- what is refused
 
@@ -57,13 +63,13 @@ wide-from_some settings rows refusal some =
       | false ↦ (λ narrow. let e = cause-narrow settings rows narrow in cc)
     ] refl
 
--- the cause against the first rows stands against all
-pub cause-first : (settings : Settings) (first second : List Row) (refusal : Refusal) → rows_cause settings first false ≡ Some refusal →
-    rows_cause settings (first ++ second) false ≡ Some refusal
-cause-first settings first second refusal some =
+-- the cause against the first rows stands against all, whatever the timer says
+pub cause-first : (settings : Settings) (first second : List Row) (faults : Bool) (refusal : Refusal) → rows_cause settings first false ≡ Some refusal →
+    rows_cause settings (first ++ second) faults ≡ Some refusal
+cause-first settings first second faults refusal some =
     let wide = wide-from_some settings first refusal some in
     let all : draws_too_wide settings (first ++ second) ≡ true = rw (draws_too_wide-append settings first second, wide) refl in
-    cause-wide settings (first ++ second) all false ∙ sym (cause-wide settings first wide false) ∙ some
+    cause-wide settings (first ++ second) all faults ∙ sym (cause-wide settings first wide false) ∙ some
 
 -- where none stands against the first rows, that against the others stands against all
 pub cause-second : (settings : Settings) (first second : List Row) → rows_cause settings first false ≡ None → (faults : Bool) →
@@ -79,22 +85,24 @@ row-second : (first second : List Row) → has_no_row second ≡ false → has_n
 row-second [] second h = h
 row-second (row ∷ first) second h = refl
 
--- ---- one behind another
+-- ---- one after another
 
 -- a refusal of the first rows is one of all
-pub refuses_first : (settings : Settings) (first second : List Row) (refusal : Refusal) (a b : BuffersView) →
-    DrawsRows settings first false (Err refusal) a b → DrawsRows settings (first ++ second) false (Err refusal) a b
-refuses_first settings first second refusal a b (inl cause, last) = (inl (cause-first settings first second refusal cause), last)
-refuses_first settings first second refusal a b (inr memory, last) = (inr (memory.0, row-first first second memory.1), last)
+pub refuses_first : (settings : Settings) (first second : List Row) (faults : Bool) (refusal : Refusal) (a b : Page) →
+    DrawsRows settings first false (Err refusal) a b → DrawsRows settings (first ++ second) faults (Err refusal) a b
+refuses_first settings first second faults refusal a b (inl cause, last) = (inl (cause-first settings first second faults refusal cause), last)
+refuses_first settings first second faults refusal a b (inr memory, last) = (inr (memory.0, row-first first second memory.1), last)
 
 -- the first rows and then the others
-pub draws_both : (settings : Settings) (first second : List Row) (faults : Bool) (result : Result (Unit {0}) Refusal) (a b c : BuffersView) →
+pub draws_both : (settings : Settings) (first second : List Row) (faults : Bool) (result : Result (Unit {0}) Refusal) (a b c : Page) →
     DrawsRows settings first false (Ok tt) a b → DrawsRows settings second faults result b c →
     DrawsRows settings (first ++ second) faults result a c
 draws_both settings first second faults (Ok done) a b c h k = (
   cause-second settings first second h.0 faults ∙ k.0,
-  k.1 ∙ ap (λ (bufs : BuffersView). record bufs { indent_buf = bufs.indent_buf ++ draw settings second }) h.1
-      ∙ (λ i. record a { indent_buf = (append_assoc a.indent_buf (draw settings first) (draw settings second) ∙ ap (λ text. a.indent_buf ++ text) (sym (draw-append settings first second))) i }),
+  k.1 ∙ h.1,
+  k.2 ∙ ap (λ text. text ++ draw settings second) h.2
+      ∙ append_assoc (string_bytes a.text) (draw settings first) (draw settings second)
+      ∙ ap (λ text. string_bytes a.text ++ text) (sym (draw-append settings first second)),
 )
 draws_both settings first second faults (Err refusal) a b c h (inl cause, last) = (
   inl (cause-second settings first second h.0 faults ∙ cause),
@@ -111,25 +119,24 @@ wide-single : (settings : Settings) (row : Row) → draws_too_wide settings (row
 wide-single settings row = elim (is_too_wide settings row) as (λ b. (b || false) ≡ b) [ true ↦ refl | false ↦ refl ]
 
 -- a row that was added is drawn
-pub draws_added : (settings : Settings) (row : Row) (result : Result (Unit {0}) Refusal) (a b c : BuffersView) →
-    b ≡ record a { current_buf = row.block } → a.current_buf ≡ [] →
+pub draws_added : (settings : Settings) (row : Row) (result : Result (Unit {0}) Refusal) (a b c : Page) →
+    b.bufs ≡ record a.bufs { current_buf = row.block } → string_bytes b.text ≡ string_bytes a.text → IsBlank a.bufs →
     AddsRow (is_too_wide settings row) (drawn_row settings row) result b c → DrawsRows settings (row ∷ []) false result a c
-draws_added settings row (Ok done) a b c e none h = (
+draws_added settings row (Ok done) a b c e text blank h = (
   cause-narrow settings (row ∷ []) (wide-single settings row ∙ h.0),
-  h.1 ∙ ap (λ (bufs : BuffersView). record bufs { current_buf = []; indent_buf = bufs.indent_buf ++ drawn_row settings row }) e
-      ∙ (λ i. record a { current_buf = sym none i; indent_buf = a.indent_buf ++ sym (append-nil (drawn_row settings row)) i }),
+  h.1 ∙ ap (λ (bufs : BuffersView). record bufs { current_buf = [] }) e ∙ (λ i. record a.bufs { current_buf = sym blank.block i }),
+  h.2 ∙ ap (λ front. front ++ drawn_row settings row) text ∙ ap (λ rows. string_bytes a.text ++ rows) (sym (append-nil (drawn_row settings row))),
 )
-draws_added settings row (Err TooWide) a b c e none h = (
+draws_added settings row (Err TooWide) a b c e text blank h = (
   inl (cause-wide settings (row ∷ []) (wide-single settings row ∙ h.0) false),
-  ap (λ (bufs : BuffersView). bufs.current_span) (h.1 ∙ e),
+  h.1 ∙ ap (λ (bufs : BuffersView). bufs.current_span) e,
 )
-draws_added settings row (Err Memory) a b c e none h =
-    (inr (refl, refl), ap (λ (bufs : BuffersView). bufs.current_span) h.1 ∙ ap (λ (bufs : BuffersView). bufs.current_span) e)
-draws_added settings row (Err (NotHeld i)) a b c e none h = absurd h
-draws_added settings row (Err TooMany) a b c e none h = absurd h
-draws_added settings row (Err Timer) a b c e none h = absurd h
-draws_added settings row (Err Writer) a b c e none h = absurd h
-draws_added settings row (Err Failed) a b c e none h = absurd h
+draws_added settings row (Err Memory) a b c e text blank h = (inr (refl, refl), h.1 ∙ ap (λ (bufs : BuffersView). bufs.current_span) e)
+draws_added settings row (Err (NotHeld i)) a b c e text blank h = absurd h
+draws_added settings row (Err TooMany) a b c e text blank h = absurd h
+draws_added settings row (Err Timer) a b c e text blank h = absurd h
+draws_added settings row (Err Writer) a b c e text blank h = absurd h
+draws_added settings row (Err Failed) a b c e text blank h = absurd h
 
 -- a span that isn't live stands in none
 pub path-if_live : (forest : Forest) → IsForest forest → (i : Id) → path_of_any forest (if_live forest (Some i)) ≡ path_of forest i
@@ -140,36 +147,96 @@ path-if_live forest formed i =
     ] refl
 
 -- a row without its span is drawn as the row
-pub draws_like : (settings : Settings) (row : Row) (level : ℕ) (block : List ℕ) (result : Result (Unit {0}) Refusal) (a b c : BuffersView) →
-    b ≡ record a { current_buf = block } → a.current_buf ≡ [] → level ≡ row.level → block ≡ row.block →
-    AddsRow (is_too_wide settings (unnamed_row row.kind level b.current_buf row.prefix)) (drawn_row settings (unnamed_row row.kind level b.current_buf row.prefix)) result b c →
+pub draws_like : (settings : Settings) (row : Row) (level : ℕ) (block : List ℕ) (result : Result (Unit {0}) Refusal) (a b c : Page) →
+    b.bufs ≡ record a.bufs { current_buf = block } → string_bytes b.text ≡ string_bytes a.text → IsBlank a.bufs → level ≡ row.level → block ≡ row.block →
+    AddsRow (is_too_wide settings (unnamed_row row.kind level b.bufs.current_buf row.prefix)) (drawn_row settings (unnamed_row row.kind level b.bufs.current_buf row.prefix)) result b c →
     DrawsRows settings (row ∷ []) false result a c
-draws_like settings row level block result a b c e none same_level same_block h =
-    let same : unnamed_row row.kind level b.current_buf row.prefix ≡ unnamed_row row.kind row.level row.block row.prefix =
+draws_like settings row level block result a b c e text blank same_level same_block h =
+    let same : unnamed_row row.kind level b.bufs.current_buf row.prefix ≡ unnamed_row row.kind row.level row.block row.prefix =
     (λ i. unnamed_row row.kind (same_level i) ((ap (λ (bufs : BuffersView). bufs.current_buf) e ∙ same_block) i) row.prefix) in
     let P : Row → Type 0 = λ r. AddsRow (is_too_wide settings r) (drawn_row settings r) result b c in
-    draws_added settings row result a b c (e ∙ ap (λ text. record a { current_buf = text }) same_block) none (subst P same h)
+    draws_added settings row result a b c (e ∙ ap (λ text. record a.bufs { current_buf = text }) same_block) text blank (subst P same h)
 
--- spans that close one after another are drawn one after another
-rows_of_closes-append : (settings : Settings) (context : Context) (forest : Forest) (first second : List Id) →
-    rows_of_closes settings context forest (first ++ second) ≡ rows_of_closes settings context forest first ++ rows_of_closes settings context forest second
-rows_of_closes-append settings context forest first second = flat_map-append (rows_of_close settings context forest) first second
-
--- where one close among them is refused, they all are
-pub closes_refused : (settings : Settings) (context : Context) (forest : Forest) (ids : List Id) (k : ℕ) (i : Id) (refusal : Refusal) (a b c : BuffersView) →
-    DrawsRows settings (rows_of_closes settings context forest (take k ids)) false (Ok tt) a b →
-    DrawsRows settings (rows_of_close settings context forest i) false (Err refusal) b c →
-    ids ≡ take k ids ++ i ∷ drop (suc k) ids →
-    DrawsRows settings (rows_of_closes settings context forest ids) false (Err refusal) a c
-closes_refused settings context forest ids k i refusal a b c before here split =
-    let both = draws_both settings (rows_of_closes settings context forest (take k ids)) (rows_of_close settings context forest i) false (Err refusal) a b c before here in
-    let all = refuses_first settings (rows_of_closes settings context forest (take k ids) ++ rows_of_close settings context forest i) (rows_of_closes settings context forest (drop (suc k) ids)) refusal a c both in
-    let rows = rows_of_closes settings context forest in
-    let same : rows ids ≡ (rows (take k ids) ++ rows_of_close settings context forest i) ++ rows (drop (suc k) ids) =
-    ap rows split ∙ rows_of_closes-append settings context forest (take k ids) (i ∷ drop (suc k) ids)
-    ∙ sym (append_assoc (rows (take k ids)) (rows_of_close settings context forest i) (rows (drop (suc k) ids))) in
+-- where one planned row is refused, they all are
+pub planned_refused : (settings : Settings) (context : Context) (forest : Forest) (planned : List PlannedRow) (k : ℕ) (row : PlannedRow) (refusal : Refusal) (a b c : Page) →
+    DrawsRows settings (rows_of_planned settings context forest (take k planned)) false (Ok tt) a b →
+    DrawsRows settings (row_of_planned settings context forest row ∷ []) false (Err refusal) b c →
+    planned ≡ take k planned ++ row ∷ drop (suc k) planned →
+    DrawsRows settings (rows_of_planned settings context forest planned) false (Err refusal) a c
+planned_refused settings context forest planned k row refusal a b c before here split =
+    let rows : List PlannedRow → List Row = rows_of_planned settings context forest in
+    let first : List Row = rows (take k planned) in
+    let one : List Row = row_of_planned settings context forest row ∷ [] in
+    let rest : List Row = rows (drop (suc k) planned) in
+    let both = draws_both settings first one false (Err refusal) a b c before here in
+    let all = refuses_first settings (first ++ one) rest false refusal a c both in
+    let same : rows planned ≡ (first ++ one) ++ rest =
+    ap rows split ∙ map-append (row_of_planned settings context forest) (take k planned) (row ∷ drop (suc k) planned)
+    ∙ sym (append_assoc first one rest) in
     let P : List Row → Type 0 = λ rs. DrawsRows settings rs false (Err refusal) a c in
     subst P (sym same) all
+
+-- ---- turns
+
+-- the rows of a turn are drawn, or refused
+abbrev pub IsDrawn : Settings → List Row → Bool → Bool → Result (Unit {0}) Refusal → Page → Page → Type 0
+IsDrawn settings rows faults quiet (Ok done) old new = DrawsRows settings rows faults (Ok done) old new
+IsDrawn settings rows faults quiet (Err refusal) old new =
+    IsUndrawn (rows_cause settings rows faults) quiet refusal × (new.bufs.current_span ≡ old.bufs.current_span)
+
+-- a call that takes memory may want for it
+loud-undrawn : (cause : Option Refusal) (quiet : Bool) (refusal : Refusal) → IsUndrawn cause quiet refusal → IsUndrawn cause false refusal
+loud-undrawn cause quiet refusal (inl h) = inl h
+loud-undrawn cause quiet refusal (inr memory) = inr (memory.0, refl)
+
+-- a turn is drafted where its rows are drawn and its plan comes to it
+pub drafts : (settings : Settings) (context : Context) (forest : Forest) (turn : Turn) (quiet : Bool) (result : Result (Unit {0}) Refusal) (old new : Page) (plan : PlanView) →
+    turn_of_plan settings context forest plan ≡ turn → (has_no_row turn.rows ≡ false → quiet ≡ false) →
+    DrawsRows settings (rows_of_planned settings context forest plan.rows) false result old new →
+    Drafts settings forest turn false quiet result old new plan
+drafts settings context forest turn quiet (Ok done) old new plan same loud h =
+    let P : List Row → Type 0 = λ rows. DrawsRows settings rows false (Ok done) old new in
+    (subst P (ap (λ (t : Turn). t.rows) same) h, ap (λ (t : Turn). t.forest) same, ap (λ (t : Turn). t.last) same)
+drafts settings context forest turn quiet (Err refusal) old new plan same loud h =
+    let P : List Row → Type 0 = λ rows. DrawsRows settings rows false (Err refusal) old new in
+    let k : DrawsRows settings turn.rows false (Err refusal) old new = subst P (ap (λ (t : Turn). t.rows) same) h in
+    (by k.0, k.1)
+  where
+    by : IsUndrawn (rows_cause settings turn.rows false) (has_no_row turn.rows) refusal → IsUndrawn (rows_cause settings turn.rows false) quiet refusal
+    by (inl cause) = inl cause
+    by (inr memory) = inr (memory.0, loud memory.1)
+
+-- closes that draw a row are closes of a span
+pub closes-loud : (settings : Settings) (context : Context) (ids : List Id) (forest : Forest) (last : Option Id) →
+    has_no_row (turn_of_closes settings context ids forest last).rows ≡ false → has_no_id ids ≡ false
+closes-loud settings context [] forest last h = cc
+closes-loud settings context (i ∷ others) forest last h = refl
+
+-- an event's row after the rows of its plan
+pub drafts_event : (settings : Settings) (context : Context) (forest : Forest) (before : Turn) (row : Row) (faults : Bool) (result : Result (Unit {0}) Refusal) (a b c : Page) (plan : PlanView) →
+    turn_of_plan settings context forest plan ≡ before →
+    DrawsRows settings (rows_of_planned settings context forest plan.rows) false (Ok tt) a b → DrawsRows settings (row ∷ []) faults result b c →
+    Drafts settings forest (then_turn before (turn_of_row row)) faults false result a c plan
+drafts_event settings context forest before row faults (Ok done) a b c plan same first second =
+    let P : List Row → Type 0 = λ rows. DrawsRows settings (rows ++ row ∷ []) faults (Ok done) a c in
+    let both = draws_both settings (rows_of_planned settings context forest plan.rows) (row ∷ []) faults (Ok done) a b c first second in
+    (subst P (ap (λ (t : Turn). t.rows) same) both, ap (λ (t : Turn). t.forest) same, ap (λ (t : Turn). t.last) same)
+drafts_event settings context forest before row faults (Err refusal) a b c plan same first second =
+    let P : List Row → Type 0 = λ rows. DrawsRows settings (rows ++ row ∷ []) faults (Err refusal) a c in
+    let both = draws_both settings (rows_of_planned settings context forest plan.rows) (row ∷ []) faults (Err refusal) a b c first second in
+    let all : DrawsRows settings (before.rows ++ row ∷ []) faults (Err refusal) a c = subst P (ap (λ (t : Turn). t.rows) same) both in
+    (loud-undrawn (rows_cause settings (before.rows ++ row ∷ []) faults) (has_no_row (before.rows ++ row ∷ [])) refusal all.0, all.1)
+
+-- the rows of its plan are refused
+pub refuses_event : (settings : Settings) (context : Context) (forest : Forest) (before : Turn) (row : Row) (faults : Bool) (refusal : Refusal) (a b : Page) (plan : PlanView) →
+    turn_of_plan settings context forest plan ≡ before →
+    DrawsRows settings (rows_of_planned settings context forest plan.rows) false (Err refusal) a b →
+    Drafts settings forest (then_turn before (turn_of_row row)) faults false (Err refusal) a b plan
+refuses_event settings context forest before row faults refusal a b plan same first =
+    let P : List Row → Type 0 = λ rows. DrawsRows settings (rows ++ row ∷ []) faults (Err refusal) a b in
+    let refused = refuses_first settings (rows_of_planned settings context forest plan.rows) (row ∷ []) faults refusal a b first in
+    let all : DrawsRows settings (before.rows ++ row ∷ []) faults (Err refusal) a b = subst P (ap (λ (t : Turn). t.rows) same) refused in
+    (loud-undrawn (rows_cause settings (before.rows ++ row ∷ []) faults) (has_no_row (before.rows ++ row ∷ [])) refusal all.0, all.1)
 
 -- ---- what is written
 
@@ -180,35 +247,17 @@ cause-kind true faults refusal e = inl cc
 cause-kind false true refusal e = inr cc
 cause-kind false false refusal e = absurd cc
 
--- a refusal that left the writer alone
-record IsQuiet (whole : Bool) (cause : Option Refusal) (quiet : Bool) (text : List ℕ) (refusal : Refusal) : Type 0 where
-  allowed : IsAllowed cause quiet text (Err refusal)
-  leaves : (old_contents new_contents : Option (List ℕ)) (old_faults new_faults : ℕ) → new_contents ≡ old_contents → new_faults ≡ old_faults →
-      Writes {A = Unit {0}} whole text (Err refusal) old_contents new_contents old_faults new_faults
-
-same-keeps : (old new : Option (List ℕ)) → new ≡ old → Keeps old new
-same-keeps old new e = let P : Option (List ℕ) → Type 0 = λ c. Keeps old c in subst P (sym e) (Keeps-refl old)
-
-quiet-wide : (whole : Bool) (cause : Option Refusal) (quiet : Bool) (text : List ℕ) → cause ≡ Some TooWide → IsQuiet whole cause quiet text TooWide
-quiet-wide whole cause quiet text e = record { allowed = e; leaves = λ oc nc of nf h k. (same-keeps oc nc h, k) }
-
-quiet-timer : (whole : Bool) (cause : Option Refusal) (quiet : Bool) (text : List ℕ) → cause ≡ Some Timer → IsQuiet whole cause quiet text Timer
-quiet-timer whole cause quiet text e = record { allowed = e; leaves = λ oc nc of nf h k. (same-keeps oc nc h, k) }
-
-quiet-memory : (whole : Bool) (cause : Option Refusal) (quiet : Bool) (text : List ℕ) → quiet ≡ false → IsQuiet whole cause quiet text Memory
-quiet-memory whole cause quiet text e = record { allowed = e; leaves = λ oc nc of nf h k. (same-keeps oc nc h, k) }
-
-undrawn-quiet : (whole : Bool) (settings : Settings) (rows : List Row) (faults : Bool) (text : List ℕ) (refusal : Refusal) →
-    IsUndrawn (rows_cause settings rows faults) (has_no_row rows) refusal →
-    IsQuiet whole (rows_cause settings rows faults) (has_no_row rows) text refusal
-undrawn-quiet whole settings rows faults text refusal (inr (memory, some)) =
-    let P : Refusal → Type 0 = λ r. IsQuiet whole (rows_cause settings rows faults) (has_no_row rows) text r in
-    subst P (sym memory) (quiet-memory whole (rows_cause settings rows faults) (has_no_row rows) text some)
-undrawn-quiet whole settings rows faults text refusal (inl cause) =
-    let P : Refusal → Type 0 = λ r. IsQuiet whole (rows_cause settings rows faults) (has_no_row rows) text r in
+-- rows that are not drawn leave the writer alone
+undrawn : (settings : Settings) (rows : List Row) (faults quiet : Bool) (refusal : Refusal) (writer : SeenWriter) →
+    IsUndrawn (rows_cause settings rows faults) quiet refusal → IsWritten settings rows faults quiet (Err refusal) writer writer
+undrawn settings rows faults quiet refusal writer (inr (memory, some)) =
+    let P : Refusal → Type 0 = λ r. IsWritten settings rows faults quiet (Err r) writer writer in
+    subst P (sym memory) (record { answer = some; written = (Keeps-refl writer.bytes, refl) })
+undrawn settings rows faults quiet refusal writer (inl cause) =
+    let P : Refusal → Type 0 = λ r. IsWritten settings rows faults quiet (Err r) writer writer in
     elim (cause-kind (draws_too_wide settings rows) faults refusal cause) [
-      | inl e ↦ subst P (sym e) (quiet-wide whole (rows_cause settings rows faults) (has_no_row rows) text (cause ∙ ap (λ r. Some r) e))
-      | inr e ↦ subst P (sym e) (quiet-timer whole (rows_cause settings rows faults) (has_no_row rows) text (cause ∙ ap (λ r. Some r) e))
+      | inl e ↦ subst P (sym e) (record { answer = cause ∙ ap (λ r. Some r) e; written = (Keeps-refl writer.bytes, refl) })
+      | inr e ↦ subst P (sym e) (record { answer = cause ∙ ap (λ r. Some r) e; written = (Keeps-refl writer.bytes, refl) })
     ]
 
 -- what is cut short is something
@@ -217,26 +266,53 @@ cut-some text [] cut none = cut.cut (sym cut.whole ∙ none)
 cut-some text (x ∷ front) cut none = let e = sym cut.whole ∙ none in cc
 
 -- rows that were drawn and sent are written, or refused as they may be
-pub written : (whole : Bool) (settings : Settings) (rows : List Row) (faults : Bool) (drawn sent : Result (Unit {0}) Refusal) (a b c : BuffersView)
-    (oc nc : Option (List ℕ)) (of nf : ℕ) →
-    DrawsRows settings rows faults drawn a b → a.indent_buf ≡ [] → Sends whole drawn sent b c oc nc of nf →
-    IsWritten whole (rows_cause settings rows faults) (has_no_row rows) (draw settings rows) sent oc nc of nf
-written whole settings rows faults (Ok done) (Ok also) a b c oc nc of nf h none k =
-    let text : b.indent_buf ≡ draw settings rows = ap (λ (bufs : BuffersView). bufs.indent_buf) h.1 ∙ ap (λ front. front ++ draw settings rows) none in
-    let P : List ℕ → Type 0 = λ t. Appends oc nc t in
+pub written : (settings : Settings) (rows : List Row) (faults quiet : Bool) (drawn sent : Result (Unit {0}) Refusal) (a b c : Page) (old new : SeenWriter) →
+    IsDrawn settings rows faults quiet drawn a b → string_bytes a.text ≡ [] → Sends drawn sent b c old new →
+    IsWritten settings rows faults quiet sent old new
+written settings rows faults quiet (Ok done) (Ok also) a b c old new h none k =
+    let text : string_bytes b.text ≡ draw settings rows = h.2 ∙ ap (λ front. front ++ draw settings rows) none in
+    let P : List ℕ → Type 0 = λ t. Appends old.bytes new.bytes t in
     record { answer = h.0; written = (subst P text k.0, k.1) }
-written whole settings rows faults (Ok done) (Err Writer) a b c oc nc of nf h none k =
-    let text : b.indent_buf ≡ draw settings rows = ap (λ (bufs : BuffersView). bufs.indent_buf) h.1 ∙ ap (λ front. front ++ draw settings rows) none in
-    let P : List ℕ → Type 0 = λ t. LeavesCut whole t oc nc of nf in
+written settings rows faults quiet (Ok done) (Err Writer) a b c old new h none k =
+    let text : string_bytes b.text ≡ draw settings rows = h.2 ∙ ap (λ front. front ++ draw settings rows) none in
+    let P : List ℕ → Type 0 = λ t. LeavesCut old.whole t old.bytes new.bytes old.faults new.faults in
     let cut = subst P text k.0 in
     record { answer = (h.0, cut-some (draw settings rows) cut.front cut.cut); written = cut }
-written whole settings rows faults (Ok done) (Err (NotHeld i)) a b c oc nc of nf h none k = absurd k
-written whole settings rows faults (Ok done) (Err TooWide) a b c oc nc of nf h none k = absurd k
-written whole settings rows faults (Ok done) (Err TooMany) a b c oc nc of nf h none k = absurd k
-written whole settings rows faults (Ok done) (Err Memory) a b c oc nc of nf h none k = absurd k
-written whole settings rows faults (Ok done) (Err Timer) a b c oc nc of nf h none k = absurd k
-written whole settings rows faults (Ok done) (Err Failed) a b c oc nc of nf h none k = absurd k
-written whole settings rows faults (Err refusal) sent a b c oc nc of nf h none k =
-    let quiet = undrawn-quiet whole settings rows faults (draw settings rows) refusal h.0 in
-    let P : Result (Unit {0}) Refusal → Type 0 = λ r. IsWritten whole (rows_cause settings rows faults) (has_no_row rows) (draw settings rows) r oc nc of nf in
-    subst P (sym k.0) (record { answer = quiet.allowed; written = quiet.leaves oc nc of nf k.1 k.2 })
+written settings rows faults quiet (Ok done) (Err (NotHeld i)) a b c old new h none k = absurd k
+written settings rows faults quiet (Ok done) (Err TooWide) a b c old new h none k = absurd k
+written settings rows faults quiet (Ok done) (Err TooMany) a b c old new h none k = absurd k
+written settings rows faults quiet (Ok done) (Err Memory) a b c old new h none k = absurd k
+written settings rows faults quiet (Ok done) (Err Timer) a b c old new h none k = absurd k
+written settings rows faults quiet (Ok done) (Err Failed) a b c old new h none k = absurd k
+written settings rows faults quiet (Err refusal) sent a b c old new h none k =
+    let P : Result (Unit {0}) Refusal → Type 0 = λ r. IsWritten settings rows faults quiet r old new in
+    let Q : SeenWriter → Type 0 = λ w. IsWritten settings rows faults quiet (Err refusal) old w in
+    subst P (sym k.0) (subst Q (sym k.1) (undrawn settings rows faults quiet refusal old h.0))
+
+-- ---- a refused turn
+
+-- a turn that is drafted is drawn
+pub drafts-drawn : (settings : Settings) (forest : Forest) (turn : Turn) (faults quiet : Bool) (result : Result (Unit {0}) Refusal) (a b : Page) (plan : PlanView) →
+    Drafts settings forest turn faults quiet result a b plan → IsDrawn settings turn.rows faults quiet result a b
+drafts-drawn settings forest turn faults quiet (Ok done) a b plan h = h.0
+drafts-drawn settings forest turn faults quiet (Err refusal) a b plan h = h
+
+-- a refusal leaves the last span
+pub refused-last : (settings : Settings) (rows : List Row) (faults quiet : Bool) (drawn sent : Result (Unit {0}) Refusal) (a b c : Page) (old new : SeenWriter) (next : Option Id) →
+    IsDrawn settings rows faults quiet drawn a b → Sends drawn sent b c old new → is_ok sent ≡ false →
+    c.bufs.current_span ≡ when_ok sent next a.bufs.current_span
+refused-last settings rows faults quiet (Ok done) (Ok also) a b c old new next h k e = cc
+refused-last settings rows faults quiet (Ok done) (Err Writer) a b c old new next h k e = k.1 ∙ ap (λ (bufs : BuffersView). bufs.current_span) h.1
+refused-last settings rows faults quiet (Ok done) (Err (NotHeld i)) a b c old new next h k e = absurd k
+refused-last settings rows faults quiet (Ok done) (Err TooWide) a b c old new next h k e = absurd k
+refused-last settings rows faults quiet (Ok done) (Err TooMany) a b c old new next h k e = absurd k
+refused-last settings rows faults quiet (Ok done) (Err Memory) a b c old new next h k e = absurd k
+refused-last settings rows faults quiet (Ok done) (Err Timer) a b c old new next h k e = absurd k
+refused-last settings rows faults quiet (Ok done) (Err Failed) a b c old new next h k e = absurd k
+refused-last settings rows faults quiet (Err refusal) sent a b c old new next h k e =
+    k.3 ∙ h.1 ∙ sym (ap (λ (r : Result (Unit {0}) Refusal). when_ok r next a.bufs.current_span) k.0)
+
+-- and the marks
+pub refused-marks : (sent : Result (Unit {0}) Refusal) (next before : Forest) → is_ok sent ≡ false → before ≡ when_ok sent next before
+refused-marks (Ok done) next before e = cc
+refused-marks (Err refusal) next before e = refl

@@ -1,8 +1,8 @@
 pub mod Calls
+pub mod FieldTexts
 pub mod Choices
 pub mod Pairs
 pub mod Moments
-pub mod FirstLines
 pub mod SpelledLines
 pub mod WorkedRows
 pub mod WorkedDrawing
@@ -13,10 +13,15 @@ pub mod WorkedLines
 pub mod RunLaws
 pub mod PathPairs
 pub mod WorkedBare
+pub mod Marks
+pub mod Plans
+pub mod MarkedCloses
 pub mod DrawnLaws
 pub mod TurnLaws
 pub mod Runs
 pub mod LineEnds
 pub mod LineRuns
-pub mod BuiltSettings
-pub mod WorkedBuiltLines
+pub mod OpenedLines
+pub mod Reading
+pub mod WorkedLaws
+pub mod RowsRead

@@ -9,8 +9,8 @@ use Rattle.serde_json.specs.Find.{as_str}
 use Rattle.serde_json.specs.Written.{has_float}
 use Rattle.jiff_core.specs.Timestamp.{IsTimestampNanos}
 use Rattle.jiff_core.specs.declared.timestamp.Timestamp.{Timestamp}
-use Rattle.tracing_tree_core.specs.declared.format.Context.{Context}
-use Rattle.tracing_tree_core.specs.declared.time.Moment.{Moment}
+use Rattle.tracing_tree_core.specs.declared.context.Context.{Context}
+use Rattle.tracing_tree_core.specs.declared.context.Moment.{Moment}
 use Rattle.tracing_tree.specs.Readers.{Reads, ReadsCall, ValueSpells}
 use Rattle.tracing_tree.specs.Spelled.{◌>>=◌, IsMomentIn, context_in, required, call_named, object_call}
 use Rattle.tracing_tree.specs.declared.call.Call.{Call}

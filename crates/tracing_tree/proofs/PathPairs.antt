@@ -6,7 +6,7 @@ use Rattle.std.specs.List.{enumerate_from, common_prefix_len, cons_option}
 use Rattle.tracing_tree_core.specs.Ids.{same_id}
 use Rattle.tracing_tree_core.specs.Spans.{Span}
 use Rattle.tracing_tree_core.specs.Forest.{Forest, span_at, is_live, path_of, path_of_any, Descends, IsForest}
-use Rattle.tracing_tree_core.specs.declared.format.Id.{Id}
+use Rattle.tracing_tree_core.specs.declared.context.Id.{Id}
 use Rattle.tracing_tree_core.proofs.ForestLaws.{same_id-eq, path_of-is_path}
 use Rattle.tracing_tree_core.proofs.PathLaws.{path_of-none}
 use Rattle.tracing_tree.specs.Differences.{has_equal_at, differing, agree_at, AgreeDownward, PathsAgreeDownward, PathsDifferFreshly}

@@ -4,7 +4,7 @@ use Rattle.std.proofs.Common.{sym, ◌∙◌, subst}
 use Rattle.std.proofs.lemmas.Option.{same_Some, none-some}
 use Rattle.serde_json.specs.Data.{Data, null, boolean, number, string, array, object}
 use Rattle.serde_json.specs.Read.{read}
-use Rattle.tracing_tree_core.specs.declared.time.Moment.{Moment}
+use Rattle.tracing_tree_core.specs.declared.context.Moment.{Moment}
 use Rattle.tracing_tree.specs.Readers.{ReadsCall, ReadsLine, ValueSpells}
 use Rattle.tracing_tree.specs.Spelled.{only_object, line_object, object_call, SpellsCall}
 use Rattle.tracing_tree.specs.declared.call.Call.{Call}

@@ -1,81 +1,60 @@
--- The turns of calls, for the settings that are built.
-use Rattle.std.proofs.Common.{◌≡◌, ℕ, None, Some, Err, subst, Bool, true, false, List, [], ◌∷◌, ◌++◌, Option, refl, sym, ap, ◌∙◌}
+-- The turns of calls, and why they are refused.
+use Rattle.std.proofs.Common.{◌≡◌, ◌==◌, ℕ, None, Ok, Err, subst, Bool, true, false, not, length, is_none, unwrap_or, List, Option, refl, sym, ap, ◌∙◌}
 use Rattle.std.specs.Option.{option_or}
 use Rattle.std.specs.Bool.{then_some}
 use Rattle.tracing_tree_core.specs.Settings.{Settings}
 use Rattle.tracing_tree_core.specs.Clock.{Timer}
 use Rattle.tracing_tree_core.specs.Outputs.{LeavesCut}
-use Rattle.tracing_tree_core.specs.declared.registry.Event.{Event}
-use Rattle.tracing_tree_core.specs.declared.format.Refusal.{Refusal}
-use Rattle.tracing_tree_core.specs.declared.format.Refusal.TheVariants as Refused
-use Rattle.tracing_tree_core.specs.declared.format.Refusal.TheVariants.{NotHeld, TooWide, TooMany, Memory, Writer, Failed}
-use Rattle.tracing_tree_core.specs.Forest.{Forest, parent_of}
+use Rattle.tracing_tree_core.specs.declared.context.Id.{Id}
+use Rattle.tracing_tree_core.specs.declared.context.Refusal.{Refusal}
+use Rattle.tracing_tree_core.specs.declared.context.Refusal.TheVariants as Refused
+use Rattle.tracing_tree_core.specs.declared.context.Refusal.TheVariants.{NotHeld, TooWide, TooMany, Memory, Writer, Failed}
 use Rattle.tracing_tree_core.specs.Picture.{Row, draw}
-use Rattle.tracing_tree_core.specs.declared.format.Id.{Id}
-use Rattle.tracing_tree_core.specs.declared.format.Context.{Context}
-use Rattle.tracing_tree.specs.State.{Turn, State}
-use Rattle.tracing_tree.specs.Built.{IsBuilt}
-use Rattle.tracing_tree.specs.Rows.{turn_of_close, turn_of_closes, close_turn, turn_of_event, turn_before_event, turn_of_row, then_turn, event_row, current_of}
-use Rattle.tracing_tree.specs.Refused.{first_cause, cause_of, draws_too_wide, timer_faults_at, takes_no_memory}
+use Rattle.tracing_tree_core.specs.Ids.{id_of}
+use Rattle.tracing_tree_core.specs.Forest.{Forest, add_span, new_span, closing_of, take_handle, without_spans, unless_handle}
+use Rattle.tracing_tree_core.specs.Registered.{IsNewSpan, IsClosed}
+use Rattle.tracing_tree_core.specs.declared.context.Context.{Context}
+use Rattle.tracing_tree_core.specs.declared.registry.Attributes.{Attributes}
+use Rattle.tracing_tree.specs.State.{State, Turn}
+use Rattle.tracing_tree.specs.Rows.{turn_of_new, turn_of_closes}
+use Rattle.tracing_tree.specs.Plan.{empty_plan, plan_of_closes}
+use Rattle.tracing_tree_core.specs.declared.format.output.Output.{Ghosts as Output}
+use Rattle.tracing_tree_core.specs.declared.time.FormatTime.{Ghosts as FormatTime}
+use Rattle.tracing_tree.specs.Layers.{LayerView, LayeredView, Changes, seen}
+use Rattle.tracing_tree.specs.Seen.{Seen, seen_later, seen_writer}
+use Rattle.tracing_tree.specs.Step.{turn_of, new_id, with_new_span}
+use Rattle.tracing_tree.specs.Refused.{first_cause, cause_of, id_not_held, is_too_many, draws_too_wide, timer_faults, takes_no_memory}
 use Rattle.tracing_tree.specs.Run.{call_text}
 use Rattle.tracing_tree.specs.Answered.{IsAnswered}
 use Rattle.tracing_tree.specs.declared.call.Call.{Call}
-use Rattle.tracing_tree.specs.declared.call.Call.TheVariants.{Event as Told}
-use Rattle.tracing_tree.specs.Drawn.{rows_of_close, rows_of_closes, last_after_closes, rows_cause, has_no_row, failed_by, IsWritten}
-
--- an eager close draws its rows, whatever was printed
-pub turn_of_close_built : (settings : Settings) → IsBuilt settings → (context : Context) (forest : Forest) (last : Option Id) (i : Id) →
-    turn_of_close settings context forest last i ≡ close_turn settings context i forest last
-turn_of_close_built settings built context forest last i = rw (built.eager, built.untraced_closes) refl
-
--- closes one after another draw their rows one after another, and leave the forest
-pub turn_of_closes_built : (settings : Settings) → IsBuilt settings → (context : Context) (ids : List Id) (forest : Forest) (last : Option Id) →
-    turn_of_closes settings context ids forest last
-    ≡ record { rows = rows_of_closes settings context forest ids; forest = forest; last = last_after_closes forest ids last }
-turn_of_closes_built settings built context [] forest last = refl
-turn_of_closes_built settings built context (i ∷ others) forest last =
-    let next : Turn = turn_of_closes settings context others forest (option_or (parent_of forest i) last) in
-    rw (built.eager, built.untraced_closes)
-    (ap (λ (turn : Turn). record turn { rows = rows_of_close settings context forest i ++ turn.rows })
-    (turn_of_closes_built settings built context others forest (option_or (parent_of forest i) last)))
-
--- an eager event draws its row alone
-pub turn_of_event_built : (settings : Settings) → IsBuilt settings → (timer : Timer) (context : Context) (forest : Forest) (last : Option Id) (event : Event) →
-    turn_of_event settings timer context forest last event
-    ≡ record { rows = event_row settings timer forest event context ∷ []; forest = forest; last = last }
-turn_of_event_built settings built timer context forest last event =
-    let row : Row = event_row settings timer forest event context in
-    let P : Option Id → Type 0 = λ current. then_turn (turn_before_event settings context forest last current) (turn_of_row row)
-    ≡ record { rows = row ∷ []; forest = forest; last = last } in
-    elim (current_of forest context) as P [
-      | None ↦ refl
-      | Some current ↦ rw (built.untraced, built.eager) refl
-    ]
+use Rattle.tracing_tree.specs.declared.call.Call.TheVariants.{New, Close}
+use Rattle.tracing_tree.specs.declared.call.Reply.TheVariants.{Closed}
+use Rattle.tracing_tree.proofs.MarkedCloses.{handles_of-marked, closing_of-marked, closes-marked}
+use Rattle.tracing_tree.specs.Drawn.{rows_cause, failed_by, IsWritten, DoesTurn}
 
 -- ---- refusals
 
 -- A refusal of rows is one of the call that draws them: it has their cause, and leaves what they leave. The call takes memory.
-pub answered_refused : (settings : Settings) (timer : Timer) (state : State) (call : Call) (rows : List Row) (faults whole : Bool) (refusal : Refusal)
-    (oc nc : Option (List ℕ)) (of nf : ℕ) → state.failed ≡ false →
-    cause_of settings timer state call ≡ rows_cause settings rows faults → call_text settings timer state call ≡ draw settings rows →
-    takes_no_memory state call ≡ false →
-    IsWritten whole (rows_cause settings rows faults) (has_no_row rows) (draw settings rows) (Err refusal) oc nc of nf →
-    IsAnswered settings timer call (Err refusal) state (record state { failed = failed_by {A = Unit {0}} (Err refusal) }) whole oc nc of nf
-answered_refused settings timer state call rows faults whole (NotHeld i) oc nc of nf sound cause text memory h =
-    record { answer = cause ∙ h.answer; state = (λ k. record state { failed = sym sound k }); written = h.written }
-answered_refused settings timer state call rows faults whole TooWide oc nc of nf sound cause text memory h =
-    record { answer = cause ∙ h.answer; state = (λ k. record state { failed = sym sound k }); written = h.written }
-answered_refused settings timer state call rows faults whole TooMany oc nc of nf sound cause text memory h =
-    record { answer = cause ∙ h.answer; state = (λ k. record state { failed = sym sound k }); written = h.written }
-answered_refused settings timer state call rows faults whole Memory oc nc of nf sound cause text memory h =
-    record { answer = memory; state = (λ k. record state { failed = sym sound k }); written = h.written }
-answered_refused settings timer state call rows faults whole Refused.Timer oc nc of nf sound cause text memory h =
-    record { answer = cause ∙ h.answer; state = refl; written = h.written }
-answered_refused settings timer state call rows faults whole Writer oc nc of nf sound cause text memory h =
-    let P : List ℕ → Type 0 = λ t. LeavesCut whole t oc nc of nf in
-    record { answer = (cause ∙ h.answer.0, λ none. h.answer.1 (sym text ∙ none)); state = refl; written = subst P (sym text) h.written }
-answered_refused settings timer state call rows faults whole Failed oc nc of nf sound cause text memory h =
-    record { answer = cause ∙ h.answer; state = (λ k. record state { failed = sym sound k }); written = h.written }
+pub answered_refused : (call : Call) (rows : List Row) (faults quiet : Bool) (refusal : Refusal) (old new : Seen) → old.state.failed ≡ false →
+    cause_of old.settings old.timer old.state call ≡ rows_cause old.settings rows faults →
+    call_text old.settings old.timer old.state call ≡ draw old.settings rows → (quiet ≡ false → takes_no_memory old.state call ≡ false) →
+    IsWritten old.settings rows faults quiet (Err refusal) old.writer new.writer → new ≡ seen_later old (record old.state { failed = failed_by {A = Unit {0}} (Err refusal) }) new.writer →
+    IsAnswered call (Err refusal) old new
+answered_refused call rows faults quiet (NotHeld i) old new sound cause text memory h left =
+    record { allowed = cause ∙ h.answer; left = left ∙ ap (λ failed. seen_later old (record old.state { failed = failed }) new.writer) (sym sound); written = h.written }
+answered_refused call rows faults quiet TooWide old new sound cause text memory h left =
+    record { allowed = cause ∙ h.answer; left = left ∙ ap (λ failed. seen_later old (record old.state { failed = failed }) new.writer) (sym sound); written = h.written }
+answered_refused call rows faults quiet TooMany old new sound cause text memory h left =
+    record { allowed = cause ∙ h.answer; left = left ∙ ap (λ failed. seen_later old (record old.state { failed = failed }) new.writer) (sym sound); written = h.written }
+answered_refused call rows faults quiet Memory old new sound cause text memory h left =
+    record { allowed = memory h.answer; left = left ∙ ap (λ failed. seen_later old (record old.state { failed = failed }) new.writer) (sym sound); written = h.written }
+answered_refused call rows faults quiet Refused.Timer old new sound cause text memory h left =
+    record { allowed = cause ∙ h.answer; left = left; written = h.written }
+answered_refused call rows faults quiet Writer old new sound cause text memory h left =
+    let P : List ℕ → Type 0 = λ t. LeavesCut old.writer.whole t old.writer.bytes new.writer.bytes old.writer.faults new.writer.faults in
+    record { allowed = (cause ∙ h.answer.0, λ none. h.answer.1 (sym text ∙ none)); left = left; written = subst P (sym text) h.written }
+answered_refused call rows faults quiet Failed old new sound cause text memory h left =
+    record { allowed = cause ∙ h.answer; left = left ∙ ap (λ failed. seen_later old (record old.state { failed = failed }) new.writer) (sym sound); written = h.written }
 
 -- of causes against rows alone the first is that of the rows
 pub first_cause_of_rows : (wide faults : Bool) →
@@ -85,13 +64,120 @@ first_cause_of_rows true faults = refl
 first_cause_of_rows false true = refl
 first_cause_of_rows false false = refl
 
--- why an eager event is refused: for its row or its timer
-pub cause_of_event_built : (settings : Settings) → IsBuilt settings → (timer : Timer) (state : State) (event : Event) (context : Context) → state.failed ≡ false →
-    cause_of settings timer state (Told event context)
-    ≡ rows_cause settings (event_row settings timer state.forest event context ∷ []) (timer_faults_at settings timer state.forest context)
-cause_of_event_built settings built timer state event context sound =
-    let turn = turn_of_event_built settings built timer context state.forest state.last event in
-    let faults = timer_faults_at settings timer state.forest context in
-    let cause : List Row → Bool → Option Refusal = λ rows failed.
-    first_cause (record { failed = failed; not_held = None; too_many = false; too_wide = draws_too_wide settings rows; timer_faults = faults }) in
-    (λ i. cause (turn i).rows (sound i)) ∙ first_cause_of_rows (draws_too_wide settings (event_row settings timer state.forest event context ∷ [])) faults
+-- why a call is refused that finds what it needs: for its rows, or by the timer
+pub cause-turn : (settings : Settings) (timer : Timer) (state : State) (call : Call) → state.failed ≡ false →
+    id_not_held state.forest call ≡ None → is_too_many state.forest call ≡ false →
+    cause_of settings timer state call
+    ≡ rows_cause settings (turn_of settings timer state.forest state.last call).rows (timer_faults settings timer state.forest call)
+cause-turn settings timer state call sound held few =
+    let rows : List Row = (turn_of settings timer state.forest state.last call).rows in
+    let faults : Bool = timer_faults settings timer state.forest call in
+    (λ i. first_cause (record {
+      failed = sound i;
+      not_held = held i;
+      too_many = few i;
+      too_wide = draws_too_wide settings rows;
+      timer_faults = faults;
+    })) ∙ first_cause_of_rows (draws_too_wide settings rows) faults
+
+-- ---- what is seen of a refusal
+
+module _ {W FT : Type 0} (time : FormatTime FT) (output : Output W) where
+  -- A call whose rows are refused is refused for their cause, and leaves the spans, the marks and the last span.
+  pub turn_refused : (call : Call) (rows : List Row) (faults quiet : Bool) (refusal : Refusal) (old new : LayeredView W FT) →
+      let before = seen time output old in
+      old.layer.failed ≡ false →
+      cause_of before.settings before.timer before.state call ≡ rows_cause before.settings rows faults →
+      call_text before.settings before.timer before.state call ≡ draw before.settings rows →
+      (quiet ≡ false → takes_no_memory before.state call ≡ false) →
+      IsWritten old.layer.settings rows faults quiet (Err refusal) (seen_writer output old.layer.writer) (seen_writer output new.layer.writer) →
+      new.layer ≡ record old.layer { writer = new.layer.writer; failed = failed_by {A = Unit {0}} (Err refusal) } → new.forest ≡ old.forest →
+      Changes (seen time output) (IsAnswered call (Err refusal)) old new
+  turn_refused call rows faults quiet refusal old new sound cause text memory written layer forest = record {
+    changed = answered_refused call rows faults quiet refusal (seen time output old) (seen time output new) sound cause text memory written
+        (λ i. seen time output (record { forest = forest i; layer = layer i }));
+    fixed = layer ∙ (λ i. record old.layer {
+      writer = new.layer.writer;
+      last = sym (ap (λ (l : LayerView W FT). l.last) layer) i;
+      failed = sym (ap (λ (l : LayerView W FT). l.failed) layer) i;
+    });
+  }
+
+  -- A new span whose rows are refused is taken back.
+  pub new_refused : (attributes : Attributes) (context : Context) (i : Id) (quiet : Bool) (refusal : Refusal) (old new : LayeredView W FT) (made : Forest) →
+      old.layer.failed ≡ false → IsNewSpan attributes context (Ok i) old.forest made →
+      let turn = turn_of_new old.layer.settings context made old.layer.last i in
+      IsWritten old.layer.settings turn.rows false quiet (Err refusal) (seen_writer output old.layer.writer) (seen_writer output new.layer.writer) →
+      new.layer ≡ record old.layer { writer = new.layer.writer; failed = failed_by {A = Unit {0}} (Err refusal) } → new.forest ≡ old.forest →
+      Changes (seen time output) (IsAnswered (New attributes context) (Err refusal)) old new
+  new_refused attributes context i quiet refusal old new made sound is_new written layer forest =
+      let settings = old.layer.settings in
+      let timer = time.timer old.layer.timer in
+      let state = (seen time output old).state in
+      let id : new_id old.forest ≡ i = ap (λ (o : Option Id). unwrap_or o (id_of 0)) is_new.1 in
+      let grown : with_new_span attributes context old.forest ≡ made =
+      ap (λ j. add_span (new_span j attributes context.current context.moment.mono) old.forest) id ∙ sym is_new.2 in
+      let same : turn_of settings timer old.forest old.layer.last (New attributes context) ≡ turn_of_new settings context made old.layer.last i =
+      (λ k. turn_of_new settings context (grown k) old.layer.last (id k)) in
+      let rows = (turn_of_new settings context made old.layer.last i).rows in
+      turn_refused (New attributes context) rows false quiet refusal old new sound
+      (cause-turn settings timer state (New attributes context) sound is_new.0 (ap (λ (o : Option Id). is_none o) is_new.1)
+      ∙ ap (λ (t : Turn). rows_cause settings t.rows false) same)
+      (ap (λ (t : Turn). draw settings t.rows) same) (λ h. rw sound refl) written layer forest
+
+  -- What closes was written, and is removed.
+  pub closes : (i : Id) (context : Context) (went quiet : Bool) (done : Unit {0}) (old new : LayeredView W FT) (ids : List Id) (marked : Forest) →
+      old.layer.failed ≡ false → (unless_handle old.forest i ≡ None) × (ids ≡ closing_of old.forest i) →
+      DoesTurn (seen_writer output) (turn_of_closes old.layer.settings context ids old.forest old.layer.last) false quiet (Ok done) old.layer new.layer old.forest marked →
+      IsClosed i (Ok went) marked new.forest →
+      Changes (seen time output) (IsAnswered (Close i context) (Ok (Closed went))) old new
+  closes i context went quiet done old new ids marked sound lists does closed =
+      let settings = old.layer.settings in
+      let timer = time.timer old.layer.timer in
+      let forest = old.forest in
+      let last = old.layer.last in
+      let state = (seen time output old).state in
+      let all : List Id = closing_of forest i in
+      let turn = turn_of_closes settings context all forest last in
+      let P : List Id → Type 0 = λ xs. DoesTurn (seen_writer output) (turn_of_closes settings context xs forest last) false quiet (Ok done) old.layer new.layer forest marked in
+      let does : DoesTurn (seen_writer output) turn false quiet (Ok done) old.layer new.layer forest marked = subst P lists.1 does in
+      let marks = does.marked ∙ closes-marked settings context all forest last in
+      let same : closing_of marked i ≡ all = ap (λ f. closing_of f i) marks ∙ closing_of-marked (plan_of_closes settings forest all (empty_plan last)).fresh forest i in
+      let left : new.forest ≡ without_spans all (take_handle i turn.forest) =
+      closed.2 ∙ (λ k. without_spans (same k) (take_handle i (does.marked k))) in
+      let layer : new.layer ≡ record old.layer { writer = new.layer.writer; last = turn.last; failed = old.layer.failed } =
+      does.layer ∙ (λ k. record old.layer { writer = new.layer.writer; last = turn.last; failed = sym sound k }) in
+      record {
+        changed = record {
+          allowed = (
+            cause-turn settings timer state (Close i context) sound lists.0 refl ∙ does.written.answer,
+            ap Closed (closed.1 ∙ ap (λ (xs : List Id). not (length xs == 0)) same),
+          );
+          left = (λ k. seen time output (record { forest = left k; layer = layer k }));
+          written = does.written.written;
+        };
+        fixed = layer ∙ (λ k. record old.layer {
+          writer = new.layer.writer;
+          last = sym (ap (λ (l : LayerView W FT). l.last) layer) k;
+          failed = sym (ap (λ (l : LayerView W FT). l.failed) layer) k;
+        });
+      }
+
+-- A close for which a handle was found is not refused by the registry once the marks are made.
+pub closes_held : (settings : Settings) (context : Context) (i : Id) (refusal : Refusal) (forest marked new : Forest) (last : Option Id) (ids : List Id) →
+    unless_handle forest i ≡ None → marked ≡ (turn_of_closes settings context ids forest last).forest → IsClosed i (Err refusal) marked new → ⊥
+closes_held settings context i refusal forest marked new last ids held marks closed =
+    let fresh : List Id = (plan_of_closes settings forest ids (empty_plan last)).fresh in
+    let same : unless_handle marked i ≡ None =
+    ap (λ f. unless_handle f i) (marks ∙ closes-marked settings context ids forest last)
+    ∙ ap (λ (n : ℕ). then_some (n == 0) i) (handles_of-marked fresh forest i) ∙ held in
+    by refusal closed same
+  where
+    by : (r : Refusal) → IsClosed i (Err r) marked new → unless_handle marked i ≡ None → ⊥
+    by (NotHeld j) h e = let clash = sym h.0 ∙ e in cc
+    by TooWide h e = h
+    by TooMany h e = h
+    by Memory h e = h
+    by Refused.Timer h e = h
+    by Writer h e = h
+    by Failed h e = h

@@ -6,7 +6,7 @@ use Rattle.tracing_tree_core.specs.Ids.{id_of}
 use Rattle.tracing_tree_core.specs.Texts.{rendered_field}
 use Rattle.tracing_tree_core.specs.Clock.{no_timer}
 use Rattle.tracing_tree_core.specs.Forest.{new_span, add_span, empty_forest}
-use Rattle.tracing_tree_core.specs.declared.format.Refusal.TheVariants.{NotHeld, Failed}
+use Rattle.tracing_tree_core.specs.declared.context.Refusal.TheVariants.{NotHeld, Failed}
 use Rattle.tracing_tree_core.specs.declared.registry.Parent.TheVariants.{Root}
 use Rattle.tracing_tree.specs.State.{State}
 use Rattle.tracing_tree.specs.Bare.{BareCall, on_new_span, on_record, on_close, bare_text, bare_state_after, bare_cause_of}

@@ -5,7 +5,7 @@ use Rattle.tracing_tree_core.specs.Ids.{id_of}
 use Rattle.tracing_tree_core.specs.Texts.{rendered_field}
 use Rattle.tracing_tree_core.specs.Clock.{no_timer}
 use Rattle.tracing_tree_core.specs.Forest.{closing_of}
-use Rattle.tracing_tree_core.specs.declared.format.Refusal.TheVariants.{NotHeld, TooMany, Writer}
+use Rattle.tracing_tree_core.specs.declared.context.Refusal.TheVariants.{NotHeld, TooMany, Writer}
 use Rattle.tracing_tree_core.specs.declared.registry.Parent.TheVariants.{Root, Of}
 use Rattle.tracing_tree_core.specs.declared.style.Level.TheVariants.{Info}
 use Rattle.tracing_tree.specs.State.{State, opening_state}

@@ -5,12 +5,12 @@ use Rattle.std.specs.Char.{encode_utf8}
 use Rattle.serde_json.proofs.OnLiterals.{serde_json_on_literals}
 use Rattle.serde_json.specs.Data.{string, object, member, no_members}
 use Rattle.serde_json.specs.Written.{has_float}
-use Rattle.tracing_tree_core.specs.declared.time.Moment.{Moment}
+use Rattle.tracing_tree_core.specs.declared.context.Moment.{Moment}
 use Rattle.tracing_tree.specs.declared.call.Call.{Call}
 use Rattle.tracing_tree.specs.Lines.{LeavesRun}
 use Rattle.tracing_tree.specs.declared.lines.LineCause.TheVariants.{Settings as NoSettings, NotACall}
 use Rattle.tracing_tree.specs.Spelled.{line_settings, line_object, object_call, SpellsCall, SpellsNothing, input_lines, is_skipped, ◌>>=◌, no_clock, local_clock, uptime_clock}
-use Rattle.tracing_tree.proofs.Calls.{plain, lined, start_of_1970, outside, inside, made, warned, closed}
+use Rattle.tracing_tree.proofs.Calls.{plain, lined, start_of_1970, outside, inside, made, warned, closed, holding}
 
 -- lines alone
 pub lines_on : line_settings (codes "{\"indent_lines\":true}") ≡ Some (record lined { ansi = false }, no_clock)
@@ -144,7 +144,7 @@ blank_line = refl
 no_first_line : {A : Type 0} {x : A} {xs : List A} → [] ≡ x ∷ xs → ⊥
 no_first_line e = cc
 
-pub empty_input : LeavesRun true [] 0 (Some (record { line = 1; cause = NoSettings })) (Some []) (Some [])
+pub empty_input : LeavesRun [] 0 (Some (record { line = 1; cause = NoSettings })) (holding []) (holding [])
 empty_input = inl (
   record { cause = NoSettings; ends = λ settings timer others begins. no_first_line begins.lines; blamed = refl; none = refl },
   refl,
@@ -153,7 +153,7 @@ empty_input = inl (
 -- ---- whole inputs
 
 -- settings alone
-pub settings_alone : LeavesRun true (codes "{}") 0 None (Some []) (Some [])
+pub settings_alone : LeavesRun (codes "{}") 0 None (holding []) (holding [])
 unfolding serde_json_on_literals encode_utf8
 settings_alone = inr (
   record {
@@ -186,8 +186,8 @@ unfolding serde_json_on_literals
 cut_short_spells_nothing = (refl, λ call spelled. not_none spelled.object)
 
 -- the run ends at such a line, with what was drawn before it
-pub ended_early : LeavesRun true (codes "{\"indent_lines\":true}\n{\"call\":\"new\",\"name\":\"a\"}\n{\"call\":") 1
-    (Some (record { line = 3; cause = NotACall })) (Some []) (Some (encode_utf8_all (codes "┐a \n")))
+pub ended_early : LeavesRun (codes "{\"indent_lines\":true}\n{\"call\":\"new\",\"name\":\"a\"}\n{\"call\":") 1
+    (Some (record { line = 3; cause = NotACall })) (holding []) (holding (encode_utf8_all (codes "┐a \n")))
 unfolding serde_json_on_literals encode_utf8
 ended_early = inr (
   record {

@@ -6,11 +6,13 @@ use Rattle.tracing_tree_core.specs.Clock.{no_timer}
 use Rattle.tracing_tree.specs.State.{opening_state}
 use Rattle.tracing_tree.specs.Run.{run}
 use Rattle.tracing_tree.specs.declared.call.Call.{Call}
-use Rattle.tracing_tree.specs.RowText.{TextRow, AreTextRows, rows_text, is_text_row, is_row_too_wide, first_lines, event_paths}
+use Rattle.tracing_tree.specs.RowText.{TextRow, AreTextRows, rows_text, is_text_row, made_row, is_row_too_wide, first_lines, event_paths}
+use Rattle.tracing_tree.specs.DrawRows.{are_too_wide}
+use Rattle.tracing_tree.specs.Ancestry.{place_at}
 use Rattle.tracing_tree.specs.Readable.{IsReadable, text_rows}
 use Rattle.tracing_tree.specs.Reading.{run_is_on_path, latest, rows_of}
-use Rattle.tracing_tree.specs.declared.rows.Shape.{Shape}
-use Rattle.tracing_tree.specs.declared.rows.Shape.TheVariants.{PreOpen, OpenRoot, Open, CloseRoot, Close, Event}
+use Rattle.tracing_tree.specs.declared.rows.row.Shape.{Shape}
+use Rattle.tracing_tree.specs.declared.rows.row.Shape.TheVariants.{PreOpen, OpenRoot, Open, CloseRoot, Close, Event}
 use Rattle.tracing_tree.proofs.Calls.{lined, outside, inside, made, informed, warned, closed}
 
 abbrev pub row : Shape → ℕ → List (List ℕ) → TextRow
@@ -72,12 +74,25 @@ no_bare_corner = refl
 pub no_bare_spaces : is_text_row (record { shape = Event; level = 0; lines = codes "   " ∷ [] }) ≡ false
 no_bare_spaces = refl
 
+-- a row is made of what may be one
+pub makes_no_open_at_the_edge : made_row (row (Open false) 0 (codes "a" ∷ [])) ≡ None
+makes_no_open_at_the_edge = refl
+
+pub makes_no_row_without_lines : made_row (row Event 1 []) ≡ None
+makes_no_row_without_lines = refl
+
+pub makes_a_parent_of_two_lines : made_row (row PreOpen 0 (codes "a" ∷ codes "b" ∷ [])) ≡ Some (row PreOpen 0 (codes "a" ∷ codes "b" ∷ []))
+makes_a_parent_of_two_lines = refl
+
 -- rows that are too wide to be drawn
 pub wide_open : is_row_too_wide 2 (row (Open false) 9_223_372_036_854_775_808 []) ≡ true
 wide_open = refl
 
 pub wide_parent_row : is_row_too_wide 2 (row PreOpen 18_446_744_073_709_551_615 []) ≡ true
 wide_parent_row = refl
+
+pub one_of_them_wide : are_too_wide 2 (row OpenRoot 0 [] ∷ row PreOpen 9_223_372_036_854_775_807 [] ∷ []) ≡ true
+one_of_them_wide = refl
 
 -- the first lines of a text
 pub first_two_lines : first_lines 2 (codes "a\nb\nc") ≡ codes "a\nb\n"
@@ -105,6 +120,24 @@ no_ancestors = refl
 -- an event at the edge
 pub no_entries : event_paths (row Event 0 (codes "INFO x" ∷ []) ∷ []) ≡ record { event = 0; ancestors = [] } ∷ []
 no_entries = refl
+
+-- a nearer row of another level is no ancestor
+pub none_nearer : event_paths (row OpenRoot 0 (codes "a" ∷ []) ∷ row Event 2 (codes "x" ∷ []) ∷ []) ≡ record { event = 1; ancestors = Some 0 ∷ None ∷ [] } ∷ []
+none_nearer = refl
+
+-- nor is a parent that is shown again
+pub none_shown_again : event_paths (row PreOpen 0 (codes "a " ∷ []) ∷ row Event 1 (codes "x" ∷ []) ∷ []) ≡ record { event = 1; ancestors = None ∷ [] } ∷ []
+none_shown_again = refl
+
+-- the place that is kept for a level
+pub kept_place : place_at (Some 3 ∷ None ∷ []) 0 ≡ Some 3
+kept_place = refl
+
+pub no_kept_place : place_at (Some 3 ∷ None ∷ []) 1 ≡ None
+no_kept_place = refl
+
+pub place_past_all : place_at (Some 3 ∷ None ∷ []) 2 ≡ None
+place_past_all = refl
 
 -- the premise on closes fails where a close leaves the last path
 pub leaves_the_path : run_is_on_path (record lined { span_retrace = true }) no_timer (opening_state (id_of 1))

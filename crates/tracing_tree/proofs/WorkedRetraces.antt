@@ -4,8 +4,8 @@ use Rattle.std.specs.Char.{encode_utf8}
 use Rattle.std.specs.Fmt.{digits}
 use Rattle.tracing_tree_core.specs.Ids.{id_of}
 use Rattle.tracing_tree_core.specs.Texts.{rendered_field}
-use Rattle.tracing_tree_core.specs.declared.format.Context.{Context}
-use Rattle.tracing_tree_core.specs.declared.format.Id.{Id}
+use Rattle.tracing_tree_core.specs.declared.context.Context.{Context}
+use Rattle.tracing_tree_core.specs.declared.context.Id.{Id}
 use Rattle.tracing_tree_core.specs.declared.registry.Parent.TheVariants.{Current}
 use Rattle.tracing_tree_core.specs.declared.style.Level.TheVariants.{Info}
 use Rattle.tracing_tree.specs.declared.call.Call.TheVariants.{New, Event, Close}

@@ -5,7 +5,7 @@ use Rattle.std.specs.Fmt.{digits}
 use Rattle.tracing_tree_core.specs.Ids.{id_of}
 use Rattle.tracing_tree_core.specs.Texts.{text_field, whole_field, rendered_field}
 use Rattle.tracing_tree_core.specs.Clock.{no_timer, uptime_timer, uptime_text, lower_elapsed_text, higher_elapsed_text}
-use Rattle.tracing_tree_core.specs.declared.format.Refusal.TheVariants.{NotHeld, TooWide, TooMany}
+use Rattle.tracing_tree_core.specs.declared.context.Refusal.TheVariants.{NotHeld, TooWide, TooMany}
 use Rattle.tracing_tree_core.specs.declared.registry.Parent.TheVariants.{Of}
 use Rattle.tracing_tree_core.specs.declared.style.Level.TheVariants.{Info}
 use Rattle.tracing_tree.specs.State.{opening_state}

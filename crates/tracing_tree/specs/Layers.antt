@@ -1,9 +1,12 @@
 -- What contracts see of a layer, and of a registry with a layer.
 use Rattle.std.specs.Prelude.{◌≡◌, Bool, Option}
 use Rattle.tracing_tree_core.specs.Settings.{Settings}
+use Rattle.tracing_tree_core.specs.Clock.{no_timer}
 use Rattle.tracing_tree_core.specs.Forest.{Forest}
-use Rattle.tracing_tree_core.specs.declared.format.Id.{Id}
-use Rattle.tracing_tree.specs.State.{State}
+use Rattle.tracing_tree_core.specs.declared.context.Id.{Id}
+use Rattle.tracing_tree_core.specs.declared.format.output.Output.{Ghosts as Output}
+use Rattle.tracing_tree_core.specs.declared.time.FormatTime.{Ghosts as FormatTime}
+use Rattle.tracing_tree.specs.Seen.{Seen, seen_writer}
 
 -- a layer: its settings, its writer and timer, the last span, and whether it has failed
 pub record LayerView (W FT : Type 0) : Type 0 where
@@ -19,14 +22,24 @@ pub record LayeredView (W FT : Type 0) : Type 0 where
   pub layer : LayerView W FT
 
 module _ {W FT : Type 0} where
-  -- the state between calls
-  abbrev pub state_of : LayeredView W FT → State
-  state_of layered = record {
-    forest = layered.forest;
-    last = layered.layer.last;
-    failed = layered.layer.failed;
+  -- what `FormatTime` and `Output` tell of it
+  abbrev pub seen : FormatTime FT → Output W → LayeredView W FT → Seen
+  seen time output layered = record {
+    settings = layered.layer.settings;
+    timer = time.timer layered.layer.timer;
+    state = record {
+      forest = layered.forest;
+      last = layered.layer.last;
+      failed = layered.layer.failed;
+    };
+    writer = seen_writer output layered.layer.writer;
   }
 
-  -- settings and timer stay
-  abbrev pub IsFixed : LayerView W FT → LayerView W FT → Type 0
-  IsFixed old new = new ≡ record old { writer = new.writer; last = new.last; failed = new.failed }
+  -- What is changed: settings and timer stay, and this holds of what was seen and what is seen.
+  pub record Changes (see : LayeredView W FT → Seen) (Holds : Seen → Seen → Type 0) (old new : LayeredView W FT) : Type 0 where
+    pub changed : Holds (see old) (see new)
+    pub fixed : new.layer ≡ record old.layer { writer = new.layer.writer; last = new.layer.last; failed = new.layer.failed }
+
+-- the same of one without a timer
+abbrev pub seen_untimed : {W : Type 0} → Output W → LayeredView W (Unit {0}) → Seen
+seen_untimed output = seen (record { timer = λ unit. no_timer }) output

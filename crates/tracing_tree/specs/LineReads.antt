@@ -1,9 +1,11 @@
 -- What readers of lines take of the bytes that a reader has left, where those are known.
-use Rattle.std.specs.Prelude.{◌≡◌, ℕ, ◌==◌, ◌++◌, Bool, true, false, List, [], ◌∷◌, Option, Some, None, Result, Ok, Err, ⊤, All}
+use Rattle.std.specs.Prelude.{◌≡◌, ℕ, ◌==◌, ◌++◌, Bool, true, false, not, length, List, [], ◌∷◌, Option, Some, None, Result, Ok, Err, ⊤, All}
 use Rattle.std.specs.Io.KnownBytes.{Consumes, Keeps, IsAtEnd}
-use Rattle.tracing_tree.specs.Spelled.{input_lines}
+use Rattle.tracing_tree_core.specs.Settings.{Settings}
+use Rattle.tracing_tree.specs.Spelled.{TimerChoice, SpellsSettings, input_lines}
 use Rattle.tracing_tree.specs.Lines.{is_from_outside}
 use Rattle.tracing_tree.specs.declared.lines.LineCause.{LineCause}
+use Rattle.tracing_tree.specs.declared.lines.LineCause.TheVariants.{Refused}
 use Rattle.tracing_tree.specs.declared.lines.read.Part.{Part}
 use Rattle.tracing_tree.specs.declared.lines.read.Part.TheVariants.{Line, Input, Inside, Interrupted}
 
@@ -47,3 +49,20 @@ abbrev pub ReadsNext : Option (List ℕ) → Option (List ℕ) → List ℕ → 
 ReadsNext known left line (Ok true) = TakesLine known left line
 ReadsNext known left line (Ok false) = HasNoLine known
 ReadsNext known left line (Err cause) = is_from_outside cause ≡ true
+
+-- what reading up to a line end took: the first line, or without a line end what is left, which is a line if it isn't empty
+abbrev pub ReadsEnded : Option (List ℕ) → Option (List ℕ) → List ℕ → Result Bool LineCause → Type 0
+ReadsEnded known left line (Ok true) = TakesLine known left line
+ReadsEnded known left line (Ok false) = ReadsNext known left line (Ok (not (length line == 0)))
+ReadsEnded known left line (Err cause) = is_from_outside cause ≡ true
+
+-- a cause that is there before any call is made
+abbrev pub IsBeforeCalls : LineCause → Type 0
+IsBeforeCalls (Refused refusal) = ⊥
+IsBeforeCalls cause = ⊤
+
+-- the first line spells these settings and this timer
+pub record OpensWith (known left : Option (List ℕ)) (asked : Settings × TimerChoice) : Type 0 where
+  pub line : List ℕ
+  pub first : TakesLine known left line
+  pub spelled : SpellsSettings line asked.0 asked.1

@@ -6,8 +6,9 @@ use Rattle.tracing_tree_core.specs.Clock.{Timer}
 use Rattle.tracing_tree_core.specs.Ids.{id_of}
 use Rattle.tracing_tree_core.specs.Picture.{draw}
 use Rattle.tracing_tree_core.specs.Outputs.{IsCutShort}
-use Rattle.tracing_tree_core.specs.declared.format.Refusal.TheVariants.{Writer}
+use Rattle.tracing_tree_core.specs.declared.context.Refusal.TheVariants.{Writer}
 use Rattle.tracing_tree.specs.State.{State, opening_state}
+use Rattle.tracing_tree.specs.Seen.{SeenWriter}
 use Rattle.tracing_tree.specs.Run.{Run, run, call_text, MayAnswer}
 use Rattle.tracing_tree.specs.Spelled.{TimerChoice, chosen_timer, input_lines, SpellsSettings, SpellsCall, SpellCalls, SpellsNothing}
 use Rattle.tracing_tree.specs.declared.call.Call.{Call}
@@ -115,12 +116,12 @@ IsLeftByFault whole settings timer state (Some line) (Some fault) front =
     IsLeftBehind whole settings timer state line fault.cause front
 
 -- what a run over lines writes: the text of the accepted calls, and what is left behind it
-pub record WritesLines {input : List ℕ} {accepted : ℕ} {fault : Option LineFault} (whole : Bool)
-    (r : RunsLines input accepted fault) (old new : Option (List ℕ)) : Type 0 where
+pub record WritesLines {input : List ℕ} {accepted : ℕ} {fault : Option LineFault} (r : RunsLines input accepted fault)
+    (old new : SeenWriter) : Type 0 where
   pub front : List ℕ
-  pub left : IsLeftByFault whole r.settings (chosen_timer r.timer) (lines_run r.settings r.timer r.calls).state
+  pub left : IsLeftByFault old.whole r.settings (chosen_timer r.timer) (lines_run r.settings r.timer r.calls).state
       (slice_get r.others r.judged) fault front
-  pub appends : Appends old new (lines_text r ++ front)
+  pub appends : Appends old.bytes new.bytes (lines_text r ++ front)
 
 -- the count of the writer's faults, by the cause that ended the run: it rose by one where the writer is to blame, and stayed
 -- elsewhere
@@ -134,10 +135,10 @@ CountsEnd None old_faults new_faults = new_faults ≡ old_faults
 CountsEnd (Some fault) old_faults new_faults = CountsCause fault.cause old_faults new_faults
 
 -- what a run over lines leaves: it ended at line 1 and wrote nothing, or the settings were read
-abbrev pub LeavesRun : Bool → List ℕ → ℕ → Option LineFault → Option (List ℕ) → Option (List ℕ) → Type 0
-LeavesRun whole input accepted fault old new =
-    (StopsAtFirst input accepted fault × Keeps old new)
-    ⊎ ((r : RunsLines input accepted fault) × WritesLines whole r old new)
+abbrev pub LeavesRun : List ℕ → ℕ → Option LineFault → SeenWriter → SeenWriter → Type 0
+LeavesRun input accepted fault old new =
+    (StopsAtFirst input accepted fault × Keeps old.bytes new.bytes)
+    ⊎ ((r : RunsLines input accepted fault) × WritesLines r old new)
 
 abbrev pub cause_status : LineCause → ℕ
 cause_status NoSettings = 2

@@ -1,12 +1,14 @@
 -- What readers of a line's value answer.
-use Rattle.std.specs.Prelude.{◌≡◌, ◌||◌, Bool, false, List, ℕ, Option, Some, None, is_some, Result, Ok, Err, ⊤, codes}
+use Rattle.std.specs.Prelude.{◌≡◌, false, List, ℕ, Option, Some, None, Result, Ok, Err, ⊤}
 use Rattle.serde_json.specs.Data.{Data}
 use Rattle.serde_json.specs.Written.{has_float}
 use Rattle.tracing_tree_core.specs.Settings.{Settings}
-use Rattle.tracing_tree_core.specs.declared.format.Context.{Context}
-use Rattle.tracing_tree_core.specs.declared.time.Moment.{Moment}
-use Rattle.tracing_tree.specs.Spelled.{value_at, no_clock, object_settings, line_object, SpellsSettings, IsMomentIn, context_in, object_call, SpellsCall}
+use Rattle.tracing_tree_core.specs.declared.context.Context.{Context}
+use Rattle.tracing_tree_core.specs.declared.context.Moment.{Moment}
+use Rattle.tracing_tree.specs.Spelled.{TimerChoice, no_clock, utc_clock, local_clock, uptime_clock, SpellsSettings, IsMomentIn, context_in, object_call, SpellsCall}
 use Rattle.tracing_tree.specs.declared.call.Call.{Call}
+use Rattle.tracing_tree.specs.declared.lines.settings.timer.Timer.{Timer as Asked}
+use Rattle.tracing_tree.specs.declared.lines.settings.timer.Timer.TheVariants as Ask
 use Rattle.tracing_tree.specs.declared.lines.LineCause.{LineCause}
 use Rattle.tracing_tree.specs.declared.lines.LineCause.TheVariants.{Settings as NoSettings, NotACall, Read, Memory, Refused}
 
@@ -23,28 +25,18 @@ abbrev pub Reads : {A : Type 0} → Option A → Result A LineCause → Type 0
 Reads spelled (Ok value) = spelled ≡ Some value
 Reads spelled (Err cause) = IsUnlessMemory NotACall (spelled ≡ None) cause
 
--- a key of settings that can't be set yet has a value
-abbrev pub asks_for_more : Data → Bool
-asks_for_more value =
-    is_some (value_at (codes "span_retrace") value) || is_some (value_at (codes "deferred_spans") value)
-    || is_some (value_at (codes "close_retrace") value) || is_some (value_at (codes "timer") value)
+-- the choice that a line asks for
+abbrev pub choice_of : Asked → TimerChoice
+choice_of Ask.None = no_clock
+choice_of (Ask.Utc clock) = utc_clock clock.higher_precision
+choice_of (Ask.Local offset higher) = local_clock offset.seconds higher
+choice_of (Ask.Uptime clock) = uptime_clock clock.epoch clock.higher_precision
 
--- the settings that a value spells, if it spells some that can be set
-abbrev pub ReadsSettings : Data → Option Settings → Type 0
-ReadsSettings value (Some settings) = (asks_for_more value ≡ false) × (object_settings value ≡ Some (settings, no_clock))
-ReadsSettings value None = asks_for_more value ≡ false → object_settings value ≡ None
-
--- the line spells these settings, and they can be set
-pub record SpellsFirst (line : List ℕ) (settings : Settings) : Type 0 where
-  pub value : Data
-  pub object : line_object line ≡ Some value
-  pub built : asks_for_more value ≡ false
-  pub spelled : SpellsSettings line settings no_clock
-
--- the settings that the first line spells
-abbrev pub ReadsFirst : List ℕ → Result Settings LineCause → Type 0
-ReadsFirst line (Ok settings) = SpellsFirst line settings
-ReadsFirst line (Err cause) = IsUnlessMemory NoSettings ((settings : Settings) → ¬ SpellsFirst line settings) cause
+-- the settings and the timer that the first line spells
+abbrev pub ReadsFirst : List ℕ → Result (Settings × TimerChoice) LineCause → Type 0
+ReadsFirst line (Ok asked) = SpellsSettings line asked.0 asked.1
+ReadsFirst line (Err cause) =
+    IsUnlessMemory NoSettings ((settings : Settings) (timer : TimerChoice) → ¬ SpellsSettings line settings timer) cause
 
 -- the moment that a value spells, if it spells one
 abbrev pub ReadsMoment : Data → Option Moment → Type 0

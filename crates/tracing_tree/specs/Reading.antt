@@ -7,8 +7,8 @@ use Rattle.tracing_tree_core.specs.Ids.{same_id}
 use Rattle.tracing_tree_core.specs.Clock.{Timer}
 use Rattle.tracing_tree_core.specs.Forest.{Forest, path_of, path_of_any, parent_of, is_printed, closing_of}
 use Rattle.tracing_tree_core.specs.Picture.{Row}
-use Rattle.tracing_tree_core.specs.declared.format.Id.{Id}
-use Rattle.tracing_tree_core.specs.declared.format.Context.{Context}
+use Rattle.tracing_tree_core.specs.declared.context.Id.{Id}
+use Rattle.tracing_tree_core.specs.declared.context.Context.{Context}
 use Rattle.tracing_tree_core.specs.declared.format.SpanMode.{SpanMode}
 use Rattle.tracing_tree_core.specs.declared.format.SpanMode.TheVariants.{PreOpen, Open, Close, Retrace, PostClose}
 use Rattle.tracing_tree_core.specs.declared.format.SpanMode.TheVariants.{Event as EventMode}
@@ -38,7 +38,8 @@ opens_at level row = is_opening_kind row.kind && (row.level == level)
 
 -- the span of the last open or retrace row of a level before a place
 abbrev pub latest : List Row → ℕ → ℕ → Option Id
-latest rows place level = option_and_then (λ row. row.span) (last_or None (filter (opens_at level) (take place rows)))
+latest rows place level =
+    option_and_then (λ row. row.span) (last_or None (filter (opens_at level) (take place rows)))
 
 -- an open or retrace row of the span
 abbrev pub opens_span : Id → Row → Bool
@@ -50,14 +51,16 @@ opens_span i row = is_opening_kind row.kind && option_map_or (same_id i) row.spa
 abbrev pub close_is_on_path : Settings → Forest → Option Id → Id → Bool
 close_is_on_path settings forest last i =
     (settings.deferred_spans && not (is_printed forest i))
-    || option_map_or (λ above. list_any (same_id above) (path_of_any forest last)) (parent_of forest i) true
+    || option_map_or (λ above. list_any (same_id above) (path_of_any forest last))
+    (parent_of forest i) true
 
 -- the same of closes, one after another
 abbrev pub closes_are_on_path : Settings → Context → List Id → Forest → Option Id → Bool
 closes_are_on_path settings context [] forest last = true
 closes_are_on_path settings context (i ∷ others) forest last =
     close_is_on_path settings forest last i
-    && closes_are_on_path settings context others (turn_of_close settings context forest last i).forest
+    && closes_are_on_path settings context others
+    (turn_of_close settings context forest last i).forest
     (turn_of_close settings context forest last i).last
 
 -- the same of a call that is accepted
@@ -79,13 +82,15 @@ run_is_on_path settings timer state (call ∷ calls) =
 -- ---- events of a run
 
 -- After the calls before it an event is accepted. Its row is the last that these calls and it draw.
-pub record EventInRun (settings : Settings) (timer : Timer) (first : Id) (calls : List Call) : Type 0 where
+pub record EventInRun (settings : Settings) (timer : Timer) (first : Id)
+    (calls : List Call) : Type 0 where
   pub before : List Call
   pub event : Event
   pub context : Context
   pub after : List Call
   pub whole : calls ≡ before ++ A.Event event context ∷ after
-  pub no_cause : cause_of settings timer (run settings timer (opening_state first) before).state (A.Event event context) ≡ None
+  pub no_cause : cause_of settings timer (run settings timer (opening_state first) before).state
+      (A.Event event context) ≡ None
 
 module _ {settings : Settings} {timer : Timer} {first : Id} {calls : List Call} where
   -- the forest at the event
@@ -94,12 +99,14 @@ module _ {settings : Settings} {timer : Timer} {first : Id} {calls : List Call} 
 
   -- the place of its row
   abbrev pub place_of : EventInRun settings timer first calls → ℕ
-  place_of e = length (run settings timer (opening_state first) (e.before ++ A.Event e.event e.context ∷ [])).rows - 1
+  place_of e = length (run settings timer (opening_state first)
+      (e.before ++ A.Event e.event e.context ∷ [])).rows - 1
 
   -- its parent is its current span, which is live
   abbrev pub IsInCurrent : EventInRun settings timer first calls → Id → Type 0
   IsInCurrent e i =
-      (current_of (forest_at e) e.context ≡ Some i) × (event_parent (forest_at e) e.event e.context ≡ Some i)
+      (current_of (forest_at e) e.context ≡ Some i)
+      × (event_parent (forest_at e) e.event e.context ≡ Some i)
 
 -- the rows of a run that began empty
 abbrev pub rows_of : Settings → Timer → Id → List Call → List Row
@@ -113,7 +120,8 @@ abbrev pub ReadingLaw : Settings → Timer → Id → List Call → Type 0
 ReadingLaw settings timer first calls =
     (e : EventInRun settings timer first calls) (i : Id) → IsInCurrent e i → (level : ℕ) →
     level < length (path_of (forest_at e) i) →
-    latest (rows_of settings timer first calls) (place_of e) level ≡ slice_get (path_of (forest_at e) i) level
+    latest (rows_of settings timer first calls) (place_of e) level
+    ≡ slice_get (path_of (forest_at e) i) level
 
 -- Before an event there is an open or retrace row of each span on its current span's path.
 abbrev pub OpenedBefore : Settings → Timer → Id → List Call → Type 0
@@ -133,11 +141,13 @@ AncestorsLaw settings timer first calls =
     (λ row. IsTrue (opens_at level row) × (row.span ≡ slice_get (path_of (forest_at e) i) level)))
 
 -- the three laws of every run that began empty, each under its premises
-pub record ReadingLaws (settings : Settings) (timer : Timer) (first : Id) (calls : List Call) : Type 0 where
+pub record ReadingLaws (settings : Settings) (timer : Timer) (first : Id)
+    (calls : List Call) : Type 0 where
   pub reading : IsTrue (retraces settings) →
       IsTrue (settings.close_retrace || run_is_on_path settings timer (opening_state first) calls) →
       ReadingLaw settings timer first calls
   pub opened : OpenedBefore settings timer first calls
   pub ancestors : IsTrue (retraces settings) →
       IsTrue (settings.close_retrace || run_is_on_path settings timer (opening_state first) calls) →
-      IsReadable settings (rows_of settings timer first calls) → AncestorsLaw settings timer first calls
+      IsReadable settings (rows_of settings timer first calls) →
+      AncestorsLaw settings timer first calls

@@ -1,16 +1,16 @@
 -- When a call is refused, and which refusal comes first.
-use Rattle.std.specs.Prelude.{ℕ, ◌==◌, Bool, true, false, not, ◌||◌, List, [], ◌∷◌, Option, None, is_none, option_map}
+use Rattle.std.specs.Prelude.{ℕ, ◌==◌, Bool, true, false, not, ◌||◌, List, [], ◌∷◌, Option, None, is_none, length, option_map}
 use Rattle.std.specs.Option.{option_map_or, option_or}
 use Rattle.std.specs.Bool.{then_some}
 use Rattle.std.specs.List.{list_any}
 use Rattle.tracing_tree_core.specs.Settings.{Settings}
 use Rattle.tracing_tree_core.specs.Clock.{Timer}
 use Rattle.tracing_tree_core.specs.Picture.{Row, is_too_wide}
-use Rattle.tracing_tree_core.specs.Forest.{Forest, is_live, handles_of, named_parent, unless_live, any_unless_live, unless_handle, lacks_next, has_all_handles}
-use Rattle.tracing_tree_core.specs.declared.format.Id.{Id}
-use Rattle.tracing_tree_core.specs.declared.format.Context.{Context}
-use Rattle.tracing_tree_core.specs.declared.format.Refusal.{Refusal}
-use Rattle.tracing_tree_core.specs.declared.format.Refusal.TheVariants.{NotHeld, TooWide, TooMany, Timer as TimerFault, Failed}
+use Rattle.tracing_tree_core.specs.Forest.{Forest, is_live, handles_of, closing_of, named_parent, unless_live, any_unless_live, unless_handle, lacks_next, has_all_handles}
+use Rattle.tracing_tree_core.specs.declared.context.Id.{Id}
+use Rattle.tracing_tree_core.specs.declared.context.Context.{Context}
+use Rattle.tracing_tree_core.specs.declared.context.Refusal.{Refusal}
+use Rattle.tracing_tree_core.specs.declared.context.Refusal.TheVariants.{NotHeld, TooWide, TooMany, Timer as TimerFault, Failed}
 use Rattle.tracing_tree.specs.State.{State}
 use Rattle.tracing_tree.specs.Rows.{time_in_current}
 use Rattle.tracing_tree.specs.Step.{turn_of}
@@ -87,14 +87,15 @@ cause_of settings timer state call = first_cause (record {
   timer_faults = timer_faults settings timer state.forest call;
 })
 
--- a call that grows nothing, and is never refused for want of memory: a clone, a close that leaves a handle or finds none, a
--- record of a span that is not live, and each call on a layer that has failed
+-- A call that grows nothing, and is never refused for want of memory: a clone, a close with which
+-- no span goes, a record of a span that is not live, and each call on a layer that has failed.
 abbrev pub is_without_memory : Forest → Call → Bool
 is_without_memory forest (New attributes context) = false
 is_without_memory forest (Clone i) = true
 is_without_memory forest (Record i record') = not (is_live forest i)
 is_without_memory forest (Event event context) = false
-is_without_memory forest (Close i context) = not (handles_of forest i == 1)
+is_without_memory forest (Close i context) =
+    not (handles_of forest i == 1) || (length (closing_of forest i) == 0)
 
 abbrev pub takes_no_memory : State → Call → Bool
 takes_no_memory state call = state.failed || is_without_memory state.forest call

@@ -6,10 +6,10 @@ use Rattle.tracing_tree_core.specs.Texts.{prefix_text}
 use Rattle.tracing_tree_core.specs.Clock.{Timer, elapsed}
 use Rattle.tracing_tree_core.specs.Forest.{Forest, span_at, if_live, is_printed, parent_of, path_of_any, level_of, fresh_ids, mark_printed, mark_all, named_parent}
 use Rattle.tracing_tree_core.specs.Spans.{shown_span}
-use Rattle.tracing_tree_core.specs.Block.{span_block, event_block}
+use Rattle.tracing_tree.specs.Block.{span_block, event_block}
 use Rattle.tracing_tree_core.specs.Picture.{Row}
-use Rattle.tracing_tree_core.specs.declared.format.Id.{Id}
-use Rattle.tracing_tree_core.specs.declared.format.Context.{Context}
+use Rattle.tracing_tree_core.specs.declared.context.Id.{Id}
+use Rattle.tracing_tree_core.specs.declared.context.Context.{Context}
 use Rattle.tracing_tree_core.specs.declared.format.SpanMode.{SpanMode}
 use Rattle.tracing_tree_core.specs.declared.format.SpanMode.TheVariants.{PreOpen, Open, Close, Retrace, PostClose}
 use Rattle.tracing_tree_core.specs.declared.format.SpanMode.TheVariants.{Event as EventMode}

@@ -1,10 +1,10 @@
 -- Runs of calls.
-use Rattle.std.specs.Prelude.{◌≡◌, ◌≢◌, Bool, false, ℕ, true, List, [], ◌∷◌, ◌++◌, Option, Some, None, Result, Ok, Err, ⊤}
+use Rattle.std.specs.Prelude.{◌≡◌, ◌≢◌, Bool, false, ℕ, true, List, [], ◌∷◌, ◌++◌, Option, Some, None, Result, Ok, Err}
 use Rattle.tracing_tree_core.specs.Settings.{Settings}
 use Rattle.tracing_tree_core.specs.Clock.{Timer}
 use Rattle.tracing_tree_core.specs.Picture.{Row, draw}
-use Rattle.tracing_tree_core.specs.declared.format.Refusal.{Refusal}
-use Rattle.tracing_tree_core.specs.declared.format.Refusal.TheVariants.{Memory, Timer as TimerFault, Writer}
+use Rattle.tracing_tree_core.specs.declared.context.Refusal.{Refusal}
+use Rattle.tracing_tree_core.specs.declared.context.Refusal.TheVariants.{Memory, Timer as TimerFault, Writer}
 use Rattle.tracing_tree.specs.State.{State}
 use Rattle.tracing_tree.specs.Step.{turn_of, reply_of, state_after}
 use Rattle.tracing_tree.specs.Refused.{cause_of, takes_no_memory}
@@ -101,22 +101,6 @@ MayAnswer settings timer state call (Err refusal) =
 abbrev pub state_after_answer : Settings → Timer → State → Call → Result Reply Refusal → State
 state_after_answer settings timer state call (Ok reply) = state_after settings timer state call
 state_after_answer settings timer state call (Err refusal) = after_refusal state refusal
-
--- answers that these calls may get, one after another
-abbrev pub MayAnswerAll : Settings → Timer → State → List Call → List (Result Reply Refusal) → Type 0
-MayAnswerAll settings timer state [] [] = ⊤
-MayAnswerAll settings timer state [] (answer ∷ answers) = ⊥
-MayAnswerAll settings timer state (call ∷ calls) [] = ⊥
-MayAnswerAll settings timer state (call ∷ calls) (answer ∷ answers) =
-    MayAnswer settings timer state call answer
-    × MayAnswerAll settings timer (state_after_answer settings timer state call answer) calls answers
-
--- the state after these answers, one after another
-abbrev pub state_after_answers : Settings → Timer → State → List Call → List (Result Reply Refusal) → State
-state_after_answers settings timer state [] answers = state
-state_after_answers settings timer state (call ∷ calls) [] = state
-state_after_answers settings timer state (call ∷ calls) (answer ∷ answers) =
-    state_after_answers settings timer (state_after_answer settings timer state call answer) calls answers
 
 -- the replies among the answers
 abbrev pub replies_among : List (Result Reply Refusal) → List Reply

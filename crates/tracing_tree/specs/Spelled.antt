@@ -7,18 +7,18 @@ use Rattle.serde_json.specs.Data.{Data, null, boolean, number, string, array, ob
 use Rattle.serde_json.specs.Find.{get, as_bool, as_str, as_number, as_u64, as_i64, as_array, as_object}
 use Rattle.serde_json.specs.Read.{read}
 use Rattle.serde_json.specs.Written.{has_float}
-use Rattle.tracing_tree_core.specs.Settings.{Settings}
+use Rattle.tracing_tree_core.specs.Settings.{Settings, default_settings}
 use Rattle.tracing_tree_core.specs.Ids.{id_of}
 use Rattle.tracing_tree_core.specs.Picture.{parts_of}
 use Rattle.tracing_tree_core.specs.Clock.{Timer, no_timer, utc_timer, local_timer, uptime_timer}
-use Rattle.tracing_tree_core.specs.declared.format.Id.{Id}
-use Rattle.tracing_tree_core.specs.declared.format.Context.{Context}
+use Rattle.tracing_tree_core.specs.declared.context.Id.{Id}
+use Rattle.tracing_tree_core.specs.declared.context.Context.{Context}
 use Rattle.tracing_tree_core.specs.declared.field.Field.{Field}
 use Rattle.tracing_tree_core.specs.declared.registry.Parent.{Parent}
 use Rattle.tracing_tree_core.specs.declared.registry.Parent.TheVariants.{Root, Current, Of}
 use Rattle.tracing_tree_core.specs.declared.style.Level.{Level}
 use Rattle.tracing_tree_core.specs.declared.style.Level.TheVariants.{Trace, Debug, Info, Warn, Error}
-use Rattle.tracing_tree_core.specs.declared.time.Moment.{Moment}
+use Rattle.tracing_tree_core.specs.declared.context.Moment.{Moment}
 use Rattle.tracing_tree.specs.declared.call.Call.{Call}
 use Rattle.tracing_tree.specs.declared.call.Call.TheVariants.{New, Clone, Record, Event, Close}
 
@@ -131,70 +131,96 @@ abbrev pub under_keys : {A : Type 0} → List (List ℕ) → Data → Option A �
 under_keys keys value read = if has_only_keys keys value then read else None
 
 -- the timer of each kind
+abbrev pub none_value : Data → Option TimerChoice
+none_value value = under_keys (codes "kind" ∷ []) value (Some no_clock)
+
+abbrev pub utc_value : Data → Option TimerChoice
+utc_value value = under_keys (codes "kind" ∷ codes "higher_precision" ∷ []) value
+    (option_map utc_clock (flag (codes "higher_precision") value))
+
+abbrev pub local_value : Data → Option TimerChoice
+local_value value = under_keys (codes "kind" ∷ codes "higher_precision" ∷ codes "offset" ∷ []) value (do
+  offset ← required offset_value (codes "offset") value
+  higher ← flag (codes "higher_precision") value
+  Some (local_clock offset higher))
+
+abbrev pub uptime_value : Data → Option TimerChoice
+uptime_value value = under_keys (codes "kind" ∷ codes "higher_precision" ∷ codes "epoch" ∷ []) value (do
+  epoch ← read_or (Some 0) whole_value (codes "epoch") value
+  higher ← flag (codes "higher_precision") value
+  Some (uptime_clock epoch higher))
+
 abbrev pub timer_of_kind : List ℕ → Data → Option TimerChoice
 timer_of_kind kind value =
-    if bytes_eq kind (codes "none") then under_keys (codes "kind" ∷ []) value (Some no_clock)
-    else (if bytes_eq kind (codes "utc")
-    then under_keys (codes "kind" ∷ codes "higher_precision" ∷ []) value (option_map utc_clock (flag (codes "higher_precision") value))
-    else (if bytes_eq kind (codes "local")
-    then under_keys (codes "kind" ∷ codes "higher_precision" ∷ codes "offset" ∷ []) value (do
-      offset ← required offset_value (codes "offset") value
-      higher ← flag (codes "higher_precision") value
-      Some (local_clock offset higher))
-    else (if bytes_eq kind (codes "uptime")
-    then under_keys (codes "kind" ∷ codes "higher_precision" ∷ codes "epoch" ∷ []) value (do
-      epoch ← read_or (Some 0) whole_value (codes "epoch") value
-      higher ← flag (codes "higher_precision") value
-      Some (uptime_clock epoch higher))
+    if bytes_eq kind (codes "none") then none_value value
+    else (if bytes_eq kind (codes "utc") then utc_value value
+    else (if bytes_eq kind (codes "local") then local_value value
+    else (if bytes_eq kind (codes "uptime") then uptime_value value
     else None)))
 
 abbrev pub timer_value : Data → Option TimerChoice
 timer_value value = required as_str (codes "kind") value >>= (λ kind. timer_of_kind kind value)
 
--- the keys of a settings line
-abbrev pub settings_keys : List (List ℕ)
-settings_keys =
-    codes "indent_amount" ∷ codes "wraparound" ∷ codes "timer" ∷ codes "ansi" ∷ codes "indent_lines" ∷ codes "targets"
-    ∷ codes "thread_ids" ∷ codes "thread_names" ∷ codes "verbose_entry" ∷ codes "verbose_exit" ∷ codes "span_retrace"
-    ∷ codes "deferred_spans" ∷ codes "span_modes" ∷ codes "bracketed_fields" ∷ codes "close_retrace" ∷ []
+-- what a value that is read so changes in the settings
+abbrev pub sets : {A : Type 0} → (Data → Option A) → (A → Settings → Settings) → Data → Settings × TimerChoice
+    → Option (Settings × TimerChoice)
+sets reader change value asked = option_map (λ read. (change read asked.0, asked.1)) (reader value)
 
--- what a settings object spells: each key that is there can be read, and one that is absent stands for its default
+-- a truth value changes the settings so
+abbrev pub switches : (Bool → Settings → Settings) → Data → Settings × TimerChoice → Option (Settings × TimerChoice)
+switches change = sets as_bool change
+
+-- a timer takes the place of the one before
+abbrev pub sets_timer : Data → Settings × TimerChoice → Option (Settings × TimerChoice)
+sets_timer value asked = option_map (λ timer. (asked.0, timer)) (timer_value value)
+
+-- settings: each key, and what its value sets
+abbrev pub SettingList : Type 0
+SettingList = List (List ℕ × (Data → Settings × TimerChoice → Option (Settings × TimerChoice)))
+
+-- all settings
+abbrev pub all_settings : SettingList
+all_settings =
+    (codes "indent_amount", sets whole_value (λ amount settings. record settings { indent_amount = amount }))
+    ∷ (codes "wraparound", sets positive_value (λ levels settings. record settings { wraparound = levels }))
+    ∷ (codes "timer", sets_timer)
+    ∷ (codes "ansi", switches (λ on settings. record settings { ansi = on }))
+    ∷ (codes "indent_lines", switches (λ on settings. record settings { indent_lines = on }))
+    ∷ (codes "targets", switches (λ on settings. record settings { targets = on }))
+    ∷ (codes "thread_ids", switches (λ on settings. record settings { render_thread_ids = on }))
+    ∷ (codes "thread_names", switches (λ on settings. record settings { render_thread_names = on }))
+    ∷ (codes "verbose_entry", switches (λ on settings. record settings { verbose_entry = on }))
+    ∷ (codes "verbose_exit", switches (λ on settings. record settings { verbose_exit = on }))
+    ∷ (codes "span_retrace", switches (λ on settings. record settings { span_retrace = on }))
+    ∷ (codes "deferred_spans", switches (λ on settings. record settings { deferred_spans = on }))
+    ∷ (codes "close_retrace", switches (λ on settings. record settings { close_retrace = on }))
+    ∷ (codes "span_modes", switches (λ on settings. record settings { span_modes = on }))
+    ∷ (codes "bracketed_fields", switches (λ on settings. record settings { bracketed_fields = on }))
+    ∷ []
+
+-- what a key with a value makes of the settings; `None` where no setting has the key, or where the
+-- value can't be read
+abbrev pub with_setting : List ℕ → Data → Settings × TimerChoice → Option (Settings × TimerChoice)
+with_setting key value asked = chosen all_settings key >>= (λ setting. setting value asked)
+
+-- the same, where a null counts as absent
+abbrev pub with_member : List ℕ → Data → Settings × TimerChoice → Option (Settings × TimerChoice)
+with_member key value asked =
+    option_map_or (λ present. with_setting key present asked) (unless_null value) (Some asked)
+
+-- what the members of an object make of the settings, one after another
+abbrev pub with_members : Members → Settings × TimerChoice → Option (Settings × TimerChoice)
+with_members no_members asked = Some asked
+with_members (member key value others) asked = with_member key value asked >>= with_members others
+
+-- the settings of a line that names none
+abbrev pub unnamed_settings : Settings × TimerChoice
+unnamed_settings = (record default_settings { ansi = false }, no_clock)
+
+-- what a settings object spells: each key that is there is that of a setting and can be read, and
+-- one that is absent stands for its default
 abbrev pub object_settings : Data → Option (Settings × TimerChoice)
-object_settings value = under_keys settings_keys value (do
-  ansi ← flag (codes "ansi") value
-  indent_lines ← flag (codes "indent_lines") value
-  indent_amount ← read_or (Some 2) whole_value (codes "indent_amount") value
-  targets ← flag (codes "targets") value
-  thread_ids ← flag (codes "thread_ids") value
-  thread_names ← flag (codes "thread_names") value
-  wraparound ← read_or (Some 18_446_744_073_709_551_615) positive_value (codes "wraparound") value
-  verbose_entry ← flag (codes "verbose_entry") value
-  verbose_exit ← flag (codes "verbose_exit") value
-  span_retrace ← flag (codes "span_retrace") value
-  bracketed_fields ← flag (codes "bracketed_fields") value
-  deferred_spans ← flag (codes "deferred_spans") value
-  span_modes ← flag (codes "span_modes") value
-  close_retrace ← flag (codes "close_retrace") value
-  timer ← read_or (Some no_clock) timer_value (codes "timer") value
-  Some (
-    record {
-      ansi = ansi;
-      indent_lines = indent_lines;
-      indent_amount = indent_amount;
-      targets = targets;
-      render_thread_ids = thread_ids;
-      render_thread_names = thread_names;
-      wraparound = wraparound;
-      verbose_entry = verbose_entry;
-      verbose_exit = verbose_exit;
-      span_retrace = span_retrace;
-      bracketed_fields = bracketed_fields;
-      deferred_spans = deferred_spans;
-      span_modes = span_modes;
-      close_retrace = close_retrace;
-    },
-    timer,
-  ))
+object_settings value = as_object value >>= (λ members. with_members members unnamed_settings)
 
 -- what the object of a line spells
 abbrev pub line_settings : List ℕ → Option (Settings × TimerChoice)

@@ -2,7 +2,7 @@
 use Rattle.std.specs.Prelude.{Bool, false, Option, None, List, []}
 use Rattle.tracing_tree_core.specs.Forest.{Forest, empty_forest}
 use Rattle.tracing_tree_core.specs.Picture.{Row}
-use Rattle.tracing_tree_core.specs.declared.format.Id.{Id}
+use Rattle.tracing_tree_core.specs.declared.context.Id.{Id}
 
 -- the live spans with their printed marks, the last span (the one that opened last, or the parent of the one that closed last),
 -- and whether the layer has failed

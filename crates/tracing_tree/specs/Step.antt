@@ -4,8 +4,8 @@ use Rattle.tracing_tree_core.specs.Settings.{Settings}
 use Rattle.tracing_tree_core.specs.Ids.{id_of}
 use Rattle.tracing_tree_core.specs.Clock.{Timer}
 use Rattle.tracing_tree_core.specs.Forest.{Forest, new_span, add_span, add_handle, add_fields, closing_of, take_handle, without_spans}
-use Rattle.tracing_tree_core.specs.declared.format.Id.{Id}
-use Rattle.tracing_tree_core.specs.declared.format.Context.{Context}
+use Rattle.tracing_tree_core.specs.declared.context.Id.{Id}
+use Rattle.tracing_tree_core.specs.declared.context.Context.{Context}
 use Rattle.tracing_tree_core.specs.declared.registry.Attributes.{Attributes}
 use Rattle.tracing_tree.specs.State.{State, Turn, quiet_turn}
 use Rattle.tracing_tree.specs.Rows.{turn_of_new, turn_of_event, turn_of_closes}

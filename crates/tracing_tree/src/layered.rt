@@ -3,8 +3,7 @@
 ghost use Rattle.std.specs.Prelude.{◌≡◌, ◌≢◌, ◌<◌, [], false, None, OnErr, IfOk};
 ghost use Rattle.tracing_tree_core.specs.Ids.{id_of};
 ghost use Rattle.tracing_tree_core.specs.Forest.{empty_forest};
-ghost use Rattle.tracing_tree.specs.Layers.{state_of, IsFixed};
-ghost use Rattle.tracing_tree.specs.Built.{IsBuilt};
+ghost use Rattle.tracing_tree.specs.Layers.{seen, Changes};
 ghost use Rattle.tracing_tree.specs.Answered.{IsAnswered};
 ghost use Rattle.tracing_tree.specs.Headline.{IsRunOf};
 
@@ -92,10 +91,7 @@ impl<W: Output, FT: FormatTime> Layered<W, FT> {
     /// handle to be closed that isn't there; `TooMany` where no id or no further handle is left; `TooWide` where a row's level used times
     /// the amount passes `usize`; `Timer` and `Writer` for their faults; `Memory` where memory is refused.
     pub fn call(&mut self, call: Call) -> Result<Reply, Refusal>
-        ensures answered { IsBuilt self.old.layer.settings →
-            IsAnswered self.old.layer.settings (FT.timer self.old.layer.timer) call result (state_of self.old) (state_of self.new) W.WHOLE
-            (W.contents self.old.layer.writer) (W.contents self.new.layer.writer) (W.fault_count self.old.layer.writer) (W.fault_count self.new.layer.writer) }
-        ensures fixed { IsFixed self.old.layer self.new.layer }
+        ensures { Changes (seen FT.FormatTime W.Output) (IsAnswered call result) self.old self.new }
     {
         if self.layer.failed() {
             return Err(Refusal::Failed);
@@ -116,10 +112,8 @@ impl<W: Output, FT: FormatTime> Layered<W, FT> {
         alloc: Global,
         calls: Vec<Call>,
     ) -> Result<Vec<Result<Reply, Refusal>>, AllocError>
-        ensures run { IfOk result (λ answers. IsBuilt self.old.layer.settings →
-            IsRunOf self.old.layer.settings (FT.timer self.old.layer.timer) calls.items answers.items (state_of self.old) (state_of self.new)
-            W.WHOLE (W.contents self.old.layer.writer) (W.contents self.new.layer.writer) (W.fault_count self.old.layer.writer) (W.fault_count self.new.layer.writer)) }
-        ensures fixed { IsFixed self.old.layer self.new.layer }
+        ensures run { IfOk result (λ answers. Changes (seen FT.FormatTime W.Output)
+            (IsRunOf calls.items answers.items) self.old self.new) }
         ensures err { OnErr result (self.new ≡ self.old) }
         ensures room { OnErr result (calls.items ≢ []) }
     {
@@ -134,10 +128,8 @@ impl<W: Output, FT: FormatTime> Layered<W, FT> {
     // A refusal of the layer takes the new span and its id back.
     fn new_span(&mut self, attributes: Attributes, context: &Context) -> Result<Reply, Refusal>
         requires { self.old.layer.failed ≡ false }
-        ensures answered { IsBuilt self.old.layer.settings →
-            IsAnswered self.old.layer.settings (FT.timer self.old.layer.timer) (Call.New attributes context.now) result (state_of self.old) (state_of self.new) W.WHOLE
-            (W.contents self.old.layer.writer) (W.contents self.new.layer.writer) (W.fault_count self.old.layer.writer) (W.fault_count self.new.layer.writer) }
-        ensures fixed { IsFixed self.old.layer self.new.layer }
+        ensures { Changes (seen FT.FormatTime W.Output)
+            (IsAnswered (Call.New attributes context.now) result) self.old self.new }
     {
         let id = self.registry.new_span(attributes, context)?;
         if let Err(refusal) = self.layer.on_new_span(id, &mut self.registry, context) {
@@ -147,19 +139,16 @@ impl<W: Output, FT: FormatTime> Layered<W, FT> {
         Ok(Reply::Span(id))
     }
 
-    #[tactic(auto, using(crate::proofs::TurnLaws::turn_of_closes_built))]
     // The rows of all that closes are written before anything is removed.
     fn close(&mut self, id: Id, context: &Context) -> Result<Reply, Refusal>
         requires { self.old.layer.failed ≡ false }
-        ensures answered { IsBuilt self.old.layer.settings →
-            IsAnswered self.old.layer.settings (FT.timer self.old.layer.timer) (Call.Close id context.now) result (state_of self.old) (state_of self.new) W.WHOLE
-            (W.contents self.old.layer.writer) (W.contents self.new.layer.writer) (W.fault_count self.old.layer.writer) (W.fault_count self.new.layer.writer) }
-        ensures fixed { IsFixed self.old.layer self.new.layer }
+        ensures { Changes (seen FT.FormatTime W.Output)
+            (IsAnswered (Call.Close id context.now) result) self.old self.new }
     {
         let closing = self.registry.closing(self.layer.allocator(), id)?;
         if let Err(refusal) = self
             .layer
-            .on_closes(closing.as_slice(), &self.registry, context)
+            .on_closes(closing.as_slice(), &mut self.registry, context)
         {
             return Err(refusal);
         }
@@ -169,10 +158,8 @@ impl<W: Output, FT: FormatTime> Layered<W, FT> {
     // Nothing is drawn.
     fn clone_span(&mut self, id: Id) -> Result<Reply, Refusal>
         requires { self.old.layer.failed ≡ false }
-        ensures answered { IsBuilt self.old.layer.settings →
-            IsAnswered self.old.layer.settings (FT.timer self.old.layer.timer) (Call.Clone id) result (state_of self.old) (state_of self.new) W.WHOLE
-            (W.contents self.old.layer.writer) (W.contents self.new.layer.writer) (W.fault_count self.old.layer.writer) (W.fault_count self.new.layer.writer) }
-        ensures fixed { IsFixed self.old.layer self.new.layer }
+        ensures { Changes (seen FT.FormatTime W.Output)
+            (IsAnswered (Call.Clone id) result) self.old self.new }
     {
         Ok(Reply::Cloned(self.registry.clone_span(id)?))
     }
@@ -180,10 +167,8 @@ impl<W: Output, FT: FormatTime> Layered<W, FT> {
     // Nothing is drawn.
     fn record(&mut self, id: Id, fields: Fields) -> Result<Reply, Refusal>
         requires { self.old.layer.failed ≡ false }
-        ensures answered { IsBuilt self.old.layer.settings →
-            IsAnswered self.old.layer.settings (FT.timer self.old.layer.timer) (Call.Record id (record { fields = fields })) result (state_of self.old) (state_of self.new) W.WHOLE
-            (W.contents self.old.layer.writer) (W.contents self.new.layer.writer) (W.fault_count self.old.layer.writer) (W.fault_count self.new.layer.writer) }
-        ensures fixed { IsFixed self.old.layer self.new.layer }
+        ensures { Changes (seen FT.FormatTime W.Output)
+            (IsAnswered (Call.Record id (record { fields = fields })) result) self.old self.new }
     {
         self.registry.record(id, fields)?;
         Ok(Reply::Done)
@@ -192,12 +177,10 @@ impl<W: Output, FT: FormatTime> Layered<W, FT> {
     // Nothing changes but the text.
     fn event(&mut self, event: &Event, context: &Context) -> Result<Reply, Refusal>
         requires { self.old.layer.failed ≡ false }
-        ensures answered { IsBuilt self.old.layer.settings →
-            IsAnswered self.old.layer.settings (FT.timer self.old.layer.timer) (Call.Event event.now context.now) result (state_of self.old) (state_of self.new) W.WHOLE
-            (W.contents self.old.layer.writer) (W.contents self.new.layer.writer) (W.fault_count self.old.layer.writer) (W.fault_count self.new.layer.writer) }
-        ensures fixed { IsFixed self.old.layer self.new.layer }
+        ensures { Changes (seen FT.FormatTime W.Output)
+            (IsAnswered (Call.Event event.now context.now) result) self.old self.new }
     {
-        if let Err(refusal) = self.layer.on_event(event, &self.registry, context) {
+        if let Err(refusal) = self.layer.on_event(event, &mut self.registry, context) {
             return Err(refusal);
         }
         Ok(Reply::Done)

@@ -2,30 +2,29 @@
 
 mod call;
 mod context;
-mod read;
+pub(crate) mod read;
 mod settings;
 mod value;
 
 ghost use Rattle.std.specs.Prelude.{◌≡◌, IfErr, IfSome, MatchResult};
 ghost use Rattle.std.specs.Io.Buffered.{reader_remaining};
-ghost use Rattle.tracing_tree_core.specs.Clock.{no_timer};
-ghost use Rattle.tracing_tree.specs.Built.{IsBuilt};
-ghost use Rattle.tracing_tree.specs.BuiltLines.{EndsUnbuilt, IsBeforeCalls, LeavesBuiltRun, OpensWith};
-ghost use Rattle.tracing_tree.specs.Layers.{state_of, IsFixed};
-ghost use Rattle.tracing_tree.specs.Lines.{CountsEnd, status_of};
-ghost use Rattle.tracing_tree.specs.LineSteps.{JudgesLine, CountsJudged, RunsOver};
-ghost use Rattle.tracing_tree.specs.Spelled.{input_lines};
+ghost use Rattle.tracing_tree.specs.Layers.{seen, Changes};
+ghost use Rattle.tracing_tree.specs.LineReads.{IsBeforeCalls, OpensWith};
+ghost use Rattle.tracing_tree.specs.Lines.{CountsEnd, EndsAtFirst, LeavesRun, status_of};
+ghost use Rattle.tracing_tree.specs.LineSteps.{JudgesLine, EndsLines};
+ghost use Rattle.tracing_tree.specs.Seen.{seen_writer};
 
 use crate::layer::HierarchicalLayer;
 use crate::layered::Layered;
 use call::call_of_line;
 use read::{is_skipped, read_line};
-use settings::settings_of_line;
+use settings::{Setup, settings_of_line};
 use std::alloc::{AllocError, AllocFailed, Global};
 use std::fmt;
 use std::io::{BufRead, BufReader, Read};
 use thiserror::Error;
-use tracing_tree_core::format::{Config, Output, Refusal};
+use tracing_tree_core::format::{Output, Refusal};
+use tracing_tree_core::time::FormatTime;
 
 /// Why a line ended the run.
 #[derive(Clone, Copy, Debug, PartialEq, Eq, Error)]
@@ -132,11 +131,12 @@ where
     W: Drop,
     requires { W.fault_count writer ≡ 0 }
     ensures ran { IfSome (R.remaining reader) (λ input.
-        LeavesBuiltRun W.WHOLE input result.accepted result.fault (W.contents writer) (W.contents result.writer)) }
+        LeavesRun input result.accepted result.fault
+        (seen_writer W.Output writer) (seen_writer W.Output result.writer)) }
     ensures counted { CountsEnd result.fault (W.fault_count writer) (W.fault_count result.writer) }
 {
     let opened = open(alloc, reader);
-    let (mut lines, config) = match opened {
+    let (mut lines, setup) = match opened {
         Ok(opened) => opened,
         Err(cause) => {
             let fault = Some(LineFault { line: 1, cause });
@@ -147,7 +147,8 @@ where
             };
         }
     };
-    let layer = HierarchicalLayer::with_config(alloc, config, writer);
+    let (config, timer) = setup.into_parts();
+    let layer = HierarchicalLayer::with_config(alloc, config, writer).with_timer(timer);
     let mut layered = Layered::new(alloc, layer);
     let (accepted, fault) = run_calls(alloc, &mut lines, &mut layered);
     let (_registry, layer) = layered.into_parts();
@@ -158,13 +159,13 @@ where
     }
 }
 
-// The lines behind the first, and the settings that the first spells.
-fn open<R: Read>(alloc: Global, reader: R) -> Result<(BufReader<R>, Config), LineCause>
+// The lines after the first, and what the first asks for.
+fn open<R: Read>(alloc: Global, reader: R) -> Result<(BufReader<R>, Setup), LineCause>
 where
     R: Drop,
     ensures opened { MatchResult result
         (λ opened. OpensWith (R.remaining reader) (reader_remaining R.remaining opened.0) opened.1)
-        (λ cause. IfSome (R.remaining reader) (λ input. EndsUnbuilt input cause)) }
+        (λ cause. IfSome (R.remaining reader) (λ input. EndsAtFirst input cause)) }
     ensures early { IfErr result IsBeforeCalls }
 {
     let Ok(mut lines) = BufReader::with_capacity(alloc, BLOCK, reader) else {
@@ -174,21 +175,18 @@ where
     if !read_line(&mut lines, &mut line)? {
         return Err(LineCause::Settings);
     }
-    let config = settings_of_line(alloc, line.as_slice())?;
-    Ok((lines, config))
+    let setup = settings_of_line(alloc, line.as_slice())?;
+    Ok((lines, setup))
 }
 
-// Makes the calls that the lines spell, from the second line on. Answers how many were accepted, and the fault that ended it.
-fn run_calls<B: BufRead, W: Output>(
+// Makes the calls that the lines spell, from the second line on. Returns how many were accepted, and the fault that ended the run.
+fn run_calls<B: BufRead, W: Output, FT: FormatTime>(
     alloc: Global,
     lines: &mut B,
-    layered: &mut Layered<W, ()>,
+    layered: &mut Layered<W, FT>,
 ) -> (u64, Option<LineFault>)
-    ensures ran { IsBuilt layered.old.layer.settings → IfSome (B.remaining lines.old) (λ input.
-        RunsOver W.WHOLE layered.old.layer.settings no_timer (state_of layered.old) (input_lines input) result.0 result.1
-        (W.contents layered.old.layer.writer) (W.contents layered.new.layer.writer)) }
-    ensures counted { IsBuilt layered.old.layer.settings →
-        CountsEnd result.1 (W.fault_count layered.old.layer.writer) (W.fault_count layered.new.layer.writer) }
+    ensures { Changes (seen FT.FormatTime W.Output)
+        (EndsLines (B.remaining lines.old) result.0 result.1) layered.old layered.new }
 {
     let mut line = Vec::new(alloc);
     let mut accepted = 0;
@@ -223,18 +221,15 @@ enum Judged {
 }
 
 // Reads one line, and makes the call that it spells.
-fn run_line<B: BufRead, W: Output>(
+fn run_line<B: BufRead, W: Output, FT: FormatTime>(
     alloc: Global,
     lines: &mut B,
     line: &mut Vec<u8>,
-    layered: &mut Layered<W, ()>,
+    layered: &mut Layered<W, FT>,
 ) -> Result<Judged, LineCause>
-    ensures judged { IsBuilt layered.old.layer.settings →
-        JudgesLine W.WHOLE layered.old.layer.settings no_timer (state_of layered.old) (state_of layered.new)
-        (W.contents layered.old.layer.writer) (W.contents layered.new.layer.writer) (B.remaining lines.old) (B.remaining lines.new) result }
-    ensures counted { IsBuilt layered.old.layer.settings →
-        CountsJudged result (W.fault_count layered.old.layer.writer) (W.fault_count layered.new.layer.writer) }
-    ensures fixed { IsFixed layered.old.layer layered.new.layer }
+    ensures { Changes (seen FT.FormatTime W.Output)
+        (JudgesLine (B.remaining lines.old) (B.remaining lines.new) result)
+        layered.old layered.new }
 {
     if !read_line(lines, line)? {
         return Ok(Judged::End);

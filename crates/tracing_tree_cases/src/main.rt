@@ -12,7 +12,15 @@ use tracing_tree::format::Tape;
 use tracing_tree::{LineFault, run_lines, status};
 
 // The folders of cases.
-const FOLDERS: [&str; 4] = ["drawing", "first", "lines", "registry"];
+const FOLDERS: [&str; 7] = [
+    "clocks",
+    "close_retrace",
+    "drawing",
+    "first",
+    "lines",
+    "registry",
+    "retracing",
+];
 
 // How many cases there are, and how many of them passed.
 #[derive(Clone, Copy)]

@@ -10,7 +10,7 @@ use Rattle.tracing_tree_core.specs.Ids.{same_id}
 use Rattle.tracing_tree_core.specs.Spans.{Span}
 use Rattle.tracing_tree_core.specs.Forest.{has_id, is_child_of, IsGrown, IsForest}
 use Rattle.tracing_tree_core.specs.Registered.{alone, is_other_child, lacks_others}
-use Rattle.tracing_tree_core.specs.declared.format.Id.{Id}
+use Rattle.tracing_tree_core.specs.declared.context.Id.{Id}
 use Rattle.tracing_tree_core.proofs.ForestLaws.{same_id-eq}
 use Rattle.tracing_tree_core.proofs.RegistryLaws.{any-reverse}
 

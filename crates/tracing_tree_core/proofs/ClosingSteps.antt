@@ -1,5 +1,5 @@
 -- What closes with a span, span by span: read off a registry that stays, and as one span after the other is removed.
-use Rattle.std.proofs.Common.{◌≡◌, ℕ, suc, nat_lt, ◌-◌, ◌<◌, ◌==◌, Bool, true, false, ◌&&◌, ◌||◌, not, List, [], ◌∷◌, ◌++◌, length, map, reverse, find, filter, get_or, slice_get, Option, Some, None, IfSome, if◌then◌else◌, arith, refl, sym, ap, ◌∙◌, subst}
+use Rattle.std.proofs.Common.{◌≡◌, ℕ, suc, nat_lt, ◌-◌, ◌<◌, ◌==◌, Bool, true, false, ◌&&◌, ◌||◌, not, List, [], ◌∷◌, ◌++◌, length, map, reverse, find, filter, get_or, slice_get, Option, Some, None, IfSome, is_some, if◌then◌else◌, arith, refl, sym, ap, ◌∙◌, subst}
 use Rattle.std.specs.Option.{option_map_or}
 use Rattle.std.specs.List.{list_all, list_any, remove}
 use Rattle.std.specs.Bool.{⊤, then_some}
@@ -10,12 +10,12 @@ use Rattle.std.proofs.lemmas.Bool.Decides.{nat_tests}
 use Rattle.std.proofs.lemmas.Option.{same_Some, slice_get_within, MatchOption-at_some}
 use Rattle.tracing_tree_core.specs.Ids.{same_id}
 use Rattle.tracing_tree_core.specs.Spans.{Span}
-use Rattle.tracing_tree_core.specs.Forest.{Forest, has_id, is_child_of, span_at, handles_of, update_span, take_handle, path_among, IsForest, goes_after, going_up, closing_of, after_close, unless_handle, without_spans}
+use Rattle.tracing_tree_core.specs.Forest.{Forest, has_id, is_child_of, span_at, handles_of, update_span, take_handle, path_of, is_live, path_among, IsForest, IsClosing, IsLongestGoing, goes_after, going_up, closing_of, after_close, unless_handle, without_spans}
 use Rattle.tracing_tree_core.specs.Registered.{IsRising, IsKept, alone, going_after, is_other_child, lacks_others}
-use Rattle.tracing_tree_core.specs.declared.format.Id.{Id}
-use Rattle.tracing_tree_core.proofs.ForestLaws.{same_id-eq}
+use Rattle.tracing_tree_core.specs.declared.context.Id.{Id}
+use Rattle.tracing_tree_core.proofs.ForestLaws.{same_id-eq, path_of-is_path}
 use Rattle.tracing_tree_core.proofs.PathLaws.{path_above}
-use Rattle.tracing_tree_core.proofs.ClosingLaws.{going-cons}
+use Rattle.tracing_tree_core.proofs.ClosingLaws.{going-cons, closing_of-longest}
 use Rattle.tracing_tree_core.proofs.SpanLists.{all_above, higher_not, find-id, remove_is_filter}
 use Rattle.tracing_tree_core.proofs.RegistryLaws.{forest_of, place, IsPlace, kept-without, IsSame, changed, changed-same, reverse-map, without, other-id, reverse-filter, any-reverse}
 use Rattle.tracing_tree_core.proofs.Children.{all-filter}
@@ -77,7 +77,7 @@ lacks-changed u h before i spans =
     ∙ sym (all-filter (is_child_of i) (λ child. option_map_or (same_id child.id) before false) spans)
 
 -- and each its path
-path-changed : (u : Span → Span) → IsSame u → (spans : List Span) (i : Id) → path_among (map u spans) i ≡ path_among spans i
+pub path-changed : (u : Span → Span) → IsSame u → (spans : List Span) (i : Id) → path_among (map u spans) i ≡ path_among spans i
 path-changed u h [] i = refl
 path-changed u h (x ∷ older) i =
     ap (λ (k : Id). if same_id k i then option_map_or (λ above. path_among (map u older) above) (u x).parent [] ++ i ∷ [] else path_among (map u older) i) (h.ids x)
@@ -91,7 +91,7 @@ path-changed u h (x ∷ older) i =
     up (Some above) ih = ih above
 
 -- and each its way up
-way-changed : (change : Span → Span) → IsSame change → (i : Id) (forest : Forest) (o : Option Id) →
+pub way-changed : (change : Span → Span) → IsSame change → (i : Id) (forest : Forest) (o : Option Id) →
     way_up (update_span change i forest) o ≡ way_up forest o
 way-changed change same i forest None = refl
 way-changed change same i forest (Some j) =
@@ -142,10 +142,21 @@ closing-first forest formed i s h =
     ∙ ap (λ rest. if (s.handles - 1 == 0) && lacks_others forest.spans None i then i ∷ rest else [])
     (going-other forest i (Some i) (way_up forest s.parent) (way-fresh forest formed i s h))
 
+-- what closes is the longest way up that goes, of the span's path
+pub closing_of-is : (forest : Forest) → IsForest forest → (i : Id) → is_live forest i ≡ true → (ids : List Id) → ids ≡ closing_of forest i →
+    IsClosing forest i ids
+unfolding IsClosing
+closing_of-is forest formed i live ids h = (
+  path_of forest i,
+  path_of-is_path forest formed i live,
+  subst (IsLongestGoing (take_handle i forest) (reverse (path_of forest i))) (sym h)
+      (subst (λ way. IsLongestGoing (take_handle i forest) way (closing_of forest i)) (way-changed one_less less-same i forest (Some i)) (closing_of-longest forest i)),
+)
+
 -- ---- one removal after the other
 
 -- a span whose child is none keeps none
-childless : (i : Id) (spans : List Span) → lacks_others spans None i ≡ true → list_any (is_child_of i) spans ≡ false
+pub childless : (i : Id) (spans : List Span) → lacks_others spans None i ≡ true → list_any (is_child_of i) spans ≡ false
 childless i [] h = refl
 childless i (x ∷ spans) h = by (λ k. childless i spans k) (is_child_of i x) refl
   where
@@ -159,7 +170,7 @@ childless i (x ∷ spans) h = by (λ k. childless i spans k) (is_child_of i x) r
         rw e (ih (subst (λ b. list_all (λ (child : Span). false) (if b then x ∷ filter (is_child_of i) spans else filter (is_child_of i) spans) ≡ true) e h))
 
 -- a removal of a span without children leaves each other its path
-path-without : (i : Id) (spans : List Span) → list_any (is_child_of i) spans ≡ false → (j : Id) → same_id i j ≡ false →
+pub path-without : (i : Id) (spans : List Span) → list_any (is_child_of i) spans ≡ false → (j : Id) → same_id i j ≡ false →
     path_among (without i spans) j ≡ path_among spans j
 path-without i [] h j other = refl
 path-without i (x ∷ older) h j other =
@@ -603,3 +614,17 @@ held old slice spans next i at s count view kept same h e handles some = record 
   here = place slice i at s h e;
   some = λ none. some (handles ∙ none);
 }
+
+-- the list of what closes with it is what a closing is
+pub closing-is : (old : Forest) (slice : List Span) (next : Option Id) (i : Id) (at : ℕ) (s : Span) (ids : List Id) → IsHeld old slice next i at s →
+    ids ≡ closing_of old i → IsClosing old i ids
+closing-is old slice next i at s ids h e =
+    let live : is_live old i ≡ true =
+    ap (λ (forest : Forest). is_some (span_at forest i)) (sym h.view) ∙ ap (λ (o : Option Span). is_some o) h.here.found in
+    closing_of-is old (subst IsForest h.view h.kept.0) i live ids e
+
+-- it has one handle, where something closes with it
+pub one-handle : (old : Forest) (slice : List Span) (next : Option Id) (i : Id) (at : ℕ) (s : Span) → IsHeld old slice next i at s →
+    s.handles ≡ 1 → handles_of old i ≡ 1
+one-handle old slice next i at s h one =
+    ap (λ (forest : Forest). handles_of forest i) (sym h.view) ∙ ap (λ o. option_map_or (λ (span : Span). span.handles) o 0) h.here.found ∙ one

@@ -9,7 +9,7 @@ use Rattle.std.proofs.lemmas.Bool.{eqb-true, not-true, or_parts}
 use Rattle.tracing_tree_core.specs.Ids.{id_of, same_id}
 use Rattle.tracing_tree_core.specs.Spans.{Span}
 use Rattle.tracing_tree_core.specs.Forest.{Forest, has_id, span_at, is_live, path_among, path_of, Descends, IsPath, IsGrown, IsForest}
-use Rattle.tracing_tree_core.specs.declared.format.Id.{Id}
+use Rattle.tracing_tree_core.specs.declared.context.Id.{Id}
 
 -- the first span with this id
 abbrev pub look : List Span → Id → Option Span
@@ -48,7 +48,7 @@ falls-push : (find : Id → Option Span) (above : Option Id) (path : List Id) (i
 falls-push find above [] i h e = (e, tt)
 falls-push find above (j ∷ path) i h e = (h.0, falls-push find (Some j) path i h.1 e)
 
-last_or-push : (above : Option Id) (path : List Id) (i : Id) → last_or above (path ++ i ∷ []) ≡ Some i
+pub last_or-push : (above : Option Id) (path : List Id) (i : Id) → last_or above (path ++ i ∷ []) ≡ Some i
 last_or-push above [] i = refl
 last_or-push above (j ∷ path) i = last_or-push (Some j) path i
 

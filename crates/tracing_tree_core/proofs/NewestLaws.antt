@@ -10,23 +10,23 @@ use Rattle.tracing_tree_core.specs.Ids.{same_id}
 use Rattle.tracing_tree_core.specs.Spans.{Span}
 use Rattle.tracing_tree_core.specs.Forest.{Forest, has_id, is_child_of, any_unless_live, id_after, add_span, take_back, IsGrown}
 use Rattle.tracing_tree_core.specs.Registered.{IsKept, IsNewest, alone}
-use Rattle.tracing_tree_core.specs.declared.format.Id.{Id}
+use Rattle.tracing_tree_core.specs.declared.context.Id.{Id}
 use Rattle.tracing_tree_core.proofs.SpanLists.{own_id}
 use Rattle.tracing_tree_core.proofs.ForestLaws.{is_some-find, same_id-eq}
 use Rattle.tracing_tree_core.proofs.RegistryLaws.{forest_of, any-reverse, fresh-below, all_kept-below, parent-live}
 
 -- where no element passes, none is found
-find-missing : (p : Span → Bool) (spans : List Span) → list_any p spans ≡ false → find p spans ≡ None
+pub find-missing : (p : Span → Bool) (spans : List Span) → list_any p spans ≡ false → find p spans ≡ None
 find-missing p [] h = refl
 find-missing p (x ∷ spans) h = let parts = or_parts (p x) (list_any p spans) h in rw parts.0 (find-missing p spans parts.1)
 
 -- and none is left by a filter
-filter-missing : (p : Span → Bool) (spans : List Span) → list_any p spans ≡ false → filter p spans ≡ []
+pub filter-missing : (p : Span → Bool) (spans : List Span) → list_any p spans ≡ false → filter p spans ≡ []
 filter-missing p [] h = refl
 filter-missing p (x ∷ spans) h = let parts = or_parts (p x) (list_any p spans) h in rw parts.0 (filter-missing p spans parts.1)
 
 -- a parent that is among spans, where this id isn't, is another
-other-parent : (i : Id) (spans : List Span) → list_any (has_id i) spans ≡ false → (o : Option Id) →
+pub other-parent : (i : Id) (spans : List Span) → list_any (has_id i) spans ≡ false → (o : Option Id) →
     option_map_or (λ above. list_any (has_id above) spans) o true ≡ true → option_map_or (same_id i) o false ≡ false
 other-parent i spans fresh None h = refl
 other-parent i spans fresh (Some above) h = by (same_id i above) refl
@@ -38,14 +38,14 @@ other-parent i spans fresh (Some above) h = by (same_id i above) refl
         absurd (let both : true ≡ false = sym live ∙ fresh in cc)
 
 -- a span that isn't there has no child
-no-child : (i : Id) (spans : List Span) → IsGrown spans → list_any (has_id i) spans ≡ false → list_any (is_child_of i) spans ≡ false
+pub no-child : (i : Id) (spans : List Span) → IsGrown spans → list_any (has_id i) spans ≡ false → list_any (is_child_of i) spans ≡ false
 no-child i [] grown h = refl
 no-child i (x ∷ older) grown h =
     let parts = or_parts (has_id i x) (list_any (has_id i) older) h in
     rw (other-parent i older parts.1 x.parent grown.1) (no-child i older grown.2 parts.1)
 
 -- the id that is given out next is none's
-fresh-next : (spans : List Span) (next : Option Id) (i : Id) → IsKept spans next → next ≡ Some i → list_any (has_id i) spans ≡ false
+pub fresh-next : (spans : List Span) (next : Option Id) (i : Id) → IsKept spans next → next ≡ Some i → list_any (has_id i) spans ≡ false
 fresh-next spans next i kept here =
     let kept' : IsKept spans (Some i) = subst (λ o. IsKept spans o) here kept in
     fresh-below i.0 i spans kept'.0.below_next (omega arith)

@@ -5,9 +5,9 @@ use Rattle.std.specs.List.{list_any, last_or}
 use Rattle.std.proofs.lemmas.List.{reverse-reverse, append-nil, append_assoc}
 use Rattle.std.proofs.lemmas.Bool.{not-true, or_parts}
 use Rattle.tracing_tree_core.specs.Spans.{Span}
-use Rattle.tracing_tree_core.specs.Forest.{Forest, has_id, span_at, is_live, path_among, path_of, path_of_any, Descends, IsPath, IsGrown, IsForest}
-use Rattle.tracing_tree_core.specs.declared.format.Id.{Id}
-use Rattle.tracing_tree_core.proofs.ForestLaws.{look, look-reverse, look-newest, older-not, path-newest, path-older, is_some-find}
+use Rattle.tracing_tree_core.specs.Forest.{Forest, has_id, span_at, is_live, path_among, path_of, path_of_any, Descends, IsPath, IsPathIfLive, IsGrown, IsForest}
+use Rattle.tracing_tree_core.specs.declared.context.Id.{Id}
+use Rattle.tracing_tree_core.proofs.ForestLaws.{look, look-reverse, look-newest, older-not, path-newest, path-older, is_some-find, path_of-is_path}
 
 -- the path of a parent that may be missing
 abbrev pub path_above : List Span → Option Id → List Id
@@ -112,3 +112,10 @@ path_of-none forest formed i h =
     (sym (is_some-find (has_id i) (reverse forest.spans))
     ∙ ap (λ o. is_some o) (sym (look-reverse (reverse forest.spans) formed.grown i) ∙ ap (λ xs. look xs i) (reverse-reverse forest.spans))
     ∙ h)
+
+-- the path is what a path is, and there is none of a span that isn't live
+pub path_of-whole : (forest : Forest) → IsForest forest → (i : Id) (path : List Id) → path ≡ path_of forest i → IsPathIfLive forest i path
+path_of-whole forest formed i path h = record {
+  live = λ live. subst (IsPath forest i) (sym h) (path_of-is_path forest formed i live);
+  gone = λ gone. h ∙ path_of-none forest formed i gone;
+}

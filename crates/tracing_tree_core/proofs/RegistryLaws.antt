@@ -14,7 +14,7 @@ use Rattle.tracing_tree_core.specs.Ids.{id_of, same_id}
 use Rattle.tracing_tree_core.specs.Spans.{Span}
 use Rattle.tracing_tree_core.specs.Forest.{Forest, has_id, is_child_of, span_at, update_span, id_after, any_unless_live, add_span, take_back, IsGrown, IsForest}
 use Rattle.tracing_tree_core.specs.Registered.{IsRising, IsKept, IsNewest, alone}
-use Rattle.tracing_tree_core.specs.declared.format.Id.{Id}
+use Rattle.tracing_tree_core.specs.declared.context.Id.{Id}
 use Rattle.tracing_tree_core.proofs.SpanLists.{all_above, own_id, find-id, set_is_update}
 use Rattle.tracing_tree_core.proofs.ForestLaws.{is_some-find}
 
@@ -72,7 +72,7 @@ abbrev pub all_below : ℕ → List Span → Bool
 all_below n spans = list_all (λ span. nat_lt span.id.0 n) spans
 
 -- changed spans are below the same numbers
-below-changed : (u : Span → Span) → IsSame u → (n : ℕ) (spans : List Span) → all_below n (map u spans) ≡ all_below n spans
+pub below-changed : (u : Span → Span) → IsSame u → (n : ℕ) (spans : List Span) → all_below n (map u spans) ≡ all_below n spans
 below-changed u h n [] = refl
 below-changed u h n (x ∷ spans) =
     ap (λ (j : Id). nat_lt j.0 n && all_below n (map u spans)) (h.ids x) ∙ ap (λ b. nat_lt x.id.0 n && b) (below-changed u h n spans)

@@ -13,7 +13,7 @@ use Rattle.tracing_tree_core.specs.Ids.{id_of}
 use Rattle.tracing_tree_core.specs.Spans.{Span}
 use Rattle.tracing_tree_core.specs.Forest.{has_id}
 use Rattle.tracing_tree_core.specs.Registered.{IsRising}
-use Rattle.tracing_tree_core.specs.declared.format.Id.{Id}
+use Rattle.tracing_tree_core.specs.declared.context.Id.{Id}
 
 -- all of these ids are above this number
 abbrev pub all_above : ℕ → List Span → Bool

@@ -1,8 +1,8 @@
 -- The texts of a call while it is built.
 use Rattle.std.specs.Prelude.{◌≡◌, ℕ, Bool, true, false, List, [], ◌++◌, Option, Result, Ok, Err}
-use Rattle.tracing_tree_core.specs.declared.format.Id.{Id}
-use Rattle.tracing_tree_core.specs.declared.format.Refusal.{Refusal}
-use Rattle.tracing_tree_core.specs.declared.format.Refusal.TheVariants.{TooWide, Memory}
+use Rattle.tracing_tree_core.specs.declared.context.Id.{Id}
+use Rattle.tracing_tree_core.specs.declared.context.Refusal.{Refusal}
+use Rattle.tracing_tree_core.specs.declared.context.Refusal.TheVariants.{TooWide, Memory}
 
 -- the block being built, the rows drawn already, and the last span
 pub record BuffersView : Type 0 where
@@ -21,12 +21,3 @@ IndentsRow too_wide text (Ok done) old new = (too_wide ≡ false) × (new ≡ re
 IndentsRow too_wide text (Err TooWide) old new = (too_wide ≡ true) × (new ≡ old)
 IndentsRow too_wide text (Err Memory) old new = (too_wide ≡ false) × (new ≡ old)
 IndentsRow too_wide text (Err refusal) old new = ⊥
-
--- The block becomes this text behind the rows drawn already. A row that is too wide is refused for that, and changes nothing;
--- want of memory leaves the block and the last span.
-abbrev pub AddsRow : Bool → List ℕ → Result (Unit {0}) Refusal → BuffersView → BuffersView → Type 0
-AddsRow too_wide text (Ok done) old new =
-    (too_wide ≡ false) × (new ≡ record old { current_buf = []; indent_buf = old.indent_buf ++ text })
-AddsRow too_wide text (Err TooWide) old new = (too_wide ≡ true) × (new ≡ old)
-AddsRow too_wide text (Err Memory) old new = (too_wide ≡ false) × (new ≡ record old { indent_buf = new.indent_buf })
-AddsRow too_wide text (Err refusal) old new = ⊥

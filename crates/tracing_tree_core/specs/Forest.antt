@@ -5,7 +5,7 @@ use Rattle.std.specs.Bool.{then_some}
 use Rattle.std.specs.List.{list_all, list_any, last_or, common_prefix_len}
 use Rattle.tracing_tree_core.specs.Ids.{id_of, same_id}
 use Rattle.tracing_tree_core.specs.Spans.{Span, printed_span}
-use Rattle.tracing_tree_core.specs.declared.format.Id.{Id}
+use Rattle.tracing_tree_core.specs.declared.context.Id.{Id}
 use Rattle.tracing_tree_core.specs.declared.field.Field.{Field}
 use Rattle.tracing_tree_core.specs.declared.registry.Parent.{Parent}
 use Rattle.tracing_tree_core.specs.declared.registry.Parent.TheVariants.{Root, Current, Of}
@@ -105,6 +105,11 @@ Descends forest above (i ∷ below) =
 pub record IsPath (forest : Forest) (i : Id) (path : List Id) : Type 0 where
   pub descends : Descends forest None path
   pub ends : last_or None path ≡ Some i
+
+-- the path of a live span; empty if the span isn't live
+pub record IsPathIfLive (forest : Forest) (i : Id) (path : List Id) : Type 0 where
+  pub live : IsTrue (is_live forest i) → IsPath forest i path
+  pub gone : is_live forest i ≡ false → path ≡ []
 
 -- ---- well-formed forests
 
@@ -218,6 +223,12 @@ going_up forest i =
 -- what leaves the forest when one handle of a span is taken away, the lowest first
 abbrev pub closing_of : Forest → Id → List Id
 closing_of forest i = going_up (take_handle i forest) i
+
+-- what leaves the forest when one handle of a span is taken away: of the way from the span up to its root, the longest
+-- beginning that goes
+unfoldable pub IsClosing : Forest → Id → List Id → Type 0
+IsClosing forest i ids =
+    (path : List Id) × IsPath forest i path × IsLongestGoing (take_handle i forest) (reverse path) ids
 
 -- the forest after one handle of a span was taken away
 abbrev pub after_close : Id → Forest → Forest

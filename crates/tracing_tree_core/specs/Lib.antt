@@ -3,12 +3,15 @@ pub mod Ids
 pub mod Equal
 pub mod Texts
 pub mod Clock
+pub mod Pieces
 pub mod Spans
 pub mod Forest
-pub mod Block
 pub mod Picture
 pub mod Outputs
 pub mod Buffered
 pub mod Lookup
+pub mod Paths
 pub mod Registered
+pub mod Kept
+pub mod Slots
 pub mod Drawings

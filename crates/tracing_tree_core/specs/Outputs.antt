@@ -2,8 +2,8 @@
 use Rattle.std.specs.Prelude.{◌≡◌, ◌≢◌, ℕ, ◌+◌, ◌<◌, ◌≤◌, Bool, IsTrue, List, [], ◌++◌, length, Option, None, Result, Ok, Err, MatchResult, IsSomeAnd}
 use Rattle.std.specs.Io.KnownBytes.{Appends}
 use Rattle.tracing_tree_core.specs.declared.format.output.OutputFault.{OutputFault}
-use Rattle.tracing_tree_core.specs.declared.format.Refusal.{Refusal}
-use Rattle.tracing_tree_core.specs.declared.format.Refusal.TheVariants as Refused
+use Rattle.tracing_tree_core.specs.declared.context.Refusal.{Refusal}
+use Rattle.tracing_tree_core.specs.declared.context.Refusal.TheVariants as Refused
 use Rattle.tracing_tree_core.specs.declared.time.TimeFault.{TimeFault}
 use Rattle.tracing_tree_core.specs.declared.time.TimeFault.TheVariants.{Memory, Fault}
 
@@ -30,7 +30,8 @@ pub record IsCutShort (text front : List ℕ) : Type 0 where
   pub cut : rest ≢ []
 
 -- a fault of the writer: its count rose by one, and what was written is cut short, or nothing where writes are whole
-pub record LeavesCut (whole : Bool) (text : List ℕ) (old new : Option (List ℕ)) (old_faults new_faults : ℕ) : Type 0 where
+pub record LeavesCut (whole : Bool) (text : List ℕ) (old new : Option (List ℕ))
+    (old_faults new_faults : ℕ) : Type 0 where
   pub rose : new_faults ≡ old_faults + 1
   pub front : List ℕ
   pub cut : IsCutShort text front
@@ -42,10 +43,18 @@ pub record TapeView : Type 0 where
   pub bytes : List ℕ
   pub faults : ℕ
 
+-- an output over a writer, and how many writes were refused
+pub record WrapView (W : Type 0) : Type 0 where
+  pub writer : W
+  pub faults : ℕ
+
 -- All of a text is written, or what is written is cut short. Where writes are whole a fault writes nothing.
-abbrev pub WritesWhole : Bool → List ℕ → Result (Unit {0}) OutputFault → Option (List ℕ) → Option (List ℕ) → ℕ → ℕ → Type 0
-WritesWhole whole text (Ok done) old new old_faults new_faults = Appends old new text × (new_faults ≡ old_faults)
-WritesWhole whole text (Err fault) old new old_faults new_faults = LeavesCut whole text old new old_faults new_faults
+abbrev pub WritesWhole : Bool → List ℕ → Result (Unit {0}) OutputFault
+    → Option (List ℕ) → Option (List ℕ) → ℕ → ℕ → Type 0
+WritesWhole whole text (Ok done) old new old_faults new_faults =
+    Appends old new text × (new_faults ≡ old_faults)
+WritesWhole whole text (Err fault) old new old_faults new_faults =
+    LeavesCut whole text old new old_faults new_faults
 
 -- a fault of a timer as a refusal of a call
 abbrev pub RefusesFault : TimeFault → Refusal → Type 0

@@ -1,6 +1,7 @@
 -- A live span, and what a look at it shows.
-use Rattle.std.specs.Prelude.{ℕ, List, Option, true}
-use Rattle.tracing_tree_core.specs.declared.format.Id.{Id}
+use Rattle.std.specs.Prelude.{ℕ, ◌+◌, ◌-◌, List, ◌++◌, Option, true}
+use Rattle.tracing_tree_core.specs.declared.context.Id.{Id}
+use Rattle.tracing_tree_core.specs.declared.field.Field.{Field}
 use Rattle.tracing_tree_core.specs.declared.registry.node.Data.{Data}
 
 -- a live span
@@ -32,3 +33,36 @@ shown_span span = record {
 -- the span, printed
 abbrev pub printed_span : Span → Span
 printed_span span = record span { kept = record span.kept { written = true } }
+
+-- ---- spans as a registry keeps them
+
+-- a live span with its path, from its root down to it, and the number of its children
+pub record KeptSpan : Type 0 where
+  pub span : Span
+  pub path : List Id
+  pub children : ℕ
+
+-- with one handle more
+abbrev pub handle_more : KeptSpan → KeptSpan
+handle_more node = record node { span = record node.span { handles = node.span.handles + 1 } }
+
+-- with one handle less
+abbrev pub handle_less : KeptSpan → KeptSpan
+handle_less node = record node { span = record node.span { handles = node.span.handles - 1 } }
+
+-- with one child more
+abbrev pub child_more : KeptSpan → KeptSpan
+child_more node = record node { children = node.children + 1 }
+
+-- with one child less
+abbrev pub child_less : KeptSpan → KeptSpan
+child_less node = record node { children = node.children - 1 }
+
+-- printed
+abbrev pub kept_printed : KeptSpan → KeptSpan
+kept_printed node = record node { span = printed_span node.span }
+
+-- with these fields at the end of its own
+abbrev pub fields_more : List Field → KeptSpan → KeptSpan
+fields_more fields node =
+    record node { span = record node.span { kept = record node.span.kept { fields = node.span.kept.fields ++ fields } } }

@@ -10,7 +10,7 @@ use Rattle.tracing_tree_core.specs.declared.style.Level.TheVariants.{Trace, Debu
 use Rattle.tracing_tree_core.specs.declared.format.SpanMode.{SpanMode}
 use Rattle.tracing_tree_core.specs.declared.format.SpanMode.TheVariants.{PreOpen, Open, Close, Retrace, PostClose, Event}
 use Rattle.tracing_tree_core.specs.declared.field.Field.{Field}
-use Rattle.tracing_tree_core.specs.declared.format.Context.{Context}
+use Rattle.tracing_tree_core.specs.declared.context.Context.{Context}
 
 -- ---- styles
 

@@ -1,40 +1,20 @@
 //! Settings, buffers, drawing and outputs.
 
-pub mod block;
+ghost use Rattle.std.specs.Prelude.{◌≡◌, ◌++◌, OnOk, OnErr, string_bytes};
+ghost use Rattle.tracing_tree_core.specs.Texts.{label};
+
 pub mod buffers;
 pub mod config;
 mod draw;
 pub mod output;
 
+pub use crate::context::{Context, Id, Refusal};
 pub use crate::field::{Field, Fields};
-use crate::text::Text;
-use crate::time::Moment;
-pub use block::{push_event_tail, push_span_block, write_span_mode};
 pub use buffers::Buffers;
 pub use config::Config;
+pub use draw::push_frame;
 pub use output::{Output, OutputFault, Tape, Wrap};
-use std::alloc::{AllocError, AllocFailed};
-use thiserror::Error;
-
-/// The number of a span. Ids rise by one and are never used again; one that is taken back counts as never given out.
-#[derive(Clone, Copy, Debug, PartialEq, Eq)]
-pub struct Id(pub u64);
-
-/// What the caller hands in with a call: nothing of it is asked of the machine.
-#[derive(Debug, Drop, PartialEq, Eq)]
-pub struct Context {
-    /// The current span. An id that isn't live counts as none where an event happens.
-    pub current: Option<Id>,
-
-    /// The number of the thread, for the prefix of each line.
-    pub thread_id: u64,
-
-    /// The name of the thread, if it has one. An empty name is a name.
-    pub thread_name: Option<Text>,
-
-    /// When the call happens.
-    pub moment: Moment,
-}
+use std::alloc::AllocError;
 
 /// The kind of a row. (`SpanMode` of the Rust crate.)
 #[derive(Clone, Copy, Debug, PartialEq, Eq)]
@@ -58,56 +38,21 @@ pub enum SpanMode {
     Event,
 }
 
-/// Why a call was refused. After the first four, and after `Failed`, nothing has changed.
-#[derive(Clone, Copy, Debug, PartialEq, Eq, Error)]
-pub enum Refusal {
-    /// The span isn't live where a live one is needed, or has no handle left to close.
-    #[error("not held {}", .0.0)]
-    NotHeld(Id),
-
-    /// For a row of this call, the level used (after the wraparound) times the amount passes `usize`.
-    #[error("too wide")]
-    TooWide,
-
-    /// No id is left for a new span, or no further handle can be counted.
-    #[error("too many")]
-    TooMany,
-
-    /// Memory was refused.
-    #[error("memory")]
-    Memory,
-
-    /// The timer has no text for this moment or elapsed time.
-    #[error("timer")]
-    Timer,
-
-    /// The writer refused a write of this call's text.
-    #[error("writer")]
-    Writer,
-
-    /// An earlier call was refused for the timer or the writer.
-    #[error("failed")]
-    Failed,
-}
-
-impl From<AllocError> for Refusal {
-    ghost use Rattle.std.specs.Prelude.{◌≡◌};
-    ghost use Rattle.tracing_tree_core.specs.declared.format.Refusal.TheVariants.{Memory};
-
-    ghost from_gives = { λ _ refusal. refusal ≡ Memory };
-
-    fn from(_error: AllocError) -> Refusal {
-        Refusal::Memory
-    }
-}
-
-impl<T: Drop> From<AllocFailed<T>> for Refusal {
-    ghost use Rattle.std.specs.Prelude.{◌≡◌};
-    ghost use Rattle.tracing_tree_core.specs.declared.format.Refusal.TheVariants.{Memory};
-
-    ghost from_gives = { λ _ refusal. refusal ≡ Memory };
-
-    fn from(_error: AllocFailed<T>) -> Refusal {
-        Refusal::Memory
-    }
+/// Appends the label of a kind of row, that of an event too. On `AllocError` nothing is appended.
+/// (`write_span_mode` of the Rust crate.)
+pub fn write_span_mode(out: &mut String, mode: SpanMode) -> Result<(), AllocError>
+    ensures ok { OnOk result (string_bytes out.new ≡ string_bytes out.old ++ label mode) }
+    ensures err { OnErr result (string_bytes out.new ≡ string_bytes out.old) }
+{
+    out.push_str(match mode {
+        SpanMode::PreOpen => "pre_open: ",
+        SpanMode::Open { verbose: false } => "open: ",
+        SpanMode::Open { verbose: true } => "open(v): ",
+        SpanMode::Retrace { verbose: false } => "retrace: ",
+        SpanMode::Retrace { verbose: true } => "retrace(v): ",
+        SpanMode::Close { verbose: false } => "close: ",
+        SpanMode::Close { verbose: true } => "close(v): ",
+        SpanMode::PostClose => "post_close: ",
+        SpanMode::Event => "event: ",
+    })
 }

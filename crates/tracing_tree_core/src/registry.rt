@@ -5,15 +5,23 @@ ghost use Rattle.tracing_tree_core.specs.Forest.{named_parent};
 
 pub mod lookup;
 pub mod node;
+mod nodes;
+pub mod paths;
+pub mod prefix;
+mod slot;
 pub mod spans;
+pub mod walked;
 
+pub use crate::context::{Context, Id};
 use crate::field::Fields;
-pub use crate::format::{Context, Id};
 use crate::style::Level;
 use crate::text::Text;
 pub use lookup::LookupSpan;
 pub use node::{Data, SpanRef};
+pub use paths::common;
+pub use prefix::Common;
 pub use spans::Registry;
+pub use walked::Walked;
 
 /// The parent that a new span or an event names.
 #[derive(Clone, Copy, Debug, PartialEq, Eq)]

@@ -1,6 +1,6 @@
 //! Styles and levels.
 
-ghost use Rattle.std.specs.Prelude.{◌≡◌, ◌++◌, IfOk, OnOk, OnErr, string_bytes};
+ghost use Rattle.std.specs.Prelude.{◌≡◌, ◌≤◌, ◌++◌, IfOk, OnOk, OnErr, length, string_bytes};
 ghost use Rattle.tracing_tree_core.specs.Texts.{style_code, styled, level_text, color_level_text, shown_level};
 
 use std::alloc::{AllocError, Global};
@@ -23,7 +23,8 @@ pub enum Style {
 impl Style {
     // What stands for the style in an escape sequence.
     fn code(self) -> &'static str
-        ensures { result.now ≡ style_code self }
+        ensures code { result.now ≡ style_code self }
+        ensures short { length result.now ≤ 20 }
     {
         match self {
             Style::Plain => "0",
@@ -47,15 +48,18 @@ pub fn styled(alloc: Global, ansi: bool, style: Style, text: &str) -> Result<Str
     Ok(painted)
 }
 
-/// Appends the text in a style, as `styled` makes it. After `AllocError` what stands in `out` isn't said.
+/// Appends the text in a style, as `styled` makes it. On `AllocError` nothing is appended.
 pub fn push_styled(out: &mut String, ansi: bool, style: Style, text: &str) -> Result<(), AllocError>
-    ensures { OnOk result (string_bytes out.new ≡ string_bytes out.old ++ styled ansi style text.now) }
+    ensures ok { OnOk result (string_bytes out.new ≡ string_bytes out.old ++ styled ansi style text.now) }
+    ensures err { OnErr result (string_bytes out.new ≡ string_bytes out.old) }
 {
     if !ansi || style == Style::Plain {
         return out.push_str(text);
     }
+    let code = style.code();
+    out.reserve(text.len() + code.len() + 7)?;
     out.push_str("\x1b[")?;
-    out.push_str(style.code())?;
+    out.push_str(code)?;
     out.push_str("m")?;
     out.push_str(text)?;
     out.push_str("\x1b[0m")

@@ -1,22 +1,23 @@
-//! Moments and timers. The clocks are types and definitions so far: what they write is stated, and their code comes later.
+//! Moments and timers.
+
+mod civil;
+pub mod clock;
+mod elapsed;
+pub mod local;
+mod pieces;
+pub mod uptime;
+pub mod utc;
 
 ghost use Rattle.std.specs.Prelude.{string_bytes};
 ghost use Rattle.tracing_tree_core.specs.Clock.{Timer, no_timer};
 ghost use Rattle.tracing_tree_core.specs.Outputs.{AppendsStated};
 
-use crate::format::Refusal;
-use jiff::Timestamp;
-use jiff::tz::{Offset, TimeZone};
-
-/// A moment on two clocks.
-#[derive(Clone, Copy, Debug, PartialEq, Eq)]
-pub struct Moment {
-    /// On a clock that only goes forward, in nanoseconds.
-    pub mono: u64,
-
-    /// On the wall.
-    pub wall: Timestamp,
-}
+pub use crate::context::Moment;
+use crate::context::Refusal;
+pub use clock::Clock;
+pub use local::LocalDateTime;
+pub use uptime::Uptime;
+pub use utc::UtcDateTime;
 
 /// Why a timer wrote nothing.
 #[derive(Clone, Copy, Debug, PartialEq, Eq)]
@@ -41,42 +42,6 @@ impl From<TimeFault> for Refusal {
     }
 }
 
-/// Date and time at offset zero.
-#[derive(Clone, Copy, PartialEq, Eq)]
-pub struct UtcDateTime {
-    pub higher_precision: bool,
-}
-
-/// Where a local clock takes its offset from.
-#[derive(Clone, Copy)]
-pub(crate) enum Place<'a> {
-    Offset(Offset),
-    Zone(TimeZone<'a>),
-}
-
-/// Date and time at an offset or in a zone.
-#[derive(Drop)]
-pub struct LocalDateTime<'a> {
-    pub higher_precision: bool,
-    place: Place<'a>,
-}
-
-/// The time since an epoch.
-#[derive(Clone, Copy, PartialEq, Eq)]
-pub struct Uptime {
-    pub higher_precision: bool,
-    epoch: u64,
-}
-
-/// A timer that is chosen when the program runs.
-#[derive(Drop)]
-pub enum Clock<'a> {
-    None,
-    Utc(UtcDateTime),
-    Local(LocalDateTime<'a>),
-    Uptime(Uptime),
-}
-
 /// A timer: what it writes at a moment, and after an elapsed time. (`FormatTime` of the Rust crate.)
 pub trait FormatTime {
     /// The texts that it states, and where it faults.
@@ -85,7 +50,8 @@ pub trait FormatTime {
     /// Appends the text of the moment. `Fault` exactly where the timer has none, `Memory` where memory is refused; the text is
     /// then as it was.
     fn format_time(&self, moment: &Moment, out: &mut String) -> Result<(), TimeFault>
-        ensures { AppendsStated ((timer self.now).moment_text moment.now) (string_bytes out.old) (string_bytes out.new) result };
+        ensures { AppendsStated ((timer self.now).moment_text moment.now)
+            (string_bytes out.old) (string_bytes out.new) result };
 
     /// Appends the text of an elapsed time, in nanoseconds, painted with ansi. Errors as of `format_time`.
     fn style_timestamp(
@@ -94,7 +60,8 @@ pub trait FormatTime {
         elapsed_ns: u64,
         out: &mut String,
     ) -> Result<(), TimeFault>
-        ensures { AppendsStated ((timer self.now).elapsed_text ansi elapsed_ns) (string_bytes out.old) (string_bytes out.new) result };
+        ensures { AppendsStated ((timer self.now).elapsed_text ansi elapsed_ns)
+            (string_bytes out.old) (string_bytes out.new) result };
 }
 
 /// Appends nothing.

@@ -4,6 +4,8 @@
 #[cfg(test)]
 mod calls;
 #[cfg(test)]
+mod clocks;
+#[cfg(test)]
 mod lines;
 #[cfg(test)]
 mod lone;
@@ -16,4 +18,12 @@ mod readme;
 #[cfg(test)]
 mod registry;
 #[cfg(test)]
+mod retracing;
+#[cfg(test)]
+mod rows;
+#[cfg(test)]
 mod texts;
+#[cfg(test)]
+mod timed;
+#[cfg(test)]
+mod timers;

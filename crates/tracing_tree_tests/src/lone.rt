@@ -57,6 +57,10 @@ impl LookupSpan for Lone {
         Ok(path)
     }
 
+    fn kept_path(&self, _id: Id) -> Option<&[Id]> {
+        None
+    }
+
     fn data(&self, id: Id) -> Option<&Data> {
         if id.0 != 1 {
             return None;

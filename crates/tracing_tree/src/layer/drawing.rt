@@ -1,21 +1,22 @@
-//! The rows of a call, drawn one behind the other.
+//! The rows of a call, planned and then drawn one after another.
 
 ghost use Rattle.std.specs.Prelude.{◌≡◌, ◌++◌, ◌∷◌, [], false, OnOk, IfOk, IfErr, is_none, length, string_bytes};
-ghost use Rattle.tracing_tree_core.specs.Block.{moment_part, elapsed_part, event_block};
 ghost use Rattle.tracing_tree_core.specs.Forest.{if_live, path_of_any};
-ghost use Rattle.tracing_tree.specs.Rows.{block_of, span_row, parent_rows, event_row, event_level, event_parent, time_in_current};
+ghost use Rattle.tracing_tree.specs.Block.{moment_part, elapsed_part, event_block};
+ghost use Rattle.tracing_tree.specs.Rows.{block_of, event_row, event_level, event_parent, time_in_current, turn_of_new, turn_of_event, turn_of_closes};
+ghost use Rattle.tracing_tree.specs.Plan.{row_of_planned, rows_of_planned};
 ghost use Rattle.tracing_tree.specs.Refused.{timer_faults_at, lacks_elapsed};
-ghost use Rattle.tracing_tree.specs.Drawn.{DrawsRows, IsUntimed, rows_of_new, rows_of_close, rows_of_closes};
+ghost use Rattle.tracing_tree.specs.Drawn.{DrawsRows, Drafts, IsBlank, IsUntimed, has_no_id};
 
+use super::block::{push_event_tail, push_span_block};
+use super::page::Page;
+use super::plan::{Plan, PlannedRow, Planner};
 use std::alloc::{AllocError, Global};
-use tracing_tree_core::format::{
-    Buffers, Config, Context, Id, Refusal, SpanMode, push_event_tail, push_span_block,
-};
+use tracing_tree_core::format::{Buffers, Config, Context, Id, Refusal, SpanMode};
 use tracing_tree_core::registry::{Event, LookupSpan};
 use tracing_tree_core::time::FormatTime;
 
-// A call that is being drawn: the settings, the live spans, and what was handed in with it. Its rows go to the end of
-// `indent_buf`, by way of `current_buf`.
+// A call that is being drawn: the settings, the live spans, and what was handed in with it.
 #[derive(Drop)]
 pub(super) struct Drawing<'a, S: LookupSpan> {
     pub(super) config: &'a Config,
@@ -24,95 +25,137 @@ pub(super) struct Drawing<'a, S: LookupSpan> {
 }
 
 impl<S: LookupSpan> Drawing<'_, S> {
-    // A new span: its parent again, if entries are verbose, and its own row.
-    pub(super) fn new_span(&self, bufs: &mut Buffers, id: Id) -> Result<(), Refusal>
-        requires { bufs.old.current_buf ≡ [] }
-        ensures { DrawsRows self.now.config.now (rows_of_new self.now.config.now self.now.context.now (S.forest self.now.spans.now) id) false result bufs.old bufs.new }
+    // A new span.
+    pub(super) fn new_span(&self, page: &mut Page, plan: &mut Plan, id: Id) -> Result<(), Refusal>
+        requires { IsBlank page.old.bufs }
+        ensures { let settings = self.now.config.now in
+            let forest = S.forest self.now.spans.now in
+            let turn = turn_of_new settings self.now.context.now forest page.old.bufs.current_span id in
+            Drafts settings forest turn false false result page.old page.new plan.new }
     {
-        let verbose = self.config.verbose_entry();
-        self.parent(bufs, verbose, SpanMode::PreOpen, id)?;
-        self.span(bufs, SpanMode::Open { verbose }, id)
+        plan.begin(page.bufs.current_span);
+        let planner = Planner {
+            config: self.config,
+            spans: self.spans,
+        };
+        planner.new_span(plan, id)?;
+        self.rows(page, plan.rows())
     }
 
-    // Spans that close, each with its parent again after it, if exits are verbose.
-    pub(super) fn closes(&self, bufs: &mut Buffers, ids: &[Id]) -> Result<(), Refusal>
-        requires { bufs.old.current_buf ≡ [] }
-        ensures { DrawsRows self.now.config.now (rows_of_closes self.now.config.now self.now.context.now (S.forest self.now.spans.now) ids.now) false result bufs.old bufs.new }
+    // Spans that close one after another.
+    pub(super) fn closes(&self, page: &mut Page, plan: &mut Plan, ids: &[Id]) -> Result<(), Refusal>
+        requires { IsBlank page.old.bufs }
+        ensures { let settings = self.now.config.now in
+            let forest = S.forest self.now.spans.now in
+            let last = page.old.bufs.current_span in
+            let turn = turn_of_closes settings self.now.context.now ids.now forest last in
+            Drafts settings forest turn false (has_no_id ids.now) result page.old page.new plan.new }
     {
-        for id in ids {
-            self.close(bufs, *id)?;
+        plan.begin(page.bufs.current_span);
+        let planner = Planner {
+            config: self.config,
+            spans: self.spans,
+        };
+        planner.closes(plan, ids)?;
+        self.rows(page, plan.rows())
+    }
+
+    // An event, after the rows of the spans that it stands in, where they are to be shown.
+    pub(super) fn event<FT: FormatTime>(
+        &self,
+        page: &mut Page,
+        plan: &mut Plan,
+        timer: &FT,
+        event: &Event,
+    ) -> Result<(), Refusal>
+        requires { IsBlank page.old.bufs }
+        ensures { let settings = self.now.config.now in
+            let context = self.now.context.now in
+            let forest = S.forest self.now.spans.now in
+            let timer = FT.timer timer.now in
+            let last = page.old.bufs.current_span in
+            let turn = turn_of_event settings timer context forest last event.now in
+            let faults = timer_faults_at settings timer forest context in
+            Drafts settings forest turn faults false result page.old page.new plan.new }
+    {
+        plan.begin(page.bufs.current_span);
+        let planner = Planner {
+            config: self.config,
+            spans: self.spans,
+        };
+        planner.event(plan, self.context)?;
+        self.rows(page, plan.rows())?;
+        self.event_row(page, timer, event)
+    }
+
+    // Planned rows, one after another.
+    fn rows(&self, page: &mut Page, rows: &[PlannedRow]) -> Result<(), Refusal>
+        requires { IsBlank page.old.bufs }
+        ensures { let settings = self.now.config.now in
+            let forest = S.forest self.now.spans.now in
+            let rows = rows_of_planned settings self.now.context.now forest rows.now in
+            DrawsRows settings rows false result page.old page.new }
+    {
+        for row in rows {
+            self.row(page, *row)?;
         }
         Ok(())
     }
 
-    fn close(&self, bufs: &mut Buffers, id: Id) -> Result<(), Refusal>
-        requires { bufs.old.current_buf ≡ [] }
-        ensures { DrawsRows self.now.config.now (rows_of_close self.now.config.now self.now.context.now (S.forest self.now.spans.now) id) false result bufs.old bufs.new }
+    // A planned row.
+    fn row(&self, page: &mut Page, row: PlannedRow) -> Result<(), Refusal>
+        requires { IsBlank page.old.bufs }
+        ensures { let settings = self.now.config.now in
+            let forest = S.forest self.now.spans.now in
+            let row = row_of_planned settings self.now.context.now forest row in
+            DrawsRows settings (row ∷ []) false result page.old page.new }
     {
-        let verbose = self.config.verbose_exit();
-        self.span(bufs, SpanMode::Close { verbose }, id)?;
-        self.parent(bufs, verbose, SpanMode::PostClose, id)
-    }
-
-    // An event. Its width is tested before the timer is asked.
-    pub(super) fn event<FT: FormatTime>(
-        &self,
-        bufs: &mut Buffers,
-        timer: &FT,
-        event: &Event,
-    ) -> Result<(), Refusal>
-        requires { bufs.old.current_buf ≡ [] }
-        ensures { DrawsRows self.now.config.now
-            (event_row self.now.config.now (FT.timer timer.now) (S.forest self.now.spans.now) event.now self.now.context.now ∷ [])
-            (timer_faults_at self.now.config.now (FT.timer timer.now) (S.forest self.now.spans.now) self.now.context.now)
-            result bufs.old bufs.new }
-    {
-        let alloc = *bufs.current_buf.allocator();
-        let level = self.event_level(alloc, event)?;
-        self.config.check_width(SpanMode::Event, level)?;
-        self.event_block(&mut bufs.current_buf, timer, event)?;
-        bufs.add_row(level, self.config, SpanMode::Event, self.context)
-    }
-
-    // The parent of a span again, if it is to be shown and there is one.
-    fn parent(&self, bufs: &mut Buffers, shown: bool, mode: SpanMode, id: Id) -> Result<(), Refusal>
-        requires { bufs.old.current_buf ≡ [] }
-        ensures { DrawsRows self.now.config.now (parent_rows shown self.now.config.now self.now.context.now (S.forest self.now.spans.now) mode id) false result bufs.old bufs.new }
-    {
-        if !shown {
-            return Ok(());
-        }
-        match self.spans.parent(id) {
-            Some(parent) => self.span(bufs, mode, parent),
-            None => Ok(()),
-        }
-    }
-
-    // A row of a span.
-    fn span(&self, bufs: &mut Buffers, mode: SpanMode, id: Id) -> Result<(), Refusal>
-        requires { bufs.old.current_buf ≡ [] }
-        ensures { DrawsRows self.now.config.now (span_row self.now.config.now self.now.context.now (S.forest self.now.spans.now) mode id ∷ []) false result bufs.old bufs.new }
-    {
-        let alloc = *bufs.current_buf.allocator();
-        let level = self.scope(alloc, Some(id))?.saturating_sub(1);
-        self.block(&mut bufs.current_buf, mode, id)?;
-        bufs.add_row(level, self.config, mode, self.context)
+        self.block(&mut page.bufs, row.mode, row.id)?;
+        page.add_row(row.level, self.config, row.mode, self.context)
     }
 
     // The block of a span's row.
-    fn block(&self, out: &mut String, mode: SpanMode, id: Id) -> Result<(), AllocError>
-        ensures { OnOk result (string_bytes out.new ≡ string_bytes out.old ++ block_of self.now.config.now (S.forest self.now.spans.now) mode id) }
+    fn block(&self, bufs: &mut Buffers, mode: SpanMode, id: Id) -> Result<(), AllocError>
+        ensures ok { let block = block_of self.now.config.now (S.forest self.now.spans.now) mode id in
+            let block = bufs.old.current_buf ++ block in
+            OnOk result (bufs.new ≡ record bufs.old { current_buf = block }) }
+        ensures last { bufs.new.current_span ≡ bufs.old.current_span }
     {
         match self.spans.span(id) {
-            Some(span) => push_span_block(out, self.config, mode, &span),
+            Some(span) => push_span_block(&mut bufs.current_buf, self.config, mode, &span),
             None => Ok(()),
         }
+    }
+
+    // The row of an event. Its width is tested before the timer is asked.
+    fn event_row<FT: FormatTime>(
+        &self,
+        page: &mut Page,
+        timer: &FT,
+        event: &Event,
+    ) -> Result<(), Refusal>
+        requires { IsBlank page.old.bufs }
+        ensures { let settings = self.now.config.now in
+            let context = self.now.context.now in
+            let forest = S.forest self.now.spans.now in
+            let timer = FT.timer timer.now in
+            let row = event_row settings timer forest event.now context in
+            let faults = timer_faults_at settings timer forest context in
+            DrawsRows settings (row ∷ []) faults result page.old page.new }
+    {
+        let alloc = *page.text.allocator();
+        let level = self.event_level(alloc, event)?;
+        self.config.check_width(SpanMode::Event, level)?;
+        self.event_block(&mut page.bufs, timer, event)?;
+        page.add_row(level, self.config, SpanMode::Event, self.context)
     }
 
     // How many spans an event stands in, where its parent is this.
     fn scope(&self, alloc: Global, parent: Option<Id>) -> Result<usize, AllocError>
-        ensures scope { IfOk result (λ scope. scope ≡ length (path_of_any (S.forest self.now.spans.now) parent)) }
-        ensures live { OnOk result (path_of_any (S.forest self.now.spans.now) (if_live (S.forest self.now.spans.now) parent) ≡ path_of_any (S.forest self.now.spans.now) parent) }
+        ensures scope { let forest = S.forest self.now.spans.now in
+            IfOk result (λ scope. scope ≡ length (path_of_any forest parent)) }
+        ensures live { let forest = S.forest self.now.spans.now in
+            OnOk result (path_of_any forest (if_live forest parent) ≡ path_of_any forest parent) }
     {
         match parent {
             Some(parent) => Ok(self.spans.path(alloc, parent)?.len()),
@@ -120,10 +163,13 @@ impl<S: LookupSpan> Drawing<'_, S> {
         }
     }
 
-    // An event stands one level below its parent, but without lines at the same level. A parent that isn't live counts as none.
+    // An event stands one level below its parent, but without lines at the same level. A parent
+    // that isn't live counts as none.
     fn event_level(&self, alloc: Global, event: &Event) -> Result<usize, AllocError>
-        ensures { IfOk result (λ level. level ≡ event_level self.now.config.now
-            (path_of_any (S.forest self.now.spans.now) (event_parent (S.forest self.now.spans.now) event.now self.now.context.now))) }
+        ensures { let forest = S.forest self.now.spans.now in
+            let parent = event_parent forest event.now self.now.context.now in
+            IfOk result (λ level.
+            level ≡ event_level self.now.config.now (path_of_any forest parent)) }
     {
         let scope = self.scope(alloc, event.parent.named(self.context.current))?;
         if self.config.indent_lines() {
@@ -133,17 +179,52 @@ impl<S: LookupSpan> Drawing<'_, S> {
         }
     }
 
-    // The block of an event's row: the timer's texts, level, target and fields.
+    // The block of an event's row.
     fn event_block<FT: FormatTime>(
+        &self,
+        bufs: &mut Buffers,
+        timer: &FT,
+        event: &Event,
+    ) -> Result<(), Refusal>
+        ensures ok { let settings = self.now.config.now in
+            let context = self.now.context.now in
+            let since = time_in_current (S.forest self.now.spans.now) context in
+            let block = event_block settings (FT.timer timer.now) context.moment since event.now in
+            let block = bufs.old.current_buf ++ block in
+            OnOk result (bufs.new ≡ record bufs.old { current_buf = block }) }
+        ensures has { let forest = S.forest self.now.spans.now in
+            let timer = FT.timer timer.now in
+            let faults = timer_faults_at self.now.config.now timer forest self.now.context.now in
+            OnOk result (faults ≡ false) }
+        ensures refusal { let forest = S.forest self.now.spans.now in
+            let timer = FT.timer timer.now in
+            let faults = timer_faults_at self.now.config.now timer forest self.now.context.now in
+            IfErr result (IsUntimed faults) }
+        ensures last { bufs.new.current_span ≡ bufs.old.current_span }
+    {
+        self.push_event(&mut bufs.current_buf, timer, event)
+    }
+
+    // Appends the timer's texts, level, target and fields.
+    fn push_event<FT: FormatTime>(
         &self,
         out: &mut String,
         timer: &FT,
         event: &Event,
     ) -> Result<(), Refusal>
-        ensures ok { OnOk result (string_bytes out.new ≡ string_bytes out.old
-            ++ event_block self.now.config.now (FT.timer timer.now) self.now.context.now.moment (time_in_current (S.forest self.now.spans.now) self.now.context.now) event.now) }
-        ensures has { OnOk result (timer_faults_at self.now.config.now (FT.timer timer.now) (S.forest self.now.spans.now) self.now.context.now ≡ false) }
-        ensures refusal { IfErr result (IsUntimed (timer_faults_at self.now.config.now (FT.timer timer.now) (S.forest self.now.spans.now) self.now.context.now)) }
+        ensures ok { let settings = self.now.config.now in
+            let context = self.now.context.now in
+            let since = time_in_current (S.forest self.now.spans.now) context in
+            let block = event_block settings (FT.timer timer.now) context.moment since event.now in
+            OnOk result (string_bytes out.new ≡ string_bytes out.old ++ block) }
+        ensures has { let forest = S.forest self.now.spans.now in
+            let timer = FT.timer timer.now in
+            let faults = timer_faults_at self.now.config.now timer forest self.now.context.now in
+            OnOk result (faults ≡ false) }
+        ensures refusal { let forest = S.forest self.now.spans.now in
+            let timer = FT.timer timer.now in
+            let faults = timer_faults_at self.now.config.now timer forest self.now.context.now in
+            IfErr result (IsUntimed faults) }
     {
         self.moment(out, timer)?;
         self.elapsed(out, timer)?;
@@ -153,9 +234,12 @@ impl<S: LookupSpan> Drawing<'_, S> {
 
     // The timer's text of the moment, and a space if it has one.
     fn moment<FT: FormatTime>(&self, out: &mut String, timer: &FT) -> Result<(), Refusal>
-        ensures ok { OnOk result (string_bytes out.new ≡ string_bytes out.old ++ moment_part (FT.timer timer.now) self.now.context.now.moment) }
-        ensures has { OnOk result (is_none ((FT.timer timer.now).moment_text self.now.context.now.moment) ≡ false) }
-        ensures refusal { IfErr result (IsUntimed (is_none ((FT.timer timer.now).moment_text self.now.context.now.moment))) }
+        ensures ok { let text = moment_part (FT.timer timer.now) self.now.context.now.moment in
+            OnOk result (string_bytes out.new ≡ string_bytes out.old ++ text) }
+        ensures has { let moment = self.now.context.now.moment in
+            OnOk result (is_none ((FT.timer timer.now).moment_text moment) ≡ false) }
+        ensures refusal { let moment = self.now.context.now.moment in
+            IfErr result (IsUntimed (is_none ((FT.timer timer.now).moment_text moment))) }
     {
         let before = out.len();
         timer.format_time(&self.context.moment, out)?;
@@ -167,10 +251,14 @@ impl<S: LookupSpan> Drawing<'_, S> {
 
     // The timer's text of the time since the current span was made, if that is live, and a space.
     fn elapsed<FT: FormatTime>(&self, out: &mut String, timer: &FT) -> Result<(), Refusal>
-        ensures ok { OnOk result (string_bytes out.new ≡ string_bytes out.old
-            ++ elapsed_part self.now.config.now (FT.timer timer.now) (time_in_current (S.forest self.now.spans.now) self.now.context.now)) }
-        ensures has { OnOk result (lacks_elapsed self.now.config.now (FT.timer timer.now) (time_in_current (S.forest self.now.spans.now) self.now.context.now) ≡ false) }
-        ensures refusal { IfErr result (IsUntimed (lacks_elapsed self.now.config.now (FT.timer timer.now) (time_in_current (S.forest self.now.spans.now) self.now.context.now))) }
+        ensures ok { let since = time_in_current (S.forest self.now.spans.now) self.now.context.now in
+            let text = elapsed_part self.now.config.now (FT.timer timer.now) since in
+            OnOk result (string_bytes out.new ≡ string_bytes out.old ++ text) }
+        ensures has { let since = time_in_current (S.forest self.now.spans.now) self.now.context.now in
+            OnOk result (lacks_elapsed self.now.config.now (FT.timer timer.now) since ≡ false) }
+        ensures refusal { let context = self.now.context.now in
+            let since = time_in_current (S.forest self.now.spans.now) context in
+            IfErr result (IsUntimed (lacks_elapsed self.now.config.now (FT.timer timer.now) since)) }
     {
         let Some(current) = self.context.current else {
             return Ok(());

@@ -2,7 +2,7 @@
 
 ghost use Rattle.std.specs.Prelude.{◌≡◌, ◌==◌, position};
 ghost use Rattle.tracing_tree.specs.Spelled.{is_skipped};
-ghost use Rattle.tracing_tree.specs.LineReads.{ReadsPart, ReadsNext};
+ghost use Rattle.tracing_tree.specs.LineReads.{ReadsEnded, ReadsPart, ReadsNext};
 
 use super::LineCause;
 use std::io::{BufRead, ErrorKind};
@@ -27,12 +27,22 @@ enum Part {
 pub(super) fn read_line<B: BufRead>(reader: &mut B, line: &mut Vec<u8>) -> Result<bool, LineCause>
     ensures { ReadsNext (B.remaining reader.old) (B.remaining reader.new) line.new.items result }
 {
+    if read_ended(reader, line)? {
+        return Ok(true);
+    }
+    Ok(!line.is_empty())
+}
+
+// Reads up to the next line end, or to the end of the input, in place of what `line` held. Answers whether there was a line end.
+pub(crate) fn read_ended<B: BufRead>(reader: &mut B, line: &mut Vec<u8>) -> Result<bool, LineCause>
+    ensures { ReadsEnded (B.remaining reader.old) (B.remaining reader.new) line.new.items result }
+{
     line.clear();
     let mut tries = TRIES;
     for _part in 0..u64::MAX {
         match read_part(reader, line)? {
             Part::Line => return Ok(true),
-            Part::Input => return Ok(!line.is_empty()),
+            Part::Input => return Ok(false),
             Part::Inside => tries = TRIES,
             Part::Interrupted if tries > 1 => tries -= 1,
             Part::Interrupted => return Err(LineCause::Read),

@@ -1,19 +1,102 @@
 //! The settings that the first line spells.
 
-ghost use Rattle.std.specs.Prelude.{◌≡◌, ◌<◌, Some, IfSome, codes, bytes_eq};
-ghost use Rattle.std.specs.List.{list_any, list_all};
-ghost use Rattle.serde_json.specs.View.{view, members_view};
-ghost use Rattle.tracing_tree.specs.Readers.{asks_for_more, ReadsSettings, ReadsFirst};
-ghost use Rattle.tracing_tree.specs.Spelled.{read_or, positive_value, settings_keys, present_keys, has_only_keys};
+mod timer;
+
+ghost use Rattle.std.specs.Prelude.{◌≡◌, ◌<◌, IfSome};
+ghost use Rattle.serde_json.specs.View.{view};
+ghost use Rattle.tracing_tree_core.specs.Clock.{clock_timer};
+ghost use Rattle.tracing_tree.specs.Readers.{ReadsFirst};
+ghost use Rattle.tracing_tree.specs.Spelled.{chosen_timer, object_settings, positive_value, unnamed_settings, with_member, with_setting};
 
 use super::LineCause;
-use super::value::{flag, value_at, whole_or};
-use serde_json::{Map, Value};
+use serde_json::Value;
 use std::alloc::Global;
+use std::marker::Model;
+use timer::{Timer, timer_value};
 use tracing_tree_core::format::Config;
+use tracing_tree_core::time::Clock;
 
-// The settings that a line spells. `Settings` where it spells none, `Memory` where memory is refused.
-pub(super) fn settings_of_line(alloc: Global, line: &[u8]) -> Result<Config, LineCause>
+// What the first line asks for.
+#[derive(Drop)]
+pub(super) struct Setup {
+    config: Config,
+    timer: Timer,
+}
+
+impl Model for Setup {
+    ghost use Rattle.tracing_tree_core.specs.Settings.{Settings};
+    ghost use Rattle.tracing_tree.specs.Readers.{choice_of};
+    ghost use Rattle.tracing_tree.specs.Spelled.{TimerChoice};
+
+    ghost Value = { Settings × TimerChoice };
+
+    ghost view = { λ s. (s.config, choice_of s.timer) };
+}
+
+impl Setup {
+    // What a line asks for that names no setting.
+    fn unnamed() -> Setup
+        ensures { result ≡ unnamed_settings }
+    {
+        Setup {
+            config: Config::new(2, false),
+            timer: Timer::None,
+        }
+    }
+
+    // The same with one more setting: each key, what reads its value, and what it sets. None where no setting has the key, or
+    // its value can't be read.
+    fn with(self, key: &str, value: &Value) -> Option<Setup>
+        ensures { result ≡ with_setting key.now (view value.now) self }
+    {
+        let Setup { config, timer } = self;
+        let config = match key {
+            "timer" => {
+                let timer = timer_value(value)?;
+                return Some(Setup { config, timer });
+            }
+            "indent_amount" => config.with_indent_amount(value.as_u64()? as usize),
+            "wraparound" => config.with_wraparound(positive_value(value)?),
+            "ansi" => config.with_ansi(value.as_bool()?),
+            "indent_lines" => config.with_indent_lines(value.as_bool()?),
+            "targets" => config.with_targets(value.as_bool()?),
+            "thread_ids" => config.with_thread_ids(value.as_bool()?),
+            "thread_names" => config.with_thread_names(value.as_bool()?),
+            "verbose_entry" => config.with_verbose_entry(value.as_bool()?),
+            "verbose_exit" => config.with_verbose_exit(value.as_bool()?),
+            "span_retrace" => config.with_span_retrace(value.as_bool()?),
+            "deferred_spans" => config.with_deferred_spans(value.as_bool()?),
+            "close_retrace" => config.with_close_retrace(value.as_bool()?),
+            "span_modes" => config.with_span_modes(value.as_bool()?),
+            "bracketed_fields" => config.with_bracketed_fields(value.as_bool()?),
+            _ => return None,
+        };
+        Some(Setup { config, timer })
+    }
+
+    // The same with a member of the object. A null counts as absent.
+    #[tactic(auto, using(crate::proofs::OpenedLines::is_absent, crate::proofs::OpenedLines::is_there))]
+    fn with_member(self, key: &str, value: &Value) -> Option<Setup>
+        ensures { result ≡ with_member key.now (view value.now) self }
+    {
+        if value.is_null() {
+            return Some(self);
+        }
+        self.with(key, value)
+    }
+
+    // The settings and the timer by themselves.
+    pub(super) fn into_parts(self) -> (Config, Clock<'static>)
+        ensures settings { result.0 ≡ self.0 }
+        ensures timer { clock_timer result.1 ≡ chosen_timer self.1 }
+    {
+        let Setup { config, timer } = self;
+        (config, timer.clock())
+    }
+}
+
+// What a line asks for. `Settings` where it spells no settings, `Memory` where memory is refused.
+pub(super) fn settings_of_line(alloc: Global, line: &[u8]) -> Result<Setup, LineCause>
     ensures { ReadsFirst line.now result }
 {
     match Value::from_slice(alloc, line) {
@@ -23,96 +106,24 @@ pub(super) fn settings_of_line(alloc: Global, line: &[u8]) -> Result<Config, Lin
     }
 }
 
-// The settings that an object spells: each key that is there can be read, and one that is absent stands for its default. None
-// where it spells none, and where it asks for more than can be set yet.
-fn settings_of(value: &Value) -> Option<Config>
-    ensures { ReadsSettings (view value.now) result }
+// What an object asks for.
+fn settings_of(value: &Value) -> Option<Setup>
+    ensures { result ≡ object_settings (view value.now) }
 {
-    if !has_settings_alone(value) || asks_for_more(value) {
-        return None;
+    let mut setup = Setup::unnamed();
+    for (key, member) in value.as_object()?.iter() {
+        setup = setup.with_member(key.as_str(), member)?;
     }
-    let config = Config::new(
-        whole_or(2, value, "indent_amount")? as usize,
-        flag(value, "ansi")?,
-    )
-    .with_indent_lines(flag(value, "indent_lines")?)
-    .with_targets(flag(value, "targets")?)
-    .with_thread_ids(flag(value, "thread_ids")?)
-    .with_thread_names(flag(value, "thread_names")?)
-    .with_wraparound(wraparound(value)?)
-    .with_verbose_entry(flag(value, "verbose_entry")?)
-    .with_verbose_exit(flag(value, "verbose_exit")?)
-    .with_bracketed_fields(flag(value, "bracketed_fields")?)
-    .with_span_modes(flag(value, "span_modes")?);
-    Some(config)
+    Some(setup)
 }
 
-// Whether a key is there of a setting that can't be set yet.
-fn asks_for_more(value: &Value) -> bool
-    ensures { result ≡ asks_for_more (view value.now) }
+// A whole number that isn't 0.
+fn positive_value(value: &Value) -> Option<usize>
+    ensures value { result ≡ positive_value (view value.now) }
+    ensures positive { IfSome result (λ number. 0 < number) }
 {
-    value_at(value, "span_retrace").is_some()
-        || value_at(value, "deferred_spans").is_some()
-        || value_at(value, "close_retrace").is_some()
-        || value_at(value, "timer").is_some()
-}
-
-// Whether the value is an object with keys of settings alone. A null counts as absent.
-fn has_settings_alone(value: &Value) -> bool
-    ensures { result ≡ has_only_keys settings_keys (view value.now) }
-{
-    match value.as_object() {
-        Some(members) => are_settings(members),
-        None => false,
-    }
-}
-
-// Whether all members that aren't null are settings.
-fn are_settings(members: &Map<String, Value>) -> bool
-    ensures { result ≡ list_all (λ key. list_any (bytes_eq key) settings_keys) (present_keys (members_view members.now.entries)) }
-{
-    for (key, member) in members.iter() {
-        if !member.is_null() && !is_setting(key.as_str()) {
-            return false;
-        }
-    }
-    true
-}
-
-// Whether the key is one of a setting.
-fn is_setting(key: &str) -> bool
-    ensures { result ≡ list_any (bytes_eq key.now) settings_keys }
-{
-    match key {
-        "indent_amount" => true,
-        "wraparound" => true,
-        "timer" => true,
-        "ansi" => true,
-        "indent_lines" => true,
-        "targets" => true,
-        "thread_ids" => true,
-        "thread_names" => true,
-        "verbose_entry" => true,
-        "verbose_exit" => true,
-        "span_retrace" => true,
-        "deferred_spans" => true,
-        "span_modes" => true,
-        "bracketed_fields" => true,
-        "close_retrace" => true,
-        _ => false,
-    }
-}
-
-// After how many levels the indent begins anew; not 0.
-fn wraparound(value: &Value) -> Option<usize>
-    ensures value { result ≡ read_or (Some usize.MAX) positive_value (codes "wraparound") (view value.now) }
-    ensures positive { IfSome result (λ levels. 0 < levels) }
-{
-    match value_at(value, "wraparound") {
-        Some(levels) => match levels.as_u64()? {
-            0 => None,
-            levels => Some(levels as usize),
-        },
-        None => Some(usize::MAX),
+    match value.as_u64()? {
+        0 => None,
+        number => Some(number as usize),
     }
 }

@@ -4,7 +4,7 @@ ghost use Rattle.std.specs.Prelude.{◌≡◌, ◌<◌, ◌++◌, [], None, OnOk
 ghost use Rattle.tracing_tree_core.specs.Texts.{prefix_text};
 ghost use Rattle.tracing_tree_core.specs.Picture.{drawn_row, is_too_wide, unnamed_row};
 ghost use Rattle.tracing_tree_core.specs.Outputs.{WritesWhole};
-ghost use Rattle.tracing_tree_core.specs.Buffered.{AddsRow, IndentsRow, emptied_when_ok};
+ghost use Rattle.tracing_tree_core.specs.Buffered.{IndentsRow, emptied_when_ok};
 
 use super::draw::Drawing;
 use super::output::write_whole;
@@ -54,8 +54,9 @@ impl Buffers {
     /// Writes `current_buf` whole and empties it. On a fault the buffers stay; what was written is then a beginning that isn't
     /// the whole, and nothing where the output's writes are whole.
     pub fn flush_current_buf<O: Output>(&mut self, out: &mut O) -> Result<(), OutputFault>
-        requires { O.fault_count out.old < 18_446_744_073_709_551_615 }
-        ensures written { WritesWhole O.WHOLE self.old.current_buf result (O.contents out.old) (O.contents out.new) (O.fault_count out.old) (O.fault_count out.new) }
+        requires { O.fault_count out.old < u64.MAX }
+        ensures written { WritesWhole O.WHOLE self.old.current_buf result (O.contents out.old)
+            (O.contents out.new) (O.fault_count out.old) (O.fault_count out.new) }
         ensures buffers { self.new ≡ emptied_when_ok result self.old }
     {
         write_whole(self.current_buf.as_bytes(), out)?;
@@ -66,7 +67,10 @@ impl Buffers {
     /// Moves `indent_buf` to the end of `current_buf`. `AllocError` where memory is refused; nothing has changed then. Where
     /// `current_buf` is empty it takes no memory.
     pub fn flush_indent_buf(&mut self) -> Result<(), AllocError>
-        ensures ok { OnOk result (self.new ≡ record self.old { current_buf = self.old.current_buf ++ self.old.indent_buf; indent_buf = [] }) }
+        ensures ok { OnOk result (self.new ≡ record self.old {
+          current_buf = self.old.current_buf ++ self.old.indent_buf;
+          indent_buf = [];
+        }) }
         ensures err { OnErr result (self.new ≡ self.old) }
         ensures succeeds { OnErr result (self.old.current_buf ≡ [] → ⊥) }
     {
@@ -89,29 +93,9 @@ impl Buffers {
         context: &Context,
     ) -> Result<(), Refusal>
         requires { self.old.indent_buf ≡ [] }
-        ensures { let row = unnamed_row mode indent self.old.current_buf (prefix_text config.now context.now) in
+        ensures { let prefix = prefix_text config.now context.now in
+            let row = unnamed_row mode indent self.old.current_buf prefix in
             IndentsRow (is_too_wide config.now row) (drawn_row config.now row) result self.old self.new }
-    {
-        let added = self.add_row(indent, config, mode, context);
-        if added.is_err() {
-            self.indent_buf.clear();
-            return added;
-        }
-        mem::swap(&mut self.current_buf, &mut self.indent_buf);
-        Ok(())
-    }
-
-    /// Draws the block in `current_buf` as a row at the end of `indent_buf`, and empties `current_buf`. `TooWide` changes
-    /// nothing; after `Memory` the block is as it was, and what stands in `indent_buf` isn't said.
-    pub fn add_row(
-        &mut self,
-        indent: usize,
-        config: &Config,
-        mode: SpanMode,
-        context: &Context,
-    ) -> Result<(), Refusal>
-        ensures { let row = unnamed_row mode indent self.old.current_buf (prefix_text config.now context.now) in
-            AddsRow (is_too_wide config.now row) (drawn_row config.now row) result self.old self.new }
     {
         config.check_width(mode, indent)?;
         let drawing = Drawing {
@@ -120,8 +104,13 @@ impl Buffers {
             mode,
             level: indent,
         };
-        drawing.row(&mut self.indent_buf, self.current_buf.as_str())?;
+        let drawn = drawing.row(&mut self.indent_buf, self.current_buf.as_str());
+        if drawn.is_err() {
+            self.indent_buf.clear();
+            return Err(Refusal::Memory);
+        }
         self.current_buf.clear();
+        mem::swap(&mut self.current_buf, &mut self.indent_buf);
         Ok(())
     }
 }

@@ -26,6 +26,7 @@ pub struct Config {
     bracketed_fields: bool,
     deferred_spans: bool,
     span_modes: bool,
+    close_retrace: bool,
 }
 
 impl Model for Config {
@@ -34,7 +35,6 @@ impl Model for Config {
 
     ghost Value = { Settings };
 
-    // Closes that retrace come later.
     ghost view = { λ c. record {
       ansi = c.ansi;
       indent_lines = c.indent_lines;
@@ -49,7 +49,7 @@ impl Model for Config {
       bracketed_fields = c.bracketed_fields;
       deferred_spans = c.deferred_spans;
       span_modes = c.span_modes;
-      close_retrace = false;
+      close_retrace = c.close_retrace;
     } };
 
     ghost invariant = { λ c. 0 < c.wraparound };
@@ -73,6 +73,7 @@ impl Default for Config {
             bracketed_fields: false,
             deferred_spans: false,
             span_modes: false,
+            close_retrace: false,
         }
     }
 }
@@ -143,7 +144,7 @@ impl Config {
         }
     }
 
-    /// Begins the indent anew after so many levels. It asks that the number isn't 0.
+    /// Begins the indent anew after this many levels. The caller must ensure that the number isn't 0.
     pub fn with_wraparound(self, wraparound: usize) -> Config
         requires { 0 < wraparound }
         ensures { result ≡ record self { wraparound = wraparound } }
@@ -167,6 +168,38 @@ impl Config {
     {
         Config {
             verbose_exit,
+            ..self
+        }
+    }
+
+    /// Shows the spans above an event or a new span again where the last span is another.
+    pub fn with_span_retrace(self, span_retrace: bool) -> Config
+        ensures { result ≡ record self { span_retrace = span_retrace } }
+    {
+        Config {
+            span_retrace,
+            ..self
+        }
+    }
+
+    /// Shows a span only once an event happens in it or below it.
+    pub fn with_deferred_spans(self, deferred_spans: bool) -> Config
+        ensures { result ≡ record self { deferred_spans = deferred_spans } }
+    {
+        Config {
+            deferred_spans,
+            ..self
+        }
+    }
+
+    /// Shows the spans above a closing span again where its parent isn't on the path of the last
+    /// span. It has no effect unless `span_retrace` or `deferred_spans` is on. (The Rust crate
+    /// has no such setting.)
+    pub fn with_close_retrace(self, close_retrace: bool) -> Config
+        ensures { result ≡ record self { close_retrace = close_retrace } }
+    {
+        Config {
+            close_retrace,
             ..self
         }
     }
@@ -280,10 +313,20 @@ impl Config {
         self.span_modes
     }
 
-    /// Whether a row of this kind at this level can be drawn: `TooWide` exactly where the level used (which wraps round, and is
-    /// one more for a parent's row with lines) times the amount passes `usize`.
+    /// Whether the spans above a closing span are shown again where its parent isn't on the path of
+    /// the last span.
+    pub fn close_retrace(&self) -> bool
+        ensures { result ≡ self.now.close_retrace }
+    {
+        self.close_retrace
+    }
+
+    /// Returns whether a row of this kind at this level can be drawn: `TooWide` exactly where the
+    /// level used (which wraps round, and is one more for a parent's row with lines) times the
+    /// amount passes `usize`.
     pub fn check_width(&self, mode: SpanMode, level: usize) -> Result<(), Refusal>
-        ensures { result ≡ (if is_too_wide self.now (unnamed_row mode level [] []) then Err Refusal.TooWide else Ok tt) }
+        ensures { let row = unnamed_row mode level [] [] in
+            result ≡ (if is_too_wide self.now row then Err Refusal.TooWide else Ok tt) }
     {
         let wrapped = level % self.wraparound;
         let used = match mode {
@@ -306,9 +349,10 @@ impl Config {
         Ok(prefix)
     }
 
-    /// Appends the prefix. After `AllocError` what stands in `out` isn't said.
-    pub fn push_prefix(&self, out: &mut String, context: &Context) -> Result<(), AllocError>
-        ensures { OnOk result (string_bytes out.new ≡ string_bytes out.old ++ prefix_text self.now context.now) }
+    // Appends the prefix. After `AllocError` a beginning of it may stand in `out`.
+    pub(crate) fn push_prefix(&self, out: &mut String, context: &Context) -> Result<(), AllocError>
+        ensures { let prefix = prefix_text self.now context.now in
+            OnOk result (string_bytes out.new ≡ string_bytes out.old ++ prefix) }
     {
         if self.render_thread_ids {
             let number = context.thread_id;

@@ -1,10 +1,10 @@
 //! The drawing of rows: what docs/FORMATS.md, "Drawing", says of frames, lines and wrap marks.
 
 ghost use Rattle.std.specs.List.{repeat};
-ghost use Rattle.std.specs.Prelude.{◌≡◌, ◌+◌, ◌<◌, ◌++◌, ◌∷◌, [], false, OnOk, string_bytes, if◌then◌else◌};
+ghost use Rattle.std.specs.Prelude.{◌≡◌, ◌+◌, ◌*◌, ◌^◌, ◌<◌, ◌++◌, ◌∷◌, [], false, OnOk, string_bytes, if◌then◌else◌};
 ghost use Rattle.std.specs.Str.Lines.{strip_carriage_return};
 ghost use Rattle.tracing_tree_core.specs.Drawings.{HasRoom, corner_pieces, frame_pieces, pushed_text, row_of, span_pieces};
-ghost use Rattle.tracing_tree_core.specs.Picture.{drawn_row, edge_frame, first_frame, frame_text, is_last_before_wrap, is_too_wide, later_frame, mark_after_corner, mark_before_corner, mark_line, picture, row_frame, wrapped_level};
+ghost use Rattle.tracing_tree_core.specs.Picture.{drawn_row, edge_frame, first_frame, frame_text, is_last_before_wrap, is_too_wide, later_frame, lined_frame, mark_after_corner, mark_before_corner, mark_line, picture, row_frame, shift_of, wrapped_level};
 ghost use Rattle.tracing_tree_core.specs.Texts.{prefix_text};
 
 use super::{Config, Context, SpanMode};
@@ -143,6 +143,48 @@ fn later_frame(mode: SpanMode, amount: usize, before: usize) -> Frame
     }
 }
 
+// The frame of the first line, or that of each later one, of a row that is drawn with lines at this wrapped level.
+fn lined_frame(mode: SpanMode, amount: usize, wrapped: usize, first: bool) -> Frame
+    requires level { wrapped + shift_of mode < 2 ^ 64 }
+    requires width { (wrapped + shift_of mode) * amount < 2 ^ 64 }
+    ensures { pushed_text result
+        ≡ frame_text (lined_frame mode amount wrapped (if first then 0 else 1)) }
+{
+    let used = match mode {
+        SpanMode::PreOpen | SpanMode::PostClose => wrapped + 1,
+        _ => wrapped,
+    };
+    if used == 0 {
+        return edge_frame(mode);
+    }
+    if amount == 0 {
+        return Frame::plain(0, "");
+    }
+    let before = used * amount - amount;
+    if first {
+        first_frame(mode, amount, before)
+    } else {
+        later_frame(mode, amount, before)
+    }
+}
+
+/// Appends what stands before the text of a row's first line, or of each later one, where rows are drawn with lines. The level
+/// isn't wrapped; the caller must ensure that its columns fit `usize`. `AllocError` where memory is refused.
+pub fn push_frame(
+    out: &mut String,
+    mode: SpanMode,
+    level: usize,
+    amount: usize,
+    first: bool,
+) -> Result<(), AllocError>
+    requires level { level + shift_of mode < 2 ^ 64 }
+    requires width { (level + shift_of mode) * amount < 2 ^ 64 }
+    ensures { OnOk result (string_bytes out.new
+        ≡ string_bytes out.old ++ frame_text (lined_frame mode amount level (if first then 0 else 1))) }
+{
+    lined_frame(mode, amount, level, first).push(out)
+}
+
 // The corner of the wrap mark that stands before a row that closes.
 fn corner_before(mode: SpanMode) -> Option<char>
     ensures { result ≡ mark_before_corner mode }
@@ -243,22 +285,7 @@ impl Drawing<'_> {
         if !self.config.indent_lines() {
             return Frame::plain(wrapped * amount, if first { " " } else { "   " });
         }
-        let used = match self.mode {
-            SpanMode::PreOpen | SpanMode::PostClose => wrapped + 1,
-            _ => wrapped,
-        };
-        if used == 0 {
-            return edge_frame(self.mode);
-        }
-        if amount == 0 {
-            return Frame::plain(0, "");
-        }
-        let before = used * amount - amount;
-        if first {
-            first_frame(self.mode, amount, before)
-        } else {
-            later_frame(self.mode, amount, before)
-        }
+        lined_frame(self.mode, amount, wrapped, first)
     }
 
     // Whether the levels wrap round behind this one.

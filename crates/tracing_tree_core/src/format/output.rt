@@ -25,10 +25,11 @@ pub trait Output {
     /// Whether each accepted write is taken whole.
     const WHOLE: bool;
 
-    /// Takes some of the bytes: at least one and at most all of a nonempty slice, and all where `WHOLE`. Answers how many.
-    /// A refused write leaves what was taken, and raises the count of faults by one.
+    /// Takes some of the bytes: at least one and at most all of a nonempty slice, and all where
+    /// `WHOLE`. Returns how many. A refused write leaves what was taken, and raises the count of
+    /// faults by one.
     fn write(&mut self, bytes: &[u8]) -> Result<usize, OutputFault>
-        requires { fault_count self.old < 18_446_744_073_709_551_615 }
+        requires { fault_count self.old < u64.MAX }
         ensures taken { IfOk result (TakesSome WHOLE bytes.now) }
         ensures contents { WriteAppends (contents self.old) (contents self.new) result bytes.now }
         ensures count { CountsFault (fault_count self.old) (fault_count self.new) result };
@@ -40,8 +41,9 @@ pub trait Output {
 
 // Writes all bytes, in as many writes as it takes.
 pub(crate) fn write_whole<O: Output>(bytes: &[u8], out: &mut O) -> Result<(), OutputFault>
-    requires { O.fault_count out.old < 18_446_744_073_709_551_615 }
-    ensures { WritesWhole O.WHOLE bytes.now result (O.contents out.old) (O.contents out.new) (O.fault_count out.old) (O.fault_count out.new) }
+    requires { O.fault_count out.old < u64.MAX }
+    ensures { WritesWhole O.WHOLE bytes.now result (O.contents out.old) (O.contents out.new)
+        (O.fault_count out.old) (O.fault_count out.new) }
 {
     let mut rest = bytes;
     while !rest.is_empty() {
@@ -143,18 +145,25 @@ pub struct Wrap<W: Write> {
     faults: u64,
 }
 
+impl<W: Write> Model for Wrap<W> {
+    ghost use Rattle.tracing_tree_core.specs.Outputs.{WrapView};
+
+    ghost Value = { WrapView W };
+
+    ghost view = { λ w. record { writer = w.writer; faults = w.faults } };
+}
+
 impl<W: Write> Wrap<W> {
-    /// An output over this writer, without faults.
+    /// Makes an output over this writer, without faults.
     pub fn new(writer: W) -> Wrap<W>
-        ensures bytes { ⟦<Wrap<W> as Output>⟧.contents result ≡ W.contents writer }
-        ensures faults { ⟦<Wrap<W> as Output>⟧.fault_count result ≡ 0 }
+        ensures { result ≡ record { writer = writer; faults = 0 } }
     {
         Wrap { writer, faults: 0 }
     }
 
-    /// The writer again.
+    /// Returns the writer.
     pub fn into_inner(self) -> W
-        ensures { W.contents result ≡ ⟦<Wrap<W> as Output>⟧.contents self }
+        ensures { result ≡ self.writer }
     {
         let Wrap { writer, faults: _ } = self;
         writer

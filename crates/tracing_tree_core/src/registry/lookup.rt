@@ -1,13 +1,13 @@
 //! Looking at live spans.
 
-ghost use Rattle.std.specs.Prelude.{◌≡◌, None, option_map, option_copied, IfOk, OnOk, OnErr};
+ghost use Rattle.std.specs.Prelude.{◌≡◌, None, option_map, option_copied, IfOk, IfSome, OnOk, OnErr};
 ghost use Rattle.tracing_tree_core.specs.Spans.{shown_span};
-ghost use Rattle.tracing_tree_core.specs.Forest.{Forest, IsForest, span_at, parent_of, path_of, add_fields, mark_printed};
+ghost use Rattle.tracing_tree_core.specs.Forest.{Forest, IsForest, IsPathIfLive, span_at, parent_of, path_of, add_fields, mark_printed};
 ghost use Rattle.tracing_tree_core.specs.Lookup.{data_at};
 
 use super::{Data, SpanRef};
+use crate::context::Id;
 use crate::field::Fields;
-use crate::format::Id;
 use std::alloc::{AllocError, Global};
 
 /// Live spans that a layer looks at and marks. (`LookupSpan` of the Rust crate's registry.)
@@ -29,7 +29,14 @@ pub trait LookupSpan {
     /// memory is refused.
     fn path(&self, alloc: Global, id: Id) -> Result<Vec<Id>, AllocError>
         ensures path { IfOk result (λ path. path.items ≡ path_of (forest self.now) id) }
+        ensures whole { IfOk result (λ path. IsPathIfLive (forest self.now) id path.items) }
         ensures live { OnErr result (span_at (forest self.now) id ≡ None → ⊥) }
+        ensures formed { IsForest (forest self.now) };
+
+    /// The path of a live span, from its root down to it, where it is kept with the span. None where it isn't kept, and of an id
+    /// that isn't live: then ask `path`. Takes no memory.
+    fn kept_path(&self, id: Id) -> Option<&[Id]>
+        ensures kept { IfSome result (λ path. path.now ≡ path_of (forest self.now) id) }
         ensures formed { IsForest (forest self.now) };
 
     /// What is kept with a live span.

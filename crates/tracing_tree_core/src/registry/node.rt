@@ -1,11 +1,11 @@
 //! A span as it is kept, and a look at it.
 
-ghost use Rattle.std.specs.Prelude.{◌≡◌, ◌+◌, ◌-◌, ◌<◌, ◌++◌, true, IfOk, OnOk, OnErr};
-ghost use Rattle.tracing_tree_core.specs.Spans.{shown_span, printed_span};
+ghost use Rattle.std.specs.Prelude.{◌≡◌, ◌<◌, IfOk, OnOk, OnErr};
+ghost use Rattle.tracing_tree_core.specs.Spans.{shown_span, handle_more, handle_less, child_more, child_less, kept_printed, fields_more};
 
 use super::Attributes;
+use crate::context::Id;
 use crate::field::Fields;
-use crate::format::Id;
 use crate::text::Text;
 use std::alloc::AllocError;
 use std::marker::Model;
@@ -37,59 +37,78 @@ impl Data {
     }
 }
 
-// A span as it is kept. What clones and records touch stands at its head, close together in memory.
+// A span as it is kept: with its path, from its root down to it, and with the number of its live children. What clones, records
+// and closes touch stands at its head, close together in memory.
 #[derive(Drop)]
 pub(crate) struct Node {
     pub(crate) id: Id,
     pub(crate) handles: u64,
+    pub(crate) children: usize,
     pub(crate) parent: Option<Id>,
+    pub(crate) path: Vec<Id>,
     pub(crate) kept: Data,
     pub(crate) name: Text,
     pub(crate) target: Text,
 }
 
 impl Model for Node {
-    ghost use Rattle.tracing_tree_core.specs.Spans.{Span};
+    ghost use Rattle.tracing_tree_core.specs.Spans.{KeptSpan};
 
-    ghost Value = { Span };
+    ghost Value = { KeptSpan };
 
     ghost view = { λ n. record {
-      id = n.id;
-      parent = n.parent;
-      name = n.name;
-      target = n.target;
-      kept = n.kept;
-      handles = n.handles;
+      span = record {
+        id = n.id;
+        parent = n.parent;
+        name = n.name;
+        target = n.target;
+        kept = n.kept;
+        handles = n.handles;
+      };
+      path = n.path.items;
+      children = n.children;
     } };
 }
 
 impl Node {
     pub(crate) fn id(&self) -> Id
-        ensures { result ≡ self.now.id }
+        ensures { result ≡ self.now.span.id }
     {
         self.id
     }
 
     pub(crate) fn parent(&self) -> Option<Id>
-        ensures { result ≡ self.now.parent }
+        ensures { result ≡ self.now.span.parent }
     {
         self.parent
     }
 
     pub(crate) fn data(&self) -> &Data
-        ensures { result.now ≡ self.now.kept }
+        ensures { result.now ≡ self.now.span.kept }
     {
         &self.kept
     }
 
     pub(crate) fn handles(&self) -> u64
-        ensures { result ≡ self.now.handles }
+        ensures { result ≡ self.now.span.handles }
     {
         self.handles
     }
 
+    pub(crate) fn children(&self) -> usize
+        ensures { result ≡ self.now.children }
+    {
+        self.children
+    }
+
+    pub(crate) fn path(&self) -> &[Id]
+        ensures { result.now ≡ self.now.path }
+    {
+        self.path.as_slice()
+    }
+
     pub(crate) fn look(&self) -> SpanRef<'_>
-        ensures { result ≡ shown_span self.now }
+        ensures { result ≡ shown_span self.now.span }
     {
         SpanRef {
             id: self.id,
@@ -101,27 +120,41 @@ impl Node {
     }
 
     pub(crate) fn add_handle(&mut self)
-        requires { self.old.handles < 18_446_744_073_709_551_615 }
-        ensures { self.new ≡ record self.old { handles = self.old.handles + 1 } }
+        requires { self.old.span.handles < u64.MAX }
+        ensures { self.new ≡ handle_more self.old }
     {
         self.handles += 1;
     }
 
     pub(crate) fn take_handle(&mut self)
-        requires { 0 < self.old.handles }
-        ensures { self.new ≡ record self.old { handles = self.old.handles - 1 } }
+        requires { 0 < self.old.span.handles }
+        ensures { self.new ≡ handle_less self.old }
     {
         self.handles -= 1;
     }
 
+    pub(crate) fn add_child(&mut self)
+        requires { self.old.children < usize.MAX }
+        ensures { self.new ≡ child_more self.old }
+    {
+        self.children += 1;
+    }
+
+    pub(crate) fn take_child(&mut self)
+        requires { 0 < self.old.children }
+        ensures { self.new ≡ child_less self.old }
+    {
+        self.children -= 1;
+    }
+
     pub(crate) fn set_written(&mut self)
-        ensures { self.new ≡ printed_span self.old }
+        ensures { self.new ≡ kept_printed self.old }
     {
         self.kept.written = true;
     }
 
     pub(crate) fn record(&mut self, fields: Fields) -> Result<(), AllocError>
-        ensures ok { OnOk result (self.new ≡ record self.old { kept = record self.old.kept { fields = self.old.kept.fields ++ fields } }) }
+        ensures ok { OnOk result (self.new ≡ fields_more fields self.old) }
         ensures err { OnErr result (self.new ≡ self.old) }
     {
         self.kept.fields.append(fields)

@@ -1,38 +1,40 @@
 //! The live spans.
 
-ghost use Rattle.std.specs.Prelude.{◌≡◌, ◌-◌, ◌<◌, ◌++◌, List, Some, None, IfOk, OnErr, OnOk, IfSome, MatchOption, slice_get, find, length, false, not, ◌==◌, ◌&&◌, Option, reverse};
+ghost use Rattle.std.specs.Prelude.{◌≡◌, ◌<◌, ◌++◌, [], ◌∷◌, None, Some, IfOk, IfSome, IsSome, OnOk, OnErr, Option, reverse, length, false, IsTrue, ◌↔◌};
 ghost use Rattle.std.specs.List.{list_any};
-ghost use Rattle.std.specs.Option.{option_map_or};
 ghost use Rattle.tracing_tree_core.specs.Ids.{id_of};
-ghost use Rattle.tracing_tree_core.specs.Spans.{Span};
-ghost use Rattle.tracing_tree_core.specs.Forest.{Forest, IsForest, has_id, empty_forest, span_at, any_unless_live, path_of, path_of_any, id_after, going_up, without_spans, take_back};
-ghost use Rattle.tracing_tree_core.specs.Registered.{IsNewSpan, IsCloned, IsClosed, ListsClosing, AsksLastHandle, IsNewest, IsKept, IsRising, alone, going_after, is_other_child, lacks_others};
+ghost use Rattle.tracing_tree_core.specs.Forest.{IsForest, IsPathIfLive, IsClosing, empty_forest, span_at, is_live, is_child_of, parent_of, any_unless_live, path_of, id_after, closing_of, going_up, without_spans, take_back};
+ghost use Rattle.tracing_tree_core.specs.Registered.{IsNewSpan, IsCloned, IsClosed, ListsClosing, AsksLastHandle, IsNewest, IsKept, alone};
+ghost use Rattle.tracing_tree_core.specs.Kept.{spans_of, kept_at, kept_path, with_child, without_span, AreBelow, IsTied};
 
 use super::node::Node;
+use super::nodes::Nodes;
 use super::{Attributes, Context, Data, LookupSpan, SpanRef};
+use crate::context::{Id, Refusal};
 use crate::field::Fields;
-use crate::format::{Id, Refusal};
 use std::alloc::{AllocError, Global};
 use std::marker::Model;
 
 /// The live spans and the next id. A span is live while it has a handle or a live child.
 ///
-/// The spans lie in the order of their ids, so that each is found by a binary search, or at once where few have gone.
+/// Each span is kept with its path and with the number of its children. So a path is there at once, and a close looks at no
+/// span but those on the path of the span that closes.
 #[derive(Drop)]
 pub struct Registry {
-    nodes: Vec<Node>,
+    nodes: Nodes,
     next: Option<Id>,
 }
 
 impl Model for Registry {
     ghost use Rattle.tracing_tree_core.specs.Forest.{Forest};
     ghost use Rattle.tracing_tree_core.specs.Registered.{IsKept};
+    ghost use Rattle.tracing_tree_core.specs.Kept.{spans_of, IsTied};
 
     ghost Value = { Forest };
 
-    ghost view = { λ r. record { spans = r.nodes.items; next = r.next } };
+    ghost view = { λ r. record { spans = spans_of r.nodes; next = r.next } };
 
-    ghost invariant = { λ r. IsKept r.nodes.items r.next };
+    ghost invariant = { λ r. IsKept (spans_of r.nodes) r.next × IsTied r.nodes };
 }
 
 impl Registry {
@@ -48,7 +50,7 @@ impl Registry {
         ensures { result ≡ empty_forest (id_of first) }
     {
         Registry {
-            nodes: Vec::new(alloc),
+            nodes: Nodes::new(alloc),
             next: Some(Id(first)),
         }
     }
@@ -65,28 +67,32 @@ impl Registry {
         ensures undone { IfOk result (λ id. take_back id self.new ≡ self.old) }
     {
         let parent = attributes.parent.named(context.current);
-        if let Some(id) = missing(self.nodes.as_slice(), parent) {
+        if let Some(id) = missing(&self.nodes, parent) {
             return Err(Refusal::NotHeld(id));
         }
         let id = self.next.ok_or(Refusal::TooMany)?;
+        let path = path_below(&self.nodes, parent, id)?;
         let Attributes {
             name,
             target,
             parent: _,
             fields,
         } = attributes;
-        self.nodes.push(Node {
+        let node = Node {
             id,
+            handles: 1,
+            children: 0,
             parent,
-            name,
-            target,
+            path,
             kept: Data {
                 start: context.moment.mono,
                 fields,
                 written: false,
             },
-            handles: 1,
-        })?;
+            name,
+            target,
+        };
+        push_below(&mut self.nodes, parent, node)?;
         self.next = following(id);
         Ok(id)
     }
@@ -97,11 +103,13 @@ impl Registry {
     pub fn clone_span(&mut self, id: Id) -> Result<Id, Refusal>
         ensures { IsCloned id result self.old self.new }
     {
-        let at = position(self.nodes.as_slice(), id).ok_or(Refusal::NotHeld(id))?;
-        if self.nodes[at].handles() == u64::MAX {
+        let Some(node) = self.nodes.get(id) else {
+            return Err(Refusal::NotHeld(id));
+        };
+        if node.handles() == u64::MAX {
             return Err(Refusal::TooMany);
         }
-        self.nodes[at].add_handle();
+        self.nodes.add_handle(id);
         Ok(id)
     }
 
@@ -112,13 +120,16 @@ impl Registry {
     pub fn try_close(&mut self, id: Id) -> Result<bool, Refusal>
         ensures { IsClosed id result self.old self.new }
     {
-        let nodes = &mut self.nodes;
-        let at = position(nodes.as_slice(), id).ok_or(Refusal::NotHeld(id))?;
-        if nodes[at].handles() == 0 {
+        let Some(node) = self.nodes.get(id) else {
+            return Err(Refusal::NotHeld(id));
+        };
+        if node.handles() == 0 {
             return Err(Refusal::NotHeld(id));
         }
-        nodes[at].take_handle();
-        Ok(remove_upward(nodes, id))
+        let count = closing_part(&self.nodes, node).len();
+        self.nodes.take_handle(id);
+        remove_upward(&mut self.nodes, id, count);
+        Ok(count > 0)
     }
 
     /// The ids that `try_close` would remove, in order: the span, its parent, and so on, as far as each has neither handle nor
@@ -127,42 +138,36 @@ impl Registry {
     /// `NotHeld` as of `try_close`, `Memory`.
     pub fn closing(&self, alloc: Global, id: Id) -> Result<Vec<Id>, Refusal>
         ensures lists { ListsClosing id result self.now }
+        ensures longest { IfOk result (λ ids. IsClosing self.now id ids.items) }
 
         // Something closes only with the last handle, and only then memory is asked for.
         ensures last { AsksLastHandle id result self.now }
     {
-        let nodes = self.nodes.as_slice();
-        let at = position(nodes, id).ok_or(Refusal::NotHeld(id))?;
-        let node = &nodes[at];
-        let handles = node.handles();
-        if handles == 0 {
+        let Some(node) = self.nodes.get(id) else {
+            return Err(Refusal::NotHeld(id));
+        };
+        if node.handles() == 0 {
             return Err(Refusal::NotHeld(id));
         }
-        let mut ids = Vec::new(alloc);
-        if handles == 1 && !has_other_child(nodes, at, None) {
-            ids.push(id)?;
-            push_closing(&mut ids, nodes, id, node.parent())?;
+        let part = closing_part(&self.nodes, node);
+        if part.is_empty() {
+            return Ok(Vec::new(alloc));
         }
-        Ok(ids)
+        Ok(part.iter().rev().copied().collect(alloc)?)
     }
 
     /// The span, its parent, and so on up to its root; empty for an id that isn't live, which takes no memory. `AllocError`
     /// where memory is refused.
     pub fn scope(&self, alloc: Global, id: Id) -> Result<Vec<Id>, AllocError>
         ensures scope { IfOk result (λ scope. scope.items ≡ reverse (path_of self.now id)) }
+        ensures whole { IfOk result (λ scope. IsPathIfLive self.now id (reverse scope.items)) }
         ensures live { OnErr result (span_at self.now id ≡ None → ⊥) }
         ensures formed { IsForest self.now }
     {
-        let mut scope = Vec::new(alloc);
-        let mut above = Some(id);
-        while let Some(id) = above {
-            let Some(at) = position(self.nodes.as_slice(), id) else {
-                break;
-            };
-            scope.push(id)?;
-            above = self.nodes[at].parent();
+        match self.nodes.get(id) {
+            Some(node) => node.path().iter().rev().copied().collect(alloc),
+            None => Ok(Vec::new(alloc)),
         }
-        Ok(scope)
     }
 
     /// Takes a new span out again: its id is the next one again. Takes no memory. It asks that the span is the newest given
@@ -171,18 +176,17 @@ impl Registry {
         requires { IsNewest id self.old }
         ensures { self.new ≡ take_back id self.old }
     {
-        self.nodes.pop();
+        remove_leaf(&mut self.nodes, id);
         self.next = Some(id);
     }
 }
 
 // The id, if there is one that no span has.
-fn missing(nodes: &[Node], id: Option<Id>) -> Option<Id>
-    requires { IsRising nodes.now }
-    ensures { result ≡ any_unless_live (alone nodes.now) id }
+fn missing(nodes: &Nodes, id: Option<Id>) -> Option<Id>
+    ensures { result ≡ any_unless_live (alone (spans_of nodes.now)) id }
 {
     let id = id?;
-    position(nodes, id).is_none().then_some(id)
+    nodes.get(id).is_none().then_some(id)
 }
 
 // The id after this one, if there is one.
@@ -192,155 +196,139 @@ fn following(id: Id) -> Option<Id>
     id.0.checked_add(1).map(Id)
 }
 
-// Where the span of this id lies among spans in the order of their ids. Where none between the oldest and it is gone, it's one
-// look, which matters where spans are many and far apart in memory.
-fn position(nodes: &[Node], id: Id) -> Option<usize>
-    requires { IsRising nodes.now }
-    ensures { MatchOption result (find (has_id id) nodes.now ≡ None) (λ at. (at < length nodes.now) × (find (has_id id) nodes.now ≡ slice_get nodes.now at)) }
+// The path of a span that may be missing; empty where it is.
+fn path_at(nodes: &Nodes, id: Option<Id>) -> &[Id]
+    ensures { result.now ≡ kept_path nodes.now id }
 {
-    let place = likely_place(nodes, id);
-    if is_at(nodes, place, id) {
-        return Some(place);
-    }
-    nodes.binary_search_by_key(&id.0, |node| node.id().0).ok()
-}
-
-// Where the span of this id lies if none between the oldest and it is gone.
-fn likely_place(nodes: &[Node], id: Id) -> usize {
-    match nodes.first() {
-        Some(oldest) => id.0.wrapping_sub(oldest.id().0) as usize,
-        None => 0,
+    match id.and_then(|id| nodes.get(id)) {
+        Some(node) => node.path(),
+        None => &[],
     }
 }
 
-// Whether the span of this id lies there.
-fn is_at(nodes: &[Node], place: usize, id: Id) -> bool
-    ensures { result ≡ option_map_or (has_id id) (slice_get nodes.now place) false }
+// The path of a new span below this parent.
+fn path_below(nodes: &Nodes, parent: Option<Id>, id: Id) -> Result<Vec<Id>, AllocError>
+    ensures { IfOk result (λ path. path.items ≡ kept_path nodes.now parent ++ id ∷ []) }
 {
-    match nodes.get(place) {
-        Some(node) => node.id() == id,
-        None => false,
-    }
+    let above = path_at(nodes, parent);
+    let mut path = Vec::with_capacity(nodes.allocator(), above.len() + 1)?;
+    path.extend_from_slice(above)?;
+    path.push(id)?;
+    Ok(path)
 }
 
-// Puts the ids that close above this one behind the others, the lowest first.
-fn push_closing(
-    ids: &mut Vec<Id>,
-    nodes: &[Node],
-    below: Id,
-    parent: Option<Id>,
-) -> Result<(), AllocError>
-    requires { IsKept nodes.now None }
-    ensures { OnOk result (ids.new.items ≡ ids.old.items ++ going_after (alone nodes.now) (Some below) (reverse (path_of_any (alone nodes.now) parent))) }
+// Puts a new span at the end, and counts it among its parent's children. Nothing has changed where memory is refused.
+fn push_below(nodes: &mut Nodes, parent: Option<Id>, node: Node) -> Result<(), AllocError>
+    requires below { AreBelow node.span.id.0 nodes.old }
+    requires tied { IsTied nodes.old }
+    requires childless { node.children ≡ 0 }
+    ensures ok { OnOk result (nodes.new ≡ with_child parent (nodes.old ++ node ∷ [])) }
+    ensures err { OnErr result (nodes.new ≡ nodes.old) }
 {
-    let mut before = below;
-    let mut above = parent;
-    while let Some(id) = above {
-        let Some(at) = position(nodes, id) else {
-            break;
-        };
-        if !closes_after(nodes, at, Some(before)) {
-            break;
-        }
-        ids.push(id)?;
-        before = id;
-        above = nodes[at].parent();
+    nodes.push(node)?;
+    if let Some(above) = parent {
+        nodes.add_child(above);
     }
     Ok(())
 }
 
-// Whether the span that lies here has neither a handle nor a child besides the one that closes before it.
-fn closes_after(nodes: &[Node], at: usize, before: Option<Id>) -> bool
-    requires formed { IsForest (alone nodes.now) }
-    requires within { at < length nodes.now }
-    ensures { IfSome (slice_get nodes.now at) (λ span. result ≡ ((span.handles == 0) && lacks_others nodes.now before span.id)) }
+// The end of a span's path that closes when a handle of the span is taken away: the span itself where it keeps neither a handle
+// nor a child, its parent where that has no handle and no other child, and so on upward.
+fn closing_part<'a>(nodes: &Nodes, node: &'a Node) -> &'a [Id]
+    requires kept { IsKept (spans_of nodes.now) None }
+    requires tied { IsTied nodes.now }
+    requires there { kept_at nodes.now node.now.span.id ≡ Some node.now }
+    requires held { 0 < node.now.span.handles }
+    ensures { reverse result.now ≡ closing_of (alone (spans_of nodes.now)) node.now.span.id }
 {
-    nodes[at].handles() == 0 && !has_other_child(nodes, at, before)
-}
-
-// Whether the span that lies here has a child besides this one. A child is newer than its parent, so only the newer spans
-// are looked at.
-fn has_other_child(nodes: &[Node], at: usize, before: Option<Id>) -> bool
-    requires formed { IsForest (alone nodes.now) }
-    requires within { at < length nodes.now }
-    ensures { IfSome (slice_get nodes.now at) (λ span. result ≡ not (lacks_others nodes.now before span.id)) }
-{
-    any_other_child(&nodes[at + 1..], nodes[at].id(), before)
-}
-
-// Whether one of the spans is a child of this parent, and not the one that closes before it.
-fn any_other_child(nodes: &[Node], parent: Id, before: Option<Id>) -> bool
-    ensures { result ≡ list_any (is_other_child parent before) nodes.now }
-{
-    nodes
-        .iter()
-        .any(|node| is_other_child(node, parent, before))
-}
-
-// Whether the span is a child of this parent, and not the one that closes before it.
-fn is_other_child(node: &Node, parent: Id, before: Option<Id>) -> bool
-    ensures { result ≡ is_other_child parent before node.now }
-{
-    node.parent() == Some(parent) && Some(node.id()) != before
-}
-
-// Removes the span if it has neither handle nor child, then its parent if it has neither, and so on upward. Answers whether
-// the span went.
-fn remove_upward(nodes: &mut Vec<Node>, id: Id) -> bool
-    requires { IsKept nodes.old.items None }
-    ensures spans { nodes.new.items ≡ (without_spans (going_up (alone nodes.old.items) id) (alone nodes.old.items)).spans }
-    ensures went { result ≡ not (length (going_up (alone nodes.old.items) id) == 0) }
-    ensures kept { (next : Option Id) → IsKept nodes.old.items next → IsKept nodes.new.items next }
-{
-    let mut went = false;
-    let mut above = Some(id);
+    let path = node.path();
+    if node.handles() != 1 || node.children() != 0 {
+        return &path[path.len()..];
+    }
+    let mut count = 1;
+    let mut above = node.parent();
     while let Some(id) = above {
-        let Some(at) = position(nodes.as_slice(), id) else {
+        let Some(parent) = nodes.get(id) else {
             break;
         };
-        if !closes_after(nodes.as_slice(), at, None) {
+        if parent.handles() != 0 || parent.children() != 1 {
             break;
         }
-        above = nodes.remove(at).parent();
-        went = true;
+        count += 1;
+        above = parent.parent();
     }
-    went
+    &path[path.len() - count..]
+}
+
+// Removes a span without children, and counts it no longer among its parent's. Answers the parent.
+fn remove_leaf(nodes: &mut Nodes, id: Id) -> Option<Id>
+    requires kept { IsKept (spans_of nodes.old) None }
+    requires tied { IsTied nodes.old }
+    requires childless { list_any (is_child_of id) (spans_of nodes.old) ≡ false }
+    ensures parent { result ≡ parent_of (alone (spans_of nodes.old)) id }
+    ensures spans { spans_of nodes.new ≡ without_span id (spans_of nodes.old) }
+    ensures tied { IsTied nodes.new }
+{
+    let parent = nodes.remove(id)?.parent()?;
+    nodes.take_child(parent);
+    Some(parent)
+}
+
+// Removes so many spans, this one, its parent, and so on upward.
+fn remove_upward(nodes: &mut Nodes, id: Id, count: usize)
+    requires kept { IsKept (spans_of nodes.old) None }
+    requires tied { IsTied nodes.old }
+    requires all { count ≡ length (going_up (alone (spans_of nodes.old)) id) }
+    ensures spans { spans_of nodes.new ≡
+        (without_spans (going_up (alone (spans_of nodes.old)) id) (alone (spans_of nodes.old))).spans }
+    ensures kept { (next : Option Id) → IsKept (spans_of nodes.old) next → IsKept (spans_of nodes.new) next }
+    ensures tied { IsTied nodes.new }
+{
+    let mut above = Some(id);
+    for _ in 0..count {
+        let Some(id) = above else {
+            break;
+        };
+        above = remove_leaf(nodes, id);
+    }
 }
 
 impl LookupSpan for Registry {
     ghost forest = { λ r. r };
 
     fn span(&self, id: Id) -> Option<SpanRef<'_>> {
-        let at = position(self.nodes.as_slice(), id)?;
-        Some(self.nodes[at].look())
+        Some(self.nodes.get(id)?.look())
     }
 
     fn parent(&self, id: Id) -> Option<Id> {
-        let at = position(self.nodes.as_slice(), id)?;
-        self.nodes[at].parent()
+        self.nodes.get(id)?.parent()
     }
 
     fn path(&self, alloc: Global, id: Id) -> Result<Vec<Id>, AllocError> {
-        let mut path = self.scope(alloc, id)?;
-        path.reverse();
-        Ok(path)
+        match self.nodes.get(id) {
+            Some(node) => node.path().to_vec(alloc),
+            None => Ok(Vec::new(alloc)),
+        }
+    }
+
+    /// The path of a span; none exactly of an id that isn't live.
+    fn kept_path(&self, id: Id) -> Option<&[Id]>
+        ensures kept { IfSome result (λ path. path.now ≡ path_of self.now id) }
+        ensures live { IsSome result ↔ IsTrue (is_live self.now id) }
+        ensures formed { IsForest self.now }
+    {
+        Some(self.nodes.get(id)?.path())
     }
 
     fn data(&self, id: Id) -> Option<&Data> {
-        let at = position(self.nodes.as_slice(), id)?;
-        Some(self.nodes[at].data())
+        Some(self.nodes.get(id)?.data())
     }
 
     fn record(&mut self, id: Id, fields: Fields) -> Result<(), AllocError> {
-        match position(self.nodes.as_slice(), id) {
-            Some(at) => self.nodes[at].record(fields),
-            None => Ok(()),
-        }
+        self.nodes.record(id, fields)
     }
 
     fn set_written(&mut self, id: Id) {
-        if let Some(at) = position(self.nodes.as_slice(), id) {
-            self.nodes[at].set_written();
-        }
+        self.nodes.set_written(id);
     }
 }

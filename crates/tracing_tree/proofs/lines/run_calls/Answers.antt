@@ -1,74 +1,66 @@
-use Rattle.std.proofs.Common.{◌≡◌, ◌∙◌, refl, ap, arith, rules, Ok}
-use Rattle.tracing_tree_core.specs.Clock.{no_timer}
-use Rattle.tracing_tree.specs.Layers.{state_of}
-use Rattle.std.proofs.KnownBytes.{Keeps-refl}
+use Rattle.std.proofs.Common.{◌≡◌, refl, arith, rules, Ok}
+use Rattle.tracing_tree.specs.Layers.{seen}
 use Rattle.tracing_tree.specs.declared.lines.Judged.TheVariants.{Skipped, Accepted}
-use Rattle.tracing_tree.specs.declared.lines.LineCause.TheVariants.{Read}
-use Rattle.tracing_tree.proofs.Runs.{fixed_trans}
-use Rattle.tracing_tree.proofs.LineRuns.{starts, skips, accepts, finishes, breaks, stops}
+use Rattle.tracing_tree.proofs.Runs.{change_then}
+use Rattle.tracing_tree.proofs.LineRuns.{starts, goes_on_skipped, goes_on_accepted, ends_input, ends_at, ends_unjudged}
 use Rattle.tracing_tree.proofs.lines.run_calls.Goals.{in-Ok-Skipped, in-Ok-Accepted}
 use Rattle.tracing_tree.proofs.lines.run_calls.Goals as goal
 
 pub loop-number-init : goal.loop-number-init
 loop-number-init g c = record {
   room = omega arith;
-  fixed = refl;
-  calm = λ built. refl;
-  so_far = λ built. starts c.args.layered.now.layer.settings no_timer (state_of c.args.layered.now) _ _;
+  change = record {
+    changed = record { so_far = starts (seen g.FT.FormatTime g.W.Output c.args.layered.now) (g.B.Read.remaining c.args.lines.now); calm = refl };
+    fixed = refl;
+  };
 }
 
-pub returns-in-Ok-End-clause-ran : goal.returns-in-Ok-End-clause-ran
-returns-in-Ok-End-clause-ran g c = λ built.
-    let layer = c.args.layered.now.layer in
-    let judged = rw (ap (λ l. l.settings) c.loop-number.invariant.fixed) at c.run_line.ensures.judged in
-    let ended = rw (c.in-Ok-End.is, c.in-Ok-End.field-0-is) at (judged built) in
-    finishes layer.settings no_timer (state_of c.args.layered.now) g.W.Output.WHOLE _ _ _ _ _ _ _ _ _ (omega arith) (c.loop-number.invariant.so_far built) ended
+pub returns-in-Ok-End : goal.returns-in-Ok-End
+returns-in-Ok-End g c =
+    let remaining = g.B.Read.remaining in
+    let line = rw (c.in-Ok-End.is, c.in-Ok-End.field-0-is) at c.run_line.ensures in
+    change_then (seen g.FT.FormatTime g.W.Output)
+    (ends_input (remaining c.args.lines.now) (remaining c.loop-number.lines) (remaining c.run_line.new.lines) c.loop-number.accepted c.loop-number.number (omega arith))
+    c.args.layered.now c.loop-number.layered c.run_line.new.layered c.loop-number.invariant.change line
 
-pub returns-in-Err-clause-ran : goal.returns-in-Err-clause-ran
-returns-in-Err-clause-ran g c = λ built.
-    let layer = c.args.layered.now.layer in
-    let judged = rw (ap (λ l. l.settings) c.loop-number.invariant.fixed) at c.run_line.ensures.judged in
-    let ended = rw c.in-Err.is at (judged built) in
-    stops layer.settings no_timer (state_of c.args.layered.now) g.W.Output.WHOLE _ _ _ _ _ _ _ _ _ _ c.in-Err.cause (omega arith) (c.loop-number.invariant.so_far built) ended
+pub returns-in-Err : goal.returns-in-Err
+returns-in-Err g c =
+    let remaining = g.B.Read.remaining in
+    change_then (seen g.FT.FormatTime g.W.Output)
+    (ends_at (remaining c.args.lines.now) (remaining c.loop-number.lines) (remaining c.run_line.new.lines) c.loop-number.accepted c.loop-number.number c.in-Err.cause (omega arith))
+    c.args.layered.now c.loop-number.layered c.run_line.new.layered c.loop-number.invariant.change c.in-Err.ensures
 
 pub loop-number-preserved : goal.loop-number-preserved
-loop-number-preserved g c = record {
-  room = search rules;
-  fixed = fixed_trans c.args.layered.now.layer c.loop-number.layered.layer c.run_line.new.layered.layer c.loop-number.invariant.fixed c.run_line.ensures.fixed;
-  calm = λ built.
-      let counted = rw (ap (λ l. l.settings) c.loop-number.invariant.fixed) at c.run_line.ensures.counted in
-      let so_far = c.loop-number.invariant.calm built in
-      elim c.match-run_line-2.branch [
+loop-number-preserved g c =
+    let remaining = g.B.Read.remaining in
+    let known = remaining c.args.lines.now in
+    let middle = remaining c.loop-number.lines in
+    let left = remaining c.run_line.new.lines in
+    let see = seen g.FT.FormatTime g.W.Output in
+    record {
+      room = search rules;
+      change = elim c.match-run_line-2.branch [
         | in-Ok-Skipped w ↦
             let is : c.run_line.result ≡ Ok Skipped = cc in
-            let calm = rw is at (counted built) in
-            calm ∙ so_far
+            let line = rw is at c.run_line.ensures in
+            rw w.accepted-is (change_then see (goes_on_skipped known middle left c.loop-number.accepted c.loop-number.number)
+            c.args.layered.now c.loop-number.layered c.run_line.new.layered c.loop-number.invariant.change line)
         | in-Ok-Accepted w ↦
             let is : c.run_line.result ≡ Ok Accepted = cc in
-            let calm = rw is at (counted built) in
-            calm ∙ so_far
+            let line = rw is at c.run_line.ensures in
+            rw w.accepted-is (change_then see (goes_on_accepted known middle left c.loop-number.accepted c.loop-number.number)
+            c.args.layered.now c.loop-number.layered c.run_line.new.layered c.loop-number.invariant.change line)
       ];
-  so_far = λ built.
-      let layer = c.args.layered.now.layer in
-      let judged = rw (ap (λ l. l.settings) c.loop-number.invariant.fixed) at c.run_line.ensures.judged in
-      let start = state_of c.args.layered.now in
-      let whole = g.W.Output.WHOLE in
-      let so_far = c.loop-number.invariant.so_far built in
-      elim c.match-run_line-2.branch [
-        | in-Ok-Skipped w ↦
-            let is : c.run_line.result ≡ Ok Skipped = cc in
-            let skipped = rw is at (judged built) in
-            rw w.accepted-is (skips layer.settings no_timer start _ _ _ _ _ _ _ _ _ _ so_far skipped)
-        | in-Ok-Accepted w ↦
-            let is : c.run_line.result ≡ Ok Accepted = cc in
-            let accepted = rw is at (judged built) in
-            rw w.accepted-is (accepts layer.settings no_timer start whole _ _ _ _ _ _ _ _ _ _ so_far accepted)
-      ];
-}
+    }
 
-pub returns-clause-ran : goal.returns-clause-ran
-returns-clause-ran g c = λ built.
-    let layer = c.args.layered.now.layer in
+pub returns : goal.returns
+returns g c =
+    let so_far = c.loop-number.invariant.change in
     let last : c.loop-number.number ≡ 18_446_744_073_709_551_615 = omega arith in
-    let so_far = rw last at (c.loop-number.invariant.so_far built) in
-    breaks layer.settings no_timer (state_of c.args.layered.now) g.W.Output.WHOLE _ _ _ _ _ (state_of c.loop-number.layered) _ _ _ Read refl (omega arith, λ last. refl) so_far (Keeps-refl _)
+    let remaining = g.B.Read.remaining in
+    let see = seen g.FT.FormatTime g.W.Output in
+    record {
+      changed = ends_unjudged (remaining c.args.lines.now) (remaining c.loop-number.lines) c.loop-number.accepted (see c.args.layered.now) (see c.loop-number.layered)
+          (rw last at so_far.changed);
+      fixed = so_far.fixed;
+    }

@@ -1,14 +1,33 @@
-use Rattle.std.proofs.Common.{[], ◌∷◌, ap, ◌∙◌}
-use Rattle.tracing_tree.specs.Rows.{event_row}
+use Rattle.std.proofs.Common.{false, ap, sym, ◌∙◌}
+use Rattle.tracing_tree.specs.Rows.{turn_of_event}
 use Rattle.tracing_tree.specs.Refused.{timer_faults_at}
-use Rattle.tracing_tree.proofs.DrawnLaws.{written}
+use Rattle.tracing_tree.proofs.DrawnLaws.{drafts-drawn, refused-last, refused-marks, written}
 use Rattle.tracing_tree.proofs.layer.HierarchicalLayer.on_event.Goals as goal
 
-pub returns-clause-written : goal.returns-clause-written
-returns-clause-written g c =
+pub returns-else-is_ok : goal.returns-else-is_ok
+returns-else-is_ok g c =
     let inside = c.self.inside in
+    let settings = inside.config in
+    let context = c.args.context.now in
+    let forest = g.S.LookupSpan.forest c.args.spans.now in
+    let timer = g.FT.FormatTime.timer inside.timer in
+    let last = inside.page.bufs.current_span in
+    let turn = turn_of_event settings timer context forest last c.args.event.now in
+    let faults = timer_faults_at settings timer forest context in
     let sound = c.self.invariant (ap (λ l. l.failed) c.self.view_is ∙ c.requires) in
-    rw (← c.self.view_is)
-    (written _ inside.config (event_row inside.config (g.FT.FormatTime.timer inside.timer) (g.S.LookupSpan.forest c.args.spans.now) c.args.event.now c.args.context.now ∷ [])
-    (timer_faults_at inside.config (g.FT.FormatTime.timer inside.timer) (g.S.LookupSpan.forest c.args.spans.now) c.args.context.now) c.event-drawn.result c.send.result inside.bufs c.event-drawn.new.bufs c.send.new.bufs _ _ _ _
-    c.event-drawn.ensures sound.1 c.send.ensures.sends)
+    let drawn = drafts-drawn settings forest turn faults false c.event-drawn.result inside.page c.event-drawn.new.page c.event-drawn.new.plan c.event-drawn.ensures in
+    let refused = sym c.is_ok.ensures.value ∙ c.if-is_ok.false in
+    let stays = refused-last settings turn.rows faults false c.event-drawn.result c.send-sent.result inside.page c.event-drawn.new.page c.send-sent.new.page _ _
+    turn.last drawn c.send-sent.ensures.sends refused in
+    rw (← c.self.view_is) (record {
+      written = written settings turn.rows faults false c.event-drawn.result c.send-sent.result inside.page c.event-drawn.new.page c.send-sent.new.page _ _
+          drawn sound.0.text c.send-sent.ensures.sends;
+      layer = (λ i. record {
+        settings = settings;
+        writer = c.send-sent.new.writer;
+        timer = inside.timer;
+        last = stays i;
+        failed = c.send-sent.ensures.failed i;
+      });
+      marked = refused-marks c.send-sent.result turn.forest forest refused;
+    })

@@ -1,28 +1,24 @@
-use Rattle.std.proofs.Common.{◌≡◌, false, [], ◌∷◌, refl, ap, ◌∙◌}
-use Rattle.tracing_tree_core.specs.Picture.{draw}
-use Rattle.tracing_tree.specs.State.{Turn}
-use Rattle.tracing_tree.specs.Rows.{event_row}
+use Rattle.std.proofs.Common.{◌≡◌, false, refl, ap, ◌∙◌}
+use Rattle.tracing_tree.specs.Layers.{seen}
+use Rattle.tracing_tree.specs.Rows.{turn_of_event}
 use Rattle.tracing_tree.specs.Refused.{timer_faults_at}
 use Rattle.tracing_tree.specs.declared.call.Call.TheVariants.{Event}
-use Rattle.tracing_tree.proofs.TurnLaws.{turn_of_event_built, cause_of_event_built, answered_refused}
+use Rattle.tracing_tree.proofs.TurnLaws.{cause-turn, turn_refused}
 use Rattle.tracing_tree.proofs.layered.Layered.event.Goals as goal
 
-pub returns-in-Err-clause-answered : goal.returns-in-Err-clause-answered
-returns-in-Err-clause-answered g c =
-    let layer = c.self.inside.layer in
-    let settings = layer.settings in
-    let timer = g.FT.FormatTime.timer layer.timer in
+pub returns-in-Err : goal.returns-in-Err
+returns-in-Err g c =
+    let before = c.self.inside in
+    let settings = before.layer.settings in
+    let timer = g.FT.FormatTime.timer before.layer.timer in
     let event = c.args.event.now in
     let context = c.args.context.now in
-    let forest = c.self.inside.registry in
-    let row = event_row settings timer forest event context in
-    let faults = timer_faults_at settings timer forest context in
-    let sound : layer.failed ≡ false = ap (λ l. l.layer.failed) c.self.view_is ∙ c.requires in
-    rw (← c.self.view_is, c.in-Err.ensures.layer) (λ built.
-    let turn = turn_of_event_built settings built timer context forest layer.last event in
-    answered_refused settings timer (record { forest = forest; last = layer.last; failed = layer.failed }) (Event event context) (row ∷ []) faults
-    _ c.in-Err.refusal _ _ _ _ sound
-    (cause_of_event_built settings built timer (record { forest = forest; last = layer.last; failed = layer.failed }) event context sound)
-    (ap (λ (t : Turn). draw settings t.rows) turn)
-    (rw sound refl)
-    c.in-Err.ensures.written)
+    let turn = turn_of_event settings timer context before.registry before.layer.last event in
+    let faults = timer_faults_at settings timer before.registry context in
+    let sound : before.layer.failed ≡ false = ap (λ l. l.layer.failed) c.self.view_is ∙ c.requires in
+    let old = seen g.FT.FormatTime g.W.Output (record { forest = before.registry; layer = before.layer }) in
+    rw (← c.self.view_is)
+    (turn_refused g.FT.FormatTime g.W.Output (Event event context) turn.rows faults false c.in-Err.refusal
+    (record { forest = before.registry; layer = before.layer }) (record { forest = c.on_event.new.spans; layer = c.on_event.new.self }) sound
+    (cause-turn settings timer old.state (Event event context) sound refl refl) refl (λ h. rw sound refl)
+    c.in-Err.ensures.written c.in-Err.ensures.layer c.in-Err.ensures.marked)

@@ -1,55 +1,38 @@
-use Rattle.std.proofs.Common.{None, sym, ◌∙◌, refl}
-use Rattle.tracing_tree_core.proofs.RegistryLaws.{place-in}
-use Rattle.tracing_tree_core.proofs.ClosingSteps.{tested, ends-spans, ends-went, stops, lost, goes-on, went-on}
+use Rattle.std.proofs.Common.{◌≡◌, ◌+◌, ◌-◌, ◌<◌, None, Some, length, arith, ap, ◌∙◌, subst}
+use Rattle.tracing_tree_core.specs.Kept.{spans_of}
+use Rattle.tracing_tree_core.proofs.ClosingSteps.{rest_of}
+use Rattle.tracing_tree_core.proofs.ClosingParts.{HasRemoved, next-goes, removed-more, removed-all}
 use Rattle.tracing_tree_core.proofs.registry.spans.remove_upward.Goals as goal
 
-pub position-requires : goal.position-requires
-position-requires c = rw c.as_slice.ensures.value (c.loop-above.invariant.kept None c.requires).1
+pub remove_leaf-above-requires-clause-kept : goal.remove_leaf-above-requires-clause-kept
+remove_leaf-above-requires-clause-kept c = c.loop.invariant.removed.kept None c.requires.kept
 
-pub closes_after-requires-clause-formed : goal.closes_after-requires-clause-formed
-closes_after-requires-clause-formed c = rw c.as_slice-in-Some.ensures.value (c.loop-above.invariant.kept None c.requires).0
+pub remove_leaf-above-requires-clause-childless : goal.remove_leaf-above-requires-clause-childless
+remove_leaf-above-requires-clause-childless c =
+    let now = spans_of c.loop.nodes in
+    let n = c.loop.invariant.removed.counted ∙ ap (λ o. length (rest_of now o)) c.in-Some.is in
+    let some : 0 < length (rest_of now (Some c.in-Some.id)) = omega (arith, n, c.loop-test.true) in
+    (next-goes now c.in-Some.id (c.loop.invariant.removed.kept None c.requires.kept) some).childless
 
-pub loop-above-preserved : goal.loop-above-preserved
-loop-above-preserved c =
-    let now = c.loop-above.nodes.items in
-    let kept = c.loop-above.invariant.kept None c.requires in
-    let here = place-in _ now c.in-Some.id _ c.remove.result c.as_slice.ensures.value c.in-Some-position.ensures c.remove.ensures.value in
-    let test = tested _ now _ c.remove.result None _ c.as_slice-in-Some.ensures.value here.read c.closes_after.ensures in
-    let goes = goes-on now kept c.in-Some.id _ c.remove.result _ here test c.if-not-closes_after.false in
+pub loop-preserved : goal.loop-preserved
+loop-preserved c =
+    let old = spans_of c.args.nodes.now in
+    let now = spans_of c.loop.nodes in
+    let n = c.loop.invariant.removed.counted ∙ ap (λ o. length (rest_of now o)) c.in-Some.is in
+    let some : 0 < length (rest_of now (Some c.in-Some.id)) = omega (arith, n, c.loop-test.true) in
+    let kept = c.loop.invariant.removed.kept None c.requires.kept in
+    let next = next-goes now c.in-Some.id kept some in
+    let fewer : (c.args.count - c.loop.counter) - 1 ≡ c.args.count - (c.loop.counter + 1) = omega arith in
     record {
-      kept = λ next old. rw c.remove.ensures.items (goes.kept next (c.loop-above.invariant.kept next old));
-      spans = rw (c.remove.ensures.items, c.parent-above.ensures) (sym goes.leaves ∙ (rw c.in-Some.is at c.loop-above.invariant.spans));
-      went = went-on _ _ c.in-Some.id _ _ goes.closes (rw c.in-Some.is at c.loop-above.invariant.went);
+      removed = subst (HasRemoved old (spans_of c.remove_leaf-above.new.nodes) (Some c.args.id) c.remove_leaf-above.result) fewer
+          (removed-more old now _ (Some c.args.id) c.loop.above c.remove_leaf-above.result c.in-Some.id _ kept next c.in-Some.is
+          c.remove_leaf-above.ensures.spans c.remove_leaf-above.ensures.parent c.loop.invariant.removed);
+      tied = c.remove_leaf-above.ensures.tied;
     }
 
--- an id that isn't live
-pub returns-in_default-position-clause-spans : goal.returns-in_default-position-clause-spans
-returns-in_default-position-clause-spans c =
-    let kept = c.loop-above.invariant.kept None c.requires in
-    let none = lost _ c.loop-above.nodes.items kept _ _ c.as_slice.ensures.value c.in_default-position.ensures c.in-Some.is in
-    ends-spans _ _ c.loop-above.above c.loop-above.invariant.spans none
-
-pub returns-in_default-position-clause-went : goal.returns-in_default-position-clause-went
-returns-in_default-position-clause-went c =
-    let kept = c.loop-above.invariant.kept None c.requires in
-    let none = lost _ c.loop-above.nodes.items kept _ _ c.as_slice.ensures.value c.in_default-position.ensures c.in-Some.is in
-    ends-went c.loop-above.nodes.items c.loop-above.above _ _ c.loop-above.invariant.went none
-
--- a span that stays
-pub returns-then-not-closes_after-clause-spans : goal.returns-then-not-closes_after-clause-spans
-returns-then-not-closes_after-clause-spans c =
-    let kept = c.loop-above.invariant.kept None c.requires in
-    let none = stops _ _ c.loop-above.nodes.items kept _ _ _ _ c.as_slice.ensures.value c.as_slice-in-Some.ensures.value
-    c.in-Some-position.ensures c.in-Some.is c.closes_after.ensures c.if-not-closes_after.true in
-    ends-spans _ _ c.loop-above.above c.loop-above.invariant.spans none
-
-pub returns-then-not-closes_after-clause-went : goal.returns-then-not-closes_after-clause-went
-returns-then-not-closes_after-clause-went c =
-    let kept = c.loop-above.invariant.kept None c.requires in
-    let none = stops _ _ c.loop-above.nodes.items kept _ _ _ _ c.as_slice.ensures.value c.as_slice-in-Some.ensures.value
-    c.in-Some-position.ensures c.in-Some.is c.closes_after.ensures c.if-not-closes_after.true in
-    ends-went c.loop-above.nodes.items c.loop-above.above _ _ c.loop-above.invariant.went none
-
--- above a root
-pub returns-in_default-clause-spans : goal.returns-in_default-clause-spans
-returns-in_default-clause-spans c = ends-spans _ _ c.loop-above.above c.loop-above.invariant.spans (rw c.in_default.is refl)
+pub returns-after-loop-clause-spans : goal.returns-after-loop-clause-spans
+returns-after-loop-clause-spans c =
+    let old = spans_of c.args.nodes.now in
+    let now = spans_of c.loop.nodes in
+    let none : c.args.count - c.loop.counter ≡ 0 = omega (arith, c.loop-test.false) in
+    removed-all old now (Some c.args.id) c.loop.above (subst (HasRemoved old now (Some c.args.id) c.loop.above) none c.loop.invariant.removed)

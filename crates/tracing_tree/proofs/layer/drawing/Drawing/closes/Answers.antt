@@ -1,11 +1,22 @@
-use Rattle.std.proofs.Math.Seq.{split_at}
-use Rattle.std.proofs.lemmas.Result.{err_from_is_err_and}
-use Rattle.tracing_tree.proofs.DrawnLaws.{closes_refused}
+use Rattle.std.proofs.Common.{ap, ◌∙◌}
+use Rattle.tracing_tree.specs.Rows.{turn_of_closes}
+use Rattle.tracing_tree.specs.Plan.{empty_plan, plan_of_closes, turn_of_plan}
+use Rattle.tracing_tree.specs.Drawn.{has_no_id}
+use Rattle.tracing_tree.specs.declared.layer.page.Page.{Page}
+use Rattle.tracing_tree.proofs.DrawnLaws.{drafts, closes-loud}
+use Rattle.tracing_tree.proofs.Plans.{turn-closes}
 use Rattle.tracing_tree.proofs.layer.drawing.Drawing.closes.Goals as goal
 
-pub returns-in_err-close : goal.returns-in_err-close
-returns-in_err-close g c =
+pub returns : goal.returns
+returns g c =
     let self = c.args.self.now in
-    let p = err_from_is_err_and c.from_residual.result c.from_residual.ensures.1 in
-    rw (p.1, p.2) (closes_refused self.config.now self.context.now (g.S.LookupSpan.forest self.spans.now) c.args.ids.now c.loop-id.id-index _ _
-    c.args.bufs.now c.loop-id.bufs c.close.new.bufs c.loop-id.invariant c.in_err-close.ensures (split_at c.args.ids.now c.loop-id.id-index _ c.loop-id-test.true))
+    let settings = self.config.now in
+    let context = self.context.now in
+    let forest = g.S.LookupSpan.forest self.spans.now in
+    let last = c.args.page.now.bufs.current_span in
+    let ids = c.args.ids.now in
+    let begun = c.begin.ensures ∙ ap (λ (page : Page). empty_plan page.bufs.current_span) c.page.view_is in
+    let planned = c.in_ok-closes.ensures.ok ∙ ap (plan_of_closes settings forest ids) begun in
+    let same = ap (turn_of_plan settings context forest) planned ∙ turn-closes settings context forest ids last in
+    drafts settings context forest (turn_of_closes settings context ids forest last) (has_no_id ids) c.rows-2.result c.args.page.now c.rows-2.new.page c.closes.new.plan
+    same (closes-loud settings context ids forest last) (rw c.rows.ensures at c.rows-2.ensures)

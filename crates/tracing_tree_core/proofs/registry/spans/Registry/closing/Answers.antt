@@ -1,50 +1,83 @@
-use Rattle.std.proofs.Common.{sym, ◌∙◌}
+use Rattle.std.proofs.Common.{◌≡◌, ◌≢◌, length, reverse, rules, sym, ◌∙◌, subst}
 use Rattle.std.proofs.lemmas.Result.{err_from_is_err_and}
-use Rattle.tracing_tree_core.proofs.ClosingSteps.{held, handle-left, looked, closing-some, closing-none, more-handles, other-child, wanted}
+use Rattle.tracing_tree_core.specs.Forest.{IsForest, closing_of}
+use Rattle.tracing_tree_core.proofs.KeptLists.{kept-id}
+use Rattle.tracing_tree_core.proofs.Registers.{seen, no-handle, zero-handles, some-handles, kept-own, closing-one, closing-whole, closing-whole-is, empty-part, some-part}
 use Rattle.tracing_tree_core.proofs.registry.spans.Registry.closing.Goals as goal
-use Rattle.tracing_tree_core.proofs.registry.spans.Registry.closing.Goals.{then-handles-eq1+then-not-has_other_child+in_ok-push+in_ok-push_closing, else-handles-eq1, else-handles-eq1-via-then-handles-eq1+else-not-has_other_child, else-handles-eq1-via-else-handles-eq1}
 
--- no memory for the first id
-pub returns-in_err-push-clause-lists : goal.returns-in_err-push-clause-lists
-returns-in_err-push-clause-lists c =
-    let position = rw c.in_ok-at.ensures.ok_part at c.position.ensures in
-    let h = held c.args.self.now _ _ c.self.inside.next c.args.id _ _ _ c.self.view_is c.self.invariant c.as_slice-nodes.ensures.value
-    position c.index-nodes-at.is c.handles-handles.ensures c.if-handles-eq0.false in
-    let test = looked _ _ _ _ _ h.here c.has_other_child.ensures in
-    let closing = closing-some _ _ _ _ _ _ _ h.view h.kept h.here (sym c.handles-handles.ensures ∙ c.if-handles-eq1.true) test c.if-not-has_other_child.true in
-    let p = err_from_is_err_and c.from_residual-in_err-push.result c.from_residual-in_err-push.ensures.1 in
-    rw (p.1, p.2) (handle-left _ _ _ _ _ h.view h.here.found h.some, wanted _ _ _ closing)
+pub returns-in_default-clause-lists : goal.returns-in_default-clause-lists
+returns-in_default-clause-lists c =
+    no-handle c.args.self.now c.args.id (seen c.self.inside.nodes _ _ c.args.id _ c.self.view_is (sym c.in_default.ensures))
 
--- no memory for a further id
-pub returns-in_err-push_closing-clause-lists : goal.returns-in_err-push_closing-clause-lists
-returns-in_err-push_closing-clause-lists c =
-    let position = rw c.in_ok-at.ensures.ok_part at c.position.ensures in
-    let h = held c.args.self.now _ _ c.self.inside.next c.args.id _ _ _ c.self.view_is c.self.invariant c.as_slice-nodes.ensures.value
-    position c.index-nodes-at.is c.handles-handles.ensures c.if-handles-eq0.false in
-    let test = looked _ _ _ _ _ h.here c.has_other_child.ensures in
-    let closing = closing-some _ _ _ _ _ _ _ h.view h.kept h.here (sym c.handles-handles.ensures ∙ c.if-handles-eq1.true) test c.if-not-has_other_child.true in
-    let p = err_from_is_err_and c.from_residual-in_err-push_closing.result c.from_residual-in_err-push_closing.ensures.1 in
-    rw (p.1, p.2) (handle-left _ _ _ _ _ h.view h.here.found h.some, wanted _ _ _ closing)
+pub returns-then-handles-eq0-clause-lists : goal.returns-then-handles-eq0-clause-lists
+returns-then-handles-eq0-clause-lists c =
+    let here = seen c.self.inside.nodes _ _ c.args.id _ c.self.view_is (sym c.in-Some.ensures) in
+    zero-handles c.args.self.now c.args.id _ here (sym c.handles.ensures ∙ c.if-handles-eq0.true)
 
+pub closing_part-part-requires-clause-there : goal.closing_part-part-requires-clause-there
+closing_part-part-requires-clause-there c = kept-own c.self.inside.nodes c.args.id c.in-Some.node.now (sym c.in-Some.ensures)
+
+-- nothing closes
+pub returns-then-is_empty-clause-lists : goal.returns-then-is_empty-clause-lists
+returns-then-is_empty-clause-lists c =
+    let here = seen c.self.inside.nodes _ _ c.args.id _ c.self.view_is (sym c.in-Some.ensures) in
+    let part = c.closing_part-part.result.now in
+    let whole : reverse part ≡ closing_of c.args.self.now c.args.id = closing-whole c.self.inside.nodes c.self.inside.next c.args.self.now c.args.id
+    c.in-Some.node.now.span.id part c.self.view_is (kept-id c.self.inside.nodes c.args.id c.in-Some.node.now (sym c.in-Some.ensures)) c.closing_part-part.ensures in
+    let none : length part ≡ 0 = search rules in (
+      some-handles c.args.self.now c.args.id _ here (λ none. c.if-handles-eq0.false (c.handles.ensures ∙ none)),
+      c.new.ensures.items ∙ sym (empty-part part _ none whole),
+    )
+
+pub returns-then-is_empty-clause-longest : goal.returns-then-is_empty-clause-longest
+returns-then-is_empty-clause-longest c =
+    let here = seen c.self.inside.nodes _ _ c.args.id _ c.self.view_is (sym c.in-Some.ensures) in
+    closing-whole-is c.args.self.now (subst IsForest c.self.view_is c.self.invariant.0.0) c.args.id _ _ here (returns-then-is_empty-clause-lists c).1
+
+-- no memory for what closes
+pub returns-in_err-collect-clause-lists : goal.returns-in_err-collect-clause-lists
+returns-in_err-collect-clause-lists c =
+    let here = seen c.self.inside.nodes _ _ c.args.id _ c.self.view_is (sym c.in-Some.ensures) in
+    let part = c.closing_part-part.result.now in
+    let whole : reverse part ≡ closing_of c.args.self.now c.args.id = closing-whole c.self.inside.nodes c.self.inside.next c.args.self.now c.args.id
+    c.in-Some.node.now.span.id part c.self.view_is (kept-id c.self.inside.nodes c.args.id c.in-Some.node.now (sym c.in-Some.ensures)) c.closing_part-part.ensures in
+    let some : length part ≢ 0 = search rules in
+    let p = err_from_is_err_and c.from_residual.result c.from_residual.ensures.1 in
+    rw (p.1, p.2) (
+      some-handles c.args.self.now c.args.id _ here (λ none. c.if-handles-eq0.false (c.handles.ensures ∙ none)),
+      some-part part _ some whole,
+    )
+
+pub returns-in_err-collect-clause-last : goal.returns-in_err-collect-clause-last
+returns-in_err-collect-clause-last c =
+    let here = seen c.self.inside.nodes _ _ c.args.id _ c.self.view_is (sym c.in-Some.ensures) in
+    let part = c.closing_part-part.result.now in
+    let whole : reverse part ≡ closing_of c.args.self.now c.args.id = closing-whole c.self.inside.nodes c.self.inside.next c.args.self.now c.args.id
+    c.in-Some.node.now.span.id part c.self.view_is (kept-id c.self.inside.nodes c.args.id c.in-Some.node.now (sym c.in-Some.ensures)) c.closing_part-part.ensures in
+    let some : length part ≢ 0 = search rules in
+    let p = err_from_is_err_and c.from_residual.result c.from_residual.ensures.1 in
+    rw (p.1, p.2) (closing-one c.args.self.now (subst IsForest c.self.view_is c.self.invariant.0.0) c.args.id _ here
+    (λ none. c.if-handles-eq0.false (c.handles.ensures ∙ none)) (some-part part _ some whole))
+
+-- what closes
 pub returns-clause-lists : goal.returns-clause-lists
 returns-clause-lists c =
-    let position = rw c.in_ok-at.ensures.ok_part at c.position.ensures in
-    let h = held c.args.self.now _ _ c.self.inside.next c.args.id _ _ _ c.self.view_is c.self.invariant c.as_slice-nodes.ensures.value
-    position c.index-nodes-at.is c.handles-handles.ensures c.if-handles-eq0.false in (
-      handle-left _ _ _ _ _ h.view h.here.found h.some,
-      elim c.if-handles-eq1.branch [
-        | then-handles-eq1+then-not-has_other_child+in_ok-push+in_ok-push_closing w ↦
-            let test = looked _ _ _ _ _ h.here w.has_other_child.ensures in
-            let closing = closing-some _ _ _ _ _ _ _ h.view h.kept h.here (sym c.handles-handles.ensures ∙ w.if-handles-eq1.true) test w.if-not-has_other_child.true in
-            rw (w.ids-is, w.in_ok-push_closing.ensures, w.in_ok-push.ensures.items, c.new-ids.ensures.items, w.parent.ensures) (sym closing)
-        | else-handles-eq1 w ↦ elim w.else-handles-eq1.branch [
-          | else-handles-eq1-via-then-handles-eq1+else-not-has_other_child w' ↦
-              let test = looked _ _ _ _ _ h.here w'.has_other_child.ensures in
-              rw (w.ids-is, c.new-ids.ensures.items)
-              (sym (closing-none _ _ _ _ _ _ h.view h.kept h.here (other-child _ _ _ test w'.if-not-has_other_child.false)))
-          | else-handles-eq1-via-else-handles-eq1 w' ↦
-              rw (w.ids-is, c.new-ids.ensures.items)
-              (sym (closing-none _ _ _ _ _ _ h.view h.kept h.here (more-handles c.index-nodes-at.result _ h.some (λ one. w'.if-handles-eq1.false (c.handles-handles.ensures ∙ one)))))
-        ]
-      ],
+    let here = seen c.self.inside.nodes _ _ c.args.id _ c.self.view_is (sym c.in-Some.ensures) in
+    let part = c.closing_part-part.result.now in
+    let whole : reverse part ≡ closing_of c.args.self.now c.args.id = closing-whole c.self.inside.nodes c.self.inside.next c.args.self.now c.args.id
+    c.in-Some.node.now.span.id part c.self.view_is (kept-id c.self.inside.nodes c.args.id c.in-Some.node.now (sym c.in-Some.ensures)) c.closing_part-part.ensures in
+    let items : c.in_ok-collect.field-0.items ≡ reverse part = search rules in (
+      some-handles c.args.self.now c.args.id _ here (λ none. c.if-handles-eq0.false (c.handles.ensures ∙ none)),
+      items ∙ whole,
     )
+
+pub returns-clause-longest : goal.returns-clause-longest
+returns-clause-longest c =
+    let here = seen c.self.inside.nodes _ _ c.args.id _ c.self.view_is (sym c.in-Some.ensures) in
+    closing-whole-is c.args.self.now (subst IsForest c.self.view_is c.self.invariant.0.0) c.args.id _ _ here (returns-clause-lists c).1
+
+pub returns-clause-last : goal.returns-clause-last
+returns-clause-last c =
+    let here = seen c.self.inside.nodes _ _ c.args.id _ c.self.view_is (sym c.in-Some.ensures) in
+    λ some. closing-one c.args.self.now (subst IsForest c.self.view_is c.self.invariant.0.0) c.args.id _ here
+    (λ none. c.if-handles-eq0.false (c.handles.ensures ∙ none)) (λ none. some ((returns-clause-lists c).1 ∙ none))

@@ -1,29 +1,49 @@
-use Rattle.std.proofs.Common.{◌∙◌}
-use Rattle.tracing_tree_core.proofs.RegistryLaws.{place-in, kept-write, forest-write}
-use Rattle.tracing_tree_core.proofs.ClosingSteps.{one_less, less-same, handle-left, closed, kept-none}
+use Rattle.std.proofs.Common.{◌==◌, not, length, refl, sym, ap, ◌∙◌}
+use Rattle.tracing_tree_core.specs.Spans.{handle_less}
+use Rattle.tracing_tree_core.proofs.ClosingSteps.{one_less, closed, kept-none}
+use Rattle.tracing_tree_core.proofs.KeptLists.{kept-id}
+use Rattle.tracing_tree_core.proofs.Registers.{seen, no-handle, zero-handles, some-handles, kept-own, kept-update, tied-update, forest-update, less-ties, count-up, more-none}
 use Rattle.tracing_tree_core.proofs.registry.spans.Registry.try_close.Goals as goal
 
-pub remove_upward-requires : goal.remove_upward-requires
-remove_upward-requires c =
-    let place = rw c.in_ok-at.ensures.ok_part at c.position.ensures in
-    let here = place-in _ c.self.inside.nodes.items c.args.id _ _ c.as_slice.ensures.value place c.index_mut.ensures.value in
-    kept-none _ c.self.inside.next (kept-write one_less less-same _ _ _ _ _ _ c.self.invariant here c.take_handle.ensures)
+pub returns-in_default : goal.returns-in_default
+returns-in_default c =
+    (no-handle c.args.self.now c.args.id (seen c.self.inside.nodes _ _ c.args.id _ c.self.view_is (sym c.in_default.ensures)), refl)
 
-pub invariant_of-self-2 : goal.invariant_of-self-2
-invariant_of-self-2 c =
-    let place = rw c.in_ok-at.ensures.ok_part at c.position.ensures in
-    let here = place-in _ c.self.inside.nodes.items c.args.id _ _ c.as_slice.ensures.value place c.index_mut.ensures.value in
-    c.remove_upward.ensures.kept _ (kept-write one_less less-same _ _ _ _ _ _ c.self.invariant here c.take_handle.ensures)
+pub returns-then-handles-eq0 : goal.returns-then-handles-eq0
+returns-then-handles-eq0 c =
+    let here = seen c.self.inside.nodes _ _ c.args.id _ c.self.view_is (sym c.in-Some.ensures) in
+    (zero-handles c.args.self.now c.args.id _ here (sym c.handles.ensures ∙ c.if-handles-eq0.true), refl)
+
+pub closing_part-count-requires-clause-there : goal.closing_part-count-requires-clause-there
+closing_part-count-requires-clause-there c = kept-own c.self.inside.nodes c.args.id c.in-Some.node.now (sym c.in-Some.ensures)
+
+pub remove_upward-requires-clause-kept : goal.remove_upward-requires-clause-kept
+remove_upward-requires-clause-kept c =
+    kept-none _ c.self.inside.next (kept-update handle_less one_less less-ties c.self.inside.nodes _ _ c.args.id c.self.invariant.0 c.take_handle.ensures)
+
+pub remove_upward-requires-clause-tied : goal.remove_upward-requires-clause-tied
+remove_upward-requires-clause-tied c = tied-update handle_less one_less less-ties c.self.inside.nodes _ c.args.id c.self.invariant.1 c.take_handle.ensures
+
+pub remove_upward-requires-clause-all : goal.remove_upward-requires-clause-all
+remove_upward-requires-clause-all c =
+    count-up c.self.inside.nodes c.take_handle.new.self c.args.id c.in-Some.node.now.span.id c.closing_part-count.result.now _ c.take_handle.ensures
+    (kept-id c.self.inside.nodes c.args.id c.in-Some.node.now (sym c.in-Some.ensures)) c.closing_part-count.ensures refl
+
+pub invariant_of-self : goal.invariant_of-self
+invariant_of-self c = (
+  c.remove_upward.ensures.kept _ (kept-update handle_less one_less less-ties c.self.inside.nodes _ _ c.args.id c.self.invariant.0 c.take_handle.ensures),
+  c.remove_upward.ensures.tied,
+)
 
 pub returns : goal.returns
 returns c =
-    let place = rw c.in_ok-at.ensures.ok_part at c.position.ensures in
-    let read = place-in _ c.self.inside.nodes.items c.args.id _ _ c.as_slice.ensures.value place c.index.ensures in
-    let here = place-in _ c.self.inside.nodes.items c.args.id _ _ c.as_slice.ensures.value place c.index_mut.ensures.value in
-    let less = forest-write one_less _ c.self.inside.next _ _ _ _ _ c.self.view_is c.self.invariant.1 here c.take_handle.ensures in
-    let rest = closed c.args.self.now _ _ _ c.args.id _ less c.remove_upward.ensures.spans c.remove_upward.ensures.went in (
-      handle-left c.args.self.now _ c.self.inside.next _ _ c.self.view_is read.found
-          (λ none. c.if-handles-eq0.false (c.handles.ensures ∙ none)),
+    let here = seen c.self.inside.nodes _ _ c.args.id _ c.self.view_is (sym c.in-Some.ensures) in
+    let less = forest-update handle_less one_less (λ n. refl) c.self.inside.nodes _ c.self.inside.next _ c.args.id c.self.view_is c.take_handle.ensures in
+    let all = count-up c.self.inside.nodes c.take_handle.new.self c.args.id c.in-Some.node.now.span.id c.closing_part-count.result.now _ c.take_handle.ensures
+    (kept-id c.self.inside.nodes c.args.id c.in-Some.node.now (sym c.in-Some.ensures)) c.closing_part-count.ensures refl in
+    let rest = closed c.args.self.now _ _ c.self.inside.next c.args.id _ less c.remove_upward.ensures.spans
+    (more-none (length c.closing_part-count.result.now) ∙ ap (λ n. not (n == 0)) all) in (
+      some-handles c.args.self.now c.args.id _ here (λ none. c.if-handles-eq0.false (c.handles.ensures ∙ none)),
       rest.0,
       rest.1,
     )

@@ -1,0 +1,138 @@
+//! The blocks of text of rows, before they are drawn.
+
+ghost use Rattle.std.specs.Prelude.{◌≡◌, ◌++◌, OnOk, OnErr, string_bytes};
+ghost use Rattle.tracing_tree_core.specs.Texts.{label, named_value, shown_field, span_fields, event_field, comma_after, event_fields};
+ghost use Rattle.tracing_tree.specs.Block.{shown_target, shown_brace, span_text, span_block, event_tail};
+
+use std::alloc::AllocError;
+use tracing_tree_core::field::Field;
+use tracing_tree_core::format::{Config, SpanMode, write_span_mode};
+use tracing_tree_core::registry::{Event, SpanRef};
+use tracing_tree_core::style::{Style, push_level, push_styled};
+
+// `name=value`
+fn push_named(out: &mut String, field: &Field) -> Result<(), AllocError>
+    ensures { OnOk result (string_bytes out.new ≡ string_bytes out.old ++ named_value field.now) }
+{
+    out.push_str(field.name.as_str())?;
+    out.push_str("=")?;
+    out.push_str(field.value.as_str())
+}
+
+// A message shows its value alone.
+fn push_field(out: &mut String, field: &Field) -> Result<(), AllocError>
+    ensures { OnOk result (string_bytes out.new ≡ string_bytes out.old ++ shown_field field.now) }
+{
+    if field.name.as_str() == "message" {
+        return out.push_str(field.value.as_str());
+    }
+    push_named(out, field)
+}
+
+// The fields of a span. Only in the first place is a message shown alone.
+fn push_span_fields(out: &mut String, fields: &[Field]) -> Result<(), AllocError>
+    ensures { OnOk result (string_bytes out.new ≡ string_bytes out.old ++ span_fields fields.now) }
+{
+    let Some((first, others)) = fields.split_first() else {
+        return Ok(());
+    };
+    push_field(out, first)?;
+    for field in others {
+        out.push_str(", ")?;
+        push_named(out, field)?;
+    }
+    Ok(())
+}
+
+// Target, name and fields of a span.
+fn push_span_text(out: &mut String, config: &Config, span: &SpanRef) -> Result<(), AllocError>
+    ensures { OnOk result (string_bytes out.new ≡ string_bytes out.old ++ span_text config.now span.now) }
+{
+    push_span_target(out, config, span)?;
+    push_styled(out, config.ansi(), Style::BoldGreen, span.name())?;
+    push_brace(out, config, "{", " ")?;
+    push_span_fields(out, span.data().fields.as_slice())?;
+    push_brace(out, config, "}", "")
+}
+
+// The target of a span, if targets are on.
+fn push_span_target(out: &mut String, config: &Config, span: &SpanRef) -> Result<(), AllocError>
+    ensures { OnOk result (string_bytes out.new ≡ string_bytes out.old ++ shown_target config.now span.now) }
+{
+    if !config.targets() {
+        return Ok(());
+    }
+    push_styled(out, config.ansi(), Style::Dimmed, span.target())?;
+    out.push_str("::")
+}
+
+// A brace round the fields of a span, or what stands there without braces.
+fn push_brace(out: &mut String, config: &Config, brace: &str, plain: &str) -> Result<(), AllocError>
+    ensures { OnOk result (string_bytes out.new ≡ string_bytes out.old ++ shown_brace config.now brace.now plain.now) }
+{
+    if config.bracketed_fields() {
+        push_styled(out, config.ansi(), Style::BoldGreen, brace)
+    } else {
+        out.push_str(plain)
+    }
+}
+
+// Appends the block of a span's row: its label, if labels are on, then target, name and fields, of
+// which a plain close shows none. After an error a beginning may stand in `out`.
+pub(super) fn push_span_block(
+    out: &mut String,
+    config: &Config,
+    mode: SpanMode,
+    span: &SpanRef,
+) -> Result<(), AllocError>
+    ensures { OnOk result (string_bytes out.new ≡ string_bytes out.old ++ span_block config.now mode span.now) }
+{
+    if config.span_modes() {
+        write_span_mode(out, mode)?;
+    }
+    if mode == (SpanMode::Close { verbose: false }) {
+        return Ok(());
+    }
+    push_span_text(out, config, span)
+}
+
+// Appends level, target and fields of an event, as they stand after the timer's texts. After an
+// error a beginning may stand in `out`.
+pub(super) fn push_event_tail(
+    out: &mut String,
+    config: &Config,
+    event: &Event,
+) -> Result<(), AllocError>
+    ensures { OnOk result (string_bytes out.new ≡ string_bytes out.old ++ event_tail config.now event.now) }
+{
+    push_level(out, config.ansi(), event.level)?;
+    if config.targets() {
+        out.push_str(" ")?;
+        push_styled(out, config.ansi(), Style::Dimmed, event.target.as_str())?;
+    }
+    push_event_fields(out, event.fields.as_slice())
+}
+
+// The fields of an event, a space before the first.
+fn push_event_fields(out: &mut String, fields: &[Field]) -> Result<(), AllocError>
+    ensures { OnOk result (string_bytes out.new ≡ string_bytes out.old ++ event_fields fields.now) }
+{
+    let mut comma = false;
+    for field in fields {
+        push_event_field(out, field, &mut comma)?;
+    }
+    Ok(())
+}
+
+// One field of an event, and whether a comma stands before the next one. Fields of a log record are skipped.
+fn push_event_field(out: &mut String, field: &Field, comma: &mut bool) -> Result<(), AllocError>
+    ensures text { OnOk result (string_bytes out.new ≡ string_bytes out.old ++ event_field comma.old field.now) }
+    ensures comma { OnOk result (comma.new ≡ comma_after comma.old field.now) }
+{
+    if field.name.as_str().starts_with("log.") {
+        return Ok(());
+    }
+    out.push_str(if *comma { ", " } else { " " })?;
+    *comma = true;
+    push_field(out, field)
+}

@@ -1,0 +1,72 @@
+//! Date and time at an offset or in a zone.
+
+ghost use Rattle.std.specs.Prelude.{◌≡◌};
+ghost use Rattle.tracing_tree_core.specs.Clock.{local_clock_timer, local_in_zone, local_timer};
+
+use super::civil::{date_pieces, offset_pieces, time_pieces};
+use super::elapsed::style_timestamp;
+use super::pieces::append;
+use super::{FormatTime, Moment, TimeFault};
+use jiff::tz::{Offset, TimeZone};
+
+/// Shows the date and the time at an offset or in a zone, and the offset then, as `2000-02-29 18:04:56.05 +05:30:00`.
+///
+/// `jiff` has a date and a time for each of its instants at each of its offsets, so it never faults.
+#[derive(Drop)]
+pub struct LocalDateTime<'a> {
+    /// Whether an elapsed time is shown with two decimals.
+    pub higher_precision: bool,
+    zone: TimeZone<'a>,
+}
+
+impl<'a> LocalDateTime<'a> {
+    /// At an offset.
+    pub fn with_offset(offset: Offset, higher_precision: bool) -> LocalDateTime<'a>
+        ensures timer { local_clock_timer result
+            ≡ local_timer higher_precision (λ instant. offset.seconds) }
+        ensures precision { result.higher_precision ≡ higher_precision }
+    {
+        LocalDateTime {
+            higher_precision,
+            zone: TimeZone::fixed(offset),
+        }
+    }
+
+    /// At the offset that a zone has at each instant.
+    pub fn with_zone(zone: TimeZone<'a>, higher_precision: bool) -> LocalDateTime<'a>
+        ensures { result ≡ local_in_zone zone.entry higher_precision }
+    {
+        LocalDateTime {
+            higher_precision,
+            zone,
+        }
+    }
+}
+
+impl FormatTime for LocalDateTime<'_> {
+    ghost use Rattle.tracing_tree_core.specs.Clock.{local_clock_timer};
+
+    ghost timer = { local_clock_timer };
+
+    fn format_time(&self, moment: &Moment, out: &mut String) -> Result<(), TimeFault> {
+        let offset = self.zone.to_offset(moment.wall);
+        let shown = offset.to_datetime(moment.wall);
+        append(
+            out,
+            &[
+                &date_pieces(shown.date()),
+                &time_pieces(shown.time()),
+                &offset_pieces(offset),
+            ],
+        )
+    }
+
+    fn style_timestamp(
+        &self,
+        ansi: bool,
+        elapsed_ns: u64,
+        out: &mut String,
+    ) -> Result<(), TimeFault> {
+        style_timestamp(ansi, self.higher_precision, elapsed_ns, out)
+    }
+}

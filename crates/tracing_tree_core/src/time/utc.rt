@@ -1,0 +1,50 @@
+//! Date and time at offset zero.
+
+use super::civil::{date_pieces, time_pieces};
+use super::elapsed::style_timestamp;
+use super::pieces::append;
+use super::{FormatTime, Moment, TimeFault};
+use jiff::tz::Offset;
+
+/// Shows the date and the time at offset zero, as `2000-02-29 12:34:56.05`. It never faults.
+#[derive(Clone, Copy, PartialEq, Eq)]
+pub struct UtcDateTime {
+    /// Whether an elapsed time is shown with two decimals.
+    pub higher_precision: bool,
+}
+
+/// Lower precision.
+impl Default for UtcDateTime {
+    ghost use Rattle.std.specs.Prelude.{◌≡◌, false};
+
+    ghost is_default = { λ clock. clock ≡ record { higher_precision = false } };
+
+    fn default() -> UtcDateTime {
+        UtcDateTime {
+            higher_precision: false,
+        }
+    }
+}
+
+impl FormatTime for UtcDateTime {
+    ghost use Rattle.tracing_tree_core.specs.Clock.{utc_clock_timer};
+
+    ghost timer = { utc_clock_timer };
+
+    fn format_time(&self, moment: &Moment, out: &mut String) -> Result<(), TimeFault> {
+        let shown = Offset::UTC.to_datetime(moment.wall);
+        append(
+            out,
+            &[&date_pieces(shown.date()), &time_pieces(shown.time())],
+        )
+    }
+
+    fn style_timestamp(
+        &self,
+        ansi: bool,
+        elapsed_ns: u64,
+        out: &mut String,
+    ) -> Result<(), TimeFault> {
+        style_timestamp(ansi, self.higher_precision, elapsed_ns, out)
+    }
+}

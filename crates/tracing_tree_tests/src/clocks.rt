@@ -1,0 +1,150 @@
+//! Clocks: the texts that they append.
+
+ghost use Rattle.std.specs.Prelude.{◌<◌, ◌≤◌};
+
+use jiff::Timestamp;
+use std::alloc::{AllocError, Global};
+use std::test::*;
+use tracing_tree::time::{FormatTime, Moment, TimeFault, Uptime, UtcDateTime};
+
+// What a timer shows of a moment.
+fn moment_text<F: FormatTime>(
+    alloc: Global,
+    timer: &F,
+    mono: u64,
+    wall: Timestamp,
+) -> Result<String, TimeFault> {
+    let mut text = String::new(alloc);
+    timer.format_time(&Moment { mono, wall }, &mut text)?;
+    Ok(text)
+}
+
+// What a clock shows of an elapsed time.
+fn elapsed_text(alloc: Global, higher: bool, ansi: bool, nanos: u64) -> Result<String, TimeFault> {
+    let mut text = String::new(alloc);
+    let clock = UtcDateTime {
+        higher_precision: higher,
+    };
+    clock.style_timestamp(ansi, nanos, &mut text)?;
+    Ok(text)
+}
+
+// The instant that many nanoseconds after the start of 1970, or that start itself where there is none.
+fn instant(nanosecond: i128) -> Timestamp {
+    Timestamp::from_nanosecond(nanosecond).unwrap_or(Timestamp::UNIX_EPOCH)
+}
+
+#[test]
+fn shows_elapsed_times(rt: HostRuntime) -> Result<(), TimeFault> {
+    for (higher, nanos, wanted) in [
+        (false, 0, "  0ms"),
+        (false, 999_999_999, "999ms"),
+        (false, 1_000_000_000, "  1s "),
+        (false, 59_999_999_999, " 59s "),
+        (false, 60_000_000_000, "  1m "),
+        (false, 59_999_999_999_999, "999m "),
+        (false, 60_000_000_000_000, "1000m "),
+        (false, u64::MAX, "307445734m "),
+        (true, 0, " 0.00μs"),
+        (true, 5, " 0.00μs"),
+        (true, 15, " 0.02μs"),
+        (true, 999_994, " 999.99μs"),
+        (true, 999_999, " 1000.00μs"),
+        (true, 1_000_000, " 1.00ms"),
+        (true, 1_500_000, " 1.50ms"),
+        (true, 999_999_999, " 1000.00ms"),
+        (true, 1_000_000_000, " 1.00s "),
+        (true, 59_999_999_999, " 60.00s "),
+        (true, u64::MAX, " 18446744073.71s "),
+    ] {
+        assert_eq!(rt;
+            elapsed_text(rt.alloc(), higher, false, nanos)?.as_str(),
+            wanted
+        );
+    }
+    assert_eq!(rt;
+        elapsed_text(rt.alloc(), false, true, 999_000_000)?.as_str(),
+        "\x1b[2m999\x1b[0m\x1b[2mms\x1b[0m"
+    );
+    assert_eq!(rt;
+        elapsed_text(rt.alloc(), true, true, 15)?.as_str(),
+        "\x1b[2m 0.02\x1b[0m\x1b[2mμs\x1b[0m"
+    );
+    Ok(())
+}
+
+// A count of hundredths of a unit.
+fn hundredths(alloc: Global, count: u64, unit: &str) -> Result<String, AllocError> {
+    let whole = count / 100;
+    let cents = count % 100;
+    format!(in alloc; " {whole}.{cents:02}{unit}")
+}
+
+// Whether the tie after this count goes to the even count, and its neighbours to the nearest.
+fn is_tie_even(alloc: Global, size: u64, unit: &str, count: u64) -> Result<bool, TimeFault>
+    requires size { size ≤ 10_000_000 }
+    requires count { count < 1_000_000 }
+{
+    let tie = count * size + size / 2;
+    let even = count + count % 2;
+    for (nanos, count) in [
+        (tie.wrapping_sub(1), count),
+        (tie, even),
+        (tie + 1, count + 1),
+    ] {
+        let Ok(wanted) = hundredths(alloc, count, unit) else {
+            return Err(TimeFault::Memory);
+        };
+        if elapsed_text(alloc, true, false, nanos)?.as_str() != wanted.as_str() {
+            return Ok(false);
+        }
+    }
+    Ok(true)
+}
+
+// The ties after so many counts, near an end of a unit.
+fn are_ties_even(alloc: Global, size: u64, unit: &str, from: u64) -> Result<bool, TimeFault>
+    requires size { size ≤ 10_000_000 }
+    requires from { from < 999_000 }
+{
+    for count in from..from + 999 {
+        if !is_tie_even(alloc, size, unit, count)? {
+            return Ok(false);
+        }
+    }
+    Ok(true)
+}
+
+#[test]
+fn ties_go_to_the_even_count(rt: HostRuntime) -> Result<(), TimeFault> {
+    for (size, unit, from) in [
+        (10, "μs", 0),
+        (10, "μs", 99_000),
+        (10_000, "ms", 100),
+        (10_000, "ms", 99_000),
+        (10_000_000, "s ", 100),
+        (10_000_000, "s ", 99_500),
+    ] {
+        assert!(rt; are_ties_even(rt.alloc(), size, unit, from)?);
+    }
+    Ok(())
+}
+
+#[test]
+fn shows_uptimes(rt: HostRuntime) -> Result<(), TimeFault> {
+    let alloc = rt.alloc();
+    for (epoch, mono, wanted) in [
+        (0, 3_000_042_000, "   3.000042s"),
+        (0, 12_345_000_000_000, "12345.000000s"),
+        (5, 3, "   0.000000s"),
+        (5, 5, "   0.000000s"),
+        (5, 1005, "   0.000001s"),
+        (0, 999, "   0.000000s"),
+        (0, u64::MAX, "18446744073.709551s"),
+        (u64::MAX, 0, "   0.000000s"),
+    ] {
+        let text = moment_text(alloc, &Uptime::from(epoch), mono, instant(0))?;
+        assert_eq!(rt; text.as_str(), wanted);
+    }
+    Ok(())
+}

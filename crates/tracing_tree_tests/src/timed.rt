@@ -1,0 +1,197 @@
+//! Layers with timers.
+
+use crate::making::{closed, made, told};
+use crate::timers::{Asked, Seconds, StopAt};
+use jiff::Timestamp;
+use std::alloc::{AllocError, Global};
+use std::cell::Cell;
+use std::test::*;
+use tracing_tree::call::{Call, Reply};
+use tracing_tree::format::{Context, Id, Refusal, Tape};
+use tracing_tree::layer::HierarchicalLayer;
+use tracing_tree::layered::Layered;
+use tracing_tree::style::Level;
+use tracing_tree::time::{FormatTime, Moment, Uptime, UtcDateTime};
+
+// A layered over memory, with lines and this timer.
+fn timed<FT: FormatTime + Drop>(alloc: Global, timer: FT) -> Layered<Tape, FT> {
+    let layer = HierarchicalLayer::new(alloc, 2, false, Tape::new(alloc))
+        .with_indent_lines(true)
+        .with_timer(timer);
+    Layered::new(alloc, layer)
+}
+
+// The call at another moment.
+fn then(call: Call, mono: u64, nanosecond: i128) -> Call {
+    let wall = Timestamp::from_nanosecond(nanosecond).unwrap_or(Timestamp::UNIX_EPOCH);
+    let moment = Moment { mono, wall };
+    match call {
+        Call::New(attributes, context) => Call::New(attributes, Context { moment, ..context }),
+        Call::Event(event, context) => Call::Event(event, Context { moment, ..context }),
+        Call::Close(id, context) => Call::Close(id, Context { moment, ..context }),
+        other => other,
+    }
+}
+
+// Whether a layered with this timer accepts the calls and draws this.
+fn draws<FT: FormatTime + Drop>(
+    alloc: Global,
+    timer: FT,
+    calls: Vec<Call>,
+    wanted: &str,
+) -> Result<bool, AllocError> {
+    let mut layered = timed(alloc, timer);
+    let answers = layered.run(alloc, calls)?;
+    let accepted = answers.iter().all(|answer| answer.is_ok());
+    Ok(accepted && layered.writer().bytes() == wanted.as_bytes())
+}
+
+// An INFO event outside every span, at an instant of a leap day.
+fn dated(alloc: Global) -> Result<Vec<Call>, AllocError> {
+    let call = then(
+        told(alloc, Level::Info, "x", None)?,
+        0,
+        951_827_696_050_000_000,
+    );
+    Ok(vec![in alloc; call]?)
+}
+
+#[test]
+fn dates_an_event(rt: HostRuntime) -> Result<(), Fail> {
+    let alloc = rt.alloc();
+    let text = "2000-02-29 12:34:56.05 INFO x\n";
+    assert!(rt; draws(alloc, UtcDateTime::default(), dated(alloc)?, text)?);
+    assert!(rt; draws(alloc, (), dated(alloc)?, "INFO x\n")?);
+    Ok(())
+}
+
+// A root, and an event in it two seconds later.
+fn two_seconds(alloc: Global) -> Result<Vec<Call>, AllocError> {
+    Ok(vec![in alloc;
+        then(made(alloc, "a", None)?, 1_000_000_000, 0),
+        then(told(alloc, Level::Info, "x", Some(1))?, 3_000_042_000, 0),
+    ]?)
+}
+
+#[test]
+fn times_an_event_in_a_span(rt: HostRuntime) -> Result<(), Fail> {
+    let alloc = rt.alloc();
+    let mut uptime = Uptime::from(0);
+    let lower = "┐a \n├─   3.000042s   2s  INFO x\n";
+    assert!(rt; draws(alloc, uptime, two_seconds(alloc)?, lower)?);
+    uptime.higher_precision = true;
+    let higher = "┐a \n├─   3.000042s  2.00s  INFO x\n";
+    assert!(rt; draws(alloc, uptime, two_seconds(alloc)?, higher)?);
+    Ok(())
+}
+
+// A root, its child, which begins after the event in it, and an event of a current span that isn't live.
+fn early_event(alloc: Global) -> Result<Vec<Call>, AllocError> {
+    Ok(vec![in alloc;
+        then(made(alloc, "a", None)?, 1_000_000_000, 0),
+        then(made(alloc, "b", Some(1))?, 5_000_000_000, 0),
+        then(told(alloc, Level::Info, "x", Some(2))?, 4_000_000_000, 0),
+        then(told(alloc, Level::Info, "y", Some(9))?, 4_000_000_000, 0),
+    ]?)
+}
+
+#[test]
+fn takes_the_elapsed_time_of_the_current_span(rt: HostRuntime) -> Result<(), Fail> {
+    let alloc = rt.alloc();
+    let text = "┐a \n└─┐b \n  ├─   4.000000s   0ms INFO x\n   4.000000s INFO y\n";
+    assert!(rt; draws(alloc, Uptime::from(0), early_event(alloc)?, text)?);
+    Ok(())
+}
+
+#[test]
+fn takes_a_timer_of_ones_own(rt: HostRuntime) -> Result<(), Fail> {
+    let alloc = rt.alloc();
+    let call = then(told(alloc, Level::Info, "x", None)?, 7_900_000_000, 0);
+    assert!(rt; draws(alloc, Seconds, vec![in alloc; call]?, "7 INFO x\n")?);
+    Ok(())
+}
+
+// Calls, and how often a timer has been asked after each.
+fn asking(alloc: Global) -> Result<Vec<(Call, u32)>, AllocError> {
+    Ok(vec![in alloc;
+        (made(alloc, "a", None)?, 0),
+        (told(alloc, Level::Info, "x", Some(1))?, 1),
+        (told(alloc, Level::Info, "x", Some(1))?, 2),
+        (made(alloc, "b", Some(1))?, 2),
+        (told(alloc, Level::Info, "x", Some(2))?, 3),
+        (told(alloc, Level::Info, "x", Some(2))?, 4),
+        (closed(2), 4),
+        (made(alloc, "c", Some(1))?, 4),
+        (told(alloc, Level::Info, "x", Some(3))?, 5),
+        (made(alloc, "d", Some(3))?, 5),
+        (told(alloc, Level::Info, "x", Some(4))?, 6),
+        (closed(4), 6),
+        (closed(3), 6),
+        (told(alloc, Level::Info, "x", Some(1))?, 7),
+    ]?)
+}
+
+#[test]
+fn asks_the_timer_once_an_event(rt: HostRuntime) -> Result<(), Fail> {
+    let alloc = rt.alloc();
+    let asked = Asked {
+        times: Cell::new(0),
+    };
+    let layer = HierarchicalLayer::new(alloc, 2, false, Tape::new(alloc))
+        .with_verbose_entry(true)
+        .with_verbose_exit(true)
+        .with_timer(&asked);
+    let mut layered = Layered::new(alloc, layer);
+    for (call, times) in asking(alloc)? {
+        layered.call(call)?;
+        assert_eq!(rt; asked.times.get(), times);
+    }
+    Ok(())
+}
+
+// Whether an event at 7 in a span that began at 2 is the fault of this timer, which leaves nothing but a failed layer.
+fn fails(alloc: Global, timer: StopAt) -> Result<bool, AllocError> {
+    let mut layered = timed(alloc, timer);
+    let calls = vec![in alloc;
+        then(made(alloc, "a", None)?, 2, 0),
+        then(told(alloc, Level::Info, "x", Some(1))?, 7, 0),
+        made(alloc, "b", None)?,
+    ]?;
+    let answers = layered.run(alloc, calls)?;
+    let wanted = [
+        Ok(Reply::Span(Id(1))),
+        Err(Refusal::Timer),
+        Err(Refusal::Failed),
+    ];
+    let layer = layered.layer();
+    Ok(
+        answers.as_slice() == wanted.as_slice()
+            && layer.writer().bytes() == "┐a \n".as_bytes()
+            && layer.last_span() == Some(Id(1))
+            && layer.failed(),
+    )
+}
+
+#[test]
+fn fails_with_its_timer(rt: HostRuntime) -> Result<(), Fail> {
+    let alloc = rt.alloc();
+    assert!(rt;
+        fails(
+            alloc,
+            StopAt {
+                moment: 7,
+                elapsed: 100
+            }
+        )?
+    );
+    assert!(rt;
+        fails(
+            alloc,
+            StopAt {
+                moment: 100,
+                elapsed: 5
+            }
+        )?
+    );
+    Ok(())
+}
