@@ -1,7 +1,6 @@
 -- What contracts see of a layer, and of a registry with a layer.
-use Rattle.std.specs.Prelude.{◌≡◌, Bool, Option}
+use Rattle.std.specs.Prelude.{◌≡◌, Bool, not, ◌&&◌, Option, is_none}
 use Rattle.tracing_tree_core.specs.Settings.{Settings}
-use Rattle.tracing_tree_core.specs.Clock.{no_timer}
 use Rattle.tracing_tree_core.specs.Forest.{Forest}
 use Rattle.tracing_tree_core.specs.declared.context.Id.{Id}
 use Rattle.tracing_tree_core.specs.declared.format.output.Output.{Ghosts as Output}
@@ -15,6 +14,10 @@ pub record LayerView (W FT : Type 0) : Type 0 where
   pub timer : FT
   pub last : Option Id
   pub failed : Bool
+
+-- no last span, and nothing has failed
+abbrev pub is_fresh : {W FT : Type 0} → LayerView W FT → Bool
+is_fresh layer = not layer.failed && is_none layer.last
 
 -- a registry with a layer
 pub record LayeredView (W FT : Type 0) : Type 0 where
@@ -39,7 +42,3 @@ module _ {W FT : Type 0} where
   pub record Changes (see : LayeredView W FT → Seen) (Holds : Seen → Seen → Type 0) (old new : LayeredView W FT) : Type 0 where
     pub changed : Holds (see old) (see new)
     pub fixed : new.layer ≡ record old.layer { writer = new.layer.writer; last = new.layer.last; failed = new.layer.failed }
-
--- the same of one without a timer
-abbrev pub seen_untimed : {W : Type 0} → Output W → LayeredView W (Unit {0}) → Seen
-seen_untimed output = seen (record { timer = λ unit. no_timer }) output

@@ -1,5 +1,6 @@
 //! The layer: what it draws of each call.
 
+mod bare;
 mod block;
 mod builders;
 mod drawing;
@@ -12,6 +13,7 @@ ghost use Rattle.tracing_tree_core.specs.Settings.{default_settings};
 ghost use Rattle.tracing_tree_core.specs.Forest.{mark_all};
 ghost use Rattle.tracing_tree.specs.Rows.{turn_of_new, turn_of_event, turn_of_closes};
 ghost use Rattle.tracing_tree.specs.Refused.{timer_faults_at};
+ghost use Rattle.tracing_tree.specs.Layers.{is_fresh};
 ghost use Rattle.tracing_tree.specs.Seen.{seen_writer};
 ghost use Rattle.tracing_tree.specs.Drawn.{failed_by, has_no_id, DoesTurn, IsBlank, IsReady, Sends};
 
@@ -134,6 +136,13 @@ impl<W: Output, FT: FormatTime> HierarchicalLayer<W, FT> {
         self.failed
     }
 
+    /// Returns whether the layer has no last span and has not failed, as one that was just made.
+    pub fn is_fresh(&self) -> bool
+        ensures { result ≡ is_fresh self.now }
+    {
+        !self.failed && self.page.bufs.current_span.is_none()
+    }
+
     /// Returns the writer alone, with all that was written.
     pub fn into_writer(self) -> W
     where
@@ -148,8 +157,8 @@ impl<W: Output, FT: FormatTime> HierarchicalLayer<W, FT> {
         *self.page.text.allocator()
     }
 
-    // A span that was made.
-    pub(crate) fn on_new_span<S: LookupSpan>(
+    // Draws a span that was made, which is live.
+    pub(crate) fn write_new_span<S: LookupSpan>(
         &mut self,
         id: Id,
         spans: &mut S,
@@ -175,8 +184,8 @@ impl<W: Output, FT: FormatTime> HierarchicalLayer<W, FT> {
         sent
     }
 
-    // An event.
-    pub(crate) fn on_event<S: LookupSpan>(
+    // Draws an event.
+    pub(crate) fn write_event<S: LookupSpan>(
         &mut self,
         event: &Event,
         spans: &mut S,
@@ -204,8 +213,8 @@ impl<W: Output, FT: FormatTime> HierarchicalLayer<W, FT> {
         sent
     }
 
-    // Spans that close one after another. Where none closes, no memory is taken.
-    pub(crate) fn on_closes<S: LookupSpan>(
+    // Draws spans that close one after another. Where none closes, no memory is taken.
+    pub(crate) fn write_closes<S: LookupSpan>(
         &mut self,
         ids: &[Id],
         spans: &mut S,

@@ -132,7 +132,7 @@ impl<W: Output, FT: FormatTime> Layered<W, FT> {
             (IsAnswered (Call.New attributes context.now) result) self.old self.new }
     {
         let id = self.registry.new_span(attributes, context)?;
-        if let Err(refusal) = self.layer.on_new_span(id, &mut self.registry, context) {
+        if let Err(refusal) = self.layer.write_new_span(id, &mut self.registry, context) {
             self.registry.take_back(id);
             return Err(refusal);
         }
@@ -148,7 +148,7 @@ impl<W: Output, FT: FormatTime> Layered<W, FT> {
         let closing = self.registry.closing(self.layer.allocator(), id)?;
         if let Err(refusal) = self
             .layer
-            .on_closes(closing.as_slice(), &mut self.registry, context)
+            .write_closes(closing.as_slice(), &mut self.registry, context)
         {
             return Err(refusal);
         }
@@ -180,7 +180,7 @@ impl<W: Output, FT: FormatTime> Layered<W, FT> {
         ensures { Changes (seen FT.FormatTime W.Output)
             (IsAnswered (Call.Event event.now context.now) result) self.old self.new }
     {
-        if let Err(refusal) = self.layer.on_event(event, &mut self.registry, context) {
+        if let Err(refusal) = self.layer.write_event(event, &mut self.registry, context) {
             return Err(refusal);
         }
         Ok(Reply::Done)

@@ -167,4 +167,27 @@ impl<W: Output, FT: FormatTime> HierarchicalLayer<W, FT> {
             failed: self.failed,
         }
     }
+    /// Writes to this writer from now on, and drops the one before. The caller must ensure that the
+    /// writer has no faults.
+    pub fn with_writer<W2: Output>(self, writer: W2) -> HierarchicalLayer<W2, FT>
+    where
+        W: Drop,
+        requires { W2.fault_count writer ≡ 0 }
+        ensures { result ≡ record {
+          settings = self.settings;
+          writer = writer;
+          timer = self.timer;
+          last = self.last;
+          failed = self.failed;
+        } }
+    {
+        HierarchicalLayer {
+            page: self.page,
+            plan: self.plan,
+            config: self.config,
+            writer,
+            timer: self.timer,
+            failed: self.failed,
+        }
+    }
 }

@@ -19,6 +19,6 @@ returns-in-Err g c =
     let old = seen g.FT.FormatTime g.W.Output (record { forest = before.registry; layer = before.layer }) in
     rw (← c.self.view_is)
     (turn_refused g.FT.FormatTime g.W.Output (Event event context) turn.rows faults false c.in-Err.refusal
-    (record { forest = before.registry; layer = before.layer }) (record { forest = c.on_event.new.spans; layer = c.on_event.new.self }) sound
+    (record { forest = before.registry; layer = before.layer }) (record { forest = c.write_event.new.spans; layer = c.write_event.new.self }) sound
     (cause-turn settings timer old.state (Event event context) sound refl refl) refl (λ h. rw sound refl)
     c.in-Err.ensures.written c.in-Err.ensures.layer c.in-Err.ensures.marked)

@@ -9,6 +9,6 @@ returns-in-Err g c =
     let sound : before.layer.failed ≡ false = ap (λ l. l.layer.failed) c.self.view_is ∙ c.requires in
     rw (← c.self.view_is)
     (new_refused g.FT.FormatTime g.W.Output c.args.attributes c.args.context.now c.in_ok-id.id false c.in-Err.refusal
-    (record { forest = before.registry; layer = before.layer }) (record { forest = c.take_back.new.self; layer = c.on_new_span.new.self }) c.new_span.new.self
+    (record { forest = before.registry; layer = before.layer }) (record { forest = c.take_back.new.self; layer = c.write_new_span.new.self }) c.new_span.new.self
     sound c.in_ok-id.ensures.made c.in-Err.ensures.written c.in-Err.ensures.layer
     (c.take_back.ensures ∙ ap (take_back c.in_ok-id.id) c.in-Err.ensures.marked ∙ c.in_ok-id.ensures.undone))

@@ -2,7 +2,7 @@ use Rattle.std.proofs.Common.{false, ap, sym, ◌∙◌}
 use Rattle.tracing_tree.specs.Rows.{turn_of_event}
 use Rattle.tracing_tree.specs.Refused.{timer_faults_at}
 use Rattle.tracing_tree.proofs.DrawnLaws.{drafts-drawn, refused-last, refused-marks, written}
-use Rattle.tracing_tree.proofs.layer.HierarchicalLayer.on_event.Goals as goal
+use Rattle.tracing_tree.proofs.layer.HierarchicalLayer.write_event.Goals as goal
 
 pub returns-else-is_ok : goal.returns-else-is_ok
 returns-else-is_ok g c =

@@ -1,0 +1,381 @@
+//! Calls on a layer alone, over each kind of live spans.
+
+ghost use Rattle.std.specs.Prelude.{◌≡◌, None, false};
+
+use crate::lone::Lone;
+use crate::making::{at, closed, made, recorded, told};
+use std::alloc::{AllocError, Global};
+use std::process::Abort;
+use std::test::*;
+use tracing_tree::call::Call;
+use tracing_tree::field::{Field, Fields};
+use tracing_tree::format::{Context, Id, Refusal, Tape};
+use tracing_tree::layer::HierarchicalLayer;
+use tracing_tree::layered::Layered;
+use tracing_tree::registry::{Attributes, Event, LookupSpan, Parent, Record, Registry, Walked};
+use tracing_tree::style::Level;
+use tracing_tree::text::Text;
+
+// What both registries can do.
+trait Keeps: LookupSpan {
+    fn make(&mut self, attributes: Attributes, context: &Context) -> Result<Id, Refusal>;
+
+    fn list_closing(&self, alloc: Global, id: Id) -> Result<Vec<Id>, Refusal>;
+
+    fn close(&mut self, id: Id) -> Result<bool, Refusal>;
+}
+
+impl Keeps for Registry {
+    fn make(&mut self, attributes: Attributes, context: &Context) -> Result<Id, Refusal> {
+        self.new_span(attributes, context)
+    }
+
+    fn list_closing(&self, alloc: Global, id: Id) -> Result<Vec<Id>, Refusal> {
+        self.closing(alloc, id)
+    }
+
+    fn close(&mut self, id: Id) -> Result<bool, Refusal> {
+        self.try_close(id)
+    }
+}
+
+impl Keeps for Walked {
+    fn make(&mut self, attributes: Attributes, context: &Context) -> Result<Id, Refusal> {
+        self.new_span(attributes, context)
+    }
+
+    fn list_closing(&self, alloc: Global, id: Id) -> Result<Vec<Id>, Refusal> {
+        self.closing(alloc, id)
+    }
+
+    fn close(&mut self, id: Id) -> Result<bool, Refusal> {
+        self.try_close(id)
+    }
+}
+
+// A layer over memory, with lines, of this amount.
+fn layer(alloc: Global, amount: usize) -> HierarchicalLayer<Tape, ()>
+    ensures last { result.last ≡ None }
+    ensures sound { result.failed ≡ false }
+{
+    HierarchicalLayer::new(alloc, amount, false, Tape::new(alloc)).with_indent_lines(true)
+}
+
+// One call, by calls of the registry and of the layer.
+fn call<S: Keeps>(
+    alloc: Global,
+    layer: &mut HierarchicalLayer<Tape, ()>,
+    spans: &mut S,
+    call: Call,
+) -> Result<(), Refusal> {
+    match call {
+        Call::New(attributes, context) => {
+            let id = spans.make(attributes, &context)?;
+            layer.on_new_span(id, spans, &context)
+        }
+        Call::Clone(_) => Ok(()),
+        Call::Record(id, values) => layer.on_record(id, &values, spans),
+        Call::Event(event, context) => layer.on_event(&event, spans, &context),
+        Call::Close(id, context) => {
+            for gone in spans.list_closing(alloc, id)? {
+                layer.on_close(gone, spans, &context)?;
+            }
+            spans.close(id)?;
+            Ok(())
+        }
+    }
+}
+
+// The calls, one after another, draw this.
+fn draws_over<S: Keeps + Drop>(
+    rt: &impl Abort,
+    alloc: Global,
+    mut layer: HierarchicalLayer<Tape, ()>,
+    mut spans: S,
+    calls: Vec<Call>,
+    wanted: &str,
+) {
+    for next in calls {
+        assert_eq!(rt; call(alloc, &mut layer, &mut spans, next), Ok(()));
+    }
+    assert_eq!(rt; layer.writer().bytes(), wanted.as_bytes());
+}
+
+// Settings, calls, and what they draw.
+#[derive(Clone, Copy)]
+enum Case {
+    // Two spans, an event, and both closed.
+    Nested,
+
+    // Spans that wait for an event; a sibling that closes unseen.
+    Deferred,
+
+    // Two roots whose events alternate.
+    Alternating,
+
+    // A close off the last path.
+    Stranger,
+
+    // Deferred spans, the second shown below its parent.
+    Fresh,
+
+    // Two jobs that run side by side, with threads and targets.
+    Concurrent,
+}
+
+impl Case {
+    fn layer(self, alloc: Global) -> HierarchicalLayer<Tape, ()>
+        ensures last { result.last ≡ None }
+        ensures sound { result.failed ≡ false }
+    {
+        match self {
+            Case::Nested => layer(alloc, 2),
+            Case::Deferred => layer(alloc, 2).with_deferred_spans(true),
+            Case::Alternating | Case::Stranger => layer(alloc, 2).with_span_retrace(true),
+            Case::Fresh => layer(alloc, 4)
+                .with_deferred_spans(true)
+                .with_verbose_entry(true),
+            Case::Concurrent => layer(alloc, 4)
+                .with_thread_names(true)
+                .with_thread_ids(true)
+                .with_span_retrace(true)
+                .with_verbose_entry(true)
+                .with_targets(true),
+        }
+    }
+
+    fn calls(self, alloc: Global) -> Result<Vec<Call>, AllocError> {
+        let calls = match self {
+            Case::Nested => vec![in alloc;
+                made(alloc, "a", None)?,
+                made(alloc, "b", Some(1))?,
+                told(alloc, Level::Warn, "x", Some(2))?,
+                closed(2),
+                closed(1),
+            ]?,
+            Case::Deferred => vec![in alloc;
+                made(alloc, "a", None)?,
+                made(alloc, "b", Some(1))?,
+                made(alloc, "c", Some(2))?,
+                info(alloc, "x", 2)?,
+                closed(3),
+            ]?,
+            Case::Alternating => vec![in alloc;
+                made(alloc, "a", None)?,
+                made(alloc, "b", None)?,
+                info(alloc, "x", 1)?,
+                info(alloc, "y", 2)?,
+            ]?,
+            Case::Stranger => vec![in alloc;
+                made(alloc, "a", None)?,
+                made(alloc, "b", Some(1))?,
+                made(alloc, "c", None)?,
+                closed(2),
+                info(alloc, "x", 1)?,
+            ]?,
+            Case::Fresh => vec![in alloc;
+                made(alloc, "a", None)?,
+                made(alloc, "b", Some(1))?,
+                info(alloc, "x", 1)?,
+                info(alloc, "y", 2)?,
+            ]?,
+            Case::Concurrent => concurrent(alloc)?,
+        };
+        Ok(calls)
+    }
+
+    fn text(self) -> &'static str {
+        match self {
+            Case::Nested => "┐a \n└─┐b \n  ├─ WARN x\n┌─┘\n┘\n",
+            Case::Deferred => "┐a \n└─┐b \n  ├─ INFO x\n",
+            Case::Alternating => "┐a \n┐b \n┐a \n├─ INFO x\n┐b \n├─ INFO y\n",
+            Case::Stranger => "┐a \n└─┐b \n┐c \n┌─┘\n├─ INFO x\n",
+            Case::Fresh => "┐a \n├─── INFO x\n└─┐a \n  └─┐b \n    ├─── INFO y\n",
+            Case::Concurrent => CONCURRENT,
+        }
+    }
+}
+
+// What the Rust crate's example `concurrent_eager` draws.
+const CONCURRENT: &str = "\
+1:main┐concurrent_eager::spawn_fut key=\"a\"
+1:main┐concurrent_eager::spawn_fut key=\"b\"
+1:main┐concurrent_eager::spawn_fut key=\"a\"
+1:main└───┐concurrent_eager::a 
+1:main┐concurrent_eager::spawn_fut key=\"b\"
+1:main└───┐concurrent_eager::b 
+1:main┐concurrent_eager::spawn_fut key=\"a\"
+1:main└───┐concurrent_eager::a 
+1:main    ├─── INFO concurrent_eager a
+1:main┌───┘
+1:main┐concurrent_eager::spawn_fut key=\"b\"
+1:main└───┐concurrent_eager::b 
+1:main    ├─── INFO concurrent_eager b
+1:main┌───┘
+1:main┘
+1:main┘
+";
+
+// The calls of the Rust crate's example `concurrent_eager`.
+fn concurrent(alloc: Global) -> Result<Vec<Call>, AllocError> {
+    let calls = vec![in alloc;
+        spawned(
+            alloc,
+            "spawn_fut",
+            Fields::from(vec![in alloc; Field::text(alloc, "key", "a")?]?),
+            None
+        )?,
+        spawned(
+            alloc,
+            "spawn_fut",
+            Fields::from(vec![in alloc; Field::text(alloc, "key", "b")?]?),
+            None
+        )?,
+        spawned(alloc, "a", Fields::new(alloc), Some(1))?,
+        spawned(alloc, "b", Fields::new(alloc), Some(2))?,
+        happened(alloc, "a", 3)?,
+        Call::Close(Id(3), on_main(alloc, None)?),
+        happened(alloc, "b", 4)?,
+        Call::Close(Id(4), on_main(alloc, None)?),
+        Call::Close(Id(2), on_main(alloc, None)?),
+        Call::Close(Id(1), on_main(alloc, None)?),
+    ]?;
+    Ok(calls)
+}
+
+// The context of the thread main.
+fn on_main(alloc: Global, current: Option<u64>) -> Result<Context, AllocError> {
+    let mut context = at(current);
+    context.thread_name = Some(Text::from_str(alloc, "main")?);
+    Ok(context)
+}
+
+fn spawned(
+    alloc: Global,
+    name: &str,
+    fields: Fields,
+    current: Option<u64>,
+) -> Result<Call, AllocError> {
+    Ok(Call::New(
+        Attributes {
+            name: Text::from_str(alloc, name)?,
+            target: Text::from_str(alloc, "concurrent_eager")?,
+            parent: Parent::Current,
+            fields,
+        },
+        on_main(alloc, current)?,
+    ))
+}
+
+fn happened(alloc: Global, message: &str, current: u64) -> Result<Call, AllocError> {
+    Ok(Call::Event(
+        Event {
+            level: Level::Info,
+            target: Text::from_str(alloc, "concurrent_eager")?,
+            parent: Parent::Current,
+            fields: recorded(alloc, "message", message)?,
+        },
+        on_main(alloc, Some(current))?,
+    ))
+}
+
+// The calls draw their text over a registry that keeps paths, over one that walks them, and as one
+// run.
+fn draws_everywhere(rt: &impl Abort, alloc: Global, case: Case) -> Result<(), Fail> {
+    let wanted = case.text();
+    draws_over(
+        rt,
+        alloc,
+        case.layer(alloc),
+        Registry::new(alloc),
+        case.calls(alloc)?,
+        wanted,
+    );
+    draws_over(
+        rt,
+        alloc,
+        case.layer(alloc),
+        Walked::new(alloc),
+        case.calls(alloc)?,
+        wanted,
+    );
+    let mut layered = Layered::new(alloc, case.layer(alloc));
+    let answers = layered.run(alloc, case.calls(alloc)?)?;
+    assert_eq!(rt; answers.iter().all(|answer| answer.is_ok()), true);
+    assert_eq!(rt; layered.writer().bytes(), wanted.as_bytes());
+    Ok(())
+}
+
+fn info(alloc: Global, message: &str, current: u64) -> Result<Call, AllocError> {
+    told(alloc, Level::Info, message, Some(current))
+}
+
+#[test]
+fn draws_nested_spans(rt: HostRuntime) -> Result<(), Fail> {
+    draws_everywhere(&rt, rt.alloc(), Case::Nested)
+}
+
+#[test]
+fn draws_deferred_spans(rt: HostRuntime) -> Result<(), Fail> {
+    draws_everywhere(&rt, rt.alloc(), Case::Deferred)
+}
+
+#[test]
+fn draws_alternating_spans(rt: HostRuntime) -> Result<(), Fail> {
+    draws_everywhere(&rt, rt.alloc(), Case::Alternating)
+}
+
+#[test]
+fn draws_a_close_off_the_last_path(rt: HostRuntime) -> Result<(), Fail> {
+    draws_everywhere(&rt, rt.alloc(), Case::Stranger)
+}
+
+#[test]
+fn draws_fresh_spans_below_their_parent(rt: HostRuntime) -> Result<(), Fail> {
+    draws_everywhere(&rt, rt.alloc(), Case::Fresh)
+}
+
+#[test]
+fn draws_concurrent_jobs(rt: HostRuntime) -> Result<(), Fail> {
+    draws_everywhere(&rt, rt.alloc(), Case::Concurrent)
+}
+
+#[test]
+fn draws_over_a_registry_of_ones_own(rt: HostRuntime) -> Result<(), Fail> {
+    let alloc = rt.alloc();
+    let mut lone = Lone::new(alloc, "a")?;
+    let mut layer = layer(alloc, 2);
+    assert_eq!(rt; layer.is_fresh(), true);
+    assert_eq!(rt; layer.on_new_span(Id(1), &mut lone, &at(None)), Ok(()));
+    assert_eq!(rt; layer.is_fresh(), false);
+    let values = Record {
+        fields: recorded(alloc, "k", "1")?,
+    };
+    assert_eq!(rt; layer.on_record(Id(1), &values, &mut lone), Ok(()));
+    assert_eq!(rt; layer.on_record(Id(9), &values, &mut lone), Ok(()));
+    assert_eq!(rt;
+        layer.on_close(Id(9), &mut lone, &at(None)),
+        Err(Refusal::NotHeld(Id(9)))
+    );
+    assert_eq!(rt;
+        layer.on_new_span(Id(9), &mut lone, &at(None)),
+        Err(Refusal::NotHeld(Id(9)))
+    );
+    let mut layer = layer.with_verbose_exit(true);
+    assert_eq!(rt; layer.on_close(Id(1), &mut lone, &at(None)), Ok(()));
+    assert_eq!(rt; layer.on_close(Id(1), &mut lone, &at(None)), Ok(()));
+    assert_eq!(rt; layer.writer().bytes(), "┐a \n┘a k=1\n┘a k=1\n".as_bytes());
+    Ok(())
+}
+
+#[test]
+fn writes_to_another_writer(rt: HostRuntime) -> Result<(), Fail> {
+    let alloc = rt.alloc();
+    let mut lone = Lone::new(alloc, "a")?;
+    let mut layer = layer(alloc, 2);
+    assert_eq!(rt; layer.on_new_span(Id(1), &mut lone, &at(None)), Ok(()));
+    let mut layer = layer.with_writer(Tape::new(alloc));
+    assert_eq!(rt; layer.on_close(Id(1), &mut lone, &at(None)), Ok(()));
+    assert_eq!(rt; layer.writer().bytes(), "┘\n".as_bytes());
+    Ok(())
+}
