@@ -1,0 +1,103 @@
+//! Lists of calls, made before they are timed.
+
+use jiff::Timestamp;
+use std::alloc::{AllocError, Global};
+use tracing_tree::call::Call;
+use tracing_tree::field::{Field, Fields};
+use tracing_tree::format::{Context, Id};
+use tracing_tree::registry::{Attributes, Event, Parent, Record};
+use tracing_tree::style::Level;
+use tracing_tree::text::Text;
+use tracing_tree::time::Moment;
+
+// Makes calls, one after another, and knows the ids that their spans will have.
+#[derive(Drop)]
+pub struct Calls {
+    alloc: Global,
+    list: Vec<Call>,
+    next: u64,
+}
+
+impl Calls {
+    // No calls yet, and this id for the next span.
+    pub fn new(alloc: Global, next: u64) -> Calls {
+        Calls {
+            alloc,
+            list: Vec::new(alloc),
+            next,
+        }
+    }
+
+    pub fn allocator(&self) -> Global {
+        self.alloc
+    }
+
+    pub fn into_list(self) -> Vec<Call> {
+        self.list
+    }
+
+    // The id of the next span.
+    pub fn next(&self) -> u64 {
+        self.next
+    }
+
+    // A new span below this one.
+    pub fn open(&mut self, current: Option<u64>) -> Result<u64, AllocError> {
+        let id = self.next;
+        let attributes = Attributes {
+            name: Text::from_str(self.alloc, "span")?,
+            target: Text::from_str(self.alloc, "bench")?,
+            parent: Parent::Current,
+            fields: Fields::from(vec![in self.alloc; Field::rendered(self.alloc, "key", "1")?]?),
+        };
+        let context = self.context(current)?;
+        self.list.push(Call::New(attributes, context))?;
+        self.next = id.wrapping_add(1);
+        Ok(id)
+    }
+
+    // An event with a message and a field.
+    pub fn tell(&mut self, message: &str, current: Option<u64>) -> Result<(), AllocError> {
+        let event = Event {
+            level: Level::Info,
+            target: Text::from_str(self.alloc, "bench")?,
+            parent: Parent::Current,
+            fields: Fields::from(vec![in self.alloc;
+                Field::rendered(self.alloc, "message", message)?,
+                Field::rendered(self.alloc, "n", "12")?,
+            ]?),
+        };
+        let context = self.context(current)?;
+        self.list.push(Call::Event(event, context))?;
+        Ok(())
+    }
+
+    pub fn close(&mut self, id: u64) -> Result<(), AllocError> {
+        let context = self.context(None)?;
+        self.list.push(Call::Close(Id(id), context))?;
+        Ok(())
+    }
+
+    pub fn clone_span(&mut self, id: u64) -> Result<(), AllocError> {
+        self.list.push(Call::Clone(Id(id)))?;
+        Ok(())
+    }
+
+    pub fn record(&mut self, id: u64) -> Result<(), AllocError> {
+        let fields = Fields::from(vec![in self.alloc; Field::rendered(self.alloc, "k", "v")?]?);
+        self.list.push(Call::Record(Id(id), Record { fields }))?;
+        Ok(())
+    }
+
+    fn context(&self, current: Option<u64>) -> Result<Context, AllocError> {
+        Ok(Context {
+            current: current.map(Id),
+            thread_id: 1,
+            thread_name: Some(Text::from_str(self.alloc, "main")?),
+            moment: Moment {
+                mono: 5_000_000_000,
+                wall: Timestamp::UNIX_EPOCH,
+            },
+        })
+    }
+}
