@@ -23,6 +23,8 @@ use tracing_tree_core::time::FormatTime;
 pub struct Layered<W: Output, FT: FormatTime> {
     registry: Registry,
     layer: HierarchicalLayer<W, FT>,
+    // What a close removes. It is kept so that its room is taken once.
+    closing: Vec<Id>,
 }
 
 impl<W: Output, FT: FormatTime> Model for Layered<W, FT> {
@@ -52,6 +54,7 @@ impl<W: Output, FT: FormatTime> Layered<W, FT> {
         Layered {
             registry: Registry::starting_at(alloc, first),
             layer,
+            closing: Vec::new(alloc),
         }
     }
 
@@ -81,8 +84,7 @@ impl<W: Output, FT: FormatTime> Layered<W, FT> {
         ensures registry { result.0 ≡ self.forest }
         ensures layer { result.1 ≡ self.layer }
     {
-        let Layered { registry, layer } = self;
-        (registry, layer)
+        (self.registry, self.layer)
     }
 
     /// Makes a call: the registry's part of it, the layer's rows, and the reply.
@@ -145,11 +147,9 @@ impl<W: Output, FT: FormatTime> Layered<W, FT> {
         ensures { Changes (seen FT.FormatTime W.Output)
             (IsAnswered (Call.Close id context.now) result) self.old self.new }
     {
-        let closing = self.registry.closing(self.layer.allocator(), id)?;
-        if let Err(refusal) = self
-            .layer
-            .write_closes(closing.as_slice(), &mut self.registry, context)
-        {
+        self.registry.closing_into(id, &mut self.closing)?;
+        let ids = self.closing.as_slice();
+        if let Err(refusal) = self.layer.write_closes(ids, &mut self.registry, context) {
             return Err(refusal);
         }
         Ok(Reply::Closed(self.registry.try_close(id)?))

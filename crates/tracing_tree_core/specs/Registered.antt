@@ -81,6 +81,11 @@ ListsClosing i (Err (NotHeld j)) forest = unless_handle forest i ≡ Some j
 ListsClosing i (Err Memory) forest = (unless_handle forest i ≡ None) × (closing_of forest i ≢ [])
 ListsClosing i (Err refusal) forest = ⊥
 
+-- the list, unless there is a refusal
+abbrev pub listed : Vec Id Global → Result (Unit {0}) Refusal → Result (Vec Id Global) Refusal
+listed ids (Ok done) = Ok ids
+listed ids (Err refusal) = Err refusal
+
 -- a list that isn't empty, and want of memory, come only with the last handle
 abbrev pub AsksLastHandle : Id → Result (Vec Id Global) Refusal → Forest → Type 0
 AsksLastHandle i (Ok ids) forest = ids.items ≢ [] → handles_of forest i ≡ 1

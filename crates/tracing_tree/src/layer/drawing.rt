@@ -157,9 +157,12 @@ impl<S: LookupSpan> Drawing<'_, S> {
         ensures live { let forest = S.forest self.now.spans.now in
             OnOk result (path_of_any forest (if_live forest parent) ≡ path_of_any forest parent) }
     {
-        match parent {
-            Some(parent) => Ok(self.spans.path(alloc, parent)?.len()),
-            None => Ok(0),
+        let Some(parent) = parent else {
+            return Ok(0);
+        };
+        match self.spans.kept_path(parent) {
+            Some(path) => Ok(path.len()),
+            None => Ok(self.spans.path(alloc, parent)?.len()),
         }
     }
 

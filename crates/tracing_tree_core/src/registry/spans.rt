@@ -4,7 +4,7 @@ ghost use Rattle.std.specs.Prelude.{◌≡◌, ◌<◌, ◌++◌, [], ◌∷◌,
 ghost use Rattle.std.specs.List.{list_any};
 ghost use Rattle.tracing_tree_core.specs.Ids.{id_of};
 ghost use Rattle.tracing_tree_core.specs.Forest.{IsForest, IsPathIfLive, IsClosing, empty_forest, span_at, is_live, is_child_of, parent_of, any_unless_live, path_of, id_after, closing_of, going_up, without_spans, take_back};
-ghost use Rattle.tracing_tree_core.specs.Registered.{IsNewSpan, IsCloned, IsClosed, ListsClosing, AsksLastHandle, IsNewest, IsKept, alone};
+ghost use Rattle.tracing_tree_core.specs.Registered.{IsNewSpan, IsCloned, IsClosed, ListsClosing, AsksLastHandle, listed, IsNewest, IsKept, alone};
 ghost use Rattle.tracing_tree_core.specs.Kept.{spans_of, kept_at, kept_path, with_child, without_span, AreBelow, IsTied};
 
 use super::node::Node;
@@ -143,6 +143,19 @@ impl Registry {
         // Something closes only with the last handle, and only then memory is asked for.
         ensures last { AsksLastHandle id result self.now }
     {
+        let mut ids = Vec::new(alloc);
+        self.closing_into(id, &mut ids)?;
+        Ok(ids)
+    }
+
+    /// As `closing`, in place of what the list has. It takes memory only where the list has too little room. After an error the
+    /// list is of no use.
+    pub fn closing_into(&self, id: Id, ids: &mut Vec<Id>) -> Result<(), Refusal>
+        ensures lists { ListsClosing id (listed ids.new result) self.now }
+        ensures longest { IfOk result (λ done. IsClosing self.now id ids.new.items) }
+        ensures last { AsksLastHandle id (listed ids.new result) self.now }
+    {
+        ids.clear();
         let Some(node) = self.nodes.get(id) else {
             return Err(Refusal::NotHeld(id));
         };
@@ -151,9 +164,11 @@ impl Registry {
         }
         let part = closing_part(&self.nodes, node);
         if part.is_empty() {
-            return Ok(Vec::new(alloc));
+            return Ok(());
         }
-        Ok(part.iter().rev().copied().collect(alloc)?)
+        ids.extend_from_slice(part)?;
+        ids.reverse();
+        Ok(())
     }
 
     /// The span, its parent, and so on up to its root; empty for an id that isn't live, which takes no memory. `AllocError`

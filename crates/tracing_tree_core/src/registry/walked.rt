@@ -3,7 +3,7 @@
 ghost use Rattle.std.specs.Prelude.{◌≡◌, None, IfOk, OnErr, reverse};
 ghost use Rattle.tracing_tree_core.specs.Ids.{id_of};
 ghost use Rattle.tracing_tree_core.specs.Forest.{IsForest, IsPathIfLive, IsClosing, empty_forest, span_at, path_of, take_back};
-ghost use Rattle.tracing_tree_core.specs.Registered.{IsNewSpan, IsCloned, IsClosed, ListsClosing, AsksLastHandle, IsNewest};
+ghost use Rattle.tracing_tree_core.specs.Registered.{IsNewSpan, IsCloned, IsClosed, ListsClosing, AsksLastHandle, listed, IsNewest};
 
 use super::{Attributes, Context, Data, LookupSpan, Registry, SpanRef};
 use crate::context::{Id, Refusal};
@@ -75,6 +75,15 @@ impl Walked {
         ensures last { AsksLastHandle id result self.now }
     {
         self.spans.closing(alloc, id)
+    }
+
+    /// As [`Registry::closing_into`].
+    pub fn closing_into(&self, id: Id, ids: &mut Vec<Id>) -> Result<(), Refusal>
+        ensures lists { ListsClosing id (listed ids.new result) self.now }
+        ensures longest { IfOk result (λ done. IsClosing self.now id ids.new.items) }
+        ensures last { AsksLastHandle id (listed ids.new result) self.now }
+    {
+        self.spans.closing_into(id, ids)
     }
 
     /// As [`Registry::scope`], by a walk.

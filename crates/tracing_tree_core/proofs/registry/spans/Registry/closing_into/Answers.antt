@@ -3,7 +3,7 @@ use Rattle.std.proofs.lemmas.Result.{err_from_is_err_and}
 use Rattle.tracing_tree_core.specs.Forest.{IsForest, closing_of}
 use Rattle.tracing_tree_core.proofs.KeptLists.{kept-id}
 use Rattle.tracing_tree_core.proofs.Registers.{seen, no-handle, zero-handles, some-handles, kept-own, closing-one, closing-whole, closing-whole-is, empty-part, some-part}
-use Rattle.tracing_tree_core.proofs.registry.spans.Registry.closing.Goals as goal
+use Rattle.tracing_tree_core.proofs.registry.spans.Registry.closing_into.Goals as goal
 
 pub returns-in_default-clause-lists : goal.returns-in_default-clause-lists
 returns-in_default-clause-lists c =
@@ -26,7 +26,7 @@ returns-then-is_empty-clause-lists c =
     c.in-Some.node.now.span.id part c.self.view_is (kept-id c.self.inside.nodes c.args.id c.in-Some.node.now (sym c.in-Some.ensures)) c.closing_part-part.ensures in
     let none : length part ≡ 0 = search rules in (
       some-handles c.args.self.now c.args.id _ here (λ none. c.if-handles-eq0.false (c.handles.ensures ∙ none)),
-      c.new.ensures.items ∙ sym (empty-part part _ none whole),
+      (search rules) ∙ sym (empty-part part _ none whole),
     )
 
 pub returns-then-is_empty-clause-longest : goal.returns-then-is_empty-clause-longest
@@ -35,8 +35,8 @@ returns-then-is_empty-clause-longest c =
     closing-whole-is c.args.self.now (subst IsForest c.self.view_is c.self.invariant.0.0) c.args.id _ _ here (returns-then-is_empty-clause-lists c).1
 
 -- no memory for what closes
-pub returns-in_err-collect-clause-lists : goal.returns-in_err-collect-clause-lists
-returns-in_err-collect-clause-lists c =
+pub returns-in_err-extend_from_slice-clause-lists : goal.returns-in_err-extend_from_slice-clause-lists
+returns-in_err-extend_from_slice-clause-lists c =
     let here = seen c.self.inside.nodes _ _ c.args.id _ c.self.view_is (sym c.in-Some.ensures) in
     let part = c.closing_part-part.result.now in
     let whole : reverse part ≡ closing_of c.args.self.now c.args.id = closing-whole c.self.inside.nodes c.self.inside.next c.args.self.now c.args.id
@@ -48,8 +48,8 @@ returns-in_err-collect-clause-lists c =
       some-part part _ some whole,
     )
 
-pub returns-in_err-collect-clause-last : goal.returns-in_err-collect-clause-last
-returns-in_err-collect-clause-last c =
+pub returns-in_err-extend_from_slice-clause-last : goal.returns-in_err-extend_from_slice-clause-last
+returns-in_err-extend_from_slice-clause-last c =
     let here = seen c.self.inside.nodes _ _ c.args.id _ c.self.view_is (sym c.in-Some.ensures) in
     let part = c.closing_part-part.result.now in
     let whole : reverse part ≡ closing_of c.args.self.now c.args.id = closing-whole c.self.inside.nodes c.self.inside.next c.args.self.now c.args.id
@@ -66,7 +66,7 @@ returns-clause-lists c =
     let part = c.closing_part-part.result.now in
     let whole : reverse part ≡ closing_of c.args.self.now c.args.id = closing-whole c.self.inside.nodes c.self.inside.next c.args.self.now c.args.id
     c.in-Some.node.now.span.id part c.self.view_is (kept-id c.self.inside.nodes c.args.id c.in-Some.node.now (sym c.in-Some.ensures)) c.closing_part-part.ensures in
-    let items : c.in_ok-collect.field-0.items ≡ reverse part = search rules in (
+    let items : c.reverse.new.self.items ≡ reverse part = search rules in (
       some-handles c.args.self.now c.args.id _ here (λ none. c.if-handles-eq0.false (c.handles.ensures ∙ none)),
       items ∙ whole,
     )
