@@ -1,4 +1,4 @@
-# `demo`, `build` and `test` need the kit's command `rt` and nothing else; `bench` needs Python 3 besides, and `faults` a C compiler too.
+# `demo`, `build` and `test` need the kit's command `rt` and nothing else; `bench` and `faults` need Python 3 and a C compiler besides.
 .PHONY: demo build read laws test bench faults
 
 # Draws the example.
@@ -31,8 +31,11 @@ test:
 	@misuse/run.sh
 	@rt ci
 
-# Times the program on inputs that it makes itself. It asserts nothing.
+# Times the library by its own calls, the program on inputs that are made here, and the reading of drawings. It asserts nothing.
 bench: build
+	@cd crates/tracing_tree_bench && { rt run < /dev/null > ../../bin/calls_bench.log 2>&1 || true; }
+	@$(CC) -O1 -shared -fPIC -o bin/count.so scripts/count.c -ldl
+	@python3 scripts/bench_calls.py crates/tracing_tree_bench/out/tracing_tree_bench bin/count.so
 	@python3 scripts/bench.py bin/tracing_tree
 	@cd crates/tracing_tree_rows_bench && { rt run < /dev/null > ../../bin/rows_bench.log 2>&1 || true; }
 	@python3 scripts/bench_rows.py bin/tracing_tree crates/tracing_tree_rows_bench/out/tracing_tree_rows_bench

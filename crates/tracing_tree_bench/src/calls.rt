@@ -2,6 +2,7 @@
 
 use jiff::Timestamp;
 use std::alloc::{AllocError, Global};
+use std::mem;
 use tracing_tree::call::Call;
 use tracing_tree::field::{Field, Fields};
 use tracing_tree::format::{Context, Id};
@@ -19,12 +20,12 @@ pub struct Calls {
 }
 
 impl Calls {
-    // No calls yet, and this id for the next span.
-    pub fn new(alloc: Global, next: u64) -> Calls {
+    // No calls yet, and 1 for the next span.
+    pub fn new(alloc: Global) -> Calls {
         Calls {
             alloc,
             list: Vec::new(alloc),
-            next,
+            next: 1,
         }
     }
 
@@ -32,13 +33,9 @@ impl Calls {
         self.alloc
     }
 
-    pub fn into_list(self) -> Vec<Call> {
-        self.list
-    }
-
-    // The id of the next span.
-    pub fn next(&self) -> u64 {
-        self.next
+    // The calls so far, which the list then lacks.
+    pub fn take(&mut self) -> Vec<Call> {
+        mem::replace(&mut self.list, Vec::new(self.alloc))
     }
 
     // A new span below this one.

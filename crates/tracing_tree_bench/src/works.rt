@@ -3,18 +3,18 @@
 ghost use Rattle.std.specs.Prelude.{◌≡◌, None, false};
 
 use crate::calls::Calls;
+use crate::sink::Sink;
 use jiff::tz::Offset;
 use std::alloc::{AllocError, Global};
-use tracing_tree::call::Call;
-use tracing_tree::format::Tape;
 use tracing_tree::layer::HierarchicalLayer;
 use tracing_tree::time::{Clock, LocalDateTime, Uptime, UtcDateTime};
 
-// Calls that have to stand first, and the calls that are timed.
-#[derive(Drop)]
-pub struct Script {
-    pub before: Vec<Call>,
-    pub timed: Vec<Call>,
+// The rounds of a batch: from this one on, and before that one, of so many.
+#[derive(Clone, Copy)]
+pub struct Batch {
+    pub from: u32,
+    pub to: u32,
+    pub of: u32,
 }
 
 #[derive(Clone, Copy, PartialEq, Eq)]
@@ -120,11 +120,11 @@ impl Work {
     }
 
     // A layer with the work's settings, over memory.
-    pub fn layer(self, alloc: Global) -> HierarchicalLayer<Tape, Clock<'static>>
+    pub fn layer(self, alloc: Global) -> HierarchicalLayer<Sink, Clock<'static>>
         ensures last { result.last ≡ None }
         ensures sound { result.failed ≡ false }
     {
-        let layer = HierarchicalLayer::new(alloc, 2, false, Tape::new(alloc))
+        let layer = HierarchicalLayer::new(alloc, 2, false, Sink { bytes: 0 })
             .with_indent_lines(true)
             .with_timer(self.clock());
         match self {
@@ -149,59 +149,56 @@ impl Work {
         }
     }
 
-    pub fn script(self, alloc: Global, rounds: u32) -> Result<Script, AllocError> {
-        let mut before = Calls::new(alloc, 1);
+    // What has to stand before so many rounds.
+    pub fn prepare(self, calls: &mut Calls, rounds: u32) -> Result<(), AllocError> {
         match self {
-            Work::Alternating10 => leaves(&mut before, 10)?,
-            Work::Alternating100 => leaves(&mut before, 100)?,
-            Work::Alternating1000 => leaves(&mut before, 1_000)?,
-            Work::CloseOldest | Work::CloseNewest | Work::CloseShuffled => roots(
-                &mut before,
-                rounds,
-            )?,
-            Work::Below10 => chain(&mut before, 10)?,
-            Work::Chain => chain(&mut before, rounds)?,
-            Work::Spread => roots(&mut before, 1_000_000)?,
+            Work::Alternating10 => leaves(calls, 10),
+            Work::Alternating100 => leaves(calls, 100),
+            Work::Alternating1000 => leaves(calls, 1_000),
+            Work::CloseOldest | Work::CloseNewest | Work::CloseShuffled => roots(calls, rounds),
+            Work::Below10 => chain(calls, 10),
+            Work::Chain => chain(calls, rounds),
+            Work::Spread => roots(calls, 1_000_000),
             Work::Event | Work::EventUtc | Work::EventLocal | Work::EventUptime | Work::LongText =>
-                {
-                    roots(&mut before, 1)?;
-                }
-            Work::CloseLeaf => leaves_of_one(&mut before, rounds)?,
-            Work::Nested | Work::NestedStyled | Work::NestedRetraced => {}
+                { roots(calls, 1) }
+            Work::CloseLeaf => leaves_of_one(calls, rounds),
+            Work::Nested | Work::NestedStyled | Work::NestedRetraced => Ok(()),
         }
-        let next = before.next();
-        let timed = self.timed(Calls::new(alloc, next), rounds)?;
-        Ok(Script {
-            before: before.into_list(),
-            timed,
-        })
     }
 
-    fn timed(self, mut calls: Calls, rounds: u32) -> Result<Vec<Call>, AllocError> {
-        match self {
-            Work::Nested | Work::NestedStyled | Work::NestedRetraced => nested(&mut calls, rounds)?,
-            Work::Alternating10 => alternating(&mut calls, 10, rounds)?,
-            Work::Alternating100 => alternating(&mut calls, 100, rounds)?,
-            Work::Alternating1000 => alternating(&mut calls, 1_000, rounds)?,
-            Work::CloseOldest | Work::Chain => close_from(&mut calls, 1, rounds)?,
-            Work::CloseNewest => close_back(&mut calls, rounds)?,
-            Work::CloseShuffled => close_shuffled(&mut calls, rounds)?,
-            Work::Below10 => open_and_close(&mut calls, rounds)?,
-            Work::Spread => spread(&mut calls, rounds)?,
-            Work::Event | Work::EventUtc | Work::EventLocal | Work::EventUptime => {
-                events(&mut calls, "something happened", rounds)?;
-            }
-            Work::CloseLeaf => close_from(&mut calls, 2, rounds)?,
-            Work::LongText => long_events(&mut calls, rounds)?,
+    // The calls of a batch.
+    pub fn fill(self, calls: &mut Calls, batch: Batch) -> Result<(), AllocError> {
+        for round in batch.from..batch.to {
+            self.round(calls, u64::from(round), u64::from(batch.of))?;
         }
-        Ok(calls.into_list())
+        Ok(())
+    }
+
+    // The calls of a round, of so many.
+    fn round(self, calls: &mut Calls, round: u64, of: u64) -> Result<(), AllocError> {
+        match self {
+            Work::Nested | Work::NestedStyled | Work::NestedRetraced => nested(calls),
+            Work::Alternating10 => alternating(calls, 10),
+            Work::Alternating100 => alternating(calls, 100),
+            Work::Alternating1000 => alternating(calls, 1_000),
+            Work::CloseOldest | Work::Chain => calls.close(round.wrapping_add(1)),
+            Work::CloseNewest => calls.close(of.wrapping_sub(round)),
+            Work::CloseShuffled => calls.close(shuffled(round, of)),
+            Work::Below10 => open_and_close(calls),
+            Work::Spread => spread(calls, shuffled(round, 1_000_000)),
+            Work::Event | Work::EventUtc | Work::EventLocal | Work::EventUptime => {
+                calls.tell("something happened", Some(1))
+            }
+            Work::CloseLeaf => calls.close(round.wrapping_add(2)),
+            Work::LongText => long_event(calls),
+        }
     }
 }
 
 // Every setting but the lines and those that retrace.
-fn styled(layer: HierarchicalLayer<Tape, Clock<'static>>) -> HierarchicalLayer<Tape, Clock<'static>>
-    ensures last { result.last ≡ layer.last }
-    ensures failed { result.failed ≡ layer.failed }
+fn styled(layer: HierarchicalLayer<Sink, Clock<'static>>) -> HierarchicalLayer<Sink, Clock<'static>>
+    ensures last { result.last ≡ layer.entry.last }
+    ensures failed { result.failed ≡ layer.entry.failed }
 {
     layer
         .with_ansi(true)
@@ -215,17 +212,15 @@ fn styled(layer: HierarchicalLayer<Tape, Clock<'static>>) -> HierarchicalLayer<T
         .with_wraparound(8)
 }
 
-fn nested(calls: &mut Calls, rounds: u32) -> Result<(), AllocError> {
-    for _round in 0..rounds {
-        let root = calls.open(None)?;
-        let second = calls.open(Some(root))?;
-        let third = calls.open(Some(second))?;
-        let fourth = calls.open(Some(third))?;
-        let leaf = calls.open(Some(fourth))?;
-        calls.tell("something happened", Some(leaf))?;
-        for id in [leaf, fourth, third, second, root] {
-            calls.close(id)?;
-        }
+fn nested(calls: &mut Calls) -> Result<(), AllocError> {
+    let root = calls.open(None)?;
+    let second = calls.open(Some(root))?;
+    let third = calls.open(Some(second))?;
+    let fourth = calls.open(Some(third))?;
+    let leaf = calls.open(Some(fourth))?;
+    calls.tell("something happened", Some(leaf))?;
+    for id in [leaf, fourth, third, second, root] {
+        calls.close(id)?;
     }
     Ok(())
 }
@@ -254,69 +249,40 @@ fn chain(calls: &mut Calls, spans: u32) -> Result<(), AllocError> {
     Ok(())
 }
 
-// Two chains below one root.
+// A chain of so many spans, and a second leaf beside its last.
 fn leaves(calls: &mut Calls, depth: u32) -> Result<(), AllocError> {
-    chain(calls, depth)?;
-    chain(calls, depth)
-}
-
-fn alternating(calls: &mut Calls, depth: u64, rounds: u32) -> Result<(), AllocError> {
-    for _round in 0..rounds {
-        calls.tell("something happened", Some(depth))?;
-        calls.tell("something happened", Some(depth.wrapping_mul(2)))?;
+    let mut above = None;
+    let mut last = None;
+    for _span in 0..depth {
+        above = last;
+        last = Some(calls.open(last)?);
     }
+    calls.open(above)?;
     Ok(())
 }
 
-fn close_from(calls: &mut Calls, first: u64, spans: u32) -> Result<(), AllocError> {
-    for n in 0..spans {
-        calls.close(u64::from(n).wrapping_add(first))?;
-    }
-    Ok(())
+fn alternating(calls: &mut Calls, depth: u64) -> Result<(), AllocError> {
+    calls.tell("something happened", Some(depth))?;
+    calls.tell("something happened", Some(depth.wrapping_add(1)))
 }
 
-fn close_back(calls: &mut Calls, spans: u32) -> Result<(), AllocError> {
-    for n in 0..spans {
-        calls.close(u64::from(spans - n))?;
-    }
-    Ok(())
+// Each id up to this number once, by steps of a prime.
+fn shuffled(round: u64, of: u64) -> u64 {
+    let place = round.wrapping_mul(7_919).checked_rem(of).unwrap_or(0);
+    place.wrapping_add(1)
 }
 
-// Each id once, by steps of a prime that does not divide how many there are.
-fn close_shuffled(calls: &mut Calls, spans: u32) -> Result<(), AllocError> {
-    let count = u64::from(spans);
-    for n in 0..spans {
-        let place = u64::from(n).wrapping_mul(7_919);
-        calls.close(place.checked_rem(count).unwrap_or(0).wrapping_add(1))?;
-    }
-    Ok(())
+fn open_and_close(calls: &mut Calls) -> Result<(), AllocError> {
+    let id = calls.open(Some(10))?;
+    calls.close(id)
 }
 
-fn open_and_close(calls: &mut Calls, rounds: u32) -> Result<(), AllocError> {
-    for _round in 0..rounds {
-        let id = calls.open(Some(10))?;
-        calls.close(id)?;
-    }
-    Ok(())
+fn spread(calls: &mut Calls, id: u64) -> Result<(), AllocError> {
+    calls.clone_span(id)?;
+    calls.record(id)
 }
 
-fn spread(calls: &mut Calls, rounds: u32) -> Result<(), AllocError> {
-    for n in 0..rounds {
-        let id = (u64::from(n).wrapping_mul(7_919) % 1_000_000).wrapping_add(1);
-        calls.clone_span(id)?;
-        calls.record(id)?;
-    }
-    Ok(())
-}
-
-fn events(calls: &mut Calls, message: &str, rounds: u32) -> Result<(), AllocError> {
-    for _round in 0..rounds {
-        calls.tell(message, Some(1))?;
-    }
-    Ok(())
-}
-
-fn long_events(calls: &mut Calls, rounds: u32) -> Result<(), AllocError> {
+fn long_event(calls: &mut Calls) -> Result<(), AllocError> {
     let message = "x".repeat(calls.allocator(), 1 << 20)?;
-    events(calls, message.as_str(), rounds)
+    calls.tell(message.as_str(), Some(1))
 }
