@@ -6,6 +6,7 @@ ghost use Rattle.tracing_tree_core.specs.Texts.{label};
 pub mod buffers;
 pub mod config;
 mod draw;
+pub mod event;
 pub mod output;
 
 pub use crate::context::{Context, Id, Refusal};
@@ -13,6 +14,7 @@ pub use crate::field::{Field, Fields};
 pub use buffers::Buffers;
 pub use config::Config;
 pub use draw::push_frame;
+pub use event::{FmtEvent, push_event_field, push_named, push_shown};
 pub use output::{Output, OutputFault, Tape, Wrap};
 use std::alloc::AllocError;
 

@@ -6,28 +6,11 @@ ghost use Rattle.tracing_tree.specs.Block.{shown_target, shown_brace, span_text,
 
 use std::alloc::AllocError;
 use tracing_tree_core::field::Field;
-use tracing_tree_core::format::{Config, SpanMode, write_span_mode};
+use tracing_tree_core::format::{
+    Config, SpanMode, push_event_field, push_named, push_shown, write_span_mode,
+};
 use tracing_tree_core::registry::{Event, SpanRef};
 use tracing_tree_core::style::{Style, push_level, push_styled};
-
-// `name=value`
-fn push_named(out: &mut String, field: &Field) -> Result<(), AllocError>
-    ensures { OnOk result (string_bytes out.new ≡ string_bytes out.old ++ named_value field.now) }
-{
-    out.push_str(field.name.as_str())?;
-    out.push_str("=")?;
-    out.push_str(field.value.as_str())
-}
-
-// A message shows its value alone.
-fn push_field(out: &mut String, field: &Field) -> Result<(), AllocError>
-    ensures { OnOk result (string_bytes out.new ≡ string_bytes out.old ++ shown_field field.now) }
-{
-    if field.name.as_str() == "message" {
-        return out.push_str(field.value.as_str());
-    }
-    push_named(out, field)
-}
 
 // The fields of a span. Only in the first place is a message shown alone.
 fn push_span_fields(out: &mut String, fields: &[Field]) -> Result<(), AllocError>
@@ -36,7 +19,7 @@ fn push_span_fields(out: &mut String, fields: &[Field]) -> Result<(), AllocError
     let Some((first, others)) = fields.split_first() else {
         return Ok(());
     };
-    push_field(out, first)?;
+    push_shown(out, first)?;
     for field in others {
         out.push_str(", ")?;
         push_named(out, field)?;
@@ -119,20 +102,7 @@ fn push_event_fields(out: &mut String, fields: &[Field]) -> Result<(), AllocErro
 {
     let mut comma = false;
     for field in fields {
-        push_event_field(out, field, &mut comma)?;
+        push_event_field(out, &mut comma, field)?;
     }
     Ok(())
-}
-
-// One field of an event, and whether a comma stands before the next one. Fields of a log record are skipped.
-fn push_event_field(out: &mut String, field: &Field, comma: &mut bool) -> Result<(), AllocError>
-    ensures text { OnOk result (string_bytes out.new ≡ string_bytes out.old ++ event_field comma.old field.now) }
-    ensures comma { OnOk result (comma.new ≡ comma_after comma.old field.now) }
-{
-    if field.name.as_str().starts_with("log.") {
-        return Ok(());
-    }
-    out.push_str(if *comma { ", " } else { " " })?;
-    *comma = true;
-    push_field(out, field)
 }
