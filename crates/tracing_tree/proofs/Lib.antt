@@ -25,3 +25,8 @@ pub mod OpenedLines
 pub mod Reading
 pub mod WorkedLaws
 pub mod RowsRead
+pub mod DifferenceLemmas
+pub mod DifferenceRunLaws
+pub mod DifferenceYields
+pub mod DifferingLaws
+pub mod WorkedDifference

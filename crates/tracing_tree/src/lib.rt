@@ -2,12 +2,14 @@
 #![tactic(auto)]
 
 pub mod call;
+pub mod difference;
 pub mod layer;
 pub mod layered;
 pub mod lines;
 pub mod rows;
 
 pub use call::{Call, Reply};
+pub use difference::DifferenceIter;
 pub use layer::HierarchicalLayer;
 pub use layered::Layered;
 pub use lines::{LineCause, LineFault, LinesRun, run_lines, status};

@@ -8,6 +8,8 @@ mod calls;
 #[cfg(test)]
 mod clocks;
 #[cfg(test)]
+mod difference;
+#[cfg(test)]
 mod lines;
 #[cfg(test)]
 mod lone;

@@ -4,7 +4,7 @@ use crate::making::at;
 use std::alloc::Global;
 use std::test::*;
 use tracing_tree::field::Field;
-use tracing_tree::format::{Buffers, Config, Refusal, SpanMode, Tape, write_span_mode};
+use tracing_tree::format::{Buffers, Config, FmtEvent, Refusal, SpanMode, Tape, write_span_mode};
 use tracing_tree::style::{ColorLevel, Level, Style, styled};
 use tracing_tree::text::Text;
 use tracing_tree::time::{FormatTime, TimeFault};
@@ -138,4 +138,21 @@ fn no_timer_appends_nothing(rt: HostRuntime) {
         texts_of_timer(alloc, &&()).is_ok_and(|text| text.is_empty()),
         true
     );
+}
+
+#[test]
+fn records_the_fields_of_an_event(rt: HostRuntime) -> Result<(), Fail> {
+    let alloc = rt.alloc();
+    let mut bufs = Buffers::new(alloc);
+    let mut list = FmtEvent {
+        bufs: &mut bufs,
+        comma: false,
+    };
+    list.record(&Field::rendered(alloc, "log.file", "f")?)?;
+    assert_eq!(rt; list.comma, false);
+    list.record(&Field::rendered(alloc, "message", "m")?)?;
+    list.record(&Field::rendered(alloc, "k", "1")?)?;
+    assert_eq!(rt; list.comma, true);
+    assert_eq!(rt; bufs.current_buf.as_str(), " m, k=1");
+    Ok(())
 }
