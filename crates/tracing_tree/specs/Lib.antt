@@ -26,4 +26,4 @@ pub mod LineReads
 pub mod LineSteps
 pub mod Differences
 pub mod Headline
-pub mod Difference
+pub mod SideBySide
