@@ -15,7 +15,7 @@ import sys
 ROUNDS = {
     "nested": 20_000, "nested-styled": 20_000, "nested-retraced": 20_000,
     "alternating-10": 10_000, "alternating-100": 10_000, "alternating-1000": 10_000,
-    "below-10": 100_000, "chain": 10_000, "spread": 100_000, "long-text": 50, "close-leaf": 100_000,
+    "below-10": 100_000, "chain": 10_000, "spread-1000": 100_000, "spread-1000000": 100_000, "long-text": 50, "close-leaf": 100_000,
     "event": 100_000, "event-utc": 100_000, "event-local": 100_000, "event-uptime": 100_000,
 }
 CLOSES = ("close-oldest", "close-newest", "close-shuffled")

@@ -17,6 +17,7 @@ pub struct Calls {
     alloc: Global,
     list: Vec<Call>,
     next: u64,
+    wall: Timestamp,
 }
 
 impl Calls {
@@ -26,6 +27,7 @@ impl Calls {
             alloc,
             list: Vec::new(alloc),
             next: 1,
+            wall: Timestamp::new(951_827_696, 123_456_789).unwrap_or(Timestamp::UNIX_EPOCH),
         }
     }
 
@@ -93,7 +95,7 @@ impl Calls {
             thread_name: Some(Text::from_str(self.alloc, "main")?),
             moment: Moment {
                 mono: 5_000_000_000,
-                wall: Timestamp::UNIX_EPOCH,
+                wall: self.wall,
             },
         })
     }

@@ -52,8 +52,11 @@ pub enum Work {
     // A chain that closes at once with its last span: its closes.
     Chain,
 
-    // Clones and records in turn, spread over a million live spans.
-    Spread,
+    // Clones and records in turn, spread over a thousand live spans.
+    Spread1000,
+
+    // The same over a million.
+    Spread1000000,
 
     // Events in one span.
     Event,
@@ -71,7 +74,7 @@ pub enum Work {
 }
 
 impl Work {
-    pub const ALL: [Work; 18] = [
+    pub const ALL: [Work; 19] = [
         Work::Nested,
         Work::NestedStyled,
         Work::NestedRetraced,
@@ -83,7 +86,8 @@ impl Work {
         Work::CloseShuffled,
         Work::Below10,
         Work::Chain,
-        Work::Spread,
+        Work::Spread1000,
+        Work::Spread1000000,
         Work::Event,
         Work::EventUtc,
         Work::EventLocal,
@@ -105,7 +109,8 @@ impl Work {
             Work::CloseShuffled => "close-shuffled",
             Work::Below10 => "below-10",
             Work::Chain => "chain",
-            Work::Spread => "spread",
+            Work::Spread1000 => "spread-1000",
+            Work::Spread1000000 => "spread-1000000",
             Work::Event => "event",
             Work::EventUtc => "event-utc",
             Work::EventLocal => "event-local",
@@ -158,7 +163,8 @@ impl Work {
             Work::CloseOldest | Work::CloseNewest | Work::CloseShuffled => roots(calls, rounds),
             Work::Below10 => chain(calls, 10),
             Work::Chain => chain(calls, rounds),
-            Work::Spread => roots(calls, 1_000_000),
+            Work::Spread1000 => roots(calls, 1_000),
+            Work::Spread1000000 => roots(calls, 1_000_000),
             Work::Event | Work::EventUtc | Work::EventLocal | Work::EventUptime | Work::LongText =>
                 { roots(calls, 1) }
             Work::CloseLeaf => leaves_of_one(calls, rounds),
@@ -185,7 +191,8 @@ impl Work {
             Work::CloseNewest => calls.close(of.wrapping_sub(round)),
             Work::CloseShuffled => calls.close(shuffled(round, of)),
             Work::Below10 => open_and_close(calls),
-            Work::Spread => spread(calls, shuffled(round, 1_000_000)),
+            Work::Spread1000 => spread(calls, shuffled(round, 1_000)),
+            Work::Spread1000000 => spread(calls, shuffled(round, 1_000_000)),
             Work::Event | Work::EventUtc | Work::EventLocal | Work::EventUptime => {
                 calls.tell("something happened", Some(1))
             }
