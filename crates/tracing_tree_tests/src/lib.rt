@@ -6,6 +6,8 @@ mod calls;
 #[cfg(test)]
 mod clocks;
 #[cfg(test)]
+mod instants;
+#[cfg(test)]
 mod lines;
 #[cfg(test)]
 mod lone;
