@@ -14,7 +14,11 @@ mod lone;
 #[cfg(test)]
 mod making;
 #[cfg(test)]
+mod model;
+#[cfg(test)]
 mod outputs;
+#[cfg(test)]
+mod paths;
 #[cfg(test)]
 mod readme;
 #[cfg(test)]
@@ -29,3 +33,5 @@ mod texts;
 mod timed;
 #[cfg(test)]
 mod timers;
+#[cfg(test)]
+mod walked;
