@@ -1,7 +1,5 @@
 //! Clocks: the texts that they append.
 
-ghost use Rattle.std.specs.Prelude.{◌<◌, ◌≤◌};
-
 use jiff::Timestamp;
 use std::alloc::{AllocError, Global};
 use std::test::*;
@@ -81,16 +79,14 @@ fn hundredths(alloc: Global, count: u64, unit: &str) -> Result<String, AllocErro
 }
 
 // Whether the tie after this count goes to the even count, and its neighbours to the nearest.
-fn is_tie_even(alloc: Global, size: u64, unit: &str, count: u64) -> Result<bool, TimeFault>
-    requires size { size ≤ 10_000_000 }
-    requires count { count < 1_000_000 }
-{
-    let tie = count * size + size / 2;
-    let even = count + count % 2;
+fn is_tie_even(alloc: Global, size: u64, unit: &str, count: u64) -> Result<bool, TimeFault> {
+    let tie = count.wrapping_mul(size).wrapping_add(size / 2);
+    let more = count.wrapping_add(1);
+    let even = if count % 2 == 0 { count } else { more };
     for (nanos, count) in [
         (tie.wrapping_sub(1), count),
         (tie, even),
-        (tie + 1, count + 1),
+        (tie.wrapping_add(1), more),
     ] {
         let Ok(wanted) = hundredths(alloc, count, unit) else {
             return Err(TimeFault::Memory);
@@ -102,12 +98,15 @@ fn is_tie_even(alloc: Global, size: u64, unit: &str, count: u64) -> Result<bool,
     Ok(true)
 }
 
-// The ties after so many counts, near an end of a unit.
-fn are_ties_even(alloc: Global, size: u64, unit: &str, from: u64) -> Result<bool, TimeFault>
-    requires size { size ≤ 10_000_000 }
-    requires from { from < 999_000 }
-{
-    for count in from..from + 999 {
+// Whether it does so after each of these counts.
+fn are_ties_even(
+    alloc: Global,
+    size: u64,
+    unit: &str,
+    first: u64,
+    last: u64,
+) -> Result<bool, TimeFault> {
+    for count in first..=last {
         if !is_tie_even(alloc, size, unit, count)? {
             return Ok(false);
         }
@@ -115,17 +114,18 @@ fn are_ties_even(alloc: Global, size: u64, unit: &str, from: u64) -> Result<bool
     Ok(true)
 }
 
+// The thousand ties at each end of each unit: 10 ns, 10 μs and 10 ms are a hundredth.
 #[test]
 fn ties_go_to_the_even_count(rt: HostRuntime) -> Result<(), TimeFault> {
-    for (size, unit, from) in [
-        (10, "μs", 0),
-        (10, "μs", 99_000),
-        (10_000, "ms", 100),
-        (10_000, "ms", 99_000),
-        (10_000_000, "s ", 100),
-        (10_000_000, "s ", 99_500),
+    for (size, unit, first, last) in [
+        (10, "μs", 0, 999),
+        (10, "μs", 99_000, 99_999),
+        (10_000, "ms", 100, 1_099),
+        (10_000, "ms", 99_000, 99_999),
+        (10_000_000, "s ", 100, 1_099),
+        (10_000_000, "s ", 1_844_674_406_371, 1_844_674_407_370),
     ] {
-        assert!(rt; are_ties_even(rt.alloc(), size, unit, from)?);
+        assert!(rt; are_ties_even(rt.alloc(), size, unit, first, last)?);
     }
     Ok(())
 }

@@ -10,13 +10,19 @@ mod clocks;
 #[cfg(test)]
 mod difference;
 #[cfg(test)]
+mod instants;
+#[cfg(test)]
 mod lines;
 #[cfg(test)]
 mod lone;
 #[cfg(test)]
 mod making;
 #[cfg(test)]
+mod model;
+#[cfg(test)]
 mod outputs;
+#[cfg(test)]
+mod paths;
 #[cfg(test)]
 mod readme;
 #[cfg(test)]
@@ -31,3 +37,5 @@ mod texts;
 mod timed;
 #[cfg(test)]
 mod timers;
+#[cfg(test)]
+mod walked;

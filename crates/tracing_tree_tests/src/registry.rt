@@ -12,7 +12,8 @@ use tracing_tree::layered::Layered;
 use tracing_tree::registry::{Attributes, Data, LookupSpan, Parent, Record, Registry};
 use tracing_tree::text::Text;
 
-fn attributes(alloc: Global, name: &str, parent: Parent) -> Result<Attributes, AllocError> {
+/// What a new span of this name, without fields, is made of.
+pub fn attributes(alloc: Global, name: &str, parent: Parent) -> Result<Attributes, AllocError> {
     Ok(Attributes {
         name: Text::from_str(alloc, name)?,
         target: Text::from_str(alloc, "t")?,
