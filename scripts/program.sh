@@ -1,10 +1,12 @@
 #!/bin/bash
-# Runs the built program as its users do: over each worked case, and over inputs and outputs that are missing, full or gone. It
-# prints how many runs ended as they must, names each other run, and ends with status 1 if there is one.
+# Runs the built programs as their users do: the one that draws over each worked case, and over inputs and outputs that are missing,
+# full or gone; then the one that reads. It prints how many runs ended as they must, names each other run, and ends with status 1 if
+# there is one.
 #
-# usage: program.sh PROGRAM
+# usage: program.sh DRAWING_PROGRAM READING_PROGRAM
 set -u
 program=$(realpath "$1")
+reader=$(realpath "$2")
 top=$(cd "$(dirname "$0")/.." && pwd)
 cases=$top/crates/tracing_tree_cases
 tree=$cases/data/first/tree
@@ -34,11 +36,12 @@ lines() {
     printf '%s\n' "${@:2}" > "$room/$1"
 }
 
-# The bytes of a file, a few at a time.
+# The lines of a file, each in two pieces.
 pieces() {
-    while dd bs=37 count=1 status=none of="$room/piece" && [ -s "$room/piece" ]; do
-        cat "$room/piece"
+    while IFS= read -r line; do
+        printf '%s' "${line:0:20}"
         sleep 0.02
+        printf '%s\n' "${line:20}"
     done < "$1"
 }
 
@@ -150,6 +153,50 @@ run_errors() {
     done
 }
 
+# The program that reads: a drawing, and the faults that it tells.
+run_reader() {
+    program=$reader
+    lines rows \
+        '{"shape":"OpenRoot","level":0,"lines":["a "]}' \
+        '{"shape":"Open","verbose":false,"level":1,"lines":["b "]}' \
+        '{"shape":"Event","level":2,"lines":[" WARN x"],"ancestors":[0,1]}' \
+        '{"shape":"Close","verbose":false,"level":1,"lines":[""]}' \
+        '{"shape":"CloseRoot","level":0,"lines":[""]}'
+    run < "$tree.out" > "$room/out" 2> "$room/err"
+    count "that reads" "$room/rows" "$room/none" 0
+    run < /dev/null > "$room/out" 2> "$room/err"
+    count "that reads, without input" "$room/none" "$room/none" 0
+    run < "$room" > "$room/out" 2> "$room/err"
+    count "that reads, on a directory" "$room/none" "$room/read" 1
+    { cat "$tree.out"; echo '│'; } > "$room/no_row.in"
+    lines no_row 'line 6: not a row'
+    run < "$room/no_row.in" > "$room/out" 2> "$room/err"
+    count "that reads, on what is no row" "$room/rows" "$room/no_row" 1
+    cp "$room/none" "$room/out"
+    run < "$tree.out" > /dev/full 2> "$room/err"
+    count "that reads, on a full device" "$room/none" "$room/end_writer" 1
+    run < "$tree.out" >&- 2> "$room/err"
+    count "that reads, with standard output closed" "$room/none" "$room/end_writer" 1
+}
+
+# The arguments of the program that reads. What it tells of them isn't promised: an x stands in place of it.
+run_arguments() {
+    lines rows_4 '{"shape":"Open","verbose":false,"level":1,"lines":["b "]}'
+    run --amount 4 < <(echo '└───┐b ') > "$room/out" 2> "$room/err"
+    count "that reads, with amount 4" "$room/rows_4" "$room/none" 0
+    echo x > "$room/told"
+    for word in --amount=1 --amount=x --amount --unknown -x "$tree.out"; do
+        run "$word" < "$tree.out" > "$room/out" 2> "$room/err"
+        [ -s "$room/err" ] && cp "$room/told" "$room/err"
+        count "that reads, with $word" "$room/none" "$room/told" 2
+    done
+    for word in --help --version; do
+        run "$word" < "$tree.out" > "$room/out" 2> "$room/err"
+        [ -s "$room/out" ] && cp "$room/told" "$room/out"
+        count "that reads, with $word" "$room/told" "$room/none" 0
+    done
+}
+
 make_files
 run_cases
 run_inputs
@@ -157,5 +204,7 @@ run_memory
 run_outputs
 run_pipes
 run_errors
+run_reader
+run_arguments
 echo "program: $right of $runs runs ended as they must"
 [ "$right" = "$runs" ]
