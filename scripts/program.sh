@@ -95,6 +95,16 @@ run_inputs() {
     count "with arguments" "$tree.out" "$room/none" 0
 }
 
+# A first line padded with a million spaces, a name of ten million bytes, and a value of a million parts under a key that no call has.
+run_large() {
+    { printf '{"indent_lines":'; head -c 1000000 /dev/zero | tr '\0' ' '; echo 'true}'
+      printf '{"call":"new","name":"'; head -c 10000000 /dev/zero | tr '\0' n; echo '"}'
+      printf '{"call":"close","id":1,"x":['; yes 1, | head -n 1000000 | tr -d '\n'; echo '1]}'; } > "$room/large.in"
+    { printf '┐'; head -c 10000000 /dev/zero | tr '\0' n; printf ' \n┘\n'; } > "$room/large"
+    run < "$room/large.in" > "$room/out" 2> "$room/err"
+    count "on long lines" "$room/large" "$room/none" 0
+}
+
 # A line that is longer than the memory that the program may take.
 run_memory() {
     status=$(ulimit -v 50000; run < "$room/wide.in" > "$room/out" 2> "$room/err"; echo "$status")
@@ -200,6 +210,7 @@ run_arguments() {
 make_files
 run_cases
 run_inputs
+run_large
 run_memory
 run_outputs
 run_pipes

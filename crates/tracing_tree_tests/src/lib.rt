@@ -6,6 +6,10 @@ mod calls;
 #[cfg(test)]
 mod clocks;
 #[cfg(test)]
+mod faults;
+#[cfg(test)]
+mod large;
+#[cfg(test)]
 mod lines;
 #[cfg(test)]
 mod lone;
@@ -13,6 +17,8 @@ mod lone;
 mod making;
 #[cfg(test)]
 mod outputs;
+#[cfg(test)]
+mod readback;
 #[cfg(test)]
 mod readme;
 #[cfg(test)]
