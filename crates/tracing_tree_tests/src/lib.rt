@@ -10,7 +10,11 @@ mod clocks;
 #[cfg(test)]
 mod difference;
 #[cfg(test)]
+mod faults;
+#[cfg(test)]
 mod instants;
+#[cfg(test)]
+mod large;
 #[cfg(test)]
 mod lines;
 #[cfg(test)]
@@ -23,6 +27,8 @@ mod model;
 mod outputs;
 #[cfg(test)]
 mod paths;
+#[cfg(test)]
+mod readback;
 #[cfg(test)]
 mod readme;
 #[cfg(test)]

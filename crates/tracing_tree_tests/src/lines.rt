@@ -132,6 +132,46 @@ fn long_lines(rt: HostRuntime) -> Result<(), Fail> {
     Ok(())
 }
 
+// Lines longer than the buffer of the input, which spell no settings or no call.
+#[test]
+fn long_lines_that_are_wrong(rt: HostRuntime) -> Result<(), Fail> {
+    let alloc = rt.alloc();
+    let long = " ".repeat(alloc, 200_000)?;
+    for (text, line, cause) in [
+        (format!(in alloc; "{{{long}\n")?, 1, LineCause::Settings),
+        (
+            format!(in alloc; "{{\"ansi\":{long}1}}\n")?,
+            1,
+            LineCause::Settings,
+        ),
+        (
+            format!(in alloc; "{{}}\n{{{long}\n")?,
+            2,
+            LineCause::NotACall,
+        ),
+        (
+            format!(in alloc; "{{}}\n{{\"x\":\"{long}")?,
+            2,
+            LineCause::NotACall,
+        ),
+        (
+            format!(in alloc; "{{}}\n{{\"call\":\"new\",\"name\":\"{long}\",\"x\":1.5}}")?,
+            2,
+            LineCause::NotACall,
+        ),
+        (
+            format!(in alloc; "{{}}\n{{\"call\":\"close\",\"id\":{long}\"1\"}}")?,
+            2,
+            LineCause::NotACall,
+        ),
+    ] {
+        let ran = run_lines(alloc, text.as_bytes(), Tape::new(alloc));
+        assert_eq!(rt; ran.fault, Some(LineFault { line, cause }));
+        assert_eq!(rt; ran.writer.bytes().is_empty(), true);
+    }
+    Ok(())
+}
+
 // Nothing is read behind the line that ended the run.
 #[test]
 fn reads_no_further(rt: HostRuntime) {

@@ -128,6 +128,8 @@ fn refuses_what_is_no_row(rt: HostRuntime) -> Result<(), Fail> {
 fn reads_odd_texts(rt: HostRuntime) -> Result<(), Fail> {
     reads_as(&rt, "┐┐ \n", "OpenRoot 0|┐ \n")?;
     reads_as(&rt, "┐a\n┐┐b \n", "OpenRoot 0|a\nOpenRoot 0|┐b \n")?;
+    reads_as(&rt, "INFO x\n", "Event 0|INFO x\n")?;
+    reads_as(&rt, "├─ INFO x\n│  y\n", "Event 1| INFO x|y\n")?;
     reads_as(&rt, "├─x\r\n", "Event 1|x\r\n")
 }
 
@@ -376,11 +378,28 @@ fn prints_the_rows_before_a_fault(rt: HostRuntime) -> Result<(), Fail> {
         assert_eq!(rt; ended, Err(RowFault { line, cause }));
         assert_eq!(rt; out.as_slice(), wanted.as_bytes());
     }
-    let fault = RowFault {
-        line: 3,
-        cause: RowCause::NotARow,
-    };
-    assert_eq!(rt; fault.to_string(alloc)?.as_str(), "line 3: not a row");
+    Ok(())
+}
+
+#[test]
+fn texts_of_faults(rt: HostRuntime) -> Result<(), Fail> {
+    let alloc = rt.alloc();
+    for (cause, wanted) in [
+        (RowCause::NotARow, "line 3: not a row"),
+        (RowCause::Read, "line 3: read"),
+        (RowCause::Memory, "line 3: memory"),
+        (RowCause::Writer, "line 3: writer"),
+    ] {
+        let fault = RowFault { line: 3, cause };
+        assert_eq!(rt; fault.to_string(alloc)?.as_str(), wanted);
+    }
+    assert_eq!(rt;
+        ReadFault::Line(7).to_string(alloc)?.as_str(),
+        "line 7: not a row"
+    );
+    assert_eq!(rt; ReadFault::Memory.to_string(alloc)?.as_str(), "memory");
+    assert_eq!(rt; DrawFault::TooWide.to_string(alloc)?.as_str(), "too wide");
+    assert_eq!(rt; DrawFault::Memory.to_string(alloc)?.as_str(), "memory");
     Ok(())
 }
 

@@ -1,0 +1,81 @@
+//! A run whose drawing is read back: over the public contracts of `Layered::run` and `read_rows` alone.
+
+ghost use Rattle.std.specs.Prelude.{◌≡◌, IfSome};
+ghost use Rattle.tracing_tree_core.specs.Clock.{no_timer};
+ghost use Rattle.tracing_tree.specs.Readable.{IsReadable, text_rows};
+ghost use Rattle.tracing_tree.specs.Run.{accepted_calls, run};
+ghost use Rattle.tracing_tree.specs.State.{State};
+
+use crate::making::{closed, lined, made, told};
+use std::alloc::Global;
+use std::str;
+use std::test::*;
+use tracing_tree::call::{Call, Reply};
+use tracing_tree::format::{Refusal, Tape};
+use tracing_tree::layered::Layered;
+use tracing_tree::rows::{Row, Shape, read_rows};
+use tracing_tree::style::Level;
+
+// What a run answered, and the rows that are read of its drawing.
+#[derive(Drop)]
+struct ReadBack {
+    answers: Vec<Result<Reply, Refusal>>,
+    rows: Vec<Row>,
+}
+
+// Makes the calls, and reads the rows that they drew: those of the run of the accepted calls, if these rows are readable. None where
+// the writer held a text before, the amount is below 2, memory is refused, the layer fails or its drawing isn't read.
+fn read_back(alloc: Global, layered: &mut Layered<Tape, ()>, calls: Vec<Call>) -> Option<ReadBack>
+    ensures { IfSome result (λ back.
+        let settings = layered.old.layer.settings in
+        let state : State = record {
+          forest = layered.old.forest;
+          last = layered.old.layer.last;
+          failed = layered.old.layer.failed;
+        } in
+        let accepted = accepted_calls calls.items back.answers.items in
+        let rows = (run settings no_timer state accepted).rows in
+        IsReadable settings rows → back.rows.items ≡ text_rows rows) }
+{
+    if !layered.writer().bytes().is_empty() {
+        return None;
+    }
+    let answers = layered.run(alloc, calls).ok()?;
+    let amount = layered.layer().config().indent_amount();
+    if amount < 2 || layered.layer().failed() {
+        return None;
+    }
+    let text = str::from_utf8(layered.writer().bytes()).ok()?;
+    let rows = read_rows(alloc, text, amount).ok()?;
+    Some(ReadBack { answers, rows })
+}
+
+#[test]
+fn reads_a_run_back(rt: HostRuntime) -> Result<(), Fail> {
+    let alloc = rt.alloc();
+    let mut layered = lined(alloc);
+    let calls = vec![in alloc;
+        made(alloc, "a", None)?,
+        closed(7),
+        made(alloc, "b", Some(1))?,
+        told(alloc, Level::Warn, "x", Some(2))?,
+        closed(2),
+    ]?;
+    let Some(back) = read_back(alloc, &mut layered, calls) else {
+        assert!(rt; false, "the drawing isn't read");
+        return Ok(());
+    };
+    let accepted = back.answers.iter().filter(|answer| answer.is_ok()).count();
+    assert_eq!(rt; accepted, 4);
+    let shapes = [
+        Shape::OpenRoot,
+        Shape::Open(false),
+        Shape::Event,
+        Shape::Close(false),
+    ];
+    assert_eq!(rt; back.rows.len(), 4);
+    for (row, shape) in back.rows.iter().zip(shapes) {
+        assert_eq!(rt; row.shape(), shape);
+    }
+    Ok(())
+}

@@ -1,0 +1,221 @@
+#!/bin/bash
+# Runs the built programs as their users do: the one that draws over each worked case, and over inputs and outputs that are missing,
+# full or gone; then the one that reads. It prints how many runs ended as they must, names each other run, and ends with status 1 if
+# there is one.
+#
+# usage: program.sh DRAWING_PROGRAM READING_PROGRAM
+set -u
+program=$(realpath "$1")
+reader=$(realpath "$2")
+top=$(cd "$(dirname "$0")/.." && pwd)
+cases=$top/crates/tracing_tree_cases
+tree=$cases/data/first/tree
+room=$(mktemp -d)
+trap 'rm -rf "$room"' EXIT
+runs=0
+right=0
+
+# Runs the program on the standard input, output and error of this call, and keeps its status.
+run() {
+    timeout 60 "$program" "$@"
+    status=$?
+}
+
+# Counts the run of this name. What is in `out` and `err` must be these files' bytes, and the status this one.
+count() {
+    runs=$((runs + 1))
+    if cmp -s "$2" "$room/out" && cmp -s "$3" "$room/err" && [ "$4" = "$status" ]; then
+        right=$((right + 1))
+    else
+        echo "program $1: FAILED: status $status, and on standard error: $(head -c 200 "$room/err")"
+    fi
+}
+
+# A file of these lines.
+lines() {
+    printf '%s\n' "${@:2}" > "$room/$1"
+}
+
+# The lines of a file, each in two pieces.
+pieces() {
+    while IFS= read -r line; do
+        printf '%s' "${line:0:20}"
+        sleep 0.02
+        printf '%s\n' "${line:20}"
+    done < "$1"
+}
+
+# Which line a long output is refused at isn't promised.
+hide_line() {
+    sed -i 's/^line [0-9][0-9]*: /line N: /' "$room/err"
+}
+
+make_files() {
+    : > "$room/none"
+    lines settings 'line 1: settings'
+    lines read 'line 1: read'
+    lines no_call 'line 3: not a call'
+    lines end_writer 'end: writer'
+    lines line_writer 'line N: writer'
+    lines no_call.in '{"indent_lines":true}' '{"call":"new","name":"a"}' '{"call":"new"}'
+    lines opened '┐a '
+    lines memory 'line 3: memory'
+    { echo '{"indent_lines":true}'
+      echo '{"call":"new","name":"a"}'
+      head -c 100000000 /dev/zero | tr '\0' ' '; } > "$room/wide.in"
+    { echo '{"indent_lines":true}'
+      yes '{"call":"event","level":"INFO","fields":[["message","x"]]}' | head -n 50000; } > "$room/long.in"
+    yes 'INFO x' | head -n 50000 > "$room/long"
+    head -n 1 "$room/long" > "$room/first"
+}
+
+run_cases() {
+    local name wanted
+    for input in "$cases"/data/*/*.in; do
+        name=${input%.in}
+        run < "$input" > "$room/out" 2> "$room/err"
+        count "on ${name#"$cases"/data/}" "$name.out" "$name.err" "$(cat "$name.status")"
+    done
+    wanted=$(sed -n 's/^total: [0-9]* of //p' "$cases/stdout")
+    [ "$runs" = "$wanted" ] || { echo "program: FAILED: $runs cases and not $wanted"; runs=$((runs + 1)); }
+}
+
+run_inputs() {
+    run < /dev/null > "$room/out" 2> "$room/err"
+    count "without input" "$room/none" "$room/settings" 2
+    run <&- > "$room/out" 2> "$room/err"
+    count "with standard input closed" "$room/none" "$room/read" 1
+    run < "$room" > "$room/out" 2> "$room/err"
+    count "on a directory" "$room/none" "$room/read" 1
+    run < <(pieces "$tree.in") > "$room/out" 2> "$room/err"
+    count "on an input in pieces" "$tree.out" "$room/none" 0
+    run < "$room/long.in" > "$room/out" 2> "$room/err"
+    count "on a long input" "$room/long" "$room/none" 0
+    run --help --version -x "$tree.in" < "$tree.in" > "$room/out" 2> "$room/err"
+    count "with arguments" "$tree.out" "$room/none" 0
+}
+
+# A first line padded with a million spaces, a name of ten million bytes, and a value of a million parts under a key that no call has.
+run_large() {
+    { printf '{"indent_lines":'; head -c 1000000 /dev/zero | tr '\0' ' '; echo 'true}'
+      printf '{"call":"new","name":"'; head -c 10000000 /dev/zero | tr '\0' n; echo '"}'
+      printf '{"call":"close","id":1,"x":['; yes 1, | head -n 1000000 | tr -d '\n'; echo '1]}'; } > "$room/large.in"
+    { printf '┐'; head -c 10000000 /dev/zero | tr '\0' n; printf ' \n┘\n'; } > "$room/large"
+    run < "$room/large.in" > "$room/out" 2> "$room/err"
+    count "on long lines" "$room/large" "$room/none" 0
+}
+
+# A line that is longer than the memory that the program may take.
+run_memory() {
+    status=$(ulimit -v 50000; run < "$room/wide.in" > "$room/out" 2> "$room/err"; echo "$status")
+    count "with little memory" "$room/opened" "$room/memory" 1
+}
+
+run_outputs() {
+    cp "$room/none" "$room/out"
+    run < "$tree.in" >&- 2> "$room/err"
+    count "with standard output closed" "$room/none" "$room/end_writer" 1
+    run < "$tree.in" > /dev/full 2> "$room/err"
+    count "on a full device" "$room/none" "$room/end_writer" 1
+    run < "$room/long.in" > /dev/full 2> "$room/err"
+    hide_line
+    count "on a full device, long" "$room/none" "$room/line_writer" 1
+    run < "$room/no_call.in" > /dev/full 2> "$room/err"
+    count "on a full device, with a fault of its input" "$room/none" "$room/no_call" 1
+    run < /dev/null > /dev/full 2> "$room/err"
+    count "on a full device, with nothing to write" "$room/none" "$room/settings" 2
+}
+
+# A pipe without a reader: its one reader is closed before the run.
+run_pipes() {
+    mkfifo "$room/pipe"
+    exec 3<> "$room/pipe" 4> "$room/pipe" 3>&-
+    run < "$tree.in" >&4 2> "$room/err"
+    count "into a pipe without a reader" "$room/none" "$room/end_writer" 1
+    run < "$room/long.in" >&4 2> "$room/err"
+    hide_line
+    count "into a pipe without a reader, long" "$room/none" "$room/line_writer" 1
+    exec 4>&-
+    { run < "$room/long.in" 2> "$room/err"; echo "$status" > "$room/status"; } | head -n 1 > "$room/out"
+    status=$(cat "$room/status")
+    hide_line
+    count "into a pipe whose reader goes" "$room/first" "$room/line_writer" 1
+}
+
+# Runs the program with its standard error full or closed.
+run_quiet() {
+    case $1 in
+        full) run 2> /dev/full ;;
+        closed) run 2>&- ;;
+    esac
+}
+
+# A fault of standard error changes neither the output nor the status.
+run_errors() {
+    cp "$room/none" "$room/err"
+    for kind in full closed; do
+        run_quiet "$kind" < "$tree.in" > "$room/out"
+        count "with standard error $kind" "$tree.out" "$room/none" 0
+        run_quiet "$kind" < /dev/null > "$room/out"
+        count "with standard error $kind, without input" "$room/none" "$room/none" 2
+        run_quiet "$kind" < "$room/no_call.in" > "$room/out"
+        count "with standard error $kind, with a fault of its input" "$room/opened" "$room/none" 1
+    done
+}
+
+# The program that reads: a drawing, and the faults that it tells.
+run_reader() {
+    program=$reader
+    lines rows \
+        '{"shape":"OpenRoot","level":0,"lines":["a "]}' \
+        '{"shape":"Open","verbose":false,"level":1,"lines":["b "]}' \
+        '{"shape":"Event","level":2,"lines":[" WARN x"],"ancestors":[0,1]}' \
+        '{"shape":"Close","verbose":false,"level":1,"lines":[""]}' \
+        '{"shape":"CloseRoot","level":0,"lines":[""]}'
+    run < "$tree.out" > "$room/out" 2> "$room/err"
+    count "that reads" "$room/rows" "$room/none" 0
+    run < /dev/null > "$room/out" 2> "$room/err"
+    count "that reads, without input" "$room/none" "$room/none" 0
+    run < "$room" > "$room/out" 2> "$room/err"
+    count "that reads, on a directory" "$room/none" "$room/read" 1
+    { cat "$tree.out"; echo '│'; } > "$room/no_row.in"
+    lines no_row 'line 6: not a row'
+    run < "$room/no_row.in" > "$room/out" 2> "$room/err"
+    count "that reads, on what is no row" "$room/rows" "$room/no_row" 1
+    cp "$room/none" "$room/out"
+    run < "$tree.out" > /dev/full 2> "$room/err"
+    count "that reads, on a full device" "$room/none" "$room/end_writer" 1
+    run < "$tree.out" >&- 2> "$room/err"
+    count "that reads, with standard output closed" "$room/none" "$room/end_writer" 1
+}
+
+# The arguments of the program that reads. What it tells of them isn't promised: an x stands in place of it.
+run_arguments() {
+    lines rows_4 '{"shape":"Open","verbose":false,"level":1,"lines":["b "]}'
+    run --amount 4 < <(echo '└───┐b ') > "$room/out" 2> "$room/err"
+    count "that reads, with amount 4" "$room/rows_4" "$room/none" 0
+    echo x > "$room/told"
+    for word in --amount=1 --amount=x --amount --unknown -x "$tree.out"; do
+        run "$word" < "$tree.out" > "$room/out" 2> "$room/err"
+        [ -s "$room/err" ] && cp "$room/told" "$room/err"
+        count "that reads, with $word" "$room/none" "$room/told" 2
+    done
+    for word in --help --version; do
+        run "$word" < "$tree.out" > "$room/out" 2> "$room/err"
+        [ -s "$room/out" ] && cp "$room/told" "$room/out"
+        count "that reads, with $word" "$room/told" "$room/none" 0
+    done
+}
+
+make_files
+run_cases
+run_inputs
+run_large
+run_memory
+run_outputs
+run_pipes
+run_errors
+run_reader
+run_arguments
+echo "program: $right of $runs runs ended as they must"
+[ "$right" = "$runs" ]
