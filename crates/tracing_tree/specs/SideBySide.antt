@@ -1,7 +1,5 @@
 -- The steps of a `DifferenceIter`, and what it gives.
-use Rattle.std.specs.Prelude.{◌≡◌, ℕ, ◌+◌, ◌≤◌, Bool, true, false, if◌then◌else◌, MatchBool, List, [], ◌++◌, Option, Some, None, MatchOption, IsSomeAnd, IfSome, All, slice_get, filter_map, ⊤}
-use Rattle.std.specs.Option.{option_map_or}
-use Rattle.std.specs.List.{enumerate_from}
+use Rattle.std.specs.Prelude.{◌≡◌, ◌+◌, ◌≤◌, Bool, true, false, if◌then◌else◌, MatchBool, List, [], ◌++◌, Option, Some, None, MatchOption, IsSomeAnd, IfSome, All, ⊤}
 use Rattle.std.specs.Borrow.{Bor}
 use Rattle.std.specs.Fn.{Shared, FnReturnsAt}
 use Rattle.std.specs.Iterator.{Count, IsFinite, YieldsThen, AlwaysYields}
