@@ -169,10 +169,10 @@ impl<W: Output, FT: FormatTime> HierarchicalLayer<W, FT> {
     }
     /// Writes to this writer from now on, and drops the one before. The caller must ensure that the
     /// writer has no faults.
-    pub fn with_writer<W2: Output>(self, writer: W2) -> HierarchicalLayer<W2, FT>
+    pub fn with_writer<Other: Output>(self, writer: Other) -> HierarchicalLayer<Other, FT>
     where
         W: Drop,
-        requires { W2.fault_count writer ≡ 0 }
+        requires { Other.fault_count writer ≡ 0 }
         ensures { result ≡ record {
           settings = self.settings;
           writer = writer;
