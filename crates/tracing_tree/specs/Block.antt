@@ -23,7 +23,8 @@ shown_target settings span =
 
 -- a brace round the fields, or what stands in its place without braces
 abbrev pub shown_brace : Settings → List ℕ → List ℕ → List ℕ
-shown_brace settings brace plain = if settings.bracketed_fields then styled settings.ansi BoldGreen brace else plain
+shown_brace settings brace plain =
+    if settings.bracketed_fields then styled settings.ansi BoldGreen brace else plain
 
 -- target, name and fields
 abbrev pub span_text : Settings → ShownSpan → List ℕ
@@ -60,7 +61,8 @@ moment_part timer moment = spaced (unwrap_or (timer.moment_text moment) [])
 -- the timer's text of the time since a start, if there is one, and a space
 abbrev pub elapsed_part : Settings → Timer → Option ℕ → List ℕ
 elapsed_part settings timer None = []
-elapsed_part settings timer (Some nanos) = unwrap_or (timer.elapsed_text settings.ansi nanos) [] ++ codes " "
+elapsed_part settings timer (Some nanos) =
+    unwrap_or (timer.elapsed_text settings.ansi nanos) [] ++ codes " "
 
 abbrev pub event_block : Settings → Timer → Moment → Option ℕ → Event → List ℕ
 event_block settings timer moment since event =

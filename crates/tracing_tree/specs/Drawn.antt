@@ -66,7 +66,8 @@ DrawsRows settings rows faults (Err refusal) old new =
     × (new.bufs.current_span ≡ old.bufs.current_span)
 
 -- The rows of a turn are drawn, and the plan has its marks and its last span; or the turn is refused.
-abbrev pub Drafts : Settings → Forest → Turn → Bool → Bool → Result (Unit {0}) Refusal → Page → Page → PlanView → Type 0
+abbrev pub Drafts : Settings → Forest → Turn → Bool → Bool → Result (Unit {0}) Refusal → Page → Page
+    → PlanView → Type 0
 Drafts settings forest turn faults quiet (Ok done) old new plan =
     DrawsRows settings turn.rows faults (Ok done) old new
     × (marked_by plan forest ≡ turn.forest) × (plan.last ≡ turn.last)
@@ -104,7 +105,8 @@ pub record IsClear (page : Page) : Type 0 where
 
 -- What was drawn is written once, whole, or given up. Only what was drawn whole is written, and only
 -- a fault of the writer leaves a text on the page.
-abbrev pub Sends : Result (Unit {0}) Refusal → Result (Unit {0}) Refusal → Page → Page → SeenWriter → SeenWriter → Type 0
+abbrev pub Sends : Result (Unit {0}) Refusal → Result (Unit {0}) Refusal → Page → Page → SeenWriter
+    → SeenWriter → Type 0
 Sends (Ok done) (Ok sent) old new before after =
     Appends before.bytes after.bytes (string_bytes old.text) × (after.faults ≡ before.faults)
     × IsClear new × (new.bufs.current_span ≡ old.bufs.current_span)
@@ -133,7 +135,8 @@ module _ {W FT : Type 0} where
   -- A layer does a turn: it writes its rows, and then marks its spans and takes its last span; or
   -- it is refused.
   pub record DoesTurn (see : W → SeenWriter) (turn : Turn) (faults quiet : Bool)
-      (result : Result (Unit {0}) Refusal) (old new : LayerView W FT) (forest after : Forest) : Type 0 where
+      (result : Result (Unit {0}) Refusal) (old new : LayerView W FT)
+      (forest after : Forest) : Type 0 where
     pub written : IsWritten old.settings turn.rows faults quiet result
         (see old.writer) (see new.writer)
     pub layer : new ≡ record old {

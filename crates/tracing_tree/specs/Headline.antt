@@ -19,12 +19,14 @@ run_from seen calls = run seen.settings seen.timer seen.state calls
 -- Bytes, state and replies are those of the run of these calls. Runs compose: after any earlier run it is the rest of the run
 -- of the joined calls.
 pub record Runs (calls : List Call) (given : List Reply) (old new : Seen) : Type 0 where
-  pub bytes : Appends old.writer.bytes new.writer.bytes (draw old.settings (run_from old calls).rows)
+  pub bytes : Appends old.writer.bytes new.writer.bytes
+      (draw old.settings (run_from old calls).rows)
   pub state : new.state ≡ (run_from old calls).state
   pub replies : given ≡ (run_from old calls).replies
   pub continued : (begun : State) (earlier : List Call) →
       run old.settings old.timer begun (earlier ++ calls)
-      ≡ then_run (run old.settings old.timer begun earlier) (λ state. run old.settings old.timer state calls)
+      ≡ then_run (run old.settings old.timer begun earlier)
+      (λ state. run old.settings old.timer state calls)
 
 -- one call after another is answered, each by its answer
 abbrev pub AreAnswered : List Call → List (Result Reply Refusal) → Seen → Seen → Type 0
@@ -44,7 +46,9 @@ Reads old calls =
 
 -- While neither timer nor writer has failed, bytes, state and replies are those of the run of the
 -- accepted calls, and its rows keep the reading laws. Whatever happens, each call is answered in order.
-pub record IsRunOf (calls : List Call) (answers : List (Result Reply Refusal)) (old new : Seen) : Type 0 where
-  pub runs : new.state.failed ≡ false → Runs (accepted_calls calls answers) (replies_among answers) old new
+pub record IsRunOf (calls : List Call) (answers : List (Result Reply Refusal))
+    (old new : Seen) : Type 0 where
+  pub runs : new.state.failed ≡ false
+      → Runs (accepted_calls calls answers) (replies_among answers) old new
   pub reads : new.state.failed ≡ false → Reads old (accepted_calls calls answers)
   pub answered : AreAnswered calls answers old new

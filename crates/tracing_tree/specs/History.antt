@@ -27,11 +27,13 @@ replay settings timer first history = run settings timer (opening_state first) (
 
 -- each kept reply is what its call answers in the replay
 abbrev pub IsTrueHistory : Settings → Timer → Id → List Entry → Type 0
-IsTrueHistory settings timer first history = (replay settings timer first history).replies ≡ replies_in history
+IsTrueHistory settings timer first history =
+    (replay settings timer first history).replies ≡ replies_in history
 
 -- What is kept beside a history: the state, `failed` aside, and each reply are those of the replay, and the output is the
 -- drawing of its rows.
-pub record IsReplayed (settings : Settings) (timer : Timer) (first : Id) (history : List Entry) (state : State)
+pub record IsReplayed (settings : Settings) (timer : Timer) (first : Id) (history : List Entry)
+    (state : State)
     (written : List ℕ) : Type 0 where
   pub forest : state.forest ≡ (replay settings timer first history).state.forest
   pub last : state.last ≡ (replay settings timer first history).state.last
@@ -63,7 +65,9 @@ IsKept history slip = slice_get history slip.place ≡ Some slip.entry
 
 -- a receipt for this place that the history doesn't have
 abbrev pub HasOther : List Entry → List Slips → ℕ → Type 0
-HasOther history passes place = (slip : Slip) × Any (λ other. other ≡ slip) (all_slips passes) × (slip.place ≡ place) × ¬ (IsKept history slip)
+HasOther history passes place =
+    (slip : Slip) × Any (λ other. other ≡ slip) (all_slips passes) × (slip.place ≡ place)
+    × ¬ (IsKept history slip)
 
 -- a receipt for this place stands behind one that is not for a smaller place
 pub record IsLateIn (slips : Slips) (place : ℕ) : Type 0 where
@@ -82,7 +86,8 @@ IsStrange history passes place =
 -- the first place at which something is wrong
 abbrev pub IsFirstStrange : List Entry → List Slips → ℕ → Type 0
 IsFirstStrange history passes place =
-    IsStrange history passes place × ((other : ℕ) → other < place → ¬ (IsStrange history passes other))
+    IsStrange history passes place
+    × ((other : ℕ) → other < place → ¬ (IsStrange history passes other))
 
 -- nothing is wrong anywhere: each receipt's call stands once, with its reply, and in the order of its pass
 abbrev pub IsOneHistory : List Entry → List Slips → Type 0

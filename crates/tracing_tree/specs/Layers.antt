@@ -39,6 +39,9 @@ module _ {W FT : Type 0} where
   }
 
   -- What is changed: settings and timer stay, and this holds of what was seen and what is seen.
-  pub record Changes (see : LayeredView W FT → Seen) (Holds : Seen → Seen → Type 0) (old new : LayeredView W FT) : Type 0 where
+  pub record Changes (see : LayeredView W FT → Seen) (Holds : Seen → Seen → Type 0)
+      (old new : LayeredView W FT) : Type 0 where
     pub changed : Holds (see old) (see new)
-    pub fixed : new.layer ≡ record old.layer { writer = new.layer.writer; last = new.layer.last; failed = new.layer.failed }
+    pub fixed : new.layer
+        ≡ record old.layer
+        { writer = new.layer.writer; last = new.layer.last; failed = new.layer.failed }

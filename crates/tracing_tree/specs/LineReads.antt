@@ -26,7 +26,8 @@ pub record TakesNothing (known left : Option (List ℕ)) (old new : List ℕ) : 
   pub kept : Keeps known left
 
 -- what one look at the reader took
-abbrev pub ReadsPart : Option (List ℕ) → Option (List ℕ) → List ℕ → List ℕ → Result Part LineCause → Type 0
+abbrev pub ReadsPart : Option (List ℕ) → Option (List ℕ) → List ℕ → List ℕ → Result Part LineCause
+    → Type 0
 ReadsPart known left old new (Ok Line) = TakesPart (10 ∷ []) known left old new
 ReadsPart known left old new (Ok Input) = TakesNothing known left old new × IsAtEnd known
 ReadsPart known left old new (Ok Inside) = TakesPart [] known left old new

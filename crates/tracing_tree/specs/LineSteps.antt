@@ -18,7 +18,8 @@ use Rattle.tracing_tree.specs.declared.lines.LineCause.TheVariants.{Settings as 
 use Rattle.tracing_tree.specs.declared.lines.LineFault.{LineFault}
 
 -- the first line of the input spells a call, and the call got this answer
-pub record MakesCall (known left : Option (List ℕ)) (answer : Result Reply Refusal) (old new : Seen) : Type 0 where
+pub record MakesCall (known left : Option (List ℕ)) (answer : Result Reply Refusal)
+    (old new : Seen) : Type 0 where
   pub line : List ℕ
   pub first : TakesLine known left line
   pub judged : is_skipped line ≡ false
@@ -39,10 +40,12 @@ pub record FailsLine (known left : Option (List ℕ)) : Type 0 where
   pub nothing : SpellsNothing line
 
 -- what became of the first line of the input; where no call was made nothing has changed
-abbrev pub JudgesLine : Option (List ℕ) → Option (List ℕ) → Result Judged LineCause → Seen → Seen → Type 0
+abbrev pub JudgesLine : Option (List ℕ) → Option (List ℕ) → Result Judged LineCause → Seen → Seen
+    → Type 0
 JudgesLine known left (Ok End) old new = HasNoLine known × (new ≡ old)
 JudgesLine known left (Ok Skipped) old new = SkipsLine known left × (new ≡ old)
-JudgesLine known left (Ok Accepted) old new = (reply : Reply) × MakesCall known left (Ok reply) old new
+JudgesLine known left (Ok Accepted) old new =
+    (reply : Reply) × MakesCall known left (Ok reply) old new
 JudgesLine known left (Err NoSettings) old new = ⊥
 JudgesLine known left (Err NotACall) old new = FailsLine known left × (new ≡ old)
 JudgesLine known left (Err Read) old new = new ≡ old
@@ -51,7 +54,8 @@ JudgesLine known left (Err (Refused refusal)) old new = MakesCall known left (Er
 
 -- A run over lines: the calls that these lines spell are accepted, the others are skipped, and the next line is to blame. What
 -- is written is the drawing of the run of these calls, and what the fault leaves.
-pub record RunsOver (lines : List (List ℕ)) (accepted : ℕ) (fault : Option LineFault) (old new : Seen) : Type 0 where
+pub record RunsOver (lines : List (List ℕ)) (accepted : ℕ) (fault : Option LineFault)
+    (old new : Seen) : Type 0 where
   pub judged : ℕ
   pub within : judged ≤ length lines
   pub counted : IsCounted judged fault
@@ -60,12 +64,16 @@ pub record RunsOver (lines : List (List ℕ)) (accepted : ℕ) (fault : Option L
   pub count : accepted ≡ length calls
   pub taken : length (run_from old calls).replies ≡ length calls
   pub all : fault ≡ None → judged ≡ length lines
-  pub blamed : IfSome fault (IsFaultBehind old.settings old.timer (run_from old calls).state lines judged)
+  pub blamed : IfSome fault
+      (IsFaultBehind old.settings old.timer (run_from old calls).state lines judged)
   pub front : List ℕ
-  pub left : IsLeftByFault old.writer.whole old.settings old.timer (run_from old calls).state (slice_get lines judged) fault front
-  pub appends : Appends old.writer.bytes new.writer.bytes (draw old.settings (run_from old calls).rows ++ front)
+  pub left : IsLeftByFault old.writer.whole old.settings old.timer (run_from old calls).state
+      (slice_get lines judged) fault front
+  pub appends : Appends old.writer.bytes new.writer.bytes
+      (draw old.settings (run_from old calls).rows ++ front)
 
 -- the same over what is left of the input, where that is known, and the count of the writer's faults
-pub record EndsLines (known : Option (List ℕ)) (accepted : ℕ) (fault : Option LineFault) (old new : Seen) : Type 0 where
+pub record EndsLines (known : Option (List ℕ)) (accepted : ℕ) (fault : Option LineFault)
+    (old new : Seen) : Type 0 where
   pub ran : IfSome known (λ input. RunsOver (input_lines input) accepted fault old new)
   pub counted : CountsEnd fault old.writer.faults new.writer.faults

@@ -17,7 +17,8 @@ use Rattle.tracing_tree.specs.declared.lines.LineCause.TheVariants.{Settings as 
 use Rattle.tracing_tree.specs.declared.lines.LineFault.{LineFault}
 
 -- the input has a first line, and it spells these settings
-pub record BeginsWith (input : List ℕ) (settings : Settings) (timer : TimerChoice) (others : List (List ℕ)) : Type 0 where
+pub record BeginsWith (input : List ℕ) (settings : Settings) (timer : TimerChoice)
+    (others : List (List ℕ)) : Type 0 where
   pub line : List ℕ
   pub lines : input_lines input ≡ line ∷ others
   pub spelled : SpellsSettings line settings timer
@@ -25,7 +26,8 @@ pub record BeginsWith (input : List ℕ) (settings : Settings) (timer : TimerCho
 -- no settings begin the input
 abbrev pub LacksSettings : List ℕ → Type 0
 LacksSettings input =
-    (settings : Settings) (timer : TimerChoice) (others : List (List ℕ)) → ¬ (BeginsWith input settings timer others)
+    (settings : Settings) (timer : TimerChoice) (others : List (List ℕ))
+    → ¬ (BeginsWith input settings timer others)
 
 -- in this state a line may end the run for this cause; nothing is said of causes that come from outside
 abbrev pub EndsRun : Settings → Timer → State → List ℕ → LineCause → Type 0
@@ -48,7 +50,9 @@ is_from_outside (Refused refusal) = false
 abbrev pub IsFaultBehind : Settings → Timer → State → List (List ℕ) → ℕ → LineFault → Type 0
 IsFaultBehind settings timer state others judged fault =
     (fault.line ≡ judged + 2)
-    × (is_from_outside fault.cause ≡ false → IsSomeAnd (slice_get others judged) (λ line. EndsRun settings timer state line fault.cause))
+    × (is_from_outside fault.cause ≡ false
+    → IsSomeAnd (slice_get others judged)
+    (λ line. EndsRun settings timer state line fault.cause))
 
 -- Line 1 may end the run for this cause: for the settings only where none begin the input. No call stands there, so none is
 -- to blame.
@@ -72,7 +76,9 @@ last_number = 18_446_744_073_709_551_615
 
 -- so many lines behind the first may be judged, and no other cause ends the run at the last number
 abbrev pub IsCounted : ℕ → Option LineFault → Type 0
-IsCounted judged fault = (judged + 1 < last_number) × IfSome fault (λ fault. fault.line ≡ last_number → fault.cause ≡ Read)
+IsCounted judged fault =
+    (judged + 1 < last_number)
+    × IfSome fault (λ fault. fault.line ≡ last_number → fault.cause ≡ Read)
 
 -- the run of the calls that lines spell, under the settings of the first line
 abbrev pub lines_run : Settings → TimerChoice → List Call → Run
@@ -93,7 +99,9 @@ pub record RunsLines (input : List ℕ) (accepted : ℕ) (fault : Option LineFau
   pub count : accepted ≡ length calls
   pub taken : length (lines_run settings timer calls).replies ≡ length calls
   pub all : fault ≡ None → judged ≡ length others
-  pub blamed : IfSome fault (IsFaultBehind settings (chosen_timer timer) (lines_run settings timer calls).state others judged)
+  pub blamed : IfSome fault
+      (IsFaultBehind settings (chosen_timer timer) (lines_run settings timer calls).state others
+      judged)
 
 module _ {input : List ℕ} {accepted : ℕ} {fault : Option LineFault} where
   -- the text of the accepted calls
@@ -109,17 +117,20 @@ IsLeftBehind whole settings timer state line (Refused Writer) front =
 IsLeftBehind whole settings timer state line cause front = front ≡ []
 
 -- the same of a fault, if there is one; one of a line that was not read whole leaves nothing
-abbrev pub IsLeftByFault : Bool → Settings → Timer → State → Option (List ℕ) → Option LineFault → List ℕ → Type 0
+abbrev pub IsLeftByFault : Bool → Settings → Timer → State → Option (List ℕ) → Option LineFault
+    → List ℕ → Type 0
 IsLeftByFault whole settings timer state line None front = front ≡ []
 IsLeftByFault whole settings timer state None (Some fault) front = front ≡ []
 IsLeftByFault whole settings timer state (Some line) (Some fault) front =
     IsLeftBehind whole settings timer state line fault.cause front
 
 -- what a run over lines writes: the text of the accepted calls, and what is left behind it
-pub record WritesLines {input : List ℕ} {accepted : ℕ} {fault : Option LineFault} (r : RunsLines input accepted fault)
+pub record WritesLines {input : List ℕ} {accepted : ℕ} {fault : Option LineFault}
+    (r : RunsLines input accepted fault)
     (old new : SeenWriter) : Type 0 where
   pub front : List ℕ
-  pub left : IsLeftByFault old.whole r.settings (chosen_timer r.timer) (lines_run r.settings r.timer r.calls).state
+  pub left : IsLeftByFault old.whole r.settings (chosen_timer r.timer)
+      (lines_run r.settings r.timer r.calls).state
       (slice_get r.others r.judged) fault front
   pub appends : Appends old.bytes new.bytes (lines_text r ++ front)
 

@@ -44,7 +44,8 @@ row_of_planned settings context forest planned = record {
 }
 
 abbrev pub rows_of_planned : Settings → Context → Forest → List PlannedRow → List Row
-rows_of_planned settings context forest planned = map (row_of_planned settings context forest) planned
+rows_of_planned settings context forest planned =
+    map (row_of_planned settings context forest) planned
 
 -- the turn that a plan comes to
 abbrev pub turn_of_plan : Settings → Context → Forest → PlanView → Turn
@@ -67,7 +68,8 @@ planned_row forest mode i = record { mode = mode; id = i; level = level_of fores
 -- a row about the parent of a span, if it is to be shown and there is a parent
 abbrev pub planned_parent : Bool → Forest → SpanMode → Id → List PlannedRow
 planned_parent shown forest mode i =
-    if shown then option_map_or (λ above. planned_row forest mode above ∷ []) (parent_of forest i) []
+    if shown then option_map_or (λ above. planned_row forest mode above ∷ []) (parent_of forest i)
+    []
     else []
 
 -- further rows at the end of a plan
@@ -85,7 +87,8 @@ abbrev pub planned_fresh_rows : Settings → Forest → Forest → List Id → L
 planned_fresh_rows settings marked forest [] = []
 planned_fresh_rows settings marked forest (first ∷ others) =
     planned_parent settings.verbose_entry forest PreOpen first
-    ++ planned_fresh marked forest (settings.verbose_entry && is_some (parent_of forest first)) first
+    ++ planned_fresh marked forest (settings.verbose_entry && is_some (parent_of forest first))
+    first
     ∷ map (planned_fresh marked forest false) others
 
 -- the spans that a plan has to show again, or for the first time, before this one

@@ -36,7 +36,8 @@ choice_of (Ask.Uptime clock) = uptime_clock clock.epoch clock.higher_precision
 abbrev pub ReadsFirst : List ℕ → Result (Settings × TimerChoice) LineCause → Type 0
 ReadsFirst line (Ok asked) = SpellsSettings line asked.0 asked.1
 ReadsFirst line (Err cause) =
-    IsUnlessMemory NoSettings ((settings : Settings) (timer : TimerChoice) → ¬ SpellsSettings line settings timer) cause
+    IsUnlessMemory NoSettings
+    ((settings : Settings) (timer : TimerChoice) → ¬ SpellsSettings line settings timer) cause
 
 -- the moment that a value spells, if it spells one
 abbrev pub ReadsMoment : Data → Option Moment → Type 0
@@ -45,9 +46,11 @@ ReadsMoment value None = (moment : Moment) → ¬ IsMomentIn value moment
 
 -- the context that a value spells
 abbrev pub ReadsContext : Data → Result Context LineCause → Type 0
-ReadsContext value (Ok context) = IsMomentIn value context.moment × (context_in value context.moment ≡ Some context)
+ReadsContext value (Ok context) =
+    IsMomentIn value context.moment × (context_in value context.moment ≡ Some context)
 ReadsContext value (Err cause) =
-    IsUnlessMemory NotACall ((moment : Moment) → IsMomentIn value moment → context_in value moment ≡ None) cause
+    IsUnlessMemory NotACall
+    ((moment : Moment) → IsMomentIn value moment → context_in value moment ≡ None) cause
 
 -- the value holds no float, and spells this call at a moment that it spells
 pub record ValueSpells (value : Data) (call : Call) : Type 0 where
@@ -59,7 +62,8 @@ pub record ValueSpells (value : Data) (call : Call) : Type 0 where
 -- the call that a value spells
 abbrev pub ReadsCall : Data → Result Call LineCause → Type 0
 ReadsCall value (Ok call) = ValueSpells value call
-ReadsCall value (Err cause) = IsUnlessMemory NotACall ((call : Call) → ¬ ValueSpells value call) cause
+ReadsCall value (Err cause) =
+    IsUnlessMemory NotACall ((call : Call) → ¬ ValueSpells value call) cause
 
 -- the call that a line spells
 abbrev pub ReadsLine : List ℕ → Result Call LineCause → Type 0

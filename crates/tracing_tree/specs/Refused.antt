@@ -19,7 +19,8 @@ use Rattle.tracing_tree.specs.declared.call.Call.TheVariants.{New, Clone, Record
 
 -- the id that a call needs and that is not held: a parent, a span to be cloned, or one with no handle left to close
 abbrev pub id_not_held : Forest → Call → Option Id
-id_not_held forest (New attributes context) = any_unless_live forest (named_parent attributes.parent context.current)
+id_not_held forest (New attributes context) =
+    any_unless_live forest (named_parent attributes.parent context.current)
 id_not_held forest (Clone i) = unless_live forest i
 id_not_held forest (Record i record') = None
 id_not_held forest (Event event context) = None
@@ -39,19 +40,22 @@ draws_too_wide settings rows = list_any (is_too_wide settings) rows
 
 -- the timer has no text for this elapsed time, if there is one
 abbrev pub lacks_elapsed : Settings → Timer → Option ℕ → Bool
-lacks_elapsed settings timer since = option_map_or (λ nanos. is_none (timer.elapsed_text settings.ansi nanos)) since false
+lacks_elapsed settings timer since =
+    option_map_or (λ nanos. is_none (timer.elapsed_text settings.ansi nanos)) since false
 
 -- the timer has no text for the moment of an event, or for the time in its current span
 abbrev pub timer_faults_at : Settings → Timer → Forest → Context → Bool
 timer_faults_at settings timer forest context =
-    is_none (timer.moment_text context.moment) || lacks_elapsed settings timer (time_in_current forest context)
+    is_none (timer.moment_text context.moment)
+    || lacks_elapsed settings timer (time_in_current forest context)
 
 -- the timer has no text for an event
 abbrev pub timer_faults : Settings → Timer → Forest → Call → Bool
 timer_faults settings timer forest (New attributes context) = false
 timer_faults settings timer forest (Clone i) = false
 timer_faults settings timer forest (Record i record') = false
-timer_faults settings timer forest (Event event context) = timer_faults_at settings timer forest context
+timer_faults settings timer forest (Event event context) =
+    timer_faults_at settings timer forest context
 timer_faults settings timer forest (Close i context) = false
 
 -- the first of several

@@ -21,7 +21,8 @@ use Rattle.tracing_tree.specs.CloseRetrace.{retraces_before_close}
 
 -- the block of a row about a live span
 abbrev pub block_of : Settings → Forest → SpanMode → Id → List ℕ
-block_of settings forest kind i = option_map_or (λ span. span_block settings kind (shown_span span)) (span_at forest i) []
+block_of settings forest kind i =
+    option_map_or (λ span. span_block settings kind (shown_span span)) (span_at forest i) []
 
 -- a row about a live span
 abbrev pub span_row : Settings → Context → Forest → SpanMode → Id → Row
@@ -63,7 +64,8 @@ event_row settings timer forest event context = record {
 -- a row about the parent of a span, if the setting is on and there is a parent
 abbrev pub parent_rows : Bool → Settings → Context → Forest → SpanMode → Id → List Row
 parent_rows on settings context forest kind i =
-    if on then option_map_or (λ above. span_row settings context forest kind above ∷ []) (parent_of forest i) [] else []
+    if on then option_map_or (λ above. span_row settings context forest kind above ∷ [])
+    (parent_of forest i) [] else []
 
 -- ---- retracing
 
@@ -72,14 +74,16 @@ abbrev pub fresh_kind : Forest → Id → Bool → SpanMode
 fresh_kind forest i verbose = if is_printed forest i then Retrace verbose else Open verbose
 
 abbrev pub fresh_row : Settings → Context → Forest → Bool → Id → Row
-fresh_row settings context forest verbose i = span_row settings context forest (fresh_kind forest i verbose) i
+fresh_row settings context forest verbose i =
+    span_row settings context forest (fresh_kind forest i verbose) i
 
 -- the rows of fresh spans: the first is verbose if its parent is shown before it
 abbrev pub fresh_rows : Settings → Context → Forest → List Id → List Row
 fresh_rows settings context forest [] = []
 fresh_rows settings context forest (first ∷ others) =
     parent_rows settings.verbose_entry settings context forest PreOpen first
-    ++ fresh_row settings context forest (settings.verbose_entry && is_some (parent_of forest first)) first
+    ++ fresh_row settings context forest
+    (settings.verbose_entry && is_some (parent_of forest first)) first
     ∷ map (fresh_row settings context forest false) others
 
 -- to a span: the rows of the fresh spans, which are printed from now on, and the span is the last
@@ -92,7 +96,9 @@ retrace_to settings context forest last i = record {
 
 -- one turn and then another, which begins where the first ends
 abbrev pub then_turn : Turn → (Forest → Option Id → Turn) → Turn
-then_turn first next = record (next first.forest first.last) { rows = first.rows ++ (next first.forest first.last).rows }
+then_turn first next =
+    record (next first.forest first.last)
+    { rows = first.rows ++ (next first.forest first.last).rows }
 
 -- ---- calls
 
@@ -116,7 +122,8 @@ turn_of_row row forest last = record { rows = row ∷ []; forest = forest; last 
 abbrev pub turn_before_event : Settings → Context → Forest → Option Id → Option Id → Turn
 turn_before_event settings context forest last None = quiet_turn forest last
 turn_before_event settings context forest last (Some current) =
-    if retraces settings then retrace_to settings context forest last current else quiet_turn forest last
+    if retraces settings then retrace_to settings context forest last current else quiet_turn forest
+    last
 
 abbrev pub turn_of_event : Settings → Timer → Context → Forest → Option Id → Event → Turn
 turn_of_event settings timer context forest last event =
@@ -144,4 +151,5 @@ turn_of_close settings context forest last i =
 abbrev pub turn_of_closes : Settings → Context → List Id → Forest → Option Id → Turn
 turn_of_closes settings context [] forest last = quiet_turn forest last
 turn_of_closes settings context (i ∷ others) forest last =
-    then_turn (turn_of_close settings context forest last i) (turn_of_closes settings context others)
+    then_turn (turn_of_close settings context forest last i)
+    (turn_of_closes settings context others)

@@ -41,7 +41,8 @@ run_by_cause settings timer state call (Some refusal) = no_call (after_refusal s
 
 -- one call; one that is refused draws nothing
 abbrev pub run_one : Settings → Timer → State → Call → Run
-run_one settings timer state call = run_by_cause settings timer state call (cause_of settings timer state call)
+run_one settings timer state call =
+    run_by_cause settings timer state call (cause_of settings timer state call)
 
 -- one run and then another, which begins where the first ends
 abbrev pub then_run : Run → (State → Run) → Run
@@ -54,7 +55,8 @@ then_run first next = record {
 -- these calls, one after another
 abbrev pub run : Settings → Timer → State → List Call → Run
 run settings timer state [] = no_call state
-run settings timer state (call ∷ calls) = then_run (run_one settings timer state call) (λ next. run settings timer next calls)
+run settings timer state (call ∷ calls) =
+    then_run (run_one settings timer state call) (λ next. run settings timer next calls)
 
 -- ---- answers
 
@@ -64,13 +66,15 @@ answer_by_cause state call None = Ok (reply_of state.forest call)
 answer_by_cause state call (Some refusal) = Err refusal
 
 abbrev pub answer_of : Settings → Timer → State → Call → Result Reply Refusal
-answer_of settings timer state call = answer_by_cause state call (cause_of settings timer state call)
+answer_of settings timer state call =
+    answer_by_cause state call (cause_of settings timer state call)
 
 -- the same of each of these calls
 abbrev pub answers_of : Settings → Timer → State → List Call → List (Result Reply Refusal)
 answers_of settings timer state [] = []
 answers_of settings timer state (call ∷ calls) =
-    answer_of settings timer state call ∷ answers_of settings timer (run_one settings timer state call).state calls
+    answer_of settings timer state call
+    ∷ answers_of settings timer (run_one settings timer state call).state calls
 
 -- the calls that were answered with a reply
 abbrev pub accepted_calls : List Call → List (Result Reply Refusal) → List Call
@@ -81,7 +85,8 @@ accepted_calls (call ∷ calls) (Err refusal ∷ answers) = accepted_calls calls
 
 -- the text of a call
 abbrev pub call_text : Settings → Timer → State → Call → List ℕ
-call_text settings timer state call = draw settings (turn_of settings timer state.forest state.last call).rows
+call_text settings timer state call =
+    draw settings (turn_of settings timer state.forest state.last call).rows
 
 -- a refusal is for the first cause, or for want of memory where the call takes some; that for the writer comes only where
 -- there is no cause and a text to be written
@@ -95,7 +100,8 @@ abbrev pub MayAnswer : Settings → Timer → State → Call → Result Reply Re
 MayAnswer settings timer state call (Ok reply) =
     (cause_of settings timer state call ≡ None) × (reply ≡ reply_of state.forest call)
 MayAnswer settings timer state call (Err refusal) =
-    IsRefusedFor (cause_of settings timer state call) (takes_no_memory state call) (call_text settings timer state call) refusal
+    IsRefusedFor (cause_of settings timer state call) (takes_no_memory state call)
+    (call_text settings timer state call) refusal
 
 -- the state after an answer
 abbrev pub state_after_answer : Settings → Timer → State → Call → Result Reply Refusal → State

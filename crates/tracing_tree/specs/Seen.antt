@@ -20,7 +20,8 @@ pub record Seen : Type 0 where
 
 -- What is seen later, in this state and with this writer: settings and timer stay, and whether texts are taken whole.
 abbrev pub seen_later : Seen → State → SeenWriter → Seen
-seen_later old state writer = record old { state = state; writer = record writer { whole = old.writer.whole } }
+seen_later old state writer =
+    record old { state = state; writer = record writer { whole = old.writer.whole } }
 
 -- what `Output` tells of a writer
 abbrev pub seen_writer : {W : Type 0} → Output W → W → SeenWriter

@@ -80,7 +80,8 @@ present_keys (member key value others) =
 -- an object has these keys alone
 abbrev pub has_only_keys : List (List ℕ) → Data → Bool
 has_only_keys keys value =
-    option_map_or (λ members. list_all (λ key. list_any (bytes_eq key) keys) (present_keys members)) (as_object value) false
+    option_map_or (λ members. list_all (λ key. list_any (bytes_eq key) keys) (present_keys members))
+    (as_object value) false
 
 -- ---- values
 
@@ -121,7 +122,8 @@ positive_value value = option_and_then (λ n. then_some (not (n == 0)) n) (whole
 -- seconds of an offset
 abbrev pub offset_value : Data → Option ℤ
 offset_value value =
-    option_and_then (λ z. then_some (int_le (neg_ℤ (pos 93_599)) z && int_le z (pos 93_599)) z) (signed_value value)
+    option_and_then (λ z. then_some (int_le (neg_ℤ (pos 93_599)) z && int_le z (pos 93_599)) z)
+    (signed_value value)
 
 abbrev pub flag : List ℕ → Data → Option Bool
 flag key value = read_or (Some false) as_bool key value
@@ -139,16 +141,18 @@ utc_value value = under_keys (codes "kind" ∷ codes "higher_precision" ∷ []) 
     (option_map utc_clock (flag (codes "higher_precision") value))
 
 abbrev pub local_value : Data → Option TimerChoice
-local_value value = under_keys (codes "kind" ∷ codes "higher_precision" ∷ codes "offset" ∷ []) value (do
-  offset ← required offset_value (codes "offset") value
-  higher ← flag (codes "higher_precision") value
-  Some (local_clock offset higher))
+local_value value =
+    under_keys (codes "kind" ∷ codes "higher_precision" ∷ codes "offset" ∷ []) value (do
+      offset ← required offset_value (codes "offset") value
+      higher ← flag (codes "higher_precision") value
+      Some (local_clock offset higher))
 
 abbrev pub uptime_value : Data → Option TimerChoice
-uptime_value value = under_keys (codes "kind" ∷ codes "higher_precision" ∷ codes "epoch" ∷ []) value (do
-  epoch ← read_or (Some 0) whole_value (codes "epoch") value
-  higher ← flag (codes "higher_precision") value
-  Some (uptime_clock epoch higher))
+uptime_value value =
+    under_keys (codes "kind" ∷ codes "higher_precision" ∷ codes "epoch" ∷ []) value (do
+      epoch ← read_or (Some 0) whole_value (codes "epoch") value
+      higher ← flag (codes "higher_precision") value
+      Some (uptime_clock epoch higher))
 
 abbrev pub timer_of_kind : List ℕ → Data → Option TimerChoice
 timer_of_kind kind value =
@@ -162,12 +166,14 @@ abbrev pub timer_value : Data → Option TimerChoice
 timer_value value = required as_str (codes "kind") value >>= (λ kind. timer_of_kind kind value)
 
 -- what a value that is read so changes in the settings
-abbrev pub sets : {A : Type 0} → (Data → Option A) → (A → Settings → Settings) → Data → Settings × TimerChoice
+abbrev pub sets : {A : Type 0} → (Data → Option A) → (A → Settings → Settings) → Data → Settings
+    × TimerChoice
     → Option (Settings × TimerChoice)
 sets reader change value asked = option_map (λ read. (change read asked.0, asked.1)) (reader value)
 
 -- a truth value changes the settings so
-abbrev pub switches : (Bool → Settings → Settings) → Data → Settings × TimerChoice → Option (Settings × TimerChoice)
+abbrev pub switches : (Bool → Settings → Settings) → Data → Settings × TimerChoice
+    → Option (Settings × TimerChoice)
 switches change = sets as_bool change
 
 -- a timer takes the place of the one before
@@ -180,9 +186,16 @@ SettingList = List (List ℕ × (Data → Settings × TimerChoice → Option (Se
 
 -- all settings
 abbrev pub all_settings : SettingList
-all_settings =
-    (codes "indent_amount", sets whole_value (λ amount settings. record settings { indent_amount = amount }))
-    ∷ (codes "wraparound", sets positive_value (λ levels settings. record settings { wraparound = levels }))
+all_settings = (
+  codes "indent_amount",
+  sets whole_value
+      (λ amount settings. record settings { indent_amount = amount }),
+)
+    ∷ (
+      codes "wraparound",
+      sets positive_value
+          (λ levels settings. record settings { wraparound = levels }),
+    )
     ∷ (codes "timer", sets_timer)
     ∷ (codes "ansi", switches (λ on settings. record settings { ansi = on }))
     ∷ (codes "indent_lines", switches (λ on settings. record settings { indent_lines = on }))
@@ -195,7 +208,11 @@ all_settings =
     ∷ (codes "deferred_spans", switches (λ on settings. record settings { deferred_spans = on }))
     ∷ (codes "close_retrace", switches (λ on settings. record settings { close_retrace = on }))
     ∷ (codes "span_modes", switches (λ on settings. record settings { span_modes = on }))
-    ∷ (codes "bracketed_fields", switches (λ on settings. record settings { bracketed_fields = on }))
+    ∷ (
+      codes "bracketed_fields",
+      switches
+          (λ on settings. record settings { bracketed_fields = on }),
+    )
     ∷ []
 
 -- what a key with a value makes of the settings; `None` where no setting has the key, or where the
@@ -234,7 +251,8 @@ SpellsSettings line settings timer = IsUtf8 line × (line_settings line ≡ Some
 
 abbrev pub level_value : Data → Option Level
 level_value value = option_and_then (chosen (
-    (codes "TRACE", Trace) ∷ (codes "DEBUG", Debug) ∷ (codes "INFO", Info) ∷ (codes "WARN", Warn) ∷ (codes "ERROR", Error) ∷ []))
+    (codes "TRACE", Trace) ∷ (codes "DEBUG", Debug) ∷ (codes "INFO", Info) ∷ (codes "WARN", Warn)
+    ∷ (codes "ERROR", Error) ∷ []))
     (as_str value)
 
 -- `"root"`, `"current"` or an id
@@ -248,7 +266,8 @@ parent_value (object ms) = None
 
 -- a name and its text
 abbrev pub pair_field : Items → Option Field
-pair_field (item (string name) (item (string text) no_items)) = Some (record { name = name; value = text })
+pair_field (item (string name) (item (string text) no_items)) =
+    Some (record { name = name; value = text })
 pair_field items = None
 
 -- an array of two texts
@@ -271,7 +290,8 @@ abbrev pub current_in : Data → Option (Option Id)
 current_in value = read_or (Some None) (λ v. option_map Some (id_value v)) (codes "current") value
 
 abbrev pub thread_name_in : Data → Option (Option (List ℕ))
-thread_name_in value = read_or (Some None) (λ v. option_map Some (as_str v)) (codes "thread_name") value
+thread_name_in value =
+    read_or (Some None) (λ v. option_map Some (as_str v)) (codes "thread_name") value
 
 abbrev pub thread_in : Data → Option ℕ
 thread_in value = read_or (Some 1) whole_value (codes "thread") value
@@ -362,7 +382,8 @@ SpellCalls [] [] = ⊤
 SpellCalls [] (call ∷ calls) = ⊥
 SpellCalls (line ∷ lines) [] = IsTrue (is_skipped line) × SpellCalls lines []
 SpellCalls (line ∷ lines) (call ∷ calls) =
-    MatchBool (is_skipped line) (SpellCalls lines (call ∷ calls)) (SpellsCall line call × SpellCalls lines calls)
+    MatchBool (is_skipped line) (SpellCalls lines (call ∷ calls))
+    (SpellsCall line call × SpellCalls lines calls)
 
 -- a line that spells no call, and isn't skipped
 abbrev pub SpellsNothing : List ℕ → Type 0

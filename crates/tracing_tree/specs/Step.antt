@@ -37,7 +37,8 @@ turn_of settings timer forest last (New attributes context) =
     turn_of_new settings context (with_new_span attributes context forest) last (new_id forest)
 turn_of settings timer forest last (Clone i) = quiet_turn forest last
 turn_of settings timer forest last (Record i record') = quiet_turn forest last
-turn_of settings timer forest last (Event event context) = turn_of_event settings timer context forest last event
+turn_of settings timer forest last (Event event context) =
+    turn_of_event settings timer context forest last event
 turn_of settings timer forest last (Close i context) =
     turn_of_closes settings context (closing_of forest i) forest last
 
@@ -47,10 +48,15 @@ changed_forest before (New attributes context) forest = forest
 changed_forest before (Clone i) forest = add_handle i forest
 changed_forest before (Record i record') forest = add_fields record'.fields i forest
 changed_forest before (Event event context) forest = forest
-changed_forest before (Close i context) forest = without_spans (closing_of before i) (take_handle i forest)
+changed_forest before (Close i context) forest =
+    without_spans (closing_of before i) (take_handle i forest)
 
 -- the state after an accepted call
 abbrev pub state_after : Settings → Timer → State → Call → State
 state_after settings timer state call =
     let turn = turn_of settings timer state.forest state.last call in
-    record { forest = changed_forest state.forest call turn.forest; last = turn.last; failed = state.failed }
+    record {
+      forest = changed_forest state.forest call turn.forest;
+      last = turn.last;
+      failed = state.failed;
+    }

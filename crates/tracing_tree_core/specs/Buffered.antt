@@ -16,8 +16,10 @@ emptied_when_ok (Ok done) buffers = record buffers { current_buf = [] }
 emptied_when_ok (Err fault) buffers = buffers
 
 -- The block becomes this text. A row that is too wide is refused for that; a refusal changes nothing.
-abbrev pub IndentsRow : Bool → List ℕ → Result (Unit {0}) Refusal → BuffersView → BuffersView → Type 0
-IndentsRow too_wide text (Ok done) old new = (too_wide ≡ false) × (new ≡ record old { current_buf = text })
+abbrev pub IndentsRow : Bool → List ℕ → Result (Unit {0}) Refusal → BuffersView → BuffersView
+    → Type 0
+IndentsRow too_wide text (Ok done) old new =
+    (too_wide ≡ false) × (new ≡ record old { current_buf = text })
 IndentsRow too_wide text (Err TooWide) old new = (too_wide ≡ true) × (new ≡ old)
 IndentsRow too_wide text (Err Memory) old new = (too_wide ≡ false) × (new ≡ old)
 IndentsRow too_wide text (Err refusal) old new = ⊥

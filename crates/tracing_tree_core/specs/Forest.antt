@@ -99,7 +99,8 @@ level_of forest i = length (path_of forest i) - 1
 abbrev pub Descends : Forest → Option Id → List Id → Type 0
 Descends forest above [] = ⊤
 Descends forest above (i ∷ below) =
-    (option_map (λ span. span.parent) (span_at forest i) ≡ Some above) × Descends forest (Some i) below
+    (option_map (λ span. span.parent) (span_at forest i) ≡ Some above)
+    × Descends forest (Some i) below
 
 -- a list from a root down to the span, each the parent of the next
 pub record IsPath (forest : Forest) (i : Id) (path : List Id) : Type 0 where
@@ -118,12 +119,14 @@ abbrev pub IsGrown : List Span → Type 0
 IsGrown [] = ⊤
 IsGrown (span ∷ older) =
     IsTrue (not (list_any (has_id span.id) older))
-    × IsTrue (option_map_or (λ above. list_any (has_id above) older) span.parent true) × IsGrown older
+    × IsTrue (option_map_or (λ above. list_any (has_id above) older) span.parent true)
+    × IsGrown older
 
 -- the ids are below the next one
 abbrev pub IsBelowNext : Forest → Type 0
 IsBelowNext forest =
-    IsTrue (option_map_or (λ next. list_all (λ span. nat_lt span.id.0 next.0) forest.spans) forest.next true)
+    IsTrue (option_map_or (λ next. list_all (λ span. nat_lt span.id.0 next.0) forest.spans)
+    forest.next true)
 
 pub record IsForest (forest : Forest) : Type 0 where
   pub grown : IsGrown (reverse forest.spans)
@@ -144,7 +147,9 @@ take_handle = update_span (λ span. record span { handles = span.handles - 1 })
 
 -- the fields go to the end of the span's
 abbrev pub add_fields : List Field → Id → Forest → Forest
-add_fields fields = update_span (λ span. record span { kept = record span.kept { fields = span.kept.fields ++ fields } })
+add_fields fields =
+    update_span
+    (λ span. record span { kept = record span.kept { fields = span.kept.fields ++ fields } })
 
 -- the span of this id becomes printed
 abbrev pub mark_printed : Id → Forest → Forest
@@ -153,7 +158,10 @@ mark_printed = update_span printed_span
 -- all of these become printed
 abbrev pub mark_all : List Id → Forest → Forest
 mark_all ids forest =
-    record forest { spans = map (λ span. if list_any (same_id span.id) ids then printed_span span else span) forest.spans }
+    record forest {
+      spans = map (λ span. if list_any (same_id span.id) ids then printed_span span else span)
+          forest.spans;
+    }
 
 -- the forest without these spans
 abbrev pub without_spans : List Id → Forest → Forest
@@ -189,7 +197,8 @@ add_span span forest = record { spans = forest.spans ++ span ∷ []; next = id_a
 
 -- the forest before its newest span was made
 abbrev pub take_back : Id → Forest → Forest
-take_back i forest = record { spans = filter (λ span. not (has_id i span)) forest.spans; next = Some i }
+take_back i forest =
+    record { spans = filter (λ span. not (has_id i span)) forest.spans; next = Some i }
 
 -- ---- closing
 
@@ -218,7 +227,9 @@ pub record IsLongestGoing (forest : Forest) (ids going : List Id) : Type 0 where
 -- of a span, its parent, and so on upward, the longest beginning in which each goes after the one before it
 abbrev pub going_up : Forest → Id → List Id
 going_up forest i =
-    map (λ step. step.1) (take_while (λ step. goes_after forest step.0 step.1) (with_previous (reverse (path_of forest i))))
+    map (λ step. step.1)
+    (take_while (λ step. goes_after forest step.0 step.1)
+    (with_previous (reverse (path_of forest i))))
 
 -- what leaves the forest when one handle of a span is taken away, the lowest first
 abbrev pub closing_of : Forest → Id → List Id
@@ -228,7 +239,8 @@ closing_of forest i = going_up (take_handle i forest) i
 -- beginning that goes
 unfoldable pub IsClosing : Forest → Id → List Id → Type 0
 IsClosing forest i ids =
-    (path : List Id) × IsPath forest i path × IsLongestGoing (take_handle i forest) (reverse path) ids
+    (path : List Id) × IsPath forest i path
+    × IsLongestGoing (take_handle i forest) (reverse path) ids
 
 -- the forest after one handle of a span was taken away
 abbrev pub after_close : Id → Forest → Forest

@@ -46,6 +46,7 @@ AreBelow n nodes = IsTrue (list_all (λ node. nat_lt node.span.id.0 n) nodes)
 
 -- each span is kept with its path and with the number of its children
 pub record IsTied (nodes : List KeptSpan) : Type 0 where
-  pub paths : (i : Id) (node : KeptSpan) → kept_at nodes i ≡ Some node → node.path ≡ path_of (alone (spans_of nodes)) i
+  pub paths : (i : Id) (node : KeptSpan) → kept_at nodes i ≡ Some node → node.path
+      ≡ path_of (alone (spans_of nodes)) i
   pub children : (i : Id) (node : KeptSpan) → kept_at nodes i ≡ Some node →
       node.children ≡ length (children_of (alone (spans_of nodes)) i)

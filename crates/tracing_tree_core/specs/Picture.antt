@@ -17,7 +17,8 @@ pub record Row : Type 0 where
 
 -- a row about no span
 abbrev pub unnamed_row : SpanMode → ℕ → List ℕ → List ℕ → Row
-unnamed_row kind level block prefix = record { kind = kind; span = None; level = level; block = block; prefix = prefix }
+unnamed_row kind level block prefix =
+    record { kind = kind; span = None; level = level; block = block; prefix = prefix }
 
 -- ---- lines
 
@@ -102,7 +103,9 @@ corners left right from to = record {
 abbrev pub branched : ℕ → ℕ → Frame
 branched from width = record {
   width = width;
-  glyph = λ column. if column == from then branch else (if nat_lt from column then horizontal else space);
+  glyph =
+      λ column. if column == from then branch else (if nat_lt from
+      column then horizontal else space);
 }
 
 -- `│` in a column, and so many spaces after it
@@ -115,7 +118,8 @@ continued from amount = record {
 -- a verbose row's corners stand half an amount further right; an amount of 1 leaves no room for them
 abbrev pub verbose_corners : ℕ → ℕ → ℕ → ℕ → Frame
 verbose_corners left right amount before =
-    if nat_le 2 amount then corners left right (before + amount / 2) (before + amount) else blank (before + amount + 1)
+    if nat_le 2 amount then corners left right (before + amount / 2) (before + amount) else blank
+    (before + amount + 1)
 
 -- at the left edge
 abbrev pub edge_frame : SpanMode → Frame
@@ -126,14 +130,22 @@ edge_frame mode = blank 0
 
 -- the first line of a row, further right: so many columns stand before the branch
 abbrev pub first_frame : SpanMode → ℕ → ℕ → Frame
-first_frame PreOpen amount before = corners corner_up_right corner_down_left before (before + max (amount / 2) 1)
-first_frame (Open false) amount before = corners corner_up_right corner_down_left before (before + amount)
-first_frame (Open true) amount before = verbose_corners corner_up_right corner_down_left amount before
-first_frame (Retrace false) amount before = corners corner_up_right corner_down_left before (before + amount)
-first_frame (Retrace true) amount before = verbose_corners corner_up_right corner_down_left amount before
-first_frame (Close false) amount before = corners corner_down_right corner_up_left before (before + amount)
-first_frame (Close true) amount before = verbose_corners corner_down_right corner_up_left amount before
-first_frame PostClose amount before = corners corner_down_right corner_up_left before (before + max (amount / 2) 1)
+first_frame PreOpen amount before =
+    corners corner_up_right corner_down_left before (before + max (amount / 2) 1)
+first_frame (Open false) amount before =
+    corners corner_up_right corner_down_left before (before + amount)
+first_frame (Open true) amount before =
+    verbose_corners corner_up_right corner_down_left amount before
+first_frame (Retrace false) amount before =
+    corners corner_up_right corner_down_left before (before + amount)
+first_frame (Retrace true) amount before =
+    verbose_corners corner_up_right corner_down_left amount before
+first_frame (Close false) amount before =
+    corners corner_down_right corner_up_left before (before + amount)
+first_frame (Close true) amount before =
+    verbose_corners corner_down_right corner_up_left amount before
+first_frame PostClose amount before =
+    corners corner_down_right corner_up_left before (before + max (amount / 2) 1)
 first_frame Event amount before = branched before (before + amount)
 
 -- how far `│` stands right of the branch
@@ -171,7 +183,8 @@ wrapped_level settings level = level % settings.wraparound
 
 abbrev pub row_frame : Settings → SpanMode → ℕ → ℕ → Frame
 row_frame settings mode level place =
-    if settings.indent_lines then lined_frame mode settings.indent_amount (wrapped_level settings level) place
+    if settings.indent_lines then lined_frame mode settings.indent_amount
+    (wrapped_level settings level) place
     else unlined_frame settings.indent_amount (wrapped_level settings level) place
 
 -- ---- pictures
@@ -199,7 +212,9 @@ mark_line settings row None = []
 mark_line settings row (Some corner) =
     if is_last_before_wrap settings row.level
     then row.prefix
-    ++ encode_utf8_all (replicate (wrapped_level settings row.level * settings.indent_amount) horizontal ++ corner ∷ [])
+    ++ encode_utf8_all
+    (replicate (wrapped_level settings row.level * settings.indent_amount) horizontal ++ corner
+    ∷ [])
     ++ 10 ∷ []
     else []
 
@@ -235,4 +250,5 @@ level_used settings mode level =
 -- the width passes the greatest number of its type
 abbrev pub is_too_wide : Settings → Row → Bool
 is_too_wide settings row =
-    nat_le 18_446_744_073_709_551_616 (level_used settings row.kind row.level * settings.indent_amount)
+    nat_le 18_446_744_073_709_551_616
+    (level_used settings row.kind row.level * settings.indent_amount)

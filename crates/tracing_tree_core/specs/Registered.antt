@@ -15,7 +15,8 @@ use Rattle.tracing_tree_core.specs.declared.registry.Attributes.{Attributes}
 -- each span's id is below those of the spans after it
 abbrev pub IsRising : List Span → Type 0
 IsRising [] = ⊤
-IsRising (span ∷ newer) = IsTrue (list_all (λ other. nat_lt span.id.0 other.id.0) newer) × IsRising newer
+IsRising (span ∷ newer) =
+    IsTrue (list_all (λ other. nat_lt span.id.0 other.id.0) newer) × IsRising newer
 
 -- each span's id is one that can be given out
 abbrev pub IsInRange : List Span → Type 0
@@ -27,11 +28,13 @@ alone spans = record { spans = spans; next = None }
 
 -- what a registry keeps of its spans and the next id
 abbrev pub IsKept : List Span → Option Id → Type 0
-IsKept spans next = IsForest (record { spans = spans; next = next }) × IsRising spans × IsInRange spans
+IsKept spans next =
+    IsForest (record { spans = spans; next = next }) × IsRising spans × IsInRange spans
 
 -- a child of this span, and not the one that closes before it
 abbrev pub is_other_child : Id → Option Id → Span → Bool
-is_other_child i before span = is_child_of i span && not (option_map_or (same_id span.id) before false)
+is_other_child i before span =
+    is_child_of i span && not (option_map_or (same_id span.id) before false)
 
 -- each child of this span is the one that closes before it
 abbrev pub lacks_others : List Span → Option Id → Id → Bool
@@ -41,11 +44,14 @@ lacks_others spans before i =
 -- of these ids the longest beginning in which each goes after the one before it, and the first after this one
 abbrev pub going_after : Forest → Option Id → List Id → List Id
 going_after forest before ids =
-    map (λ step. step.1) (take_while (λ step. goes_after forest step.0 step.1) (zip (before ∷ map (λ i. Some i) ids) ids))
+    map (λ step. step.1)
+    (take_while (λ step. goes_after forest step.0 step.1)
+    (zip (before ∷ map (λ i. Some i) ids) ids))
 
 -- the parent that is meant and that isn't live
 abbrev pub missing_parent : Forest → Attributes → Context → Option Id
-missing_parent forest attributes context = any_unless_live forest (named_parent attributes.parent context.current)
+missing_parent forest attributes context =
+    any_unless_live forest (named_parent attributes.parent context.current)
 
 -- A new span has the next id. Without its parent it is refused for that, and else where no id is left; `Memory` is for want of
 -- memory alone. A refusal changes nothing.
@@ -53,7 +59,8 @@ abbrev pub IsNewSpan : Attributes → Context → Result Id Refusal → Forest �
 IsNewSpan attributes context (Ok i) old new =
     (missing_parent old attributes context ≡ None) × (old.next ≡ Some i)
     × (new ≡ add_span (new_span i attributes context.current context.moment.mono) old)
-IsNewSpan attributes context (Err (NotHeld i)) old new = (missing_parent old attributes context ≡ Some i) × (new ≡ old)
+IsNewSpan attributes context (Err (NotHeld i)) old new =
+    (missing_parent old attributes context ≡ Some i) × (new ≡ old)
 IsNewSpan attributes context (Err TooMany) old new =
     (missing_parent old attributes context ≡ None) × (old.next ≡ None) × (new ≡ old)
 IsNewSpan attributes context (Err Memory) old new = new ≡ old
@@ -62,15 +69,18 @@ IsNewSpan attributes context (Err refusal) old new = ⊥
 -- a clone adds one handle; a span that isn't live and a count that is full are refused, and change nothing then
 abbrev pub IsCloned : Id → Result Id Refusal → Forest → Forest → Type 0
 IsCloned i (Ok j) old new =
-    (unless_live old i ≡ None) × (has_all_handles old i ≡ false) × (j ≡ i) × (new ≡ add_handle i old)
+    (unless_live old i ≡ None) × (has_all_handles old i ≡ false) × (j ≡ i)
+    × (new ≡ add_handle i old)
 IsCloned i (Err (NotHeld j)) old new = (unless_live old i ≡ Some j) × (new ≡ old)
-IsCloned i (Err TooMany) old new = (unless_live old i ≡ None) × (has_all_handles old i ≡ true) × (new ≡ old)
+IsCloned i (Err TooMany) old new =
+    (unless_live old i ≡ None) × (has_all_handles old i ≡ true) × (new ≡ old)
 IsCloned i (Err refusal) old new = ⊥
 
 -- a close takes one handle and what closes with it; it is refused exactly where no handle is left, and changes nothing then
 abbrev pub IsClosed : Id → Result Bool Refusal → Forest → Forest → Type 0
 IsClosed i (Ok went) old new =
-    (unless_handle old i ≡ None) × (went ≡ not (length (closing_of old i) == 0)) × (new ≡ after_close i old)
+    (unless_handle old i ≡ None) × (went ≡ not (length (closing_of old i) == 0))
+    × (new ≡ after_close i old)
 IsClosed i (Err (NotHeld j)) old new = (unless_handle old i ≡ Some j) × (new ≡ old)
 IsClosed i (Err refusal) old new = ⊥
 

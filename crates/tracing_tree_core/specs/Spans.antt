@@ -65,4 +65,7 @@ kept_printed node = record node { span = printed_span node.span }
 -- with these fields at the end of its own
 abbrev pub fields_more : List Field → KeptSpan → KeptSpan
 fields_more fields node =
-    record node { span = record node.span { kept = record node.span.kept { fields = node.span.kept.fields ++ fields } } }
+    record node {
+      span = record node.span
+          { kept = record node.span.kept { fields = node.span.kept.fields ++ fields } };
+    }

@@ -144,7 +144,8 @@ shown_fields fields = filter (λ field. not (is_log_field field)) fields
 -- a space and the fields, or nothing if there is none
 abbrev pub spaced_fields : List Field → List ℕ
 spaced_fields [] = []
-spaced_fields (first ∷ others) = 32 ∷ joined (codes ", ") (shown_field first ∷ map shown_field others)
+spaced_fields (first ∷ others) =
+    32 ∷ joined (codes ", ") (shown_field first ∷ map shown_field others)
 
 -- the fields of an event
 abbrev pub event_fields : List Field → List ℕ
@@ -161,7 +162,8 @@ thread_name_text numbered (Some name) = (if numbered then codes ":" else []) ++ 
 abbrev pub prefix_text : Settings → Context → List ℕ
 prefix_text settings context =
     (if settings.render_thread_ids then decimal context.thread_id else [])
-    ++ (if settings.render_thread_names then thread_name_text settings.render_thread_ids context.thread_name else [])
+    ++ (if settings.render_thread_names then thread_name_text settings.render_thread_ids
+    context.thread_name else [])
 
 -- ---- numbers
 

@@ -89,7 +89,9 @@ fn push_escaped(out: &mut String, byte: u8) -> Result<(), AllocError>
 
 // A character by its code, in lowercase hexadecimal digits.
 fn push_code(out: &mut String, byte: u8) -> Result<(), AllocError>
-    ensures { OnOk result (string_bytes out.new ≡ string_bytes out.old ++ codes "\\u{" ++ digits 16 false byte ++ codes "}") }
+    ensures { OnOk result
+        (string_bytes out.new ≡ string_bytes out.old ++ codes "\\u{" ++ digits 16 false byte
+        ++ codes "}") }
 {
     out.push_str("\\u{")?;
     write!(out, "{byte:x}")?;

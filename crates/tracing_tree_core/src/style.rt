@@ -50,7 +50,8 @@ pub fn styled(alloc: Global, ansi: bool, style: Style, text: &str) -> Result<Str
 
 /// Appends the text in a style, as `styled` makes it. On `AllocError` nothing is appended.
 pub fn push_styled(out: &mut String, ansi: bool, style: Style, text: &str) -> Result<(), AllocError>
-    ensures ok { OnOk result (string_bytes out.new ≡ string_bytes out.old ++ styled ansi style text.now) }
+    ensures ok { OnOk result (string_bytes out.new
+        ≡ string_bytes out.old ++ styled ansi style text.now) }
     ensures err { OnErr result (string_bytes out.new ≡ string_bytes out.old) }
 {
     if !ansi || style == Style::Plain {
@@ -120,7 +121,8 @@ fn painted(level: &Level) -> &'static str
 
 /// Appends a level as an event shows it: painted with ansi, else its name. On `AllocError` nothing is appended.
 pub fn push_level(out: &mut String, ansi: bool, level: Level) -> Result<(), AllocError>
-    ensures ok { OnOk result (string_bytes out.new ≡ string_bytes out.old ++ shown_level ansi level) }
+    ensures ok { OnOk result (string_bytes out.new
+        ≡ string_bytes out.old ++ shown_level ansi level) }
     ensures err { OnErr result (string_bytes out.new ≡ string_bytes out.old) }
 {
     if ansi {

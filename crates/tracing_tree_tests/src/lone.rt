@@ -34,7 +34,9 @@ impl LookupSpan for Lone {
     ghost use Rattle.tracing_tree_core.specs.Ids.{id_of};
 
     ghost forest = { λ lone. record {
-      spans = record { id = id_of 1; parent = None; name = lone.name; target = lone.target; kept = lone.«data»; handles = 1 } ∷ [];
+      spans =
+          record { id = id_of 1; parent = None; name = lone.name; target = lone.target;
+          kept = lone.«data»; handles = 1 } ∷ [];
       next = None;
     } };
 

@@ -29,7 +29,8 @@ fn push_span_fields(out: &mut String, fields: &[Field]) -> Result<(), AllocError
 
 // Target, name and fields of a span.
 fn push_span_text(out: &mut String, config: &Config, span: &SpanRef) -> Result<(), AllocError>
-    ensures { OnOk result (string_bytes out.new ≡ string_bytes out.old ++ span_text config.now span.now) }
+    ensures { OnOk result
+        (string_bytes out.new ≡ string_bytes out.old ++ span_text config.now span.now) }
 {
     push_span_target(out, config, span)?;
     push_styled(out, config.ansi(), Style::BoldGreen, span.name())?;
@@ -40,7 +41,8 @@ fn push_span_text(out: &mut String, config: &Config, span: &SpanRef) -> Result<(
 
 // The target of a span, if targets are on.
 fn push_span_target(out: &mut String, config: &Config, span: &SpanRef) -> Result<(), AllocError>
-    ensures { OnOk result (string_bytes out.new ≡ string_bytes out.old ++ shown_target config.now span.now) }
+    ensures { OnOk result
+        (string_bytes out.new ≡ string_bytes out.old ++ shown_target config.now span.now) }
 {
     if !config.targets() {
         return Ok(());
@@ -51,7 +53,9 @@ fn push_span_target(out: &mut String, config: &Config, span: &SpanRef) -> Result
 
 // A brace round the fields of a span, or what stands there without braces.
 fn push_brace(out: &mut String, config: &Config, brace: &str, plain: &str) -> Result<(), AllocError>
-    ensures { OnOk result (string_bytes out.new ≡ string_bytes out.old ++ shown_brace config.now brace.now plain.now) }
+    ensures { OnOk result
+        (string_bytes out.new ≡ string_bytes out.old
+        ++ shown_brace config.now brace.now plain.now) }
 {
     if config.bracketed_fields() {
         push_styled(out, config.ansi(), Style::BoldGreen, brace)
@@ -68,7 +72,8 @@ pub(super) fn push_span_block(
     mode: SpanMode,
     span: &SpanRef,
 ) -> Result<(), AllocError>
-    ensures { OnOk result (string_bytes out.new ≡ string_bytes out.old ++ span_block config.now mode span.now) }
+    ensures { OnOk result
+        (string_bytes out.new ≡ string_bytes out.old ++ span_block config.now mode span.now) }
 {
     if config.span_modes() {
         write_span_mode(out, mode)?;
@@ -86,7 +91,8 @@ pub(super) fn push_event_tail(
     config: &Config,
     event: &Event,
 ) -> Result<(), AllocError>
-    ensures { OnOk result (string_bytes out.new ≡ string_bytes out.old ++ event_tail config.now event.now) }
+    ensures { OnOk result
+        (string_bytes out.new ≡ string_bytes out.old ++ event_tail config.now event.now) }
 {
     push_level(out, config.ansi(), event.level)?;
     if config.targets() {

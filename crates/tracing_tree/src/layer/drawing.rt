@@ -30,7 +30,8 @@ impl<S: LookupSpan> Drawing<'_, S> {
         requires { IsBlank page.old.bufs }
         ensures { let settings = self.now.config.now in
             let forest = S.forest self.now.spans.now in
-            let turn = turn_of_new settings self.now.context.now forest page.old.bufs.current_span id in
+            let turn = turn_of_new settings self.now.context.now forest page.old.bufs.current_span
+            id in
             Drafts settings forest turn false false result page.old page.new plan.new }
     {
         plan.begin(page.bufs.current_span);
@@ -49,7 +50,8 @@ impl<S: LookupSpan> Drawing<'_, S> {
             let forest = S.forest self.now.spans.now in
             let last = page.old.bufs.current_span in
             let turn = turn_of_closes settings self.now.context.now ids.now forest last in
-            Drafts settings forest turn false (has_no_id ids.now) result page.old page.new plan.new }
+            Drafts settings forest turn false (has_no_id ids.now) result page.old page.new
+            plan.new }
     {
         plan.begin(page.bufs.current_span);
         let planner = Planner {
@@ -116,7 +118,8 @@ impl<S: LookupSpan> Drawing<'_, S> {
 
     // The block of a span's row.
     fn block(&self, bufs: &mut Buffers, mode: SpanMode, id: Id) -> Result<(), AllocError>
-        ensures ok { let block = block_of self.now.config.now (S.forest self.now.spans.now) mode id in
+        ensures ok { let forest = S.forest self.now.spans.now in
+            let block = block_of self.now.config.now forest mode id in
             let block = bufs.old.current_buf ++ block in
             OnOk result (bufs.new ≡ record bufs.old { current_buf = block }) }
         ensures last { bufs.new.current_span ≡ bufs.old.current_span }
@@ -254,14 +257,17 @@ impl<S: LookupSpan> Drawing<'_, S> {
 
     // The timer's text of the time since the current span was made, if that is live, and a space.
     fn elapsed<FT: FormatTime>(&self, out: &mut String, timer: &FT) -> Result<(), Refusal>
-        ensures ok { let since = time_in_current (S.forest self.now.spans.now) self.now.context.now in
+        ensures ok { let forest = S.forest self.now.spans.now in
+            let since = time_in_current forest self.now.context.now in
             let text = elapsed_part self.now.config.now (FT.timer timer.now) since in
             OnOk result (string_bytes out.new ≡ string_bytes out.old ++ text) }
-        ensures has { let since = time_in_current (S.forest self.now.spans.now) self.now.context.now in
+        ensures has { let forest = S.forest self.now.spans.now in
+            let since = time_in_current forest self.now.context.now in
             OnOk result (lacks_elapsed self.now.config.now (FT.timer timer.now) since ≡ false) }
         ensures refusal { let context = self.now.context.now in
             let since = time_in_current (S.forest self.now.spans.now) context in
-            IfErr result (IsUntimed (lacks_elapsed self.now.config.now (FT.timer timer.now) since)) }
+            IfErr result
+            (IsUntimed (lacks_elapsed self.now.config.now (FT.timer timer.now) since)) }
     {
         let Some(current) = self.context.current else {
             return Ok(());

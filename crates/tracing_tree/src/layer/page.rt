@@ -17,7 +17,8 @@ pub(super) struct Page {
 
 impl Page {
     pub(super) fn new(alloc: Global) -> Page
-        ensures bufs { result.bufs ≡ record { current_buf = []; indent_buf = []; current_span = None } }
+        ensures bufs { result.bufs
+            ≡ record { current_buf = []; indent_buf = []; current_span = None } }
         ensures text { string_bytes result.text ≡ [] }
     {
         Page {
@@ -37,7 +38,8 @@ impl Page {
         requires { self.old.bufs.indent_buf ≡ [] }
         ensures { let prefix = prefix_text config.now context.now in
             let row = unnamed_row mode level self.old.bufs.current_buf prefix in
-            AddsRow (is_too_wide config.now row) (drawn_row config.now row) result self.old self.new }
+            AddsRow (is_too_wide config.now row) (drawn_row config.now row) result self.old
+            self.new }
     {
         self.bufs.indent_current(level, config, mode, context)?;
         self.text.push_str(self.bufs.current_buf.as_str())?;

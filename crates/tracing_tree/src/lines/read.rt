@@ -53,7 +53,8 @@ pub(crate) fn read_ended<B: BufRead>(reader: &mut B, line: &mut Vec<u8>) -> Resu
 
 // Puts what the reader holds of the line at the end of `line`.
 fn read_part<B: BufRead>(reader: &mut B, line: &mut Vec<u8>) -> Result<Part, LineCause>
-    ensures { ReadsPart (B.remaining reader.old) (B.remaining reader.new) line.old.items line.new.items result }
+    ensures { ReadsPart (B.remaining reader.old) (B.remaining reader.new) line.old.items
+        line.new.items result }
 {
     let held = match reader.fill_buf() {
         Ok(held) => held,

@@ -95,7 +95,8 @@ impl Buffers {
         requires { self.old.indent_buf ≡ [] }
         ensures { let prefix = prefix_text config.now context.now in
             let row = unnamed_row mode indent self.old.current_buf prefix in
-            IndentsRow (is_too_wide config.now row) (drawn_row config.now row) result self.old self.new }
+            IndentsRow (is_too_wide config.now row) (drawn_row config.now row) result self.old
+            self.new }
     {
         config.check_width(mode, indent)?;
         let drawing = Drawing {

@@ -67,7 +67,7 @@ impl Frame {
         before: usize,
     ) -> Frame
         requires amount { 0 < amount }
-        requires fits { before + amount < 18_446_744_073_709_551_616 }
+        requires fits { before + amount < 2 ^ 64 }
         ensures { pushed_text result ≡ span_pieces left.now right.now verbose amount before }
     {
         if !verbose {
@@ -81,7 +81,8 @@ impl Frame {
 
     // Appends the pieces in order.
     fn push(&self, out: &mut String) -> Result<(), AllocError>
-        ensures { OnOk result (string_bytes out.new ≡ string_bytes out.old ++ pushed_text self.now) }
+        ensures { OnOk result
+            (string_bytes out.new ≡ string_bytes out.old ++ pushed_text self.now) }
     {
         push_repeated(out, " ", self.spaces)?;
         out.push_str(self.branch)?;
@@ -104,7 +105,7 @@ fn edge_frame(mode: SpanMode) -> Frame
 // The first line of a row further right, where so many columns stand before the branch.
 fn first_frame(mode: SpanMode, amount: usize, before: usize) -> Frame
     requires amount { 0 < amount }
-    requires fits { before + amount < 18_446_744_073_709_551_616 }
+    requires fits { before + amount < 2 ^ 64 }
     ensures { pushed_text result ≡ frame_text (first_frame mode amount before) }
 {
     let parent = before + (amount / 2).max(1);
@@ -180,7 +181,8 @@ pub fn push_frame(
     requires level { level + shift_of mode < 2 ^ 64 }
     requires width { (level + shift_of mode) * amount < 2 ^ 64 }
     ensures { OnOk result (string_bytes out.new
-        ≡ string_bytes out.old ++ frame_text (lined_frame mode amount level (if first then 0 else 1))) }
+        ≡ string_bytes out.old
+        ++ frame_text (lined_frame mode amount level (if first then 0 else 1))) }
 {
     lined_frame(mode, amount, level, first).push(out)
 }
@@ -228,7 +230,9 @@ impl Drawing<'_> {
     // Appends the lines of a block, and before or after them the row's wrap mark.
     pub(super) fn row(&self, out: &mut String, block: &str) -> Result<(), AllocError>
         requires { is_too_wide self.now.config.now (row_of self.now block.now) ≡ false }
-        ensures { OnOk result (string_bytes out.new ≡ string_bytes out.old ++ drawn_row self.now.config.now (row_of self.now block.now)) }
+        ensures { OnOk result
+            (string_bytes out.new ≡ string_bytes out.old
+            ++ drawn_row self.now.config.now (row_of self.now block.now)) }
     {
         self.mark(out, corner_before(self.mode))?;
         self.lines(out, block)?;
@@ -238,7 +242,9 @@ impl Drawing<'_> {
     // Appends the lines of a block. With lines an empty last part is a line too, and also the last loses its carriage return.
     fn lines(&self, out: &mut String, block: &str) -> Result<(), AllocError>
         requires { HasRoom self.now }
-        ensures { OnOk result (string_bytes out.new ≡ string_bytes out.old ++ picture self.now.config.now (row_of self.now block.now)) }
+        ensures { OnOk result
+            (string_bytes out.new ≡ string_bytes out.old
+            ++ picture self.now.config.now (row_of self.now block.now)) }
     {
         let mut frame = self.frame(true);
         let mut rest = block;
@@ -259,7 +265,8 @@ impl Drawing<'_> {
     // Appends one line.
     fn line(&self, out: &mut String, frame: Frame, text: &str) -> Result<(), AllocError>
         ensures { OnOk result (string_bytes out.new ≡ string_bytes out.old
-            ++ (prefix_text self.now.config.now self.now.context.now ++ pushed_text frame ++ text.now ++ 10 ∷ [])) }
+            ++ (prefix_text self.now.config.now self.now.context.now ++ pushed_text frame
+            ++ text.now ++ 10 ∷ [])) }
     {
         self.config.push_prefix(out, self.context)?;
         frame.push(out)?;
@@ -270,7 +277,7 @@ impl Drawing<'_> {
     // The level that counts for the indent.
     fn wrapped_level(&self) -> usize
         ensures value { result ≡ wrapped_level self.now.config.now self.now.level }
-        ensures below { result + 1 < 18_446_744_073_709_551_616 }
+        ensures below { result + 1 < 2 ^ 64 }
     {
         self.level % self.config.wraparound()
     }
@@ -278,7 +285,10 @@ impl Drawing<'_> {
     // The frame of the first line, or that of each later one.
     fn frame(&self, first: bool) -> Frame
         requires { HasRoom self.now }
-        ensures { pushed_text result ≡ frame_text (row_frame self.now.config.now self.now.mode self.now.level (if first then 0 else 1)) }
+        ensures { pushed_text result
+            ≡ frame_text
+            (row_frame self.now.config.now self.now.mode self.now.level
+            (if first then 0 else 1)) }
     {
         let wrapped = self.wrapped_level();
         let amount = self.config.indent_amount();
@@ -299,7 +309,9 @@ impl Drawing<'_> {
     // Where the levels wrap round behind this one, a line up to the indent and the corner, if the row has one.
     fn mark(&self, out: &mut String, corner: Option<char>) -> Result<(), AllocError>
         requires { HasRoom self.now }
-        ensures { OnOk result (string_bytes out.new ≡ string_bytes out.old ++ mark_line self.now.config.now (row_of self.now []) corner) }
+        ensures { OnOk result
+            (string_bytes out.new ≡ string_bytes out.old
+            ++ mark_line self.now.config.now (row_of self.now []) corner) }
     {
         let Some(corner) = corner else {
             return Ok(());

@@ -61,7 +61,8 @@ pub fn push_event_field(out: &mut String, comma: &mut bool, field: &Field) -> Re
 /// Appends a field as `name=value`, and a field named `message` as its value alone. On `AllocError`
 /// nothing is appended.
 pub fn push_shown(out: &mut String, field: &Field) -> Result<(), AllocError>
-    ensures ok { OnOk result (string_bytes out.new ≡ string_bytes out.old ++ shown_field field.now) }
+    ensures ok { OnOk result (string_bytes out.new
+        ≡ string_bytes out.old ++ shown_field field.now) }
     ensures err { OnErr result (string_bytes out.new ≡ string_bytes out.old) }
 {
     if field.name.as_str() == "message" {
@@ -72,7 +73,8 @@ pub fn push_shown(out: &mut String, field: &Field) -> Result<(), AllocError>
 
 /// Appends a field as `name=value`. On `AllocError` nothing is appended.
 pub fn push_named(out: &mut String, field: &Field) -> Result<(), AllocError>
-    ensures ok { OnOk result (string_bytes out.new ≡ string_bytes out.old ++ named_value field.now) }
+    ensures ok { OnOk result (string_bytes out.new
+        ≡ string_bytes out.old ++ named_value field.now) }
     ensures err { OnErr result (string_bytes out.new ≡ string_bytes out.old) }
 {
     let name = field.name.as_str();

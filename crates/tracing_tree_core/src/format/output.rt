@@ -120,7 +120,8 @@ const TRIES: u32 = 9;
 fn write_tried<W: Write>(writer: &mut W, bytes: &[u8]) -> Option<usize>
     ensures bound { IfSome result (λ n. n ≤ length bytes.now) }
     ensures some { IfSome result (λ n. 0 < length bytes.now → 0 < n) }
-    ensures ok { IfSome result (λ n. Appends (W.contents writer.old) (W.contents writer.new) (take n bytes.now)) }
+    ensures ok { IfSome result
+        (λ n. Appends (W.contents writer.old) (W.contents writer.new) (take n bytes.now)) }
     ensures err { IfNone result (Keeps (W.contents writer.old) (W.contents writer.new)) }
 {
     for _try in 0..TRIES {

@@ -27,7 +27,9 @@ impl Data {
     /// The data of a new span: when it starts, in nanoseconds, a copy of its fields, and whether it counts as printed.
     /// `AllocError` where memory is refused.
     pub fn new(attributes: &Attributes, start: u64, written: bool) -> Result<Data, AllocError>
-        ensures { IfOk result (λ made. made ≡ record { start = start; fields = attributes.now.fields; written = written }) }
+        ensures { IfOk result
+            (λ made. made
+            ≡ record { start = start; fields = attributes.now.fields; written = written }) }
     {
         Ok(Data {
             start,
@@ -194,7 +196,14 @@ impl<'a> SpanRef<'a> {
         target: &'a Text,
         kept: &'a Data,
     ) -> SpanRef<'a>
-        ensures { result ≡ record { id = id; parent = parent; name = name.now; target = target.now; kept = kept.now } }
+        ensures { result
+            ≡ record {
+              id = id;
+              parent = parent;
+              name = name.now;
+              target = target.now;
+              kept = kept.now;
+            } }
     {
         SpanRef {
             id,

@@ -295,8 +295,10 @@ fn remove_upward(nodes: &mut Nodes, id: Id, count: usize)
     requires tied { IsTied nodes.old }
     requires all { count ≡ length (going_up (alone (spans_of nodes.old)) id) }
     ensures spans { spans_of nodes.new ≡
-        (without_spans (going_up (alone (spans_of nodes.old)) id) (alone (spans_of nodes.old))).spans }
-    ensures kept { (next : Option Id) → IsKept (spans_of nodes.old) next → IsKept (spans_of nodes.new) next }
+        (without_spans (going_up (alone (spans_of nodes.old)) id)
+        (alone (spans_of nodes.old))).spans }
+    ensures kept { (next : Option Id) → IsKept (spans_of nodes.old) next
+        → IsKept (spans_of nodes.new) next }
     ensures tied { IsTied nodes.new }
 {
     let mut above = Some(id);
