@@ -35,8 +35,14 @@ impl LookupSpan for Lone {
 
     ghost forest = { λ lone. record {
       spans =
-          record { id = id_of 1; parent = None; name = lone.name; target = lone.target;
-          kept = lone.«data»; handles = 1 } ∷ [];
+          record {
+            id = id_of 1;
+            parent = None;
+            name = lone.name;
+            target = lone.target;
+            kept = lone.«data»;
+            handles = 1;
+          } ∷ [];
       next = None;
     } };
 

@@ -292,47 +292,63 @@ fn prints_rows(rt: HostRuntime) -> Result<(), Fail> {
 // For rows whose texts need no escapes, the line of JSON of each that is read, with the path of each event.
 fn expected(alloc: Global, rows: &[Row], paths: &[EventPath]) -> Result<String, Fail> {
     let mut out = String::new(alloc);
-    let mut place = 0usize;
-    for row in rows {
-        let level = row.level();
-        match row.shape() {
-            Shape::Open(verbose) => {
-                write!(
-                    out,
-                    "{{\"shape\":\"Open\",\"verbose\":{verbose},\"level\":{level}"
-                )?;
-            }
-            Shape::Close(verbose) => {
-                write!(
-                    out,
-                    "{{\"shape\":\"Close\",\"verbose\":{verbose},\"level\":{level}"
-                )?;
-            }
-            shape => write!(out, "{{\"shape\":\"{shape:?}\",\"level\":{level}")?,
-        }
-        out.push_str(",\"lines\":[")?;
-        for (index, text) in row.lines().as_slice().iter().enumerate() {
-            let comma = if index > 0 { "," } else { "" };
-            write!(out, "{comma}\"{text}\"")?;
-        }
-        out.push_str("]")?;
+    for (place, row) in rows.iter().enumerate() {
+        push_shape(&mut out, row)?;
+        push_lines(&mut out, row)?;
         for path in paths {
             if path.event == place {
-                out.push_str(",\"ancestors\":[")?;
-                for (index, place) in path.ancestors.as_slice().iter().enumerate() {
-                    let comma = if index > 0 { "," } else { "" };
-                    match place {
-                        Some(place) => write!(out, "{comma}{place}")?,
-                        None => write!(out, "{comma}null")?,
-                    }
-                }
-                out.push_str("]")?;
+                push_ancestors(&mut out, path)?;
             }
         }
         out.push_str("}\n")?;
-        place = place.saturating_add(1);
     }
     Ok(out)
+}
+
+// The shape and the level of a row.
+fn push_shape(out: &mut String, row: &Row) -> Result<(), Fail> {
+    let level = row.level();
+    match row.shape() {
+        Shape::Open(verbose) => {
+            write!(
+                out,
+                "{{\"shape\":\"Open\",\"verbose\":{verbose},\"level\":{level}"
+            )?;
+        }
+        Shape::Close(verbose) => {
+            write!(
+                out,
+                "{{\"shape\":\"Close\",\"verbose\":{verbose},\"level\":{level}"
+            )?;
+        }
+        shape => write!(out, "{{\"shape\":\"{shape:?}\",\"level\":{level}")?,
+    }
+    Ok(())
+}
+
+// The lines of a row.
+fn push_lines(out: &mut String, row: &Row) -> Result<(), Fail> {
+    out.push_str(",\"lines\":[")?;
+    for (index, text) in row.lines().as_slice().iter().enumerate() {
+        let comma = if index > 0 { "," } else { "" };
+        write!(out, "{comma}\"{text}\"")?;
+    }
+    out.push_str("]")?;
+    Ok(())
+}
+
+// The path of an event.
+fn push_ancestors(out: &mut String, path: &EventPath) -> Result<(), Fail> {
+    out.push_str(",\"ancestors\":[")?;
+    for (index, place) in path.ancestors.as_slice().iter().enumerate() {
+        let comma = if index > 0 { "," } else { "" };
+        match place {
+            Some(place) => write!(out, "{comma}{place}")?,
+            None => write!(out, "{comma}null")?,
+        }
+    }
+    out.push_str("]")?;
+    Ok(())
 }
 
 #[test]
