@@ -43,7 +43,14 @@ bench: build
 	@cd crates/tracing_tree_rows_bench && { rt run < /dev/null > ../../bin/rows_bench.log 2>&1 || true; }
 	@python3 scripts/bench_rows.py bin/tracing_tree crates/tracing_tree_rows_bench/out/tracing_tree_rows_bench
 
-# Refuses the program each allocation, each read and each write in turn, and looks at what it leaves.
+# Inputs of worked cases that refusals are tried on too: with retracing, with clocks, with a fault of the settings and of a call.
+DATA = crates/tracing_tree_cases/data
+FAULTY = $(addprefix $(DATA)/,retracing/concurrent_eager.in retracing/deferred_closes.in close_retrace/stranger.in \
+	clocks/utc.in clocks/local.in clocks/uptime_higher.in lines/settings_wraparound_text.in lines/call_close_without_id.in)
+DRAWINGS = $(addprefix $(DATA)/,first/tree.out retracing/concurrent_eager.out retracing/retrace.out)
+
+# Refuses the programs each allocation, each read and each write in turn, and looks at what they leave.
 faults: build
 	@$(CC) -O1 -shared -fPIC -o bin/refuse.so scripts/refuse.c -ldl
-	@python3 scripts/refuse.py bin/tracing_tree bin/refuse.so examples/*.jsonl
+	@python3 scripts/refuse.py bin/tracing_tree bin/refuse.so examples/*.jsonl $(FAULTY)
+	@python3 scripts/refuse.py bin/tracing_tree_read bin/refuse.so $(DRAWINGS)
