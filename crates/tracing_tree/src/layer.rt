@@ -152,11 +152,6 @@ impl<W: Output, FT: FormatTime> HierarchicalLayer<W, FT> {
         self.writer
     }
 
-    // The allocator of its texts.
-    pub(crate) fn allocator(&self) -> Global {
-        *self.page.text.allocator()
-    }
-
     // Draws a span that was made, which is live.
     pub(crate) fn write_new_span<S: LookupSpan>(
         &mut self,
