@@ -3,7 +3,6 @@
 ghost use Rattle.std.specs.Prelude.{◌≡◌, None, false};
 
 use crate::lone::Lone;
-use crate::making::{at, closed, made, recorded, told};
 use std::alloc::{AllocError, Global};
 use std::process::Abort;
 use std::test::*;
@@ -15,6 +14,7 @@ use tracing_tree::layered::Layered;
 use tracing_tree::registry::{Attributes, Event, LookupSpan, Parent, Record, Registry, Walked};
 use tracing_tree::style::Level;
 use tracing_tree::text::Text;
+use tracing_tree_testing::{at, closed, made, recorded, told};
 
 // What both registries can do.
 trait Keeps: LookupSpan {

@@ -1,10 +1,10 @@
 //! Calls on a layered, with their answers and their text.
 
-use crate::making::{closed, lined, lined_from, made, told};
 use std::test::*;
 use tracing_tree::call::Reply;
 use tracing_tree::format::{Id, Refusal};
 use tracing_tree::style::Level;
+use tracing_tree_testing::{closed, lined, lined_from, made, told};
 
 #[test]
 fn draws_a_tree(rt: HostRuntime) -> Result<(), Fail> {

@@ -1,10 +1,12 @@
 //! A registry of one's own: a single root.
 
 use std::alloc::{AllocError, Global};
+use std::test::*;
 use tracing_tree::field::Fields;
 use tracing_tree::format::Id;
 use tracing_tree::registry::{Data, LookupSpan, SpanRef};
 use tracing_tree::text::Text;
+use tracing_tree_testing::recorded;
 
 /// One root, with the id 1.
 #[derive(Drop)]
@@ -88,4 +90,21 @@ impl LookupSpan for Lone {
             self.data.written = true;
         }
     }
+}
+
+#[test]
+fn marks_and_records(rt: HostRuntime) -> Result<(), Fail> {
+    let alloc = rt.alloc();
+    let mut lone = Lone::new(alloc, "a")?;
+    lone.set_written(Id(1));
+    lone.record(Id(1), recorded(alloc, "k", "1")?)?;
+    lone.record(Id(2), recorded(alloc, "k", "2")?)?;
+    let data = lone.data(Id(1)).ok_or("no data")?;
+    assert_eq!(rt; data.written, true);
+    assert_eq!(rt; data.fields.as_slice().len(), 1);
+    assert_eq!(rt; lone.path(alloc, Id(1))?.as_slice(), [Id(1)].as_slice());
+    assert_eq!(rt; lone.path(alloc, Id(2))?.len(), 0);
+    assert_eq!(rt; lone.parent(Id(1)), None);
+    assert_eq!(rt; lone.span(Id(1)).ok_or("no span")?.name(), "a");
+    Ok(())
 }

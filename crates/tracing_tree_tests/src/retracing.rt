@@ -2,7 +2,6 @@
 
 ghost use Rattle.std.specs.Prelude.{◌≡◌, None, false};
 
-use crate::making::{closed, lined, made, told, told_in};
 use std::alloc::{AllocError, Global};
 use std::process::Abort;
 use std::test::*;
@@ -12,6 +11,7 @@ use tracing_tree::layer::HierarchicalLayer;
 use tracing_tree::layered::Layered;
 use tracing_tree::registry::Parent;
 use tracing_tree::style::Level;
+use tracing_tree_testing::{closed, lined, made, told, told_in};
 
 // A layer over memory, with lines, of this amount.
 fn layer(alloc: Global, amount: usize) -> HierarchicalLayer<Tape, ()>

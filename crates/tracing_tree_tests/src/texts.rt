@@ -1,6 +1,5 @@
 //! Texts, blocks, settings and single rows.
 
-use crate::making::at;
 use std::alloc::Global;
 use std::test::*;
 use tracing_tree::field::Field;
@@ -8,6 +7,7 @@ use tracing_tree::format::{Buffers, Config, FmtEvent, Refusal, SpanMode, Tape, w
 use tracing_tree::style::{ColorLevel, Level, Style, styled};
 use tracing_tree::text::Text;
 use tracing_tree::time::{FormatTime, TimeFault};
+use tracing_tree_testing::at;
 
 #[test]
 fn paints_texts(rt: HostRuntime) -> Result<(), Fail> {

@@ -3,7 +3,7 @@ use Rattle.tracing_tree_core.specs.Ids.{id_of}
 use Rattle.tracing_tree_core.specs.Forest.{path_of}
 use Rattle.tracing_tree_core.specs.Paths.{PartOnce}
 use Rattle.tracing_tree_core.proofs.CommonLaws.{paths_part_once}
-use Rattle.tracing_tree_tests.proofs.paths.shared.Goals as goal
+use Rattle.tracing_tree_registry_tests.proofs.paths.shared.Goals as goal
 
 pub common-requires : goal.common-requires
 common-requires c =

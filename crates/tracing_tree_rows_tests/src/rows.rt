@@ -1,6 +1,5 @@
 //! Rows: made, drawn, read back, and their paths; and what the program that reads prints of them.
 
-use crate::making::{closed, lined, made, told};
 use std::alloc::{AllocError, Global};
 use std::io::Write;
 use std::process::Abort;
@@ -12,6 +11,7 @@ use tracing_tree::rows::{
     read_rows, rows_to_json,
 };
 use tracing_tree::style::Level;
+use tracing_tree_testing::{closed, lined, made, told};
 
 // The drawing of two spans with an event.
 const TREE: &str = "┐a \n└─┐b \n  ├─ WARN x\n┌─┘\n┘\n";

@@ -1,11 +1,10 @@
 //! What paths share.
 
-use crate::making::at;
-use crate::registry::attributes;
 use std::alloc::{AllocError, Global};
 use std::test::*;
 use tracing_tree::format::Id;
 use tracing_tree::registry::{Common, LookupSpan, Parent, Registry, common};
+use tracing_tree_testing::{at, attributes};
 
 // Makes a span below this one, or a root.
 fn make(alloc: Global, spans: &mut Registry, parent: Option<u64>) -> Result<(), Fail> {

@@ -1,13 +1,12 @@
 //! A registry that lends its paths beside one that walks them: the same calls, the same answers.
 
-use crate::making::{at, closed, made, made_in, recorded, told};
-use crate::registry::attributes;
 use std::alloc::{AllocError, Global};
 use std::test::*;
 use tracing_tree::call::Call;
 use tracing_tree::format::Id;
 use tracing_tree::registry::{LookupSpan, Parent, Record, Registry, SpanRef, Walked};
 use tracing_tree::style::Level;
+use tracing_tree_testing::{at, attributes, closed, made, made_in, recorded, told};
 
 /// Two registries that are called alike.
 #[derive(Drop)]

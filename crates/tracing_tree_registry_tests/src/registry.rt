@@ -1,7 +1,5 @@
 //! The registry by itself, and calls with clones, records and named parents.
 
-use crate::lone::Lone;
-use crate::making::{at, closed, lined, made, made_in, recorded, told_in};
 use std::alloc::{AllocError, Global};
 use std::test::*;
 use tracing_tree::call::{Call, Reply};
@@ -11,16 +9,7 @@ use tracing_tree::layer::HierarchicalLayer;
 use tracing_tree::layered::Layered;
 use tracing_tree::registry::{Attributes, Data, LookupSpan, Parent, Record, Registry};
 use tracing_tree::text::Text;
-
-/// What a new span of this name, without fields, is made of.
-pub fn attributes(alloc: Global, name: &str, parent: Parent) -> Result<Attributes, AllocError> {
-    Ok(Attributes {
-        name: Text::from_str(alloc, name)?,
-        target: Text::from_str(alloc, "t")?,
-        parent,
-        fields: Fields::new(alloc),
-    })
-}
+use tracing_tree_testing::{at, attributes, closed, lined, made, made_in, recorded, told_in};
 
 fn recorded_in(alloc: Global, id: u64, value: &str) -> Result<Call, AllocError> {
     let fields = recorded(alloc, "k", value)?;
@@ -79,23 +68,6 @@ fn takes_a_span_back(rt: HostRuntime) -> Result<(), Fail> {
     assert_eq!(rt; registry.data(Id(5)).is_none(), true);
     let again = attributes(alloc, "b", Parent::Root)?;
     assert_eq!(rt; registry.new_span(again, &at(None)), Ok(Id(5)));
-    Ok(())
-}
-
-#[test]
-fn marks_and_records(rt: HostRuntime) -> Result<(), Fail> {
-    let alloc = rt.alloc();
-    let mut lone = Lone::new(alloc, "a")?;
-    lone.set_written(Id(1));
-    lone.record(Id(1), recorded(alloc, "k", "1")?)?;
-    lone.record(Id(2), recorded(alloc, "k", "2")?)?;
-    let data = lone.data(Id(1)).ok_or("no data")?;
-    assert_eq!(rt; data.written, true);
-    assert_eq!(rt; data.fields.as_slice().len(), 1);
-    assert_eq!(rt; lone.path(alloc, Id(1))?.as_slice(), [Id(1)].as_slice());
-    assert_eq!(rt; lone.path(alloc, Id(2))?.len(), 0);
-    assert_eq!(rt; lone.parent(Id(1)), None);
-    assert_eq!(rt; lone.span(Id(1)).ok_or("no span")?.name(), "a");
     Ok(())
 }
 

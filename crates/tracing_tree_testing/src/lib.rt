@@ -1,4 +1,5 @@
 //! Short names for what the tests hand in.
+#![tactic(auto)]
 
 ghost use Rattle.std.specs.Prelude.{◌≡◌};
 
@@ -118,4 +119,14 @@ pub fn told_in(
 /// A close of a span.
 pub fn closed(id: u64) -> Call {
     Call::Close(Id(id), at(None))
+}
+
+/// What a new span of this name, without fields, is made of.
+pub fn attributes(alloc: Global, name: &str, parent: Parent) -> Result<Attributes, AllocError> {
+    Ok(Attributes {
+        name: Text::from_str(alloc, name)?,
+        target: Text::from_str(alloc, "t")?,
+        parent,
+        fields: Fields::new(alloc),
+    })
 }

@@ -6,7 +6,6 @@ ghost use Rattle.tracing_tree.specs.Readable.{IsReadable, text_rows};
 ghost use Rattle.tracing_tree.specs.Run.{accepted_calls, run};
 ghost use Rattle.tracing_tree.specs.State.{State};
 
-use crate::making::{closed, lined, made, told};
 use std::alloc::Global;
 use std::str;
 use std::test::*;
@@ -15,6 +14,7 @@ use tracing_tree::format::{Refusal, Tape};
 use tracing_tree::layered::Layered;
 use tracing_tree::rows::{Row, Shape, read_rows};
 use tracing_tree::style::Level;
+use tracing_tree_testing::{closed, lined, made, told};
 
 // What a run answered, and the rows that are read of its drawing.
 #[derive(Drop)]

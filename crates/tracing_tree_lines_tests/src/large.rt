@@ -1,6 +1,5 @@
 //! Large runs with ample memory: every call is accepted, and the whole text is what it must be.
 
-use crate::making::{at, closed, lined, made, told};
 use std::alloc::{AllocError, Global};
 use std::process::Abort;
 use std::test::*;
@@ -11,6 +10,7 @@ use tracing_tree::lines::run_lines;
 use tracing_tree::registry::{Attributes, Event, Parent};
 use tracing_tree::style::Level;
 use tracing_tree::text::Text;
+use tracing_tree_testing::{at, closed, lined, made, told};
 
 // Every ASCII character.
 const ASCII: &str = concat!(

@@ -1,12 +1,11 @@
 //! Random calls of the registries beside a plain list of the live spans.
 
-use crate::making::{at, recorded};
-use crate::registry::attributes;
 use crate::walked::Both;
 use std::alloc::{AllocError, Global};
 use std::test::*;
 use tracing_tree::format::{Context, Id, Refusal};
 use tracing_tree::registry::{LookupSpan, Parent};
+use tracing_tree_testing::{at, attributes, recorded};
 
 // A span as the list keeps it.
 #[derive(Drop)]

@@ -1,7 +1,6 @@
 //! Readers and writers that fault in each way, once and again and again: what is answered, what is taken or drawn, and how often
 //! they are asked.
 
-use crate::making::{lined_over, made, told};
 use std::alloc::{AllocError, Global};
 use std::io;
 use std::io::{ErrorKind, Read, Write};
@@ -12,6 +11,7 @@ use tracing_tree::format::{Id, Output, Refusal, Tape, Wrap};
 use tracing_tree::lines::{LineCause, LineFault, run_lines};
 use tracing_tree::rows::{RowCause, RowFault, rows_to_json};
 use tracing_tree::style::Level;
+use tracing_tree_testing::{lined_over, made, told};
 
 // What an attempt to read or to write comes to.
 #[derive(Clone, Copy, Debug)]
