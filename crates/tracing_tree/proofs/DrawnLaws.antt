@@ -1,5 +1,5 @@
 -- Rows that are drawn one after another are drawn together.
-use Rattle.std.proofs.Common.{◌≡◌, ◌≢◌, ◌⊎◌, suc, take, drop, ℕ, Bool, true, false, if◌then◌else◌, ◌||◌, List, [], ◌∷◌, ◌++◌, None, Some, Option, Result, Ok, Err, is_ok, string_bytes, refl, sym, ap, subst, ◌∙◌, inl, inr, append_assoc, append-nil}
+use Rattle.std.proofs.Common.{◌≡◌, ◌≢◌, ◌⊎◌, ◌-◌, suc, take, drop, ℕ, Bool, true, false, if◌then◌else◌, ◌||◌, List, [], ◌∷◌, ◌++◌, None, Some, Option, Result, Ok, Err, is_ok, string_bytes, refl, sym, ap, subst, ◌∙◌, inl, inr, append_assoc, append-nil}
 use Rattle.std.proofs.lemmas.Grind.{flat_map-append}
 use Rattle.std.proofs.lemmas.List.{map-append}
 use Rattle.std.proofs.lemmas.List.Folds.{list_any-append}
@@ -11,6 +11,9 @@ use Rattle.tracing_tree_core.specs.declared.context.Refusal.TheVariants.{NotHeld
 use Rattle.tracing_tree_core.specs.Forest.{Forest, IsForest, is_live, if_live, path_of, path_of_any}
 use Rattle.tracing_tree_core.specs.declared.context.Id.{Id}
 use Rattle.tracing_tree_core.specs.declared.context.Context.{Context}
+use Rattle.tracing_tree_core.specs.declared.registry.Event.{Event}
+use Rattle.tracing_tree_core.specs.declared.format.SpanMode.TheVariants.{Event as EventMode}
+use Rattle.tracing_tree_core.specs.Clock.{Timer as Clock}
 use Rattle.tracing_tree_core.proofs.PathLaws.{path_of-none}
 use Rattle.std.specs.Option.{option_or}
 use Rattle.std.specs.Bool.{then_some}
@@ -19,8 +22,8 @@ use Rattle.std.proofs.KnownBytes.{Keeps-refl}
 use Rattle.tracing_tree_core.specs.Outputs.{IsCutShort, LeavesCut}
 use Rattle.tracing_tree.specs.State.{Turn}
 use Rattle.tracing_tree.specs.Seen.{SeenWriter}
-use Rattle.tracing_tree.specs.Refused.{draws_too_wide}
-use Rattle.tracing_tree.specs.Rows.{then_turn, turn_of_row, turn_of_closes}
+use Rattle.tracing_tree.specs.Refused.{draws_too_wide, is_event_too_wide}
+use Rattle.tracing_tree.specs.Rows.{then_turn, turn_of_row, turn_of_closes, event_depth, event_level, event_parent}
 use Rattle.tracing_tree.specs.Plan.{PlanView, rows_of_planned, row_of_planned, turn_of_plan}
 use Rattle.tracing_tree.specs.Drawn.{AddsRow, DrawsRows, Drafts, IsBlank, IsUndrawn, IsWritten, Sends, has_no_id, has_no_row, rows_cause, when_ok}
 use Rattle.tracing_tree.specs.declared.layer.page.Page.{Page}
@@ -237,6 +240,21 @@ refuses_event settings context forest before row faults refusal a b plan same fi
     let refused = refuses_first settings (rows_of_planned settings context forest plan.rows) (row ∷ []) faults refusal a b first in
     let all : DrawsRows settings (before.rows ++ row ∷ []) faults (Err refusal) a b = subst P (ap (λ (t : Turn). t.rows) same) refused in
     (loud-undrawn (rows_cause settings (before.rows ++ row ∷ []) faults) (has_no_row (before.rows ++ row ∷ [])) refusal all.0, all.1)
+
+-- an event whose width was tested is not too wide
+pub fits-event : (settings : Settings) (timer : Clock) (forest : Forest) (event : Event) (context : Context) (depth level : ℕ) (tested : Result (Unit {0}) Refusal) →
+    {done : Unit {0}} →
+    depth ≡ event_depth forest event context → level ≡ (if settings.indent_lines then depth else depth - 1) →
+    tested ≡ (if is_too_wide settings (unnamed_row EventMode level [] []) then Err TooWide else Ok tt) → tested ≡ Ok done →
+    is_event_too_wide settings timer forest event context ≡ false
+fits-event settings timer forest event context depth level tested deep at test ok =
+    let same : level ≡ event_level settings (path_of_any forest (event_parent forest event context)) =
+    at ∙ ap (λ d. if settings.indent_lines then d else d - 1) deep in
+    ap (λ l. is_too_wide settings (unnamed_row EventMode l [] [])) (sym same) ∙ by (is_too_wide settings (unnamed_row EventMode level [] [])) (sym ok ∙ test)
+  where
+    by : {done : Unit {0}} → (wide : Bool) → Ok done ≡ (if wide then Err TooWide else Ok tt) → wide ≡ false
+    by true e = absurd cc
+    by false e = refl
 
 -- ---- what is written
 

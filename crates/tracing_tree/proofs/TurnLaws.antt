@@ -1,5 +1,5 @@
 -- The turns of calls, and why they are refused.
-use Rattle.std.proofs.Common.{◌≡◌, ◌==◌, ℕ, None, Ok, Err, subst, Bool, true, false, not, length, is_none, unwrap_or, List, Option, refl, sym, ap, ◌∙◌}
+use Rattle.std.proofs.Common.{◌≡◌, ◌==◌, ℕ, None, Ok, Err, subst, Bool, true, false, not, ◌||◌, length, is_none, is_some, unwrap_or, List, Option, refl, sym, ap, ◌∙◌}
 use Rattle.std.specs.Option.{option_or}
 use Rattle.std.specs.Bool.{then_some}
 use Rattle.tracing_tree_core.specs.Settings.{Settings}
@@ -37,7 +37,7 @@ use Rattle.tracing_tree.specs.Drawn.{rows_cause, failed_by, IsWritten, DoesTurn}
 -- A refusal of rows is one of the call that draws them: it has their cause, and leaves what they leave. The call takes memory.
 pub answered_refused : (call : Call) (rows : List Row) (faults quiet : Bool) (refusal : Refusal) (old new : Seen) → old.state.failed ≡ false →
     cause_of old.settings old.timer old.state call ≡ rows_cause old.settings rows faults →
-    call_text old.settings old.timer old.state call ≡ draw old.settings rows → (quiet ≡ false → takes_no_memory old.state call ≡ false) →
+    call_text old.settings old.timer old.state call ≡ draw old.settings rows → (quiet ≡ false → takes_no_memory old.settings old.timer old.state call ≡ false) →
     IsWritten old.settings rows faults quiet (Err refusal) old.writer new.writer → new ≡ seen_later old (record old.state { failed = failed_by {A = Unit {0}} (Err refusal) }) new.writer →
     IsAnswered call (Err refusal) old new
 answered_refused call rows faults quiet (NotHeld i) old new sound cause text memory h left =
@@ -89,7 +89,7 @@ module _ {W FT : Type 0} (time : FormatTime FT) (output : Output W) where
       old.layer.failed ≡ false →
       cause_of before.settings before.timer before.state call ≡ rows_cause before.settings rows faults →
       call_text before.settings before.timer before.state call ≡ draw before.settings rows →
-      (quiet ≡ false → takes_no_memory before.state call ≡ false) →
+      (quiet ≡ false → takes_no_memory before.settings before.timer before.state call ≡ false) →
       IsWritten old.layer.settings rows faults quiet (Err refusal) (seen_writer output old.layer.writer) (seen_writer output new.layer.writer) →
       new.layer ≡ record old.layer { writer = new.layer.writer; failed = failed_by {A = Unit {0}} (Err refusal) } → new.forest ≡ old.forest →
       Changes (seen time output) (IsAnswered call (Err refusal)) old new
@@ -123,7 +123,7 @@ module _ {W FT : Type 0} (time : FormatTime FT) (output : Output W) where
       turn_refused (New attributes context) rows false quiet refusal old new sound
       (cause-turn settings timer state (New attributes context) sound is_new.0 (ap (λ (o : Option Id). is_none o) is_new.1)
       ∙ ap (λ (t : Turn). rows_cause settings t.rows false) same)
-      (ap (λ (t : Turn). draw settings t.rows) same) (λ h. rw sound refl) written layer forest
+      (ap (λ (t : Turn). draw settings t.rows) same) (λ h. rw sound (λ k. is_some (is_new.0 k) || is_none (is_new.1 k))) written layer forest
 
   -- What closes was written, and is removed.
   pub closes : (i : Id) (context : Context) (went quiet : Bool) (done : Unit {0}) (old new : LayeredView W FT) (ids : List Id) (marked : Forest) →

@@ -1,5 +1,5 @@
 -- When a call is refused, and which refusal comes first.
-use Rattle.std.specs.Prelude.{ℕ, ◌==◌, Bool, true, false, not, ◌||◌, List, [], ◌∷◌, Option, None, is_none, length, option_map}
+use Rattle.std.specs.Prelude.{ℕ, ◌==◌, Bool, true, false, not, ◌||◌, List, [], ◌∷◌, Option, None, is_none, is_some, length, option_map}
 use Rattle.std.specs.Option.{option_map_or, option_or}
 use Rattle.std.specs.Bool.{then_some}
 use Rattle.std.specs.List.{list_any}
@@ -10,9 +10,10 @@ use Rattle.tracing_tree_core.specs.Forest.{Forest, is_live, handles_of, closing_
 use Rattle.tracing_tree_core.specs.declared.context.Id.{Id}
 use Rattle.tracing_tree_core.specs.declared.context.Context.{Context}
 use Rattle.tracing_tree_core.specs.declared.context.Refusal.{Refusal}
+use Rattle.tracing_tree_core.specs.declared.registry.Event.{Event as Told}
 use Rattle.tracing_tree_core.specs.declared.context.Refusal.TheVariants.{NotHeld, TooWide, TooMany, Timer as TimerFault, Failed}
 use Rattle.tracing_tree.specs.State.{State}
-use Rattle.tracing_tree.specs.Rows.{time_in_current}
+use Rattle.tracing_tree.specs.Rows.{time_in_current, event_row}
 use Rattle.tracing_tree.specs.Step.{turn_of}
 use Rattle.tracing_tree.specs.declared.call.Call.{Call}
 use Rattle.tracing_tree.specs.declared.call.Call.TheVariants.{New, Clone, Record, Event, Close}
@@ -91,15 +92,25 @@ cause_of settings timer state call = first_cause (record {
   timer_faults = timer_faults settings timer state.forest call;
 })
 
--- A call that grows nothing, and is never refused for want of memory: a clone, a close with which
--- no span goes, a record of a span that is not live, and each call on a layer that has failed.
-abbrev pub is_without_memory : Forest → Call → Bool
-is_without_memory forest (New attributes context) = false
-is_without_memory forest (Clone i) = true
-is_without_memory forest (Record i record') = not (is_live forest i)
-is_without_memory forest (Event event context) = false
-is_without_memory forest (Close i context) =
+-- the row of an event itself would be too wide
+abbrev pub is_event_too_wide : Settings → Timer → Forest → Told → Context → Bool
+is_event_too_wide settings timer forest event context =
+    is_too_wide settings (event_row settings timer forest event context)
+
+-- A call that grows nothing, or that is refused before it grows anything: a new span whose parent
+-- is not held or for which no id is left, a clone, a record of a span that is not live, an event
+-- whose own row is too wide, and a close with which no span goes.
+abbrev pub is_without_memory : Settings → Timer → Forest → Call → Bool
+is_without_memory settings timer forest (New attributes context) =
+    is_some (id_not_held forest (New attributes context)) || lacks_next forest
+is_without_memory settings timer forest (Clone i) = true
+is_without_memory settings timer forest (Record i record') = not (is_live forest i)
+is_without_memory settings timer forest (Event event context) =
+    is_event_too_wide settings timer forest event context
+is_without_memory settings timer forest (Close i context) =
     not (handles_of forest i == 1) || (length (closing_of forest i) == 0)
 
-abbrev pub takes_no_memory : State → Call → Bool
-takes_no_memory state call = state.failed || is_without_memory state.forest call
+-- a call that is never refused for want of memory; each call on a layer that has failed is one
+abbrev pub takes_no_memory : Settings → Timer → State → Call → Bool
+takes_no_memory settings timer state call =
+    state.failed || is_without_memory settings timer state.forest call

@@ -42,6 +42,10 @@ current_of forest context = if_live forest context.current
 abbrev pub event_parent : Forest → Event → Context → Option Id
 event_parent forest event context = if_live forest (named_parent event.parent context.current)
 
+-- how many spans an event stands in
+abbrev pub event_depth : Forest → Event → Context → ℕ
+event_depth forest event context = length (path_of_any forest (event_parent forest event context))
+
 -- an event stands one level below its parent, but without lines at the same level
 abbrev pub event_level : Settings → List Id → ℕ
 event_level settings scope = if settings.indent_lines then length scope else length scope - 1

@@ -100,7 +100,7 @@ abbrev pub MayAnswer : Settings → Timer → State → Call → Result Reply Re
 MayAnswer settings timer state call (Ok reply) =
     (cause_of settings timer state call ≡ None) × (reply ≡ reply_of state.forest call)
 MayAnswer settings timer state call (Err refusal) =
-    IsRefusedFor (cause_of settings timer state call) (takes_no_memory state call)
+    IsRefusedFor (cause_of settings timer state call) (takes_no_memory settings timer state call)
     (call_text settings timer state call) refusal
 
 -- the state after an answer

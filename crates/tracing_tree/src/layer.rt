@@ -11,8 +11,8 @@ mod plan;
 ghost use Rattle.std.specs.Prelude.{◌≡◌, ◌<◌, [], false, None};
 ghost use Rattle.tracing_tree_core.specs.Settings.{default_settings};
 ghost use Rattle.tracing_tree_core.specs.Forest.{mark_all};
-ghost use Rattle.tracing_tree.specs.Rows.{turn_of_new, turn_of_event, turn_of_closes};
-ghost use Rattle.tracing_tree.specs.Refused.{timer_faults_at};
+ghost use Rattle.tracing_tree.specs.Rows.{event_depth, turn_of_new, turn_of_event, turn_of_closes};
+ghost use Rattle.tracing_tree.specs.Refused.{is_event_too_wide, timer_faults_at};
 ghost use Rattle.tracing_tree.specs.Layers.{is_fresh};
 ghost use Rattle.tracing_tree.specs.Seen.{seen_writer};
 ghost use Rattle.tracing_tree.specs.Drawn.{failed_by, has_no_id, DoesTurn, IsBlank, IsReady, Sends};
@@ -179,20 +179,23 @@ impl<W: Output, FT: FormatTime> HierarchicalLayer<W, FT> {
         sent
     }
 
-    // Draws an event.
+    // Draws an event so many spans deep.
     pub(crate) fn write_event<S: LookupSpan>(
         &mut self,
         event: &Event,
+        depth: usize,
         spans: &mut S,
         context: &Context,
     ) -> Result<(), Refusal>
-        requires { self.old.failed ≡ false }
+        requires sound { self.old.failed ≡ false }
+        requires depth { depth ≡ event_depth (S.forest spans.old) event.now context.now }
         ensures { let old = self.old in
             let forest = S.forest spans.old in
             let timer = FT.timer old.timer in
             let turn = turn_of_event old.settings timer context.now forest old.last event.now in
             let faults = timer_faults_at old.settings timer forest context.now in
-            DoesTurn (seen_writer W.Output) turn faults false result old self.new
+            let wide = is_event_too_wide old.settings timer forest event.now context.now in
+            DoesTurn (seen_writer W.Output) turn faults wide result old self.new
             forest (S.forest spans.new) }
     {
         let drawn = Drawing {
@@ -200,7 +203,7 @@ impl<W: Output, FT: FormatTime> HierarchicalLayer<W, FT> {
             spans: &*spans,
             context,
         }
-        .event(&mut self.page, &mut self.plan, &self.timer, event);
+        .event(&mut self.page, &mut self.plan, &self.timer, event, depth);
         let sent = send(drawn, &mut self.page, &mut self.writer, &mut self.failed);
         if sent.is_ok() {
             commit(&self.plan, &mut self.page.bufs, spans);

@@ -1,8 +1,8 @@
 //! A registry with a layer, which take each call whole, or refuse it and say why.
 
-ghost use Rattle.std.specs.Prelude.{◌≡◌, ◌≢◌, ◌<◌, [], false, None, OnErr, IfOk};
+ghost use Rattle.std.specs.Prelude.{◌≡◌, ◌≢◌, ◌<◌, [], false, None, OnErr, IfOk, length};
 ghost use Rattle.tracing_tree_core.specs.Ids.{id_of};
-ghost use Rattle.tracing_tree_core.specs.Forest.{empty_forest};
+ghost use Rattle.tracing_tree_core.specs.Forest.{empty_forest, if_live, path_of_any};
 ghost use Rattle.tracing_tree.specs.Layers.{seen, Changes};
 ghost use Rattle.tracing_tree.specs.Answered.{IsAnswered};
 ghost use Rattle.tracing_tree.specs.Headline.{IsRunOf};
@@ -180,9 +180,22 @@ impl<W: Output, FT: FormatTime> Layered<W, FT> {
         ensures { Changes (seen FT.FormatTime W.Output)
             (IsAnswered (Call.Event event.now context.now) result) self.old self.new }
     {
-        if let Err(refusal) = self.layer.write_event(event, &mut self.registry, context) {
+        let depth = depth(&self.registry, event.parent.named(context.current));
+        let spans = &mut self.registry;
+        if let Err(refusal) = self.layer.write_event(event, depth, spans, context) {
             return Err(refusal);
         }
         Ok(Reply::Done)
+    }
+}
+
+// How many spans lead down to this one; none where it isn't there or isn't live. The registry keeps
+// all paths, so no memory is taken.
+fn depth(registry: &Registry, id: Option<Id>) -> usize
+    ensures { result ≡ length (path_of_any registry.now (if_live registry.now id)) }
+{
+    match id.and_then(|id| registry.kept_path(id)) {
+        Some(path) => path.len(),
+        None => 0,
     }
 }

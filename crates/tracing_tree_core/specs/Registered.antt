@@ -53,8 +53,8 @@ abbrev pub missing_parent : Forest → Attributes → Context → Option Id
 missing_parent forest attributes context =
     any_unless_live forest (named_parent attributes.parent context.current)
 
--- A new span has the next id. Without its parent it is refused for that, and else where no id is left; `Memory` is for want of
--- memory alone. A refusal changes nothing.
+-- A new span has the next id. Without its parent it is refused for that, and else where no id is
+-- left; only a span that has both can be refused for want of memory. A refusal changes nothing.
 abbrev pub IsNewSpan : Attributes → Context → Result Id Refusal → Forest → Forest → Type 0
 IsNewSpan attributes context (Ok i) old new =
     (missing_parent old attributes context ≡ None) × (old.next ≡ Some i)
@@ -63,7 +63,8 @@ IsNewSpan attributes context (Err (NotHeld i)) old new =
     (missing_parent old attributes context ≡ Some i) × (new ≡ old)
 IsNewSpan attributes context (Err TooMany) old new =
     (missing_parent old attributes context ≡ None) × (old.next ≡ None) × (new ≡ old)
-IsNewSpan attributes context (Err Memory) old new = new ≡ old
+IsNewSpan attributes context (Err Memory) old new =
+    (missing_parent old attributes context ≡ None) × (old.next ≢ None) × (new ≡ old)
 IsNewSpan attributes context (Err refusal) old new = ⊥
 
 -- a clone adds one handle; a span that isn't live and a count that is full are refused, and change nothing then

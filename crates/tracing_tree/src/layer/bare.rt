@@ -1,11 +1,12 @@
 //! Calls on a layer alone, over live spans that something else keeps.
 
-ghost use Rattle.std.specs.Prelude.{◌≡◌};
-ghost use Rattle.tracing_tree_core.specs.Forest.{unless_live};
+ghost use Rattle.std.specs.Prelude.{◌≡◌, IfOk, length};
+ghost use Rattle.tracing_tree_core.specs.Forest.{unless_live, if_live, path_of_any};
 ghost use Rattle.tracing_tree.specs.Layers.{seen, Changes};
 ghost use Rattle.tracing_tree.specs.Bare.{on_new_span, on_record, on_event, on_close, IsBareAnswered, IsChecked};
 
 use super::HierarchicalLayer;
+use std::alloc::{AllocError, Global};
 use tracing_tree_core::format::{Context, Id, Output, Refusal};
 use tracing_tree_core::registry::{Event, LookupSpan, Record};
 use tracing_tree_core::time::FormatTime;
@@ -52,6 +53,9 @@ impl<W: Output, FT: FormatTime> HierarchicalLayer<W, FT> {
         if self.failed {
             return Err(Refusal::Failed);
         }
+        if spans.span(id).is_none() {
+            return Ok(());
+        }
         spans.record(id, values.fields.clone()?)?;
         Ok(())
     }
@@ -74,7 +78,9 @@ impl<W: Output, FT: FormatTime> HierarchicalLayer<W, FT> {
         if self.failed {
             return Err(Refusal::Failed);
         }
-        self.write_event(event, spans, context)
+        let parent = event.parent.named(context.current);
+        let depth = depth(*self.page.text.allocator(), spans, parent)?;
+        self.write_event(event, depth, spans, context)
     }
 
     /// Draws the close of this one span, which stays live: the caller removes it afterwards.
@@ -108,5 +114,20 @@ impl<W: Output, FT: FormatTime> HierarchicalLayer<W, FT> {
             Some(_) => Ok(()),
             None => Err(Refusal::NotHeld(id)),
         }
+    }
+}
+
+// How many spans lead down to this one; none where it isn't there or isn't live. Memory is taken
+// only for a path that isn't kept.
+fn depth<S: LookupSpan>(alloc: Global, spans: &S, id: Option<Id>) -> Result<usize, AllocError>
+    ensures { let forest = S.forest spans.now in
+        IfOk result (λ depth. depth ≡ length (path_of_any forest (if_live forest id))) }
+{
+    let Some(id) = id else {
+        return Ok(0);
+    };
+    match spans.kept_path(id) {
+        Some(path) => Ok(path.len()),
+        None => Ok(spans.path(alloc, id)?.len()),
     }
 }

@@ -1,11 +1,11 @@
 //! The rows of a call, planned and then drawn one after another.
 
-ghost use Rattle.std.specs.Prelude.{◌≡◌, ◌++◌, ◌∷◌, [], false, OnOk, IfOk, IfErr, is_none, length, string_bytes};
+ghost use Rattle.std.specs.Prelude.{◌≡◌, ◌++◌, ◌∷◌, ◌-◌, [], false, if◌then◌else◌, OnOk, IfOk, IfErr, is_none, length, string_bytes};
 ghost use Rattle.tracing_tree_core.specs.Forest.{if_live, path_of_any};
 ghost use Rattle.tracing_tree.specs.Block.{moment_part, elapsed_part, event_block};
-ghost use Rattle.tracing_tree.specs.Rows.{block_of, event_row, event_level, event_parent, time_in_current, turn_of_new, turn_of_event, turn_of_closes};
+ghost use Rattle.tracing_tree.specs.Rows.{block_of, event_row, event_depth, event_level, event_parent, time_in_current, turn_of_new, turn_of_event, turn_of_closes};
 ghost use Rattle.tracing_tree.specs.Plan.{row_of_planned, rows_of_planned};
-ghost use Rattle.tracing_tree.specs.Refused.{timer_faults_at, lacks_elapsed};
+ghost use Rattle.tracing_tree.specs.Refused.{is_event_too_wide, timer_faults_at, lacks_elapsed};
 ghost use Rattle.tracing_tree.specs.Drawn.{DrawsRows, Drafts, IsBlank, IsUntimed, has_no_id};
 
 use super::block::{push_event_tail, push_span_block};
@@ -62,15 +62,19 @@ impl<S: LookupSpan> Drawing<'_, S> {
         self.rows(page, plan.rows())
     }
 
-    // An event, after the rows of the spans that it stands in, where they are to be shown.
+    // An event so many spans deep, after the rows of the spans that it stands in, where they are to
+    // be shown. Its own width is tested before any memory is taken.
     pub(super) fn event<FT: FormatTime>(
         &self,
         page: &mut Page,
         plan: &mut Plan,
         timer: &FT,
         event: &Event,
+        depth: usize,
     ) -> Result<(), Refusal>
-        requires { IsBlank page.old.bufs }
+        requires blank { IsBlank page.old.bufs }
+        requires depth { depth ≡ event_depth (S.forest self.now.spans.now) event.now
+            self.now.context.now }
         ensures { let settings = self.now.config.now in
             let context = self.now.context.now in
             let forest = S.forest self.now.spans.now in
@@ -78,8 +82,11 @@ impl<S: LookupSpan> Drawing<'_, S> {
             let last = page.old.bufs.current_span in
             let turn = turn_of_event settings timer context forest last event.now in
             let faults = timer_faults_at settings timer forest context in
-            Drafts settings forest turn faults false result page.old page.new plan.new }
+            let wide = is_event_too_wide settings timer forest event.now context in
+            Drafts settings forest turn faults wide result page.old page.new plan.new }
     {
+        let level = self.event_level(depth);
+        self.config.check_width(SpanMode::Event, level)?;
         plan.begin(page.bufs.current_span);
         let planner = Planner {
             config: self.config,
@@ -87,7 +94,7 @@ impl<S: LookupSpan> Drawing<'_, S> {
         };
         planner.event(plan, self.context)?;
         self.rows(page, plan.rows())?;
-        self.event_row(page, timer, event)
+        self.event_row(page, timer, event, level)
     }
 
     // Planned rows, one after another.
@@ -130,14 +137,20 @@ impl<S: LookupSpan> Drawing<'_, S> {
         }
     }
 
-    // The row of an event. Its width is tested before the timer is asked.
+    // The row of an event at this level, which isn't too wide.
     fn event_row<FT: FormatTime>(
         &self,
         page: &mut Page,
         timer: &FT,
         event: &Event,
+        level: usize,
     ) -> Result<(), Refusal>
-        requires { IsBlank page.old.bufs }
+        requires blank { IsBlank page.old.bufs }
+        requires level { let forest = S.forest self.now.spans.now in
+            let parent = event_parent forest event.now self.now.context.now in
+            level ≡ event_level self.now.config.now (path_of_any forest parent) }
+        requires fits { is_event_too_wide self.now.config.now (FT.timer timer.now)
+            (S.forest self.now.spans.now) event.now self.now.context.now ≡ false }
         ensures { let settings = self.now.config.now in
             let context = self.now.context.now in
             let forest = S.forest self.now.spans.now in
@@ -146,42 +159,19 @@ impl<S: LookupSpan> Drawing<'_, S> {
             let faults = timer_faults_at settings timer forest context in
             DrawsRows settings (row ∷ []) faults result page.old page.new }
     {
-        let alloc = *page.text.allocator();
-        let level = self.event_level(alloc, event)?;
-        self.config.check_width(SpanMode::Event, level)?;
         self.event_block(&mut page.bufs, timer, event)?;
         page.add_row(level, self.config, SpanMode::Event, self.context)
     }
 
-    // How many spans an event stands in, where its parent is this.
-    fn scope(&self, alloc: Global, parent: Option<Id>) -> Result<usize, AllocError>
-        ensures scope { let forest = S.forest self.now.spans.now in
-            IfOk result (λ scope. scope ≡ length (path_of_any forest parent)) }
-        ensures live { let forest = S.forest self.now.spans.now in
-            OnOk result (path_of_any forest (if_live forest parent) ≡ path_of_any forest parent) }
+    // An event stands one level below its parent, but without lines at the same level.
+    fn event_level(&self, depth: usize) -> usize
+        ensures { let indent_lines = self.now.config.now.indent_lines in
+            result ≡ (if indent_lines then depth else depth - 1) }
     {
-        let Some(parent) = parent else {
-            return Ok(0);
-        };
-        match self.spans.kept_path(parent) {
-            Some(path) => Ok(path.len()),
-            None => Ok(self.spans.path(alloc, parent)?.len()),
-        }
-    }
-
-    // An event stands one level below its parent, but without lines at the same level. A parent
-    // that isn't live counts as none.
-    fn event_level(&self, alloc: Global, event: &Event) -> Result<usize, AllocError>
-        ensures { let forest = S.forest self.now.spans.now in
-            let parent = event_parent forest event.now self.now.context.now in
-            IfOk result (λ level.
-            level ≡ event_level self.now.config.now (path_of_any forest parent)) }
-    {
-        let scope = self.scope(alloc, event.parent.named(self.context.current))?;
         if self.config.indent_lines() {
-            Ok(scope)
+            depth
         } else {
-            Ok(scope.saturating_sub(1))
+            depth.saturating_sub(1)
         }
     }
 

@@ -1,7 +1,7 @@
 use Rattle.std.proofs.Common.{◌≡◌, false, refl, ap, ◌∙◌}
 use Rattle.tracing_tree.specs.Layers.{seen}
 use Rattle.tracing_tree.specs.Rows.{turn_of_event}
-use Rattle.tracing_tree.specs.Refused.{timer_faults_at}
+use Rattle.tracing_tree.specs.Refused.{is_event_too_wide, timer_faults_at}
 use Rattle.tracing_tree.specs.declared.call.Call.TheVariants.{Event}
 use Rattle.tracing_tree.proofs.TurnLaws.{cause-turn, turn_refused}
 use Rattle.tracing_tree.proofs.layered.Layered.event.Goals as goal
@@ -15,10 +15,11 @@ returns-in-Err g c =
     let context = c.args.context.now in
     let turn = turn_of_event settings timer context before.registry before.layer.last event in
     let faults = timer_faults_at settings timer before.registry context in
+    let wide = is_event_too_wide settings timer before.registry event context in
     let sound : before.layer.failed ≡ false = ap (λ l. l.layer.failed) c.self.view_is ∙ c.requires in
     let old = seen g.FT.FormatTime g.W.Output (record { forest = before.registry; layer = before.layer }) in
     rw (← c.self.view_is)
-    (turn_refused g.FT.FormatTime g.W.Output (Event event context) turn.rows faults false c.in-Err.refusal
+    (turn_refused g.FT.FormatTime g.W.Output (Event event context) turn.rows faults wide c.in-Err.refusal
     (record { forest = before.registry; layer = before.layer }) (record { forest = c.write_event.new.spans; layer = c.write_event.new.self }) sound
-    (cause-turn settings timer old.state (Event event context) sound refl refl) refl (λ h. rw sound refl)
+    (cause-turn settings timer old.state (Event event context) sound refl refl) refl (λ h. rw sound h)
     c.in-Err.ensures.written c.in-Err.ensures.layer c.in-Err.ensures.marked)

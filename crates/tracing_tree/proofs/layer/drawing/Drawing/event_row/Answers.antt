@@ -11,5 +11,5 @@ returns g c =
     let row = event_row self.config.now timer (g.S.LookupSpan.forest self.spans.now) c.args.event.now self.context.now in
     let P : Bool → Type 0 = λ faults. DrawsRows self.config.now (row ∷ []) faults c.add_row.result c.args.page.now c.add_row.new.self in
     subst P (sym c.in_ok-event_block.ensures.has)
-    (draws_like self.config.now row c.in_ok-level.level (c.args.page.now.bufs.current_buf ++ row.block) c.add_row.result c.args.page.now _ c.add_row.new.self
-    c.in_ok-event_block.ensures.ok refl c.requires c.in_ok-level.ensures (ap (λ text. text ++ row.block) c.requires.block) c.add_row.ensures)
+    (draws_like self.config.now row c.args.level (c.args.page.now.bufs.current_buf ++ row.block) c.add_row.result c.args.page.now _ c.add_row.new.self
+    c.in_ok-event_block.ensures.ok refl c.requires.blank c.requires.level (ap (λ text. text ++ row.block) c.requires.blank.block) c.add_row.ensures)
