@@ -18,7 +18,7 @@ use Rattle.tracing_tree.specs.Spelled.{input_lines, is_skipped, SpellsCall, Spel
 use Rattle.tracing_tree.specs.Readers.{IsUnlessMemory}
 use Rattle.tracing_tree.specs.Lines.{EndsRun, IsLeftBehind, IsLeftByFault, is_from_outside, last_number, CountsCause}
 use Rattle.tracing_tree.specs.LineReads.{TakesLine, HasNoLine}
-use Rattle.tracing_tree.specs.LineSteps.{MakesCall, SkipsLine, FailsLine, JudgesLine, RunsOver, EndsLines}
+use Rattle.tracing_tree.specs.LineSteps.{MakesCall, SkipsLine, FailsLine, JudgesLine, Flushes, RunsOver, EndsLines}
 use Rattle.tracing_tree.specs.declared.call.Call.{Call}
 use Rattle.tracing_tree.specs.declared.call.Reply.{Reply}
 use Rattle.tracing_tree.specs.declared.lines.Judged.{Judged}
@@ -171,6 +171,24 @@ module _ (first : Seen) where
         appends = so_far.appends;
       } in
       subst (IsSoFar (input_lines x) (input_lines z) accepted (number + 1)) (sym h.1) longer
+
+  -- the writer is flushed
+  pub flushes : (known middle : Option (List ℕ)) (accepted number : ℕ) (now next : Seen) →
+      IsKnownSoFar known middle accepted number now → Flushes now next → IsKnownSoFar known middle accepted number next
+  flushes None middle accepted number now next so_far h = tt
+  flushes (Some x) None accepted number now next so_far h = absurd so_far
+  flushes (Some x) (Some y) accepted number now next so_far h = record {
+    done = so_far.done;
+    apart = so_far.apart;
+    number_is = so_far.number_is;
+    calls = so_far.calls;
+    spelled = so_far.spelled;
+    count = so_far.count;
+    left = h.same ∙ (λ i. record (so_far.left i) { writer = record (so_far.left i).writer { bytes = next.writer.bytes } })
+        ∙ ap (λ faults. seen_later first (run_from first so_far.calls).state (record next.writer { faults = faults })) (sym (ap (λ (s : Seen). s.writer.faults) h.same));
+    taken = so_far.taken;
+    appends = Appends-kept first.writer.bytes now.writer.bytes next.writer.bytes _ so_far.appends h.kept;
+  }
 
   -- the text of a call behind the text of the run so far
   adds_call : (r : Run) (call : Call) (old mid new : Option (List ℕ)) → Appends old mid (draw first.settings r.rows) →
@@ -370,6 +388,14 @@ module _ (first : Seen) where
 pub record GoesOver (known left : Option (List ℕ)) (accepted number : ℕ) (first now : Seen) : Type 0 where
   pub so_far : IsKnownSoFar first known left accepted number now
   pub calm : now.writer.faults ≡ first.writer.faults
+
+-- the writer is flushed
+pub goes_on_flushed : (known middle : Option (List ℕ)) (accepted number : ℕ) (first now next : Seen) →
+    GoesOver known middle accepted number first now → Flushes now next → GoesOver known middle accepted number first next
+goes_on_flushed known middle accepted number first now next h k = record {
+  so_far = flushes first known middle accepted number now next h.so_far k;
+  calm = ap (λ (s : Seen). s.writer.faults) k.same ∙ h.calm;
+}
 
 -- one line more, that doesn't end the run
 pub goes_on_skipped : (known middle left : Option (List ℕ)) (accepted number : ℕ) (first now next : Seen) →

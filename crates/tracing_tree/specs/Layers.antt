@@ -1,5 +1,6 @@
 -- What contracts see of a layer, and of a registry with a layer.
 use Rattle.std.specs.Prelude.{◌≡◌, Bool, not, ◌&&◌, Option, is_none}
+use Rattle.std.specs.Io.KnownBytes.{Keeps}
 use Rattle.tracing_tree_core.specs.Settings.{Settings}
 use Rattle.tracing_tree_core.specs.Forest.{Forest}
 use Rattle.tracing_tree_core.specs.declared.context.Id.{Id}
@@ -18,6 +19,12 @@ pub record LayerView (W FT : Type 0) : Type 0 where
 -- no last span, and nothing has failed
 abbrev pub is_fresh : {W FT : Type 0} → LayerView W FT → Bool
 is_fresh layer = not layer.failed && is_none layer.last
+
+-- a layer's writer passed on what it held back; its known bytes, its count of faults and all else stay
+pub record IsFlushed {W FT : Type 0} (output : Output W) (old new : LayerView W FT) : Type 0 where
+  pub kept : Keeps (output.contents old.writer) (output.contents new.writer)
+  pub calm : output.fault_count new.writer ≡ output.fault_count old.writer
+  pub same : new ≡ record old { writer = new.writer }
 
 -- a registry with a layer
 pub record LayeredView (W FT : Type 0) : Type 0 where

@@ -1,6 +1,6 @@
 -- What one line does to a layer, and what lines do to it one after another.
 use Rattle.std.specs.Prelude.{◌≡◌, ℕ, ◌≤◌, true, false, List, ◌++◌, length, take, slice_get, Option, None, IfSome, Result, Ok, Err}
-use Rattle.std.specs.Io.KnownBytes.{Appends}
+use Rattle.std.specs.Io.KnownBytes.{Appends, Keeps}
 use Rattle.tracing_tree_core.specs.Picture.{draw}
 use Rattle.tracing_tree_core.specs.declared.context.Refusal.{Refusal}
 use Rattle.tracing_tree.specs.Seen.{Seen}
@@ -51,6 +51,11 @@ JudgesLine known left (Err NotACall) old new = FailsLine known left × (new ≡ 
 JudgesLine known left (Err Read) old new = new ≡ old
 JudgesLine known left (Err Memory) old new = new ≡ old
 JudgesLine known left (Err (Refused refusal)) old new = MakesCall known left (Err refusal) old new
+
+-- The writer passed on what it held back: its known bytes, its count of faults and all else stay.
+pub record Flushes (old new : Seen) : Type 0 where
+  pub kept : Keeps old.writer.bytes new.writer.bytes
+  pub same : new ≡ record old { writer = record old.writer { bytes = new.writer.bytes } }
 
 -- A run over lines: the calls that these lines spell are accepted, the others are skipped, and the next line is to blame. What
 -- is written is the drawing of the run of these calls, and what the fault leaves.

@@ -13,7 +13,7 @@ ghost use Rattle.tracing_tree_core.specs.Settings.{default_settings};
 ghost use Rattle.tracing_tree_core.specs.Forest.{mark_all};
 ghost use Rattle.tracing_tree.specs.Rows.{event_depth, turn_of_new, turn_of_event, turn_of_closes};
 ghost use Rattle.tracing_tree.specs.Refused.{is_event_too_wide, timer_faults_at};
-ghost use Rattle.tracing_tree.specs.Layers.{is_fresh};
+ghost use Rattle.tracing_tree.specs.Layers.{is_fresh, IsFlushed};
 ghost use Rattle.tracing_tree.specs.Seen.{seen_writer};
 ghost use Rattle.tracing_tree.specs.Drawn.{failed_by, has_no_id, DoesTurn, IsBlank, IsReady, Sends};
 
@@ -150,6 +150,13 @@ impl<W: Output, FT: FormatTime> HierarchicalLayer<W, FT> {
         ensures { result ≡ self.writer }
     {
         self.writer
+    }
+
+    // Has the writer pass on what it holds back.
+    pub(crate) fn flush(&mut self)
+        ensures { IsFlushed W.Output self.old self.new }
+    {
+        self.writer.flush();
     }
 
     // Draws a span that was made, which is live.

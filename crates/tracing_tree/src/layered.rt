@@ -4,6 +4,7 @@ ghost use Rattle.std.specs.Prelude.{◌≡◌, ◌≢◌, ◌<◌, [], false, No
 ghost use Rattle.tracing_tree_core.specs.Ids.{id_of};
 ghost use Rattle.tracing_tree_core.specs.Forest.{empty_forest, if_live, path_of_any};
 ghost use Rattle.tracing_tree.specs.Layers.{seen, Changes};
+ghost use Rattle.tracing_tree.specs.LineSteps.{Flushes};
 ghost use Rattle.tracing_tree.specs.Answered.{IsAnswered};
 ghost use Rattle.tracing_tree.specs.Headline.{IsRunOf};
 
@@ -85,6 +86,13 @@ impl<W: Output, FT: FormatTime> Layered<W, FT> {
         ensures layer { result.1 ≡ self.layer }
     {
         (self.registry, self.layer)
+    }
+
+    // Has the writer pass on what it holds back.
+    pub(crate) fn flush(&mut self)
+        ensures { Changes (seen FT.FormatTime W.Output) Flushes self.old self.new }
+    {
+        self.layer.flush();
     }
 
     /// Makes a call: the registry's part of it, the layer's rows, and the reply.

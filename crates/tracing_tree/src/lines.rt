@@ -11,13 +11,13 @@ ghost use Rattle.std.specs.Io.Buffered.{reader_remaining};
 ghost use Rattle.tracing_tree.specs.Layers.{seen, Changes};
 ghost use Rattle.tracing_tree.specs.LineReads.{IsBeforeCalls, OpensWith};
 ghost use Rattle.tracing_tree.specs.Lines.{CountsEnd, EndsAtFirst, LeavesRun, status_of};
-ghost use Rattle.tracing_tree.specs.LineSteps.{JudgesLine, EndsLines};
+ghost use Rattle.tracing_tree.specs.LineSteps.{EndsLines, Flushes, JudgesLine};
 ghost use Rattle.tracing_tree.specs.Seen.{seen_writer};
 
 use crate::layer::HierarchicalLayer;
 use crate::layered::Layered;
 use call::call_of_line;
-use read::{is_skipped, read_line};
+use read::{holds_line, is_skipped, read_line};
 use settings::{Setup, settings_of_line};
 use std::alloc::{AllocError, AllocFailed, Global};
 use std::fmt;
@@ -124,7 +124,7 @@ const BLOCK: usize = 64 * 1024;
 /// fault. A line of spaces, tabs and carriage returns alone is counted and skipped. An interrupted read is tried again at most
 /// eight times in a row; `Read` is the cause of another error, of 2^64 - 1 reads of a line that doesn't end, and of line number
 /// 2^64 - 1, which isn't judged. `Memory` is the cause where memory is refused; of line 1 where the buffer of the input can't
-/// be made.
+/// be made. The writer is flushed before each read of the input from line 2 on, and not elsewhere.
 pub fn run_lines<R: Read, W: Output>(alloc: Global, reader: R, writer: W) -> LinesRun<W>
 where
     R: Drop,
@@ -180,17 +180,19 @@ where
 }
 
 // Makes the calls that the lines spell, from the second line on. Returns how many were accepted, and the fault that ended the run.
-fn run_calls<B: BufRead, W: Output, FT: FormatTime>(
+fn run_calls<R: Read, W: Output, FT: FormatTime>(
     alloc: Global,
-    lines: &mut B,
+    lines: &mut BufReader<R>,
     layered: &mut Layered<W, FT>,
 ) -> (u64, Option<LineFault>)
     ensures { Changes (seen FT.FormatTime W.Output)
-        (EndsLines (B.remaining lines.old) result.0 result.1) layered.old layered.new }
+        (EndsLines (reader_remaining R.remaining lines.old) result.0 result.1)
+        layered.old layered.new }
 {
     let mut line = Vec::new(alloc);
     let mut accepted = 0;
     for number in 2..u64::MAX {
+        show_before_read(lines, layered);
         match run_line(alloc, lines, &mut line, layered) {
             Ok(Judged::End) => return (accepted, None),
             Ok(Judged::Skipped) => {}
@@ -209,6 +211,18 @@ fn run_calls<B: BufRead, W: Output, FT: FormatTime>(
         cause: LineCause::Read,
     };
     (accepted, Some(fault))
+}
+
+// Has what is drawn passed on where the next line isn't read yet, since the read may wait.
+fn show_before_read<R: Read, W: Output, FT: FormatTime>(
+    lines: &BufReader<R>,
+    layered: &mut Layered<W, FT>,
+)
+    ensures { Changes (seen FT.FormatTime W.Output) Flushes layered.old layered.new }
+{
+    if !holds_line(lines) {
+        layered.flush();
+    }
 }
 
 // What became of a line.

@@ -80,13 +80,13 @@ impl<'a> Attempts<'a> {
     }
 }
 
-// A writer of these attempts. It counts the writes of no bytes, and the flushes.
+// A writer of these attempts. It counts the writes of no bytes, and notes how many bytes were taken at each flush.
 #[derive(Drop)]
 struct Sink<'a> {
     attempts: Attempts<'a>,
     taken: Vec<u8>,
     empty: u32,
-    flushes: u32,
+    shown: Vec<usize>,
 }
 
 impl<'a> Sink<'a> {
@@ -95,7 +95,7 @@ impl<'a> Sink<'a> {
             attempts: Attempts::new(script),
             taken: Vec::new(alloc),
             empty: 0,
-            flushes: 0,
+            shown: Vec::new(alloc),
         }
     }
 }
@@ -111,7 +111,7 @@ impl Write for Sink<'_> {
     }
 
     fn flush(&mut self) -> io::Result<()> {
-        self.flushes = self.flushes.wrapping_add(1);
+        self.shown.push(self.taken.len())?;
         Ok(())
     }
 }
@@ -162,12 +162,12 @@ fn answers(alloc: Global, accepted: usize) -> Result<Vec<Result<Reply, Refusal>>
     Ok(answers)
 }
 
-// What a writer of these attempts was asked for and took.
-fn took(rt: &impl Abort, sink: &Sink<'_>, taken: &[u8], made: u32) {
+// What a writer of these attempts was asked for and took, and when it was flushed.
+fn took(rt: &impl Abort, sink: &Sink<'_>, taken: &[u8], made: u32, shown: &[usize]) {
     assert_eq!(rt; sink.taken.as_slice(), taken, "{made} attempts");
     assert_eq!(rt; sink.attempts.made, made);
     assert_eq!(rt; sink.empty, 0);
-    assert_eq!(rt; sink.flushes, 0);
+    assert_eq!(rt; sink.shown.as_slice(), shown);
 }
 
 // Over a writer of these attempts so many calls are accepted, and it takes so many bytes, by so many attempts.
@@ -189,7 +189,8 @@ fn draws(
     let answered = layered.run(alloc, calls)?;
     assert_eq!(rt; answered.as_slice(), answers(alloc, accepted)?.as_slice());
     let (_registry, layer) = layered.into_parts();
-    took(rt, &layer.into_writer().into_inner(), taken, made_attempts);
+    let nothing = [].as_slice();
+    took(rt, &layer.into_writer().into_inner(), taken, made_attempts, nothing);
     let ran = run_lines(alloc, INPUT, Wrap::new(Sink::new(alloc, script)));
     let line = (accepted as u64).saturating_add(2);
     let cause = LineCause::Refused(Refusal::Writer);
@@ -201,7 +202,10 @@ fn draws(
     assert_eq!(rt; ran.fault, wanted);
     assert_eq!(rt; ran.accepted, accepted as u64);
     assert_eq!(rt; ran.writer.faults(), if accepted < 3 { 1 } else { 0 });
-    took(rt, &ran.writer.into_inner(), taken, made_attempts);
+    // The read that finds the end of the input is the only one after the first.
+    let end = [34];
+    let shown = if accepted < 3 { nothing } else { end.as_slice() };
+    took(rt, &ran.writer.into_inner(), taken, made_attempts, shown);
     Ok(())
 }
 
@@ -310,6 +314,62 @@ const LINES_1: (Attempt, u32) = (Attempt::Bytes(22), 1);
 const LINES_2: (Attempt, u32) = (Attempt::Bytes(48), 1);
 
 const LINES_3: (Attempt, u32) = (Attempt::Bytes(86), 1);
+
+// Over an input of which so many bytes come first, the writer is flushed after so many bytes.
+fn shows(
+    rt: &(impl Abort + AllocGlobal),
+    reading: &[(Attempt, u32)],
+    shown: &[usize],
+) {
+    let alloc = rt.alloc();
+    let source = Source {
+        attempts: Attempts::new(reading),
+        rest: INPUT,
+    };
+    let ran = run_lines(alloc, source, Wrap::new(Sink::new(alloc, [].as_slice())));
+    assert_eq!(rt; ran.fault, None);
+    took(rt, &ran.writer.into_inner(), TREE.as_bytes(), 3, shown);
+}
+
+// What the whole lines before a read draw is passed on before it, and the writer is flushed at no other time.
+#[test]
+fn shows_before_reads(rt: HostRuntime) {
+    shows(&rt, [].as_slice(), [34].as_slice());
+    shows(&rt, [(Attempt::Bytes(10), 1)].as_slice(), [34].as_slice());
+    shows(&rt, [LINES_1].as_slice(), [0, 34].as_slice());
+    shows(&rt, [(Attempt::Bytes(40), 1)].as_slice(), [0, 34].as_slice());
+    shows(&rt, [LINES_2].as_slice(), [6, 34].as_slice());
+    shows(&rt, [(Attempt::Bytes(60), 1)].as_slice(), [6, 34].as_slice());
+    shows(&rt, [LINES_3].as_slice(), [18, 34].as_slice());
+    shows(&rt, [(ONE, ALWAYS)].as_slice(), [0, 6, 18, 34].as_slice());
+    shows(
+        &rt,
+        [LINES_2, (INTERRUPTED, 8)].as_slice(),
+        [6, 34].as_slice(),
+    );
+}
+
+// A long input is read in blocks, and the writer flushed once for each.
+#[test]
+fn shows_once_a_block(rt: HostRuntime) -> Result<(), Fail> {
+    let alloc = rt.alloc();
+    let mut input = Vec::new(alloc);
+    input.extend_from_slice(b"{}\n")?;
+    for _call in 0..10_000 {
+        input.extend_from_slice(b"{\"call\":\"event\",\"level\":\"INFO\"}\n")?;
+    }
+    let mut source = Source {
+        attempts: Attempts::new([].as_slice()),
+        rest: input.as_slice(),
+    };
+    let writer = Wrap::new(Sink::new(alloc, [].as_slice()));
+    let ran = run_lines(alloc, &mut source, writer);
+    assert_eq!(rt; ran.accepted, 10_000);
+    // 350,003 bytes are six blocks of 64 KiB, and one more read finds the end.
+    assert_eq!(rt; source.attempts.made, 7);
+    assert_eq!(rt; ran.writer.into_inner().shown.len(), 6);
+    Ok(())
+}
 
 #[test]
 fn reads_in_pieces(rt: HostRuntime) {
@@ -447,7 +507,7 @@ fn prints(
         None => assert_eq!(rt; ran, Ok(())),
     }
     assert_eq!(rt; source.attempts.made, made.0);
-    took(rt, &sink, wanted.as_bytes(), made.1);
+    took(rt, &sink, wanted.as_bytes(), made.1, [].as_slice());
     Ok(())
 }
 

@@ -2,7 +2,7 @@
 
 use std::alloc::Global;
 use std::io;
-use std::io::{ErrorKind, Write};
+use std::io::{ErrorKind, Read, Write};
 use std::test::*;
 use tracing_tree::call::{Call, Reply};
 use tracing_tree::format::{Id, Output, OutputFault, Refusal, Tape, Wrap};
@@ -166,5 +166,102 @@ fn blames_the_line_of_the_fault(rt: HostRuntime) {
         assert_eq!(rt; ran.accepted, accepted);
         assert_eq!(rt; ran.writer.faults(), 1);
         assert_eq!(rt; ran.writer.into_inner().taken.as_slice(), left.as_bytes());
+    }
+}
+
+// Takes all, and refuses the flushes of these numbers, counted from 1, in this way.
+#[derive(Drop)]
+struct Withholding {
+    taken: Vec<u8>,
+    flushes: u32,
+    from: u32,
+    to: u32,
+    kind: ErrorKind,
+}
+
+impl Write for Withholding {
+    fn write(&mut self, bytes: &[u8]) -> io::Result<usize> {
+        self.taken.extend_from_slice(bytes)?;
+        Ok(bytes.len())
+    }
+
+    fn flush(&mut self) -> io::Result<()> {
+        self.flushes = self.flushes.wrapping_add(1);
+        if self.flushes >= self.from && self.flushes <= self.to {
+            return Err(io::Error::from(self.kind));
+        }
+        Ok(())
+    }
+}
+
+impl Withholding {
+    fn new(alloc: Global, from: u32, to: u32, kind: ErrorKind) -> Withholding {
+        Withholding {
+            taken: Vec::new(alloc),
+            flushes: 0,
+            from,
+            to,
+            kind,
+        }
+    }
+}
+
+// A flush that is refused is told by the next write; an interrupted one is tried again.
+#[test]
+fn flushes_are_refused(rt: HostRuntime) {
+    let alloc = rt.alloc();
+    for (to, kind, flushes, wanted) in [
+        (0, ErrorKind::BrokenPipe, 1, Ok(1)),
+        (1, ErrorKind::BrokenPipe, 1, Err(OutputFault)),
+        (8, ErrorKind::Interrupted, 9, Ok(1)),
+        (9, ErrorKind::Interrupted, 9, Err(OutputFault)),
+    ] {
+        let mut wrap = Wrap::new(Withholding::new(alloc, 1, to, kind));
+        assert_eq!(rt; wrap.write(b"ab"), Ok(2));
+        wrap.flush();
+        assert_eq!(rt; wrap.faults(), 0);
+        assert_eq!(rt; wrap.write(b"c"), wanted);
+        let faults = if wanted.is_ok() { 0 } else { 1 };
+        assert_eq!(rt; wrap.faults(), faults);
+        let writer = wrap.into_inner();
+        let taken = if wanted.is_ok() { b"abc".as_slice() } else { b"ab" };
+        assert_eq!(rt; writer.taken.as_slice(), taken);
+        assert_eq!(rt; writer.flushes, flushes);
+    }
+}
+
+// A run whose flush is refused ends at the next call that draws. The last flush of a run is told by no call.
+#[test]
+fn blames_the_line_after_a_refused_flush(rt: HostRuntime) {
+    let alloc = rt.alloc();
+    let cause = LineCause::Refused(Refusal::Writer);
+    for (from, line, left) in [(1, 2, ""), (2, 3, "┐a \n")] {
+        let writer = Wrap::new(Withholding::new(alloc, from, from, ErrorKind::BrokenPipe));
+        let ran = run_lines(alloc, Slow { rest: TWO_SPANS }, writer);
+        assert_eq!(rt; ran.fault, Some(LineFault { line, cause }));
+        assert_eq!(rt; ran.accepted, line.saturating_sub(2));
+        assert_eq!(rt; ran.writer.faults(), 1);
+        assert_eq!(rt; ran.writer.into_inner().taken.as_slice(), left.as_bytes());
+    }
+    let writer = Wrap::new(Withholding::new(alloc, 3, 3, ErrorKind::BrokenPipe));
+    let ran = run_lines(alloc, Slow { rest: TWO_SPANS }, writer);
+    assert_eq!(rt; ran.fault, None);
+    assert_eq!(rt; ran.writer.faults(), 0);
+    assert_eq!(rt; ran.writer.into_inner().flushes, 3);
+}
+
+// Gives a byte at a time.
+#[derive(Drop)]
+struct Slow {
+    rest: &'static [u8],
+}
+
+impl Read for Slow {
+    fn read(&mut self, buf: &mut [u8]) -> io::Result<usize> {
+        let count = buf.len().min(self.rest.len()).min(1);
+        let (given, rest) = self.rest.split_at(count);
+        buf[..count].copy_from_slice(given);
+        self.rest = rest;
+        Ok(count)
     }
 }

@@ -1,11 +1,12 @@
 //! Lines of a reader.
 
-ghost use Rattle.std.specs.Prelude.{◌≡◌, ◌==◌, position};
+ghost use Rattle.std.specs.Prelude.{◌≡◌, ◌==◌, is_some, position};
+ghost use Rattle.std.specs.Io.Buffered.{reader_buffer};
 ghost use Rattle.tracing_tree.specs.Spelled.{is_skipped};
 ghost use Rattle.tracing_tree.specs.LineReads.{ReadsEnded, ReadsPart, ReadsNext};
 
 use super::LineCause;
-use std::io::{BufRead, ErrorKind};
+use std::io::{BufRead, BufReader, ErrorKind, Read};
 
 // A read that a signal interrupts is tried again eight times.
 const TRIES: u32 = 9;
@@ -20,6 +21,13 @@ enum Part {
     Inside,
     // Nowhere: the read was interrupted.
     Interrupted,
+}
+
+// Whether the reader's buffer holds the next line with its line end, so that the line is read without reading input.
+pub(super) fn holds_line<R: Read>(reader: &BufReader<R>) -> bool
+    ensures { result ≡ is_some (position (λ byte. byte == 10) (reader_buffer reader.now)) }
+{
+    line_end(reader.buffer()).is_some()
 }
 
 // Reads the next line, without its line end, in place of what `line` held. Answers whether there is one: what stands behind

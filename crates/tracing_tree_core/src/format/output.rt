@@ -37,6 +37,14 @@ pub trait Output {
     /// How many writes it has refused.
     fn faults(&self) -> u64
         ensures { result ≡ fault_count self.now };
+
+    /// Passes on what it has taken and holds back. An output that holds nothing back does nothing. Where it can't be passed
+    /// on, it is still held; no fault is counted here, and a later write may be refused for it.
+    fn flush(&mut self)
+        ensures contents { Keeps (contents self.old) (contents self.new) }
+        ensures count { fault_count self.new ≡ fault_count self.old }
+    {
+    }
 }
 
 // Writes all bytes, in as many writes as it takes.
@@ -113,7 +121,7 @@ impl Output for Tape {
     }
 }
 
-// A write that a signal interrupts is tried again eight times.
+// A write or a flush that a signal interrupts is tried again eight times.
 const TRIES: u32 = 9;
 
 // Writes once, and again where it is interrupted. A count of 0 is refused.
@@ -138,12 +146,31 @@ fn write_tried<W: Write>(writer: &mut W, bytes: &[u8]) -> Option<usize>
     None
 }
 
-/// An output over a writer of std. An interrupted write is tried again at most 8 times; still interrupted, a count of 0 or
-/// another error is a fault.
+// Flushes once, and again where it is interrupted. Returns whether all was passed on.
+fn flush_tried<W: Write>(writer: &mut W) -> bool
+    ensures { Keeps (W.contents writer.old) (W.contents writer.new) }
+{
+    for _try in 0..TRIES {
+        match writer.flush() {
+            Ok(()) => return true,
+            Err(e) => {
+                if e.kind() != ErrorKind::Interrupted {
+                    return false;
+                }
+            }
+        }
+    }
+    false
+}
+
+/// An output over a writer of std. An interrupted write or flush is tried again at most 8 times; a write that is still
+/// interrupted, a count of 0 or another error is a fault. After a flush that was refused each write is a fault.
 #[derive(Drop)]
 pub struct Wrap<W: Write> {
     writer: W,
     faults: u64,
+    // Whether a flush was refused.
+    stuck: bool,
 }
 
 impl<W: Write> Model for Wrap<W> {
@@ -159,15 +186,18 @@ impl<W: Write> Wrap<W> {
     pub fn new(writer: W) -> Wrap<W>
         ensures { result ≡ record { writer = writer; faults = 0 } }
     {
-        Wrap { writer, faults: 0 }
+        Wrap {
+            writer,
+            faults: 0,
+            stuck: false,
+        }
     }
 
     /// Returns the writer.
     pub fn into_inner(self) -> W
         ensures { result ≡ self.writer }
     {
-        let Wrap { writer, faults: _ } = self;
-        writer
+        self.writer
     }
 }
 
@@ -183,16 +213,22 @@ impl<W: Write> Output for Wrap<W> {
     const WHOLE: bool = false;
 
     fn write(&mut self, bytes: &[u8]) -> Result<usize, OutputFault> {
-        match write_tried(&mut self.writer, bytes) {
-            Some(taken) => Ok(taken),
-            None => {
-                self.faults += 1;
-                Err(OutputFault)
+        if !self.stuck {
+            if let Some(taken) = write_tried(&mut self.writer, bytes) {
+                return Ok(taken);
             }
         }
+        self.faults += 1;
+        Err(OutputFault)
     }
 
     fn faults(&self) -> u64 {
         self.faults
+    }
+
+    fn flush(&mut self) {
+        if !flush_tried(&mut self.writer) {
+            self.stuck = true;
+        }
     }
 }

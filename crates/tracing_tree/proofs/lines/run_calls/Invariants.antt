@@ -1,4 +1,5 @@
 use Rattle.std.proofs.Common.{◌+◌, ◌≤◌}
+use Rattle.std.specs.Io.Buffered.{reader_remaining}
 use Rattle.tracing_tree.specs.Layers.{seen, Changes}
 use Rattle.tracing_tree.proofs.LineRuns.{GoesOver}
 use Rattle.tracing_tree.proofs.lines.run_calls.Given as goal
@@ -8,5 +9,5 @@ abbrev pub invariant-loop-number : goal.invariant-loop-number
 invariant-loop-number g l = record {
   room : l.accepted + 2 ≤ l.number;
   change : Changes (seen g.FT.FormatTime g.W.Output)
-      (GoesOver (g.B.Read.remaining l.fn.lines) (g.B.Read.remaining l.lines) l.accepted l.number) l.fn.layered l.layered;
+      (GoesOver (reader_remaining g.R.Read.remaining l.fn.lines) (reader_remaining g.R.Read.remaining l.lines) l.accepted l.number) l.fn.layered l.layered;
 }
