@@ -95,6 +95,28 @@ run_inputs() {
     count "with arguments" "$tree.out" "$room/none" 0
 }
 
+# Two lines and a beginning of the next one, and then nothing more until what they draw is out, which it must be within ten seconds.
+waiting() {
+    printf '%s\n' '{"indent_lines":true}' '{"call":"new","name":"a"}'
+    printf '{"call":"event",'
+    for ((tries = 0; tries < 100; tries++)); do
+        cmp -s "$room/opened" "$room/out" && break
+        sleep 0.1
+    done
+    cp "$room/out" "$room/seen"
+    printf '%s\n' '"level":"INFO","fields":[["message","x"]],"current":1}'
+}
+
+# What can be drawn is out before the program waits for more.
+run_live() {
+    cp "$room/none" "$room/out"
+    lines live '┐a ' '├─ INFO x'
+    run < <(waiting) > "$room/out" 2> "$room/err"
+    count "on an input that waits" "$room/live" "$room/none" 0
+    mv "$room/seen" "$room/out"
+    count "while its input waits" "$room/opened" "$room/none" 0
+}
+
 # A first line padded with a million spaces, a name of ten million bytes, and a value of a million parts under a key that no call has.
 run_large() {
     { printf '{"indent_lines":'; head -c 1000000 /dev/zero | tr '\0' ' '; echo 'true}'
@@ -210,6 +232,7 @@ run_arguments() {
 make_files
 run_cases
 run_inputs
+run_live
 run_large
 run_memory
 run_outputs

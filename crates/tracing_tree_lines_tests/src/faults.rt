@@ -190,7 +190,13 @@ fn draws(
     assert_eq!(rt; answered.as_slice(), answers(alloc, accepted)?.as_slice());
     let (_registry, layer) = layered.into_parts();
     let nothing = [].as_slice();
-    took(rt, &layer.into_writer().into_inner(), taken, made_attempts, nothing);
+    took(
+        rt,
+        &layer.into_writer().into_inner(),
+        taken,
+        made_attempts,
+        nothing,
+    );
     let ran = run_lines(alloc, INPUT, Wrap::new(Sink::new(alloc, script)));
     let line = (accepted as u64).saturating_add(2);
     let cause = LineCause::Refused(Refusal::Writer);
@@ -204,7 +210,11 @@ fn draws(
     assert_eq!(rt; ran.writer.faults(), if accepted < 3 { 1 } else { 0 });
     // The read that finds the end of the input is the only one after the first.
     let end = [34];
-    let shown = if accepted < 3 { nothing } else { end.as_slice() };
+    let shown = if accepted < 3 {
+        nothing
+    } else {
+        end.as_slice()
+    };
     took(rt, &ran.writer.into_inner(), taken, made_attempts, shown);
     Ok(())
 }
@@ -316,11 +326,7 @@ const LINES_2: (Attempt, u32) = (Attempt::Bytes(48), 1);
 const LINES_3: (Attempt, u32) = (Attempt::Bytes(86), 1);
 
 // Over an input of which so many bytes come first, the writer is flushed after so many bytes.
-fn shows(
-    rt: &(impl Abort + AllocGlobal),
-    reading: &[(Attempt, u32)],
-    shown: &[usize],
-) {
+fn shows(rt: &(impl Abort + AllocGlobal), reading: &[(Attempt, u32)], shown: &[usize]) {
     let alloc = rt.alloc();
     let source = Source {
         attempts: Attempts::new(reading),
@@ -337,9 +343,17 @@ fn shows_before_reads(rt: HostRuntime) {
     shows(&rt, [].as_slice(), [34].as_slice());
     shows(&rt, [(Attempt::Bytes(10), 1)].as_slice(), [34].as_slice());
     shows(&rt, [LINES_1].as_slice(), [0, 34].as_slice());
-    shows(&rt, [(Attempt::Bytes(40), 1)].as_slice(), [0, 34].as_slice());
+    shows(
+        &rt,
+        [(Attempt::Bytes(40), 1)].as_slice(),
+        [0, 34].as_slice(),
+    );
     shows(&rt, [LINES_2].as_slice(), [6, 34].as_slice());
-    shows(&rt, [(Attempt::Bytes(60), 1)].as_slice(), [6, 34].as_slice());
+    shows(
+        &rt,
+        [(Attempt::Bytes(60), 1)].as_slice(),
+        [6, 34].as_slice(),
+    );
     shows(&rt, [LINES_3].as_slice(), [18, 34].as_slice());
     shows(&rt, [(ONE, ALWAYS)].as_slice(), [0, 6, 18, 34].as_slice());
     shows(
@@ -365,9 +379,9 @@ fn shows_once_a_block(rt: HostRuntime) -> Result<(), Fail> {
     let writer = Wrap::new(Sink::new(alloc, [].as_slice()));
     let ran = run_lines(alloc, &mut source, writer);
     assert_eq!(rt; ran.accepted, 10_000);
-    // 350,003 bytes are six blocks of 64 KiB, and one more read finds the end.
-    assert_eq!(rt; source.attempts.made, 7);
-    assert_eq!(rt; ran.writer.into_inner().shown.len(), 6);
+    // 320,003 bytes are five blocks of 64 KiB, and one more read finds the end.
+    assert_eq!(rt; source.attempts.made, 6);
+    assert_eq!(rt; ran.writer.into_inner().shown.len(), 5);
     Ok(())
 }
 

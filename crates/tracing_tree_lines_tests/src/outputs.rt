@@ -224,7 +224,11 @@ fn flushes_are_refused(rt: HostRuntime) {
         let faults = if wanted.is_ok() { 0 } else { 1 };
         assert_eq!(rt; wrap.faults(), faults);
         let writer = wrap.into_inner();
-        let taken = if wanted.is_ok() { b"abc".as_slice() } else { b"ab" };
+        let taken = if wanted.is_ok() {
+            b"abc".as_slice()
+        } else {
+            b"ab"
+        };
         assert_eq!(rt; writer.taken.as_slice(), taken);
         assert_eq!(rt; writer.flushes, flushes);
     }

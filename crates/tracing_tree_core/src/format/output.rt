@@ -43,8 +43,7 @@ pub trait Output {
     fn flush(&mut self)
         ensures contents { Keeps (contents self.old) (contents self.new) }
         ensures count { fault_count self.new ≡ fault_count self.old }
-    {
-    }
+    {}
 }
 
 // Writes all bytes, in as many writes as it takes.

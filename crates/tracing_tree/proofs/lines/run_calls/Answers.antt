@@ -20,8 +20,8 @@ pub returns-in-Ok-End : goal.returns-in-Ok-End
 returns-in-Ok-End g c =
     let remaining = reader_remaining g.R.Read.remaining in
     let shown = change_then (seen g.FT.FormatTime g.W.Output)
-        (goes_on_flushed (remaining c.args.lines.now) (remaining c.loop-number.lines) c.loop-number.accepted c.loop-number.number)
-        c.args.layered.now c.loop-number.layered c.show_before_read.new.layered c.loop-number.invariant.change c.show_before_read.ensures in
+    (goes_on_flushed (remaining c.args.lines.now) (remaining c.loop-number.lines) c.loop-number.accepted c.loop-number.number)
+    c.args.layered.now c.loop-number.layered c.show_before_read.new.layered c.loop-number.invariant.change c.show_before_read.ensures in
     let line = rw (c.in-Ok-End.is, c.in-Ok-End.field-0-is) at c.run_line.ensures in
     change_then (seen g.FT.FormatTime g.W.Output)
     (ends_input (remaining c.args.lines.now) (remaining c.loop-number.lines) (remaining c.run_line.new.lines) c.loop-number.accepted c.loop-number.number (omega arith))
@@ -31,8 +31,8 @@ pub returns-in-Err : goal.returns-in-Err
 returns-in-Err g c =
     let remaining = reader_remaining g.R.Read.remaining in
     let shown = change_then (seen g.FT.FormatTime g.W.Output)
-        (goes_on_flushed (remaining c.args.lines.now) (remaining c.loop-number.lines) c.loop-number.accepted c.loop-number.number)
-        c.args.layered.now c.loop-number.layered c.show_before_read.new.layered c.loop-number.invariant.change c.show_before_read.ensures in
+    (goes_on_flushed (remaining c.args.lines.now) (remaining c.loop-number.lines) c.loop-number.accepted c.loop-number.number)
+    c.args.layered.now c.loop-number.layered c.show_before_read.new.layered c.loop-number.invariant.change c.show_before_read.ensures in
     change_then (seen g.FT.FormatTime g.W.Output)
     (ends_at (remaining c.args.lines.now) (remaining c.loop-number.lines) (remaining c.run_line.new.lines) c.loop-number.accepted c.loop-number.number c.in-Err.cause (omega arith))
     c.args.layered.now c.show_before_read.new.layered c.run_line.new.layered shown c.in-Err.ensures
@@ -45,7 +45,7 @@ loop-number-preserved g c =
     let left = remaining c.run_line.new.lines in
     let see = seen g.FT.FormatTime g.W.Output in
     let shown = change_then see (goes_on_flushed known middle c.loop-number.accepted c.loop-number.number)
-        c.args.layered.now c.loop-number.layered c.show_before_read.new.layered c.loop-number.invariant.change c.show_before_read.ensures in
+    c.args.layered.now c.loop-number.layered c.show_before_read.new.layered c.loop-number.invariant.change c.show_before_read.ensures in
     record {
       room = search rules;
       change = elim c.match-run_line-2.branch [
