@@ -2,14 +2,11 @@
 use Rattle.std.proofs.Common.{◌≡◌, ℕ, zero, suc, ◌+◌, ◌-◌, ◌<◌, ◌≤◌, nat_lt, Bool, true, false, not, List, [], ◌∷◌, ◌++◌, length, get_or, set, find, filter, slice_get, length-append, Option, Some, None, IfSome, MatchOption, Result, Ok, Err, if◌then◌else◌, arith, refl, sym, ap, ◌∙◌, subst}
 use Rattle.std.specs.List.{list_all}
 use Rattle.std.specs.Option.{option_map_or, option_and_then, option_to_list}
-use Rattle.std.specs.Result.{result_ok, OnOk, OnErr}
-use Rattle.std.specs.List.Sorted.{IsSearchInRange, IsBinarySearchResult, IsNonDecreasingBy}
-use Rattle.std.specs.Ordering.{nat_cmp, ordering_index}
+use Rattle.std.specs.Result.{OnOk, OnErr}
 use Rattle.std.proofs.lemmas.Bool.{eqb-true, and_parts}
 use Rattle.std.proofs.lemmas.Bool.Decides.{nat_tests}
-use Rattle.std.proofs.lemmas.Cmp.{ranked}
 use Rattle.std.proofs.lemmas.List.Folds.{list_all-append}
-use Rattle.std.proofs.lemmas.List.{map-append, append-nil}
+use Rattle.std.proofs.lemmas.List.{map-append, append-nil, get_or_read}
 use Rattle.std.proofs.lemmas.Option.{slice_get-get_or, slice_get_within, slice_get_read, same_Some}
 use Rattle.tracing_tree_core.specs.Ids.{id_of, same_id}
 use Rattle.tracing_tree_core.specs.Spans.{KeptSpan}
@@ -93,30 +90,53 @@ abbrev pub IsFound : List Slot → Id → Option ℕ → Type 0
 IsFound slots i place =
     MatchOption place (find (slot_has i) slots ≡ None) (λ at. (at < length slots) × (find (slot_has i) slots ≡ slice_get slots at))
 
--- the comparisons with an id rise along rising ids, as a binary search asks
-comparisons_rise : (slots : List Slot) (i : Id) → AreRising (slot_ids slots) → IsNonDecreasingBy (λ slot. ordering_index (nat_cmp (slot_id slot).0 i.0)) slots
-comparisons_rise slots i rising j k d le within =
-    let keys : (slot_id (get_or slots j d)).0 ≤ (slot_id (get_or slots k d)).0 = rise slots d rising j k le within in
-    grind (arith, nat_tests)
+-- the ids before the first place are below this one, and those from the second place on above it
+pub record IsLeft (slots : List Slot) (i : Id) (from to : ℕ) : Type 0 where
+  pub below : (k : ℕ) (d : Slot) → k < from → k < length slots → (slot_id (get_or slots k d)).0 < i.0
+  pub above : (k : ℕ) (d : Slot) → to ≤ k → k < length slots → i.0 < (slot_id (get_or slots k d)).0
 
--- a binary search by the id finds the place of this id
-pub searched_id : (slots : List Slot) (i : Id) (r : Result ℕ ℕ) → AreRising (slot_ids slots) → IsSearchInRange r (length slots) →
-    IsBinarySearchResult (λ slot. nat_cmp (slot_id slot).0 i.0) slots r → IsFound slots i (result_ok r)
-searched_id slots i (Ok at) rising within equal = (within, found slots refl)
+-- at first all is left
+pub all-left : (slots : List Slot) (i : Id) → IsLeft slots i 0 (length slots)
+all-left slots i = record { below = (λ k d h within. absurd (omega arith)); above = (λ k d h within. absurd (omega arith)) }
+
+-- what lies up to a place with a lower id isn't left
+pub left-above : (slots : List Slot) (i : Id) (from to at : ℕ) (s : Slot) → AreRising (slot_ids slots) → IsLeft slots i from to →
+    at < length slots → s ≡ get_or slots at s → (slot_id s).0 < i.0 → IsLeft slots i (at + 1) to
+left-above slots i from to at s rising left here read low = record { below = below; above = left.above }
   where
-    found : (xs : List Slot) → xs ≡ slots → find (slot_has i) slots ≡ slice_get slots at
-    found [] e = absurd (omega (arith, ap length e, within))
-    found (d ∷ xs) e =
-        let here : slot_id (get_or slots at d) ≡ i = ap id_of (ranked (slot_id (get_or slots at d)).0 i.0 _ (sym (equal d))) in
-        let read : slice_get slots at ≡ Some (get_or slots at d) = slice_get-get_or slots at d within in
-        subst (λ j. find (slot_has j) slots ≡ slice_get slots at) here (find-at slots at (get_or slots at d) rising read ∙ sym read)
-searched_id slots i (Err at) rising within parted = find-nowhere slots i none
+    below : (k : ℕ) (d : Slot) → k < at + 1 → k < length slots → (slot_id (get_or slots k d)).0 < i.0
+    below k d h within =
+        let up : (slot_id (get_or slots k d)).0 ≤ (slot_id (get_or slots at d)).0 = rise slots d rising k at (omega arith) here in
+        let same : (slot_id s).0 ≡ (slot_id (get_or slots at d)).0 = ap (λ (x : Slot). (slot_id x).0) (get_or_read slots at s here read d) in
+        omega arith
+
+-- and what lies from a place with a higher id on isn't either
+pub left-below : (slots : List Slot) (i : Id) (from to at : ℕ) (s : Slot) → AreRising (slot_ids slots) → IsLeft slots i from to →
+    at < length slots → s ≡ get_or slots at s → i.0 < (slot_id s).0 → IsLeft slots i from at
+left-below slots i from to at s rising left here read high = record { below = left.below; above = above }
   where
-    none : (k : ℕ) (d : Slot) → k < length slots → slot_has i (get_or slots k d) ≡ false
-    none k d h = elim (nat_lt k at) as (λ b. nat_lt k at ≡ b → slot_has i (get_or slots k d) ≡ false) [
-      | true ↦ (λ e. lower-not (slot_id (get_or slots k d)) i (ranked (slot_id (get_or slots k d)).0 i.0 _ (sym ((parted (comparisons_rise slots i rising)).0 k d (omega arith) (grind (arith, nat_tests))))))
-      | false ↦ (λ e. higher-not (slot_id (get_or slots k d)) i (ranked (slot_id (get_or slots k d)).0 i.0 _ (sym ((parted (comparisons_rise slots i rising)).1 k d (grind (arith, nat_tests)) h))))
+    above : (k : ℕ) (d : Slot) → at ≤ k → k < length slots → i.0 < (slot_id (get_or slots k d)).0
+    above k d h within =
+        let up : (slot_id (get_or slots at d)).0 ≤ (slot_id (get_or slots k d)).0 = rise slots d rising at k h within in
+        let same : (slot_id s).0 ≡ (slot_id (get_or slots at d)).0 = ap (λ (x : Slot). (slot_id x).0) (get_or_read slots at s here read d) in
+        omega arith
+
+-- where nothing is left, no place has the id
+pub none-left : (slots : List Slot) (i : Id) (from to : ℕ) → IsLeft slots i from to → to ≤ from → find (slot_has i) slots ≡ None
+none-left slots i from to left none = find-nowhere slots i by
+  where
+    by : (k : ℕ) (d : Slot) → k < length slots → slot_has i (get_or slots k d) ≡ false
+    by k d within = elim (nat_lt k from) as (λ b. nat_lt k from ≡ b → slot_has i (get_or slots k d) ≡ false) [
+      | true ↦ (λ e. lower-not (slot_id (get_or slots k d)) i (left.below k d (grind (arith, nat_tests)) within))
+      | false ↦ (λ e. higher-not (slot_id (get_or slots k d)) i (left.above k d (grind (arith, nat_tests)) within))
     ] refl
+
+-- what has the number lies where it was read
+pub here-found : (slots : List Slot) (i : Id) (at : ℕ) (s : Slot) → AreRising (slot_ids slots) → at < length slots → s ≡ get_or slots at s →
+    (slot_id s).0 ≡ i.0 → IsFound slots i (Some at)
+here-found slots i at s rising here read same =
+    let found : slice_get slots at ≡ Some s = slice_get-get_or slots at s here ∙ ap (λ (x : Slot). Some x) (sym read) in
+    (here, subst (λ (j : Id). find (slot_has j) slots ≡ slice_get slots at) (ap id_of same) (find-at slots at s rising found ∙ sym found))
 
 -- the place has the id, so that is where it lies
 pub found_at : (slots : List Slot) (i : Id) (at : ℕ) → AreRising (slot_ids slots) → option_map_or (slot_has i) (slice_get slots at) false ≡ true → IsFound slots i (Some at)

@@ -164,7 +164,7 @@ fn position(slots: &[Slot], id: Id) -> Option<usize>
     if is_at(slots, place, id) {
         return Some(place);
     }
-    slots.binary_search_by_key(&id.0, |slot| slot.id().0).ok()
+    search(slots, id)
 }
 
 // Where the span of this id lies if no gap between it and the newest was closed.
@@ -185,6 +185,50 @@ fn is_at(slots: &[Slot], place: usize, id: Id) -> bool
     match slots.get(place) {
         Some(slot) => slot.id() == id,
         None => false,
+    }
+}
+
+// The same by a search. It begins where the span lies if gaps were closed evenly, goes on by steps that double until it has passed
+// the id, and from then on by halves. So it takes no more looks than a constant times the logarithm of the length, and few where
+// the first is near.
+fn search(slots: &[Slot], id: Id) -> Option<usize>
+    requires { AreRising (slot_ids slots.now) }
+    ensures { MatchOption result (find (slot_has id) slots.now ≡ None) (λ at.
+        (at < length slots.now) × (find (slot_has id) slots.now ≡ slice_get slots.now at)) }
+{
+    let mut from = 0;
+    let mut to = slots.len();
+    let mut place = even_place(slots, id);
+    let mut step = 16;
+    while from < to {
+        let at = place.clamp(from, to - 1);
+        let here = slots[at].id();
+        if here.0 == id.0 {
+            return Some(at);
+        }
+        if here.0 < id.0 {
+            from = at + 1;
+            place = from.saturating_add(step.min((to - from) / 2));
+        } else {
+            to = at;
+            place = to.saturating_sub(step.min((to - from) / 2));
+        }
+        step = step.saturating_mul(2);
+    }
+    None
+}
+
+// Where the span of this id lies if gaps were closed evenly between the oldest and the newest.
+fn even_place(slots: &[Slot], id: Id) -> usize {
+    match (slots.first(), slots.last()) {
+        (Some(oldest), Some(newest)) => {
+            let first = oldest.id().0;
+            let ids = newest.id().0.wrapping_sub(first);
+            let places = slots.len().wrapping_sub(1) as u64;
+            let scaled = id.0.wrapping_sub(first).wrapping_mul(places);
+            scaled.checked_div(ids).unwrap_or(0) as usize
+        }
+        _ => 0,
     }
 }
 
