@@ -1,8 +1,9 @@
 //! The live spans in the order of their ids, each found by its id.
 
-ghost use Rattle.std.specs.Prelude.{◌≡◌, ◌<◌, ◌^◌, ◌++◌, [], ◌∷◌, None, IfSome, MatchOption, OnOk, OnErr, find, length, slice_get, option_copied, false};
+ghost use Rattle.std.specs.Prelude.{◌≡◌, ◌<◌, ◌^◌, ◌++◌, [], ◌∷◌, None, Some, IfSome, MatchOption, OnOk, OnErr, find, length, slice_get, option_copied, false};
+ghost use Rattle.std.specs.Fn.{FnOnceReturnsAtMut};
 ghost use Rattle.std.specs.Option.{option_map_or};
-ghost use Rattle.tracing_tree_core.specs.Spans.{handle_more, handle_less, child_more, child_less, kept_printed, fields_more};
+ghost use Rattle.tracing_tree_core.specs.Spans.{KeptSpan, handle_more, handle_less, child_more, child_less, kept_printed, fields_more};
 ghost use Rattle.tracing_tree_core.specs.Kept.{kept_at, change_kept, leave_out, AreBelow};
 ghost use Rattle.tracing_tree_core.specs.Slots.{slot_has, slot_ids, present, ends_in_gap, AreRising};
 
@@ -88,52 +89,49 @@ impl Nodes {
         requires { IfSome (kept_at self.old id) (λ node. node.span.handles < u64.MAX) }
         ensures { self.new ≡ change_kept handle_more id self.old }
     {
-        if let Some(at) = position(self.slots.as_slice(), id) {
-            if let Slot::Live(node) = &mut self.slots[at] {
-                node.add_handle();
-            }
-        }
+        self.update(id, |node| node.add_handle());
     }
 
     pub(crate) fn take_handle(&mut self, id: Id)
         requires { IfSome (kept_at self.old id) (λ node. 0 < node.span.handles) }
         ensures { self.new ≡ change_kept handle_less id self.old }
     {
-        if let Some(at) = position(self.slots.as_slice(), id) {
-            if let Slot::Live(node) = &mut self.slots[at] {
-                node.take_handle();
-            }
-        }
+        self.update(id, |node| node.take_handle());
     }
 
     pub(crate) fn add_child(&mut self, id: Id)
         requires { IfSome (kept_at self.old id) (λ node. node.children < usize.MAX) }
         ensures { self.new ≡ change_kept child_more id self.old }
     {
-        if let Some(at) = position(self.slots.as_slice(), id) {
-            if let Slot::Live(node) = &mut self.slots[at] {
-                node.add_child();
-            }
-        }
+        self.update(id, |node| node.add_child());
     }
 
     pub(crate) fn take_child(&mut self, id: Id)
         requires { IfSome (kept_at self.old id) (λ node. 0 < node.children) }
         ensures { self.new ≡ change_kept child_less id self.old }
     {
-        if let Some(at) = position(self.slots.as_slice(), id) {
-            if let Slot::Live(node) = &mut self.slots[at] {
-                node.take_child();
-            }
-        }
+        self.update(id, |node| node.take_child());
     }
 
     pub(crate) fn set_written(&mut self, id: Id)
         ensures { self.new ≡ change_kept kept_printed id self.old }
     {
+        self.update(id, |node| node.set_written());
+    }
+
+    // Changes the span with this id, where it is live.
+    fn update<F: FnOnce(&mut Node)>(&mut self, id: Id, change: F)
+        requires callable { (node : KeptSpan) → kept_at self.old id ≡ Some node
+            → (x : _) → x.now ≡ node → F.pre change x }
+        requires same_id { (node new : KeptSpan) → FnOnceReturnsAtMut F.FnOnce change node tt new
+            → new.span.id ≡ node.span.id }
+        ensures { (f : KeptSpan → KeptSpan)
+            → ((node new : KeptSpan) → FnOnceReturnsAtMut F.FnOnce change node tt new → new ≡ f node)
+            → self.new ≡ change_kept f id self.old }
+    {
         if let Some(at) = position(self.slots.as_slice(), id) {
             if let Slot::Live(node) = &mut self.slots[at] {
-                node.set_written();
+                change(node);
             }
         }
     }
