@@ -1,6 +1,5 @@
 -- What a calendar and a clock show is what `jiff` has.
-use Rattle.std.proofs.Common.{◌≡◌, ◌∷◌, ◌++◌, arith, refl, sym, ap, ◌∙◌, ℤ, pos, ◌+ℤ◌, List, [], Bool, true, false, if◌then◌else◌}
-use Rattle.std.proofs.lemmas.List.{append-nil, append_assoc}
+use Rattle.std.proofs.Common.{◌≡◌, ◌∷◌, ◌++◌, arith, refl, sym, ap, ◌∙◌, ℤ, pos, ◌+ℤ◌, ℕ, List, Bool, true, false, if◌then◌else◌}
 use Rattle.jiff_core.specs.Date.{epoch_day}
 use Rattle.jiff_core.specs.DateTime.{civil_nanos}
 use Rattle.jiff_core.specs.Time.{time_nanos}
@@ -18,8 +17,6 @@ use Rattle.jiff_core.specs.declared.civil.time.Time.{Time}
 use Rattle.jiff_core.proofs.DateLemmas.{civil}
 use Rattle.jiff_core.proofs.SignedLemmas.{signed_arith}
 use Rattle.tracing_tree_core.specs.Clock.{Civil, IsCivilOn, civil_at, nanos_of_day, civil_text, date_text, time_text, offset_text, local_text, local_timer}
-use Rattle.tracing_tree_core.specs.Pieces.{pieces_text}
-use Rattle.tracing_tree_core.specs.declared.time.pieces.Piece.{Piece}
 use Rattle.tracing_tree_core.proofs.CivilLaws.{civil_at-is, IsCivilOn-one}
 
 -- the parts of a date and a time
@@ -64,33 +61,29 @@ civil_text-moment moment =
     ap civil_text (IsCivilOn-one (epoch_day moment.date) (nanos_of_day (civil_nanos moment)) (civil_at (civil_nanos moment))
     (civil_of moment) (civil_at-is moment) (civil_of-is moment))
 
--- the pieces of a date and of a time are the text that is shown
-pub date_and_time : (shown : DateTime) (date : Date) (time : Time) (dates times : List Piece) → date ≡ shown.date → time ≡ shown.time →
-    pieces_text dates ≡ date_text date.year date.month date.day →
-    pieces_text times ≡ 32 ∷ time_text time.hour time.minute time.second time.subsec_nanosecond →
+-- a date and a time that were appended are the text that is shown
+pub date_and_time : (shown : DateTime) (date : Date) (time : Time) (dates both : List ℕ) → date ≡ shown.date → time ≡ shown.time →
+    dates ≡ date_text date.year date.month date.day →
+    both ≡ dates ++ 32 ∷ time_text time.hour time.minute time.second time.subsec_nanosecond →
     {instant : ℤ} → civil_nanos shown ≡ instant →
-    pieces_text dates ++ (pieces_text times ++ []) ≡ civil_text (civil_at instant)
-date_and_time shown date time dates times d t e f i =
-    ap (λ text. pieces_text dates ++ text) (append-nil (pieces_text times))
-    ∙ (λ k. e k ++ f k)
+    both ≡ civil_text (civil_at instant)
+date_and_time shown date time dates both d t e f i =
+    f
+    ∙ (λ k. e k ++ 32 ∷ time_text time.hour time.minute time.second time.subsec_nanosecond)
     ∙ (λ k. date_text (d k).year (d k).month (d k).day ++ 32 ∷ time_text (t k).hour (t k).minute (t k).second (t k).subsec_nanosecond)
     ∙ sym (civil_text-moment shown)
     ∙ ap (λ n. civil_text (civil_at n)) i
 
--- and with those of an offset
-pub date_time_offset : (shown : DateTime) (date : Date) (time : Time) (dates times offsets : List Piece) (instant offset : ℤ) →
+-- and with an offset
+pub date_time_offset : (shown : DateTime) (date : Date) (time : Time) (dates both all : List ℕ) (instant offset : ℤ) →
     date ≡ shown.date → time ≡ shown.time →
-    pieces_text dates ≡ date_text date.year date.month date.day →
-    pieces_text times ≡ 32 ∷ time_text time.hour time.minute time.second time.subsec_nanosecond →
-    pieces_text offsets ≡ 32 ∷ offset_text offset →
+    dates ≡ date_text date.year date.month date.day →
+    both ≡ dates ++ 32 ∷ time_text time.hour time.minute time.second time.subsec_nanosecond →
+    all ≡ both ++ 32 ∷ offset_text offset →
     civil_nanos shown ≡ instant +ℤ nanos_of_seconds offset →
-    pieces_text dates ++ (pieces_text times ++ (pieces_text offsets ++ [])) ≡ local_text instant offset
-date_time_offset shown date time dates times offsets instant offset d t e f g i =
-    ap (λ text. pieces_text dates ++ (pieces_text times ++ text)) (append-nil (pieces_text offsets) ∙ g)
-    ∙ sym (append_assoc (pieces_text dates) (pieces_text times) (32 ∷ offset_text offset))
-    ∙ ap (λ text. text ++ 32 ∷ offset_text offset)
-    (ap (λ text. pieces_text dates ++ text) (sym (append-nil (pieces_text times)))
-    ∙ date_and_time shown date time dates times d t e f i)
+    all ≡ local_text instant offset
+date_time_offset shown date time dates both all instant offset d t e f g i =
+    g ∙ ap (λ text. text ++ 32 ∷ offset_text offset) (date_and_time shown date time dates both d t e f i)
 
 -- ---- zones
 

@@ -63,6 +63,43 @@ pub digits_in-step : (places n : ℕ) → 2 ≤ places → n < 2 ^ 64 →
     digits_in places n ≡ digits_in (places - 1) (n / 10) ++ (48 + n % 10) ∷ []
 digits_in-step places n more h = digits_in-at places n more h (nat_lt n 10) refl
 
+-- a number below 100 in two digits
+pub digits_pair : (n : ℕ) → n < 100 → digits_in 2 n ≡ (48 + n / 10) ∷ (48 + n % 10) ∷ []
+digits_pair n h =
+    let digit : n / 10 % 10 ≡ n / 10 = omega arith in
+    digits_in-step 2 n (omega arith) (omega arith)
+    ∙ ap (λ front. front ++ (48 + n % 10) ∷ []) (filled-digit 48 1 (n / 10) (omega arith))
+    ∙ ap (λ d. (48 + d) ∷ (48 + n % 10) ∷ []) digit
+
+-- the last two of the digits, and those before them
+pub digits_in-pair : (places n : ℕ) → 3 ≤ places → n < 2 ^ 64 →
+    digits_in places n ≡ digits_in (places - 2) (n / 100) ++ digits_in 2 (n % 100)
+digits_in-pair places n more h =
+    let two : 2 ≤ places = omega arith in
+    let still : 2 ≤ places - 1 = omega arith in
+    let under : n / 10 < 2 ^ 64 = omega arith in
+    let fewer : places - 1 - 1 ≡ places - 2 = omega arith in
+    let front : n / 10 / 10 ≡ n / 100 = omega arith in
+    let tens : n / 10 % 10 ≡ n % 100 / 10 = omega arith in
+    let ones : n % 10 ≡ n % 100 % 10 = omega arith in
+    let below : n % 100 < 100 = omega arith in
+    digits_in-step places n two h
+    ∙ ap (λ front. front ++ (48 + n % 10) ∷ []) (digits_in-step (places - 1) (n / 10) still under)
+    ∙ append_assoc (digits_in (places - 1 - 1) (n / 10 / 10)) ((48 + n / 10 % 10) ∷ []) ((48 + n % 10) ∷ [])
+    ∙ ap (λ m. digits_in m (n / 10 / 10) ++ (48 + n / 10 % 10) ∷ (48 + n % 10) ∷ []) fewer
+    ∙ ap (λ m. digits_in (places - 2) m ++ (48 + n / 10 % 10) ∷ (48 + n % 10) ∷ []) front
+    ∙ ap (λ d. digits_in (places - 2) (n / 100) ++ (48 + d) ∷ (48 + n % 10) ∷ []) tens
+    ∙ ap (λ d. digits_in (places - 2) (n / 100) ++ (48 + n % 100 / 10) ∷ (48 + d) ∷ []) ones
+    ∙ ap (λ pair. digits_in (places - 2) (n / 100) ++ pair) (sym (digits_pair (n % 100) below))
+
+-- a number of two digits has no zero at its front
+pub digits_in_two : (n : ℕ) → 10 ≤ n → n < 100 → digits_in 2 n ≡ decimal n
+digits_in_two n low high =
+    let some = decimal_nonempty (n / 10) (omega arith) in
+    let longer = length-append (decimal (n / 10)) ((48 + n % 10) ∷ []) in
+    let none : 2 - length (decimal n) ≡ 0 = let whole = ap length (decimal_step n low (omega arith)) in omega arith in
+    ap (λ m. replicate m 48 ++ decimal n) none
+
 -- there is a digit at least
 pub digits_in-some : (places n : ℕ) → n < 2 ^ 64 → 0 < length (digits_in places n)
 digits_in-some places n h =
@@ -145,3 +182,24 @@ fraction-whole places n more h e =
     ap significant_digits (digits_in-step places n more h)
     ∙ significant-other (digits_in (places - 1) (n / 10)) (48 + n % 10) other
     ∙ sym (digits_in-step places n more h)
+
+-- the numbers before the last two digits
+pub digits-under : (places n : ℕ) → 3 ≤ places → n < 10 ^ places → n / 100 < 10 ^ (places - 2)
+digits-under places n more h =
+    let fewer : places - 1 - 1 ≡ places - 2 = omega arith in
+    let front : n / 10 / 10 ≡ n / 100 = omega arith in
+    let once : n / 10 < 10 ^ (places - 1) = fraction-under places n (omega arith) h in
+    let twice : n / 10 / 10 < 10 ^ (places - 1 - 1) = fraction-under (places - 1) (n / 10) (omega arith) once in
+    subst (λ m. m < 10 ^ (places - 2)) front (subst (λ p. n / 10 / 10 < 10 ^ p) fewer twice)
+
+-- a number in one place
+pub digits-alone : (places n : ℕ) → places ≡ 1 → n < 10 ^ places → digits_in places n ≡ (48 + n % 10) ∷ []
+digits-alone places n e h =
+    ap (λ m. digits_in m n) e ∙ filled-digit 48 1 n (subst (λ m. n < 10 ^ m) e h)
+
+-- a number in two places
+pub digits-two : (places n : ℕ) → places ≡ 2 → n < 10 ^ places → digits_in places n ≡ digits_in 2 (n % 100)
+digits-two places n e h =
+    let below : n < 100 = subst (λ m. n < 10 ^ m) e h in
+    let same : n ≡ n % 100 = omega arith in
+    ap (λ m. digits_in m n) e ∙ ap (digits_in 2) same

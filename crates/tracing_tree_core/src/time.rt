@@ -5,6 +5,7 @@ pub mod clock;
 mod elapsed;
 pub mod local;
 mod pieces;
+mod short;
 pub mod uptime;
 pub mod utc;
 

@@ -3,9 +3,9 @@
 ghost use Rattle.std.specs.Prelude.{◌≡◌};
 ghost use Rattle.tracing_tree_core.specs.Clock.{local_clock_timer, local_in_zone, local_timer};
 
-use super::civil::{date_pieces, offset_pieces, time_pieces};
+use super::civil::{push_date, push_offset, push_time};
 use super::elapsed::style_timestamp;
-use super::pieces::append;
+use super::short::ShortText;
 use super::{FormatTime, Moment, TimeFault};
 use jiff::tz::{Offset, TimeZone};
 
@@ -51,14 +51,11 @@ impl FormatTime for LocalDateTime<'_> {
     fn format_time(&self, moment: &Moment, out: &mut String) -> Result<(), TimeFault> {
         let offset = self.zone.to_offset(moment.wall);
         let shown = offset.to_datetime(moment.wall);
-        append(
-            out,
-            &[
-                &date_pieces(shown.date()),
-                &time_pieces(shown.time()),
-                &offset_pieces(offset),
-            ],
-        )
+        let mut text = ShortText::new();
+        push_date(&mut text, shown.date());
+        push_time(&mut text, shown.time());
+        push_offset(&mut text, offset);
+        text.append_to(out)
     }
 
     fn style_timestamp(

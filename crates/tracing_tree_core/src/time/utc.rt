@@ -1,8 +1,8 @@
 //! Date and time at offset zero.
 
-use super::civil::{date_pieces, time_pieces};
+use super::civil::{push_date, push_time};
 use super::elapsed::style_timestamp;
-use super::pieces::append;
+use super::short::ShortText;
 use super::{FormatTime, Moment, TimeFault};
 use jiff::tz::Offset;
 
@@ -33,10 +33,10 @@ impl FormatTime for UtcDateTime {
 
     fn format_time(&self, moment: &Moment, out: &mut String) -> Result<(), TimeFault> {
         let shown = Offset::UTC.to_datetime(moment.wall);
-        append(
-            out,
-            &[&date_pieces(shown.date()), &time_pieces(shown.time())],
-        )
+        let mut text = ShortText::new();
+        push_date(&mut text, shown.date());
+        push_time(&mut text, shown.time());
+        text.append_to(out)
     }
 
     fn style_timestamp(

@@ -1,5 +1,5 @@
-use Rattle.std.proofs.Common.{◌∙◌, ap, subst, Some, string_bytes}
-use Rattle.tracing_tree_core.specs.Clock.{local_text}
+use Rattle.std.proofs.Common.{◌++◌, ◌∙◌, ap, subst, Some, List, ℕ, string_bytes}
+use Rattle.tracing_tree_core.specs.Clock.{date_text, local_text}
 use Rattle.tracing_tree_core.specs.Outputs.{AppendsStated}
 use Rattle.tracing_tree_core.proofs.DateTexts.{date_time_offset}
 use Rattle.tracing_tree_core.proofs.time.local.LocalDateTimeFormatTime.format_time.Goals as goal
@@ -7,9 +7,12 @@ use Rattle.tracing_tree_core.proofs.time.local.LocalDateTimeFormatTime.format_ti
 pub returns : goal.returns
 returns c =
     let instant = c.args.moment.now.wall.nanosecond in
-    let text = date_time_offset c.to_datetime-shown.result c.date.result c.time.result
-    c.date_pieces.result c.time_pieces.result c.offset_pieces.result instant c.to_offset-offset.result.seconds
-    c.date.ensures c.time.ensures c.date_pieces.ensures c.time_pieces.ensures c.offset_pieces.ensures
+    let date = c.date.result in
+    let dates = c.push_date.ensures.text
+    ∙ ap (λ (empty : List ℕ). empty ++ date_text date.year date.month date.day) c.new-text.ensures in
+    let text = date_time_offset c.to_datetime-shown.result date c.time.result
+    c.push_date.new.text c.push_time.new.text c.push_offset.new.text instant c.to_offset-offset.result.seconds
+    c.date.ensures c.time.ensures dates c.push_time.ensures.text c.push_offset.ensures
     c.to_datetime-shown.ensures in
-    subst (λ stated. AppendsStated (Some stated) (string_bytes c.args.out.now) (string_bytes c.append.new.out) c.append.result)
-    (text ∙ ap (local_text instant) c.to_offset-offset.ensures) c.append.ensures
+    subst (λ stated. AppendsStated (Some stated) (string_bytes c.args.out.now) (string_bytes c.append_to.new.out) c.append_to.result)
+    (text ∙ ap (local_text instant) c.to_offset-offset.ensures) c.append_to.ensures

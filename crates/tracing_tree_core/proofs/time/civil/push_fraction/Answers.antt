@@ -1,7 +1,7 @@
-use Rattle.std.proofs.Common.{arith, rules, ◌∙◌, sym, ◌≡◌, ◌%◌, ◌==◌, false}
+use Rattle.std.proofs.Common.{arith, rules, ◌∙◌, sym, ◌≡◌, ◌%◌, ◌==◌, false, ◌++◌, ap, List, ℕ}
 use Rattle.tracing_tree_core.proofs.Numbers.{fraction-step, fraction-under, fraction-one, fraction-whole}
-use Rattle.tracing_tree_core.proofs.time.civil.fraction_piece.Goals as goal
-use Rattle.tracing_tree_core.proofs.time.civil.fraction_piece.Goals.{then-loop-places-test+else-number-eq0, else-loop-places-test}
+use Rattle.tracing_tree_core.proofs.time.civil.push_fraction.Goals as goal
+use Rattle.tracing_tree_core.proofs.time.civil.push_fraction.Goals.{then-loop-places-test+else-number-eq0, else-loop-places-test}
 
 pub loop-places-preserved : goal.loop-places-preserved
 loop-places-preserved c =
@@ -14,16 +14,20 @@ loop-places-preserved c =
       fraction-under now.places now.number (omega arith) i.3,
     )
 
-pub returns : goal.returns
-returns c =
+pub returns-clause-text : goal.returns-clause-text
+returns-clause-text c =
     let now = c.loop-places in
     let i = now.invariant in
+    let before = λ (text : List ℕ). c.args.text.now ++ text in
     elim c.loop-places-test.branch [
       | then-loop-places-test+else-number-eq0 w ↦
           let other : (now.number % 10 == 0) ≡ false = grind (arith, rules, w.if-number-eq0.false) in
           let more = w.loop-places-test.true in
-          c.digits.ensures ∙ sym (fraction-whole now.places now.number (omega arith) now.auto.number-fits.fits other) ∙ i.0
+          c.push_digits.ensures.text
+          ∙ ap before
+          (sym (fraction-whole now.places now.number (omega arith) now.auto.number-fits.fits other) ∙ i.0)
       | else-loop-places-test w ↦
           let few = w.loop-places-test.false in
-          c.digits.ensures ∙ sym (fraction-one now.places now.number (omega arith) i.3) ∙ i.0
+          c.push_digits.ensures.text
+          ∙ ap before (sym (fraction-one now.places now.number (omega arith) i.3) ∙ i.0)
     ]
