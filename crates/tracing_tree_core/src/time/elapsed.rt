@@ -1,11 +1,9 @@
 //! Elapsed times.
 
-ghost use Rattle.std.specs.Prelude.{◌≡◌, ◌≤◌, ◌∷◌, [], Some, codes, decimal, string_bytes, if◌then◌else◌};
-ghost use Rattle.tracing_tree_core.specs.Clock.{elapsed_text, hundredths_text, nearest_count};
+ghost use Rattle.std.specs.Prelude.{◌≡◌, ◌≤◌, Some, string_bytes};
+ghost use Rattle.tracing_tree_core.specs.Clock.{dimmed_pair, elapsed_text, hundredths_text, nearest_count};
 ghost use Rattle.tracing_tree_core.specs.Outputs.{AppendsStated};
-ghost use Rattle.tracing_tree_core.specs.Pieces.{piece_text, pieces_text, ShowsWhole, ShowsHundredths};
-ghost use Rattle.tracing_tree_core.specs.Texts.{styled, right_in};
-ghost use Rattle.tracing_tree_core.specs.declared.style.Style.TheVariants.{Dimmed};
+ghost use Rattle.tracing_tree_core.specs.Pieces.{pieces_text, ShowsWhole, ShowsHundredths};
 
 use super::TimeFault;
 use super::pieces::{Piece, append};
@@ -23,14 +21,31 @@ pub(super) fn style_timestamp(
 {
     if higher_precision {
         let (hundredths, unit) = hundredths_in_unit(elapsed_ns);
-        append(
-            out,
-            &[&decimal_pieces(ansi, hundredths), &unit_pieces(ansi, unit)],
-        )
+        append_dimmed(out, ansi, &decimal_pieces(hundredths), unit)
     } else {
         let (whole, unit) = whole_in_unit(elapsed_ns);
-        append(out, &[&whole_pieces(ansi, whole), &unit_pieces(ansi, unit)])
+        append_dimmed(out, ansi, &[Piece::right(3, whole)], unit)
     }
+}
+
+// Appends a number and a unit, each dimmed by itself with ansi. On `Memory` the text is as it was.
+fn append_dimmed(
+    out: &mut String,
+    ansi: bool,
+    number: &[Piece],
+    unit: &'static str,
+) -> Result<(), TimeFault>
+    ensures { AppendsStated (Some (dimmed_pair ansi (pieces_text number.now) unit.now))
+        (string_bytes out.old) (string_bytes out.new) result }
+{
+    let unit = Piece::Text(unit);
+    if !ansi {
+        return append(out, &[number, &[unit]]);
+    }
+    let start = Piece::Text("\x1b[2m");
+    let between = Piece::Text("\x1b[0m\x1b[2m");
+    let end = Piece::Text("\x1b[0m");
+    append(out, &[&[start], number, &[between, unit, end]])
 }
 
 // Whole milliseconds below a second, whole seconds below a minute, else whole minutes, with their unit.
@@ -76,44 +91,14 @@ fn nearest_count(unit: u64, elapsed_ns: u64) -> u64
     }
 }
 
-// A whole number, dimmed.
-fn whole_pieces(ansi: bool, whole: u64) -> [Piece; 3]
-    ensures { pieces_text result ≡ styled ansi Dimmed (right_in 3 (decimal whole)) }
-{
-    [dim_start(ansi), Piece::right(3, whole), dim_end(ansi)]
-}
-
-// A number with two decimals after a space, dimmed.
-fn decimal_pieces(ansi: bool, hundredths: u64) -> [Piece; 6]
-    ensures { pieces_text result ≡ styled ansi Dimmed (hundredths_text hundredths) }
+// A number with two decimals after a space.
+fn decimal_pieces(hundredths: u64) -> [Piece; 4]
+    ensures { pieces_text result ≡ hundredths_text hundredths }
 {
     [
-        dim_start(ansi),
         Piece::Text(" "),
         Piece::number(hundredths / 100),
         Piece::Text("."),
         Piece::digits(2, hundredths % 100),
-        dim_end(ansi),
     ]
-}
-
-// A unit, dimmed.
-fn unit_pieces(ansi: bool, unit: &'static str) -> [Piece; 3]
-    ensures { pieces_text result ≡ styled ansi Dimmed unit.now }
-{
-    [dim_start(ansi), Piece::Text(unit), dim_end(ansi)]
-}
-
-// What starts a dimmed text, with ansi.
-fn dim_start(ansi: bool) -> Piece
-    ensures { piece_text result ≡ (if ansi then 27 ∷ codes "[2m" else []) }
-{
-    Piece::Text(if ansi { "\x1b[2m" } else { "" })
-}
-
-// What ends a dimmed text, with ansi.
-fn dim_end(ansi: bool) -> Piece
-    ensures { piece_text result ≡ (if ansi then 27 ∷ codes "[0m" else []) }
-{
-    Piece::Text(if ansi { "\x1b[0m" } else { "" })
 }
