@@ -1,6 +1,6 @@
 //! Styles and levels.
 
-ghost use Rattle.std.specs.Prelude.{◌≡◌, ◌≤◌, ◌++◌, IfOk, OnOk, OnErr, length, string_bytes};
+ghost use Rattle.std.specs.Prelude.{◌≡◌, ◌≤◌, ◌++◌, ◌∷◌, [], IfOk, OnOk, OnErr, length, string_bytes};
 ghost use Rattle.tracing_tree_core.specs.Texts.{style_code, styled, level_text, color_level_text, shown_level};
 
 use std::alloc::{AllocError, Global};
@@ -21,19 +21,19 @@ pub enum Style {
 }
 
 impl Style {
-    // What stands for the style in an escape sequence.
-    fn code(self) -> &'static str
-        ensures code { result.now ≡ style_code self }
-        ensures short { length result.now ≤ 20 }
+    // The escape sequence that starts the style.
+    fn start(self) -> &'static str
+        ensures text { result.now ≡ 27 ∷ 91 ∷ style_code self ++ 109 ∷ [] }
+        ensures short { length result.now ≤ 23 }
     {
         match self {
-            Style::Plain => "0",
-            Style::Dimmed => "2",
-            Style::BoldGreen => "1;32",
-            Style::BoldPurple => "1;35",
-            Style::BoldBlue => "1;34",
-            Style::BoldWarn => "1;38;2;252;234;160",
-            Style::BoldRed => "1;31",
+            Style::Plain => "\x1b[0m",
+            Style::Dimmed => "\x1b[2m",
+            Style::BoldGreen => "\x1b[1;32m",
+            Style::BoldPurple => "\x1b[1;35m",
+            Style::BoldBlue => "\x1b[1;34m",
+            Style::BoldWarn => "\x1b[1;38;2;252;234;160m",
+            Style::BoldRed => "\x1b[1;31m",
         }
     }
 }
@@ -57,11 +57,9 @@ pub fn push_styled(out: &mut String, ansi: bool, style: Style, text: &str) -> Re
     if !ansi || style == Style::Plain {
         return out.push_str(text);
     }
-    let code = style.code();
-    out.reserve(text.len() + code.len() + 7)?;
-    out.push_str("\x1b[")?;
-    out.push_str(code)?;
-    out.push_str("m")?;
+    let start = style.start();
+    out.reserve(start.len() + text.len() + 4)?;
+    out.push_str(start)?;
     out.push_str(text)?;
     out.push_str("\x1b[0m")
 }

@@ -6,7 +6,7 @@ ghost use Rattle.tracing_tree_core.specs.Picture.{drawn_row, is_too_wide, unname
 ghost use Rattle.tracing_tree.specs.Drawn.{AddsRow};
 
 use std::alloc::Global;
-use tracing_tree_core::format::{Buffers, Config, Context, Refusal, SpanMode};
+use tracing_tree_core::format::{Buffers, Config, Context, Refusal, SpanMode, push_row};
 
 // The buffers of the row at hand, and the rows that are drawn already. Between calls all are empty.
 #[derive(Drop)]
@@ -35,14 +35,13 @@ impl Page {
         mode: SpanMode,
         context: &Context,
     ) -> Result<(), Refusal>
-        requires { self.old.bufs.indent_buf ≡ [] }
         ensures { let prefix = prefix_text config.now context.now in
             let row = unnamed_row mode level self.old.bufs.current_buf prefix in
             AddsRow (is_too_wide config.now row) (drawn_row config.now row) result self.old
             self.new }
     {
-        self.bufs.indent_current(level, config, mode, context)?;
-        self.text.push_str(self.bufs.current_buf.as_str())?;
+        let block = self.bufs.current_buf.as_str();
+        push_row(&mut self.text, block, level, config, mode, context)?;
         self.bufs.current_buf.clear();
         Ok(())
     }

@@ -6,7 +6,7 @@ ghost use Rattle.tracing_tree_core.specs.Picture.{drawn_row, is_too_wide, unname
 ghost use Rattle.tracing_tree_core.specs.Outputs.{WritesWhole};
 ghost use Rattle.tracing_tree_core.specs.Buffered.{IndentsRow, emptied_when_ok};
 
-use super::draw::Drawing;
+use super::draw::push_row;
 use super::output::write_whole;
 use super::{Config, Context, Id, Output, OutputFault, Refusal, SpanMode};
 use std::alloc::{AllocError, Global};
@@ -98,17 +98,11 @@ impl Buffers {
             IndentsRow (is_too_wide config.now row) (drawn_row config.now row) result self.old
             self.new }
     {
-        config.check_width(mode, indent)?;
-        let drawing = Drawing {
-            config,
-            context,
-            mode,
-            level: indent,
-        };
-        let drawn = drawing.row(&mut self.indent_buf, self.current_buf.as_str());
-        if drawn.is_err() {
+        let block = self.current_buf.as_str();
+        let drawn = push_row(&mut self.indent_buf, block, indent, config, mode, context);
+        if let Err(refusal) = drawn {
             self.indent_buf.clear();
-            return Err(Refusal::Memory);
+            return Err(refusal);
         }
         self.current_buf.clear();
         mem::swap(&mut self.current_buf, &mut self.indent_buf);

@@ -1,7 +1,7 @@
 //! Settings.
 
-ghost use Rattle.std.specs.Prelude.{◌≡◌, ◌++◌, ◌<◌, [], Ok, Err, IfOk, OnOk, string_bytes, if◌then◌else◌};
-ghost use Rattle.tracing_tree_core.specs.Picture.{is_too_wide, unnamed_row};
+ghost use Rattle.std.specs.Prelude.{◌≡◌, ◌+◌, ◌^◌, ◌++◌, ◌<◌, [], Ok, Err, IfOk, OnOk, string_bytes, if◌then◌else◌};
+ghost use Rattle.tracing_tree_core.specs.Picture.{is_too_wide, unnamed_row, wrapped_level};
 ghost use Rattle.tracing_tree_core.specs.Settings.{default_settings};
 ghost use Rattle.tracing_tree_core.specs.Texts.{prefix_text};
 
@@ -328,7 +328,7 @@ impl Config {
         ensures { let row = unnamed_row mode level [] [] in
             result ≡ (if is_too_wide self.now row then Err Refusal.TooWide else Ok tt) }
     {
-        let wrapped = level % self.wraparound;
+        let wrapped = self.wrapped_level(level);
         let used = match mode {
             SpanMode::PreOpen | SpanMode::PostClose if self.indent_lines => wrapped + 1,
             _ => wrapped,
@@ -336,6 +336,18 @@ impl Config {
         match used.checked_mul(self.indent_amount) {
             Some(_) => Ok(()),
             None => Err(Refusal::TooWide),
+        }
+    }
+
+    // The level that counts for the indent. Few levels wrap round, and the others need no division.
+    pub(crate) fn wrapped_level(&self, level: usize) -> usize
+        ensures value { result ≡ wrapped_level self.now level }
+        ensures below { result + 1 < 2 ^ 64 }
+    {
+        if level < self.wraparound {
+            level
+        } else {
+            level % self.wraparound
         }
     }
 

@@ -1,22 +1,22 @@
 //! The drawing of rows: what docs/FORMATS.md, "Drawing", says of frames, lines and wrap marks.
 
 ghost use Rattle.std.specs.List.{repeat};
-ghost use Rattle.std.specs.Prelude.{◌≡◌, ◌+◌, ◌*◌, ◌^◌, ◌<◌, ◌++◌, ◌∷◌, [], false, OnOk, string_bytes, if◌then◌else◌};
+ghost use Rattle.std.specs.Prelude.{◌≡◌, ◌+◌, ◌*◌, ◌^◌, ◌<◌, ◌++◌, ◌∷◌, [], true, false, Err, OnOk, IfErr, string_bytes, if◌then◌else◌};
 ghost use Rattle.std.specs.Str.Lines.{strip_carriage_return};
 ghost use Rattle.tracing_tree_core.specs.Drawings.{HasRoom, corner_pieces, frame_pieces, pushed_text, row_of, span_pieces};
-ghost use Rattle.tracing_tree_core.specs.Picture.{drawn_row, edge_frame, first_frame, frame_text, is_last_before_wrap, is_too_wide, later_frame, lined_frame, mark_after_corner, mark_before_corner, mark_line, picture, row_frame, shift_of, wrapped_level};
+ghost use Rattle.tracing_tree_core.specs.Picture.{drawn_row, edge_frame, first_frame, frame_text, is_last_before_wrap, is_too_wide, later_frame, lined_frame, mark_after_corner, mark_before_corner, mark_line, picture, row_frame, shift_of, unnamed_row, wrapped_level};
 ghost use Rattle.tracing_tree_core.specs.Texts.{prefix_text};
 
-use super::{Config, Context, SpanMode};
+use super::{Config, Context, Refusal, SpanMode};
 use std::alloc::AllocError;
 
 // A row that is being drawn: everything but its block.
 #[derive(Clone, Copy)]
-pub(super) struct Drawing<'a> {
-    pub(super) config: &'a Config,
-    pub(super) context: &'a Context,
-    pub(super) mode: SpanMode,
-    pub(super) level: usize,
+struct Drawing<'a> {
+    config: &'a Config,
+    context: &'a Context,
+    mode: SpanMode,
+    level: usize,
 }
 
 // What stands between the prefix and the text of a line: spaces, a branch, so many of a filler, and a corner.
@@ -226,14 +226,50 @@ fn without_return(line: &str) -> &str
     line.strip_suffix('\r').unwrap_or(line)
 }
 
+/// Appends the picture of a row with this block at this level (a number of spans, whatever the settings' wraparound). `TooWide`
+/// changes nothing; after `Memory` a beginning of the picture may stand in `out`.
+pub fn push_row(
+    out: &mut String,
+    block: &str,
+    level: usize,
+    config: &Config,
+    mode: SpanMode,
+    context: &Context,
+) -> Result<(), Refusal>
+    ensures ok { let prefix = prefix_text config.now context.now in
+        let row = unnamed_row mode level block.now prefix in
+        OnOk result (string_bytes out.new ≡ string_bytes out.old ++ drawn_row config.now row) }
+    ensures fits { let row = unnamed_row mode level [] [] in
+        OnOk result (is_too_wide config.now row ≡ false) }
+    ensures refusal { let row = unnamed_row mode level [] [] in
+        IfErr result (λ refusal.
+        refusal ≡ (if is_too_wide config.now row then Refusal.TooWide else Refusal.Memory)) }
+    ensures wide { result ≡ Err Refusal.TooWide → string_bytes out.new ≡ string_bytes out.old }
+{
+    config.check_width(mode, level)?;
+    let drawing = Drawing {
+        config,
+        context,
+        mode,
+        level,
+    };
+    match drawing.row(out, block) {
+        Ok(()) => Ok(()),
+        Err(_) => Err(Refusal::Memory),
+    }
+}
+
 impl Drawing<'_> {
     // Appends the lines of a block, and before or after them the row's wrap mark.
-    pub(super) fn row(&self, out: &mut String, block: &str) -> Result<(), AllocError>
+    fn row(&self, out: &mut String, block: &str) -> Result<(), AllocError>
         requires { is_too_wide self.now.config.now (row_of self.now block.now) ≡ false }
         ensures { OnOk result
             (string_bytes out.new ≡ string_bytes out.old
             ++ drawn_row self.now.config.now (row_of self.now block.now)) }
     {
+        if !self.is_last_before_wrap() {
+            return self.lines(out, block);
+        }
         self.mark(out, corner_before(self.mode))?;
         self.lines(out, block)?;
         self.mark(out, corner_after(self.mode))
@@ -279,7 +315,7 @@ impl Drawing<'_> {
         ensures value { result ≡ wrapped_level self.now.config.now self.now.level }
         ensures below { result + 1 < 2 ^ 64 }
     {
-        self.level % self.config.wraparound()
+        self.config.wrapped_level(self.level)
     }
 
     // The frame of the first line, or that of each later one.
@@ -302,13 +338,14 @@ impl Drawing<'_> {
     fn is_last_before_wrap(&self) -> bool
         ensures { result ≡ is_last_before_wrap self.now.config.now self.now.level }
     {
-        let wraparound = self.config.wraparound();
-        self.config.indent_lines() && self.level > 0 && self.level % wraparound == wraparound - 1
+        let last = self.config.wraparound() - 1;
+        self.config.indent_lines() && self.level > 0 && self.wrapped_level() == last
     }
 
     // Where the levels wrap round behind this one, a line up to the indent and the corner, if the row has one.
     fn mark(&self, out: &mut String, corner: Option<char>) -> Result<(), AllocError>
-        requires { HasRoom self.now }
+        requires room { HasRoom self.now }
+        requires last { is_last_before_wrap self.now.config.now self.now.level ≡ true }
         ensures { OnOk result
             (string_bytes out.new ≡ string_bytes out.old
             ++ mark_line self.now.config.now (row_of self.now []) corner) }
@@ -316,9 +353,6 @@ impl Drawing<'_> {
         let Some(corner) = corner else {
             return Ok(());
         };
-        if !self.is_last_before_wrap() {
-            return Ok(());
-        }
         let indent = self.wrapped_level() * self.config.indent_amount();
         self.config.push_prefix(out, self.context)?;
         push_repeated(out, "─", indent)?;

@@ -1,8 +1,8 @@
-use Rattle.std.proofs.Common.{◌≡◌, ◌∙◌, ◌*◌, ◌++◌, ◌∷◌, [], true, refl, sym, string_bytes}
+use Rattle.std.proofs.Common.{◌≡◌, ◌*◌, ◌++◌, ◌∷◌, [], refl, string_bytes}
 use Rattle.std.specs.Char.{encode_utf8}
 use Rattle.std.specs.List.{repeat}
 use Rattle.tracing_tree_core.specs.Drawings.{row_of}
-use Rattle.tracing_tree_core.specs.Picture.{horizontal, is_last_before_wrap, wrapped_level}
+use Rattle.tracing_tree_core.specs.Picture.{horizontal, wrapped_level}
 use Rattle.tracing_tree_core.specs.Texts.{prefix_text}
 use Rattle.tracing_tree_core.proofs.MarkLaws.{mark-text, pushed, pushes-joined}
 use Rattle.tracing_tree_core.proofs.format.draw.Drawing.mark.Goals as goal
@@ -16,10 +16,9 @@ returns c =
     let row = row_of self [] in
     let columns = c.wrapped_level.result * c.indent_amount.result in
     let corner = c.in-Some.corner in
-    let last : is_last_before_wrap settings self.level ≡ true = sym c.is_last_before_wrap.ensures ∙ c.if-not-is_last_before_wrap.false in
     let indent : columns ≡ wrapped_level settings self.level * settings.indent_amount =
     rw (c.wrapped_level.ensures.value, c.indent_amount.ensures) refl in
-    let text = mark-text settings row corner columns last indent in
+    let text = mark-text settings row corner columns c.requires.last indent in
     rw (c.in-Some.is, text) (pushed c.push_str.result (string_bytes c.push_str.new.self) (string_bytes c.push.new.self) (10 ∷ [])
     (string_bytes c.args.out.now ++ (prefix ++ (repeat columns (encode_utf8 horizontal) ++ encode_utf8 corner) ++ 10 ∷ []))
     c.push_str.ensures.bytes
