@@ -1,10 +1,10 @@
 //! The drawing of rows: what docs/FORMATS.md, "Drawing", says of frames, lines and wrap marks.
 
 ghost use Rattle.std.specs.List.{repeat};
-ghost use Rattle.std.specs.Prelude.{◌≡◌, ◌+◌, ◌*◌, ◌^◌, ◌<◌, ◌++◌, ◌∷◌, [], true, false, Err, OnOk, IfErr, string_bytes, if◌then◌else◌};
+ghost use Rattle.std.specs.Prelude.{◌≡◌, ◌+◌, ◌*◌, ◌^◌, ◌<◌, ◌++◌, ◌∷◌, [], true, false, Err, OnOk, IfErr, string_bytes, encode_utf8, if◌then◌else◌};
 ghost use Rattle.std.specs.Str.Lines.{strip_carriage_return};
 ghost use Rattle.tracing_tree_core.specs.Drawings.{HasRoom, corner_pieces, frame_pieces, pushed_text, row_of, span_pieces};
-ghost use Rattle.tracing_tree_core.specs.Picture.{drawn_row, edge_frame, first_frame, frame_text, is_last_before_wrap, is_too_wide, later_frame, lined_frame, mark_after_corner, mark_before_corner, mark_line, picture, row_frame, shift_of, unnamed_row, wrapped_level};
+ghost use Rattle.tracing_tree_core.specs.Picture.{drawn_row, edge_frame, first_frame, frame_text, horizontal, is_last_before_wrap, is_too_wide, later_frame, lined_frame, mark_after_corner, mark_before_corner, mark_line, picture, row_frame, shift_of, unnamed_row, wrapped_level};
 ghost use Rattle.tracing_tree_core.specs.Texts.{prefix_text};
 
 use super::{Config, Context, Refusal, SpanMode};
@@ -43,11 +43,21 @@ impl Frame {
         }
     }
 
-    // Two corners in these columns, with a line between them.
-    fn corners(left: &'static str, right: &'static str, from: usize, to: usize) -> Frame
-        requires { from < to }
+    // Two corners in these columns, with a line between them. `near` are both with one column of it, as they mostly stand.
+    fn corners(
+        left: &'static str,
+        right: &'static str,
+        near: &'static str,
+        from: usize,
+        to: usize,
+    ) -> Frame
+        requires order { from < to }
+        requires near { near.now ≡ left.now ++ encode_utf8 horizontal ++ right.now }
         ensures { pushed_text result ≡ corner_pieces left.now right.now from to }
     {
+        if to - from == 2 {
+            return Frame::plain(from, near);
+        }
         Frame {
             spaces: from,
             branch: left,
@@ -62,21 +72,23 @@ impl Frame {
     fn span(
         left: &'static str,
         right: &'static str,
+        near: &'static str,
         verbose: bool,
         amount: usize,
         before: usize,
     ) -> Frame
+        requires near { near.now ≡ left.now ++ encode_utf8 horizontal ++ right.now }
         requires amount { 0 < amount }
         requires fits { before + amount < 2 ^ 64 }
         ensures { pushed_text result ≡ span_pieces left.now right.now verbose amount before }
     {
         if !verbose {
-            return Frame::corners(left, right, before, before + amount);
+            return Frame::corners(left, right, near, before, before + amount);
         }
         if amount < 2 {
             return Frame::plain(before, "  ");
         }
-        Frame::corners(left, right, before + amount / 2, before + amount)
+        Frame::corners(left, right, near, before + amount / 2, before + amount)
     }
 
     // Appends the pieces in order.
@@ -86,7 +98,12 @@ impl Frame {
     {
         push_repeated(out, " ", self.spaces)?;
         out.push_str(self.branch)?;
-        push_repeated(out, self.filler, self.filled)?;
+        if self.filled > 0 {
+            push_repeated(out, self.filler, self.filled)?;
+        }
+        if self.corner.is_empty() {
+            return Ok(());
+        }
         out.push_str(self.corner)
     }
 }
@@ -110,12 +127,13 @@ fn first_frame(mode: SpanMode, amount: usize, before: usize) -> Frame
 {
     let parent = before + (amount / 2).max(1);
     match mode {
-        SpanMode::PreOpen => Frame::corners("└", "┐", before, parent),
-        SpanMode::PostClose => Frame::corners("┌", "┘", before, parent),
+        SpanMode::PreOpen => Frame::corners("└", "┐", "└─┐", before, parent),
+        SpanMode::PostClose => Frame::corners("┌", "┘", "┌─┘", before, parent),
         SpanMode::Open { verbose } | SpanMode::Retrace { verbose } => {
-            Frame::span("└", "┐", verbose, amount, before)
+            Frame::span("└", "┐", "└─┐", verbose, amount, before)
         }
-        SpanMode::Close { verbose } => Frame::span("┌", "┘", verbose, amount, before),
+        SpanMode::Close { verbose } => Frame::span("┌", "┘", "┌─┘", verbose, amount, before),
+        SpanMode::Event if amount == 2 => Frame::plain(before, "├─"),
         SpanMode::Event => Frame {
             spaces: before,
             branch: "├",
