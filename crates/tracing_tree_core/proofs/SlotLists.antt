@@ -1,5 +1,5 @@
 -- Lists of spans with gaps, in the order of their ids: where a span lies, and what an edit at its place does.
-use Rattle.std.proofs.Common.{◌≡◌, ℕ, zero, suc, ◌+◌, ◌-◌, ◌<◌, ◌≤◌, nat_lt, Bool, true, false, not, List, [], ◌∷◌, ◌++◌, length, get_or, set, find, filter, slice_get, length-append, Option, Some, None, IfSome, MatchOption, Result, Ok, Err, if◌then◌else◌, arith, refl, sym, ap, ◌∙◌, subst}
+use Rattle.std.proofs.Common.{◌≡◌, ℕ, zero, suc, ◌+◌, ◌-◌, ◌<◌, ◌≤◌, nat_lt, Bool, true, false, not, List, [], ◌∷◌, ◌++◌, length, get_or, set, find, filter, slice_get, length-append, Option, Some, None, MatchOption, Result, Ok, Err, if◌then◌else◌, arith, refl, sym, ap, ◌∙◌, subst}
 use Rattle.std.specs.List.{list_all}
 use Rattle.std.specs.Option.{option_map_or, option_and_then, option_to_list}
 use Rattle.std.specs.Result.{OnOk, OnErr}
@@ -298,10 +298,6 @@ pub kept-nowhere : (slice slots : List Slot) (now : List KeptSpan) (i : Id) (liv
 kept-nowhere slice slots now i live laid view same none =
     ap (λ nodes. kept_at nodes i) (sym view) ∙ present-find i slots laid.rising
     ∙ ap (λ o. option_and_then slot_node o) (ap (λ xs. find (slot_has i) xs) (sym same) ∙ none)
-
--- what is asked of the live span holds of the span there
-pub asked : (P : KeptSpan → Type 0) (now : List KeptSpan) (i : Id) (node : KeptSpan) → IfSome (kept_at now i) P → kept_at now i ≡ Some node → P node
-asked P now i node h e = let there : IfSome (Some node) P = subst (λ o. IfSome o P) e h in there
 
 -- the list stays laid out where a live span is written over by itself, changed
 pub laid-write : (slots : List Slot) (i : Id) (at live : ℕ) (node new : KeptSpan) → IsLaidOut slots live → IsAt slots i at (Live node) →

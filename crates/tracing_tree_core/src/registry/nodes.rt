@@ -186,9 +186,8 @@ fn is_at(slots: &[Slot], place: usize, id: Id) -> bool
     }
 }
 
-// The same by a search. It begins where the span lies if gaps were closed evenly, goes on by steps that double until it has passed
-// the id, and from then on by halves. So it takes no more looks than a constant times the logarithm of the length, and few where
-// the first is near.
+// The same by a search. Where gaps were closed evenly, it is near after three looks. It never takes more than a constant times the
+// logarithm of the length.
 fn search(slots: &[Slot], id: Id) -> Option<usize>
     requires { AreRising (slot_ids slots.now) }
     ensures { MatchOption result (find (slot_has id) slots.now ≡ None) (λ at.
@@ -196,35 +195,44 @@ fn search(slots: &[Slot], id: Id) -> Option<usize>
 {
     let mut from = 0;
     let mut to = slots.len();
-    let mut place = even_place(slots, id);
-    let mut step = 16;
+    let mut place = 0usize;
+    let mut looks = 0;
     while from < to {
         let at = place.clamp(from, to - 1);
-        let here = slots[at].id();
-        if here.0 == id.0 {
+        let here = slots[at].id().0;
+        if here == id.0 {
             return Some(at);
         }
-        if here.0 < id.0 {
+        if here < id.0 {
             from = at + 1;
-            place = from.saturating_add(step.min((to - from) / 2));
+            place = at.saturating_add(stride(slots, looks, id.0 - here, to - from));
         } else {
             to = at;
-            place = to.saturating_sub(step.min((to - from) / 2));
+            place = at.saturating_sub(stride(slots, looks, here - id.0, to - from));
         }
-        step = step.saturating_mul(2);
+        looks = looks.saturating_add(1);
     }
     None
 }
 
-// Where the span of this id lies if gaps were closed evenly between the oldest and the newest.
-fn even_place(slots: &[Slot], id: Id) -> usize {
+// How many places to go on after a look, where so many ids are missing and so many places are left. At first as many as it would be if
+// gaps were closed evenly; then twice as many each time, until that leads past the id; and then half of what is left.
+fn stride(slots: &[Slot], looks: u32, ids: u64, left: usize) -> usize {
+    if looks < 3 {
+        places_apart(slots, ids)
+    } else {
+        1usize.checked_shl(looks - 2).unwrap_or(left).min(left / 2)
+    }
+}
+
+// How many places ids so far apart are apart, if gaps were closed evenly. The product can wrap for ids that are very far apart, and
+// the search then begins anywhere.
+fn places_apart(slots: &[Slot], ids: u64) -> usize {
     match (slots.first(), slots.last()) {
         (Some(oldest), Some(newest)) => {
-            let first = oldest.id().0;
-            let ids = newest.id().0.wrapping_sub(first);
-            let places = slots.len().wrapping_sub(1) as u64;
-            let scaled = id.0.wrapping_sub(first).wrapping_mul(places);
-            scaled.checked_div(ids).unwrap_or(0) as usize
+            let all = newest.id().0.wrapping_sub(oldest.id().0);
+            let scaled = ids.wrapping_mul(slots.len() as u64);
+            scaled.checked_div(all).unwrap_or(0) as usize
         }
         _ => 0,
     }
