@@ -16,7 +16,7 @@ use std::marker::Model;
 use std::mem;
 
 // The live spans. A span that goes leaves a gap, so that nothing moves. Gaps at the end go at once, and all gaps once they are
-// more than half of the list.
+// more than half of the list. The records lie in the list: behind pointers each would be one more block of memory to free.
 #[derive(Drop)]
 pub(crate) struct Nodes {
     slots: Vec<Slot>,
@@ -151,8 +151,8 @@ impl Nodes {
     }
 }
 
-// Where the span of this id lies or lay. Where no gap between it and the newest was closed, it's one look, which matters where
-// spans are many and far apart in memory.
+// Where the span of this id lies or lay. Where no gap between it and the newest was closed, it's one look. Each look at another
+// place is a wait for memory where spans are many.
 fn position(slots: &[Slot], id: Id) -> Option<usize>
     requires { AreRising (slot_ids slots.now) }
     ensures { MatchOption result (find (slot_has id) slots.now ≡ None) (λ at.
@@ -186,7 +186,7 @@ fn is_at(slots: &[Slot], place: usize, id: Id) -> bool
     }
 }
 
-// The same by a search. Where gaps were closed evenly, it is near after three looks. It never takes more than a constant times the
+// The same by a search. Where gaps were closed evenly it is near after three looks. It never takes more than a constant times the
 // logarithm of the length.
 fn search(slots: &[Slot], id: Id) -> Option<usize>
     requires { AreRising (slot_ids slots.now) }
@@ -215,8 +215,8 @@ fn search(slots: &[Slot], id: Id) -> Option<usize>
     None
 }
 
-// How many places to go on after a look, where so many ids are missing and so many places are left. At first as many as it would be if
-// gaps were closed evenly; then twice as many each time, until that leads past the id; and then half of what is left.
+// How many places to go on after so many looks, to an id so far off, where so many places are left. At first as many as it would
+// be if gaps were closed evenly; then twice as many each time, until that leads past the id; and then half of what is left.
 fn stride(slots: &[Slot], looks: u32, ids: u64, left: usize) -> usize {
     if looks < 3 {
         places_apart(slots, ids)
@@ -225,7 +225,7 @@ fn stride(slots: &[Slot], looks: u32, ids: u64, left: usize) -> usize {
     }
 }
 
-// How many places ids so far apart are apart, if gaps were closed evenly. The product can wrap for ids that are very far apart, and
+// How many places ids so far apart lie apart, if gaps were closed evenly. The product can wrap where ids are very far apart, and
 // the search then begins anywhere.
 fn places_apart(slots: &[Slot], ids: u64) -> usize {
     match (slots.first(), slots.last()) {
