@@ -1,6 +1,10 @@
 -- Where lines end in the bytes that a reader shows, and which line comes first.
 use Rattle.std.proofs.Common.{◌≡◌, ℕ, ◌+◌, ◌<◌, ◌==◌, Bool, true, false, not, List, [], ◌∷◌, ◌++◌, length, take, get_or, Option, Some, None, Ok, position, refl, sym, ap, subst, ◌∙◌, arith, append_assoc, append-nil, eqb-true}
 use Rattle.std.specs.Io.KnownBytes.{Consumes, Keeps, IsAtEnd}
+use Rattle.memchr.specs.Find.{IsFirstByte, is_byte}
+use Rattle.std.proofs.Common.{⊎_elim}
+use Rattle.std.proofs.Math.Nat.{eq-or-lt_of_le}
+use Rattle.std.proofs.lemmas.Bool.{cases_lt, false≢true}
 use Rattle.std.proofs.lemmas.Grind.{common_steps}
 use Rattle.std.proofs.lemmas.List.{take_more}
 use Rattle.std.proofs.lemmas.List.Elements.{All-append}
@@ -41,6 +45,26 @@ ends_at held i e =
 -- bytes without a place of a line end have none
 pub has_no_end : (held : List ℕ) → position is_end held ≡ None → HasNoLineEnd held
 has_no_end held e = λ k d lt. fails_before_first is_end held k d (grind (arith, common_steps))
+
+-- a place before another isn't the first where the other is
+not_before : (held : List ℕ) (i k : ℕ) → is_end (get_or held i 0) ≡ true → ((j : ℕ) → j < k → is_end (get_or held j 0) ≡ false) → i < k → ⊥
+not_before held i k here none lt = false≢true (sym (none i lt) ∙ here)
+
+-- what a search finds is the place of the first line end
+found_place : (held : List ℕ) (r found : Option ℕ) → IsFirstByte (is_byte 10) held r → position is_end held ≡ found → r ≡ found
+found_place held None None h e = refl
+found_place held None (Some k) h e =
+    let p = position-Some is_end held k 0 e in
+    absurd (h k (omega arith) p.0 p.1)
+found_place held (Some i) None h e = absurd (false≢true (sym (has_no_end held e i 0 h.0.high) ∙ h.1))
+found_place held (Some i) (Some k) h e =
+    let p = position-Some is_end held k 0 e in
+    ⊎_elim (λ lt. absurd (not_before held i k h.1 p.2 lt))
+    (λ above. ⊎_elim (λ same. ap Some (sym same)) (λ lt. absurd (h.0.before k (omega arith) lt p.1)) (eq-or-lt_of_le above))
+    (cases_lt i k)
+
+pub is_place : (held : List ℕ) (r : Option ℕ) → IsFirstByte (is_byte 10) held r → r ≡ position is_end held
+is_place held r h = found_place held r (position is_end held) h refl
 
 -- ---- the lines of an input
 

@@ -6,6 +6,7 @@ ghost use Rattle.tracing_tree.specs.Spelled.{is_skipped};
 ghost use Rattle.tracing_tree.specs.LineReads.{ReadsEnded, ReadsPart, ReadsNext};
 
 use super::LineCause;
+use memchr::memchr;
 use std::io::{BufRead, BufReader, ErrorKind, Read};
 
 // A read that a signal interrupts is tried again eight times.
@@ -93,10 +94,11 @@ fn read_part<B: BufRead>(reader: &mut B, line: &mut Vec<u8>) -> Result<Part, Lin
 }
 
 // Where the first line end stands.
+#[tactic(auto, using(crate::proofs::LineEnds::is_place))]
 fn line_end(held: &[u8]) -> Option<usize>
     ensures { result ≡ position (λ byte. byte == 10) held.now }
 {
-    held.iter().position(|byte| *byte == b'\n')
+    memchr(b'\n', held)
 }
 
 // Whether the line is spaces, tabs and carriage returns alone.
