@@ -12,6 +12,7 @@ use Rattle.jiff_core.specs.declared.timestamp.Timestamp.{Timestamp}
 use Rattle.tracing_tree_core.specs.declared.context.Context.{Context}
 use Rattle.tracing_tree_core.specs.declared.context.Moment.{Moment}
 use Rattle.tracing_tree.specs.Readers.{Reads, ReadsCall, ValueSpells}
+use Rattle.tracing_tree.specs.CallKinds.{IsKindIn}
 use Rattle.tracing_tree.specs.Spelled.{◌>>=◌, IsMomentIn, context_in, required, call_named, object_call}
 use Rattle.tracing_tree.specs.declared.call.Call.{Call}
 use Rattle.tracing_tree.specs.declared.lines.LineCause.{LineCause}
@@ -39,11 +40,10 @@ absent_then : {A B : Type 0} (first : Option A) (next : A → Option B) → ((x 
 absent_then None next none = refl
 absent_then (Some x) next none = none x
 
--- without a word there is no call
-pub no_word : (value : Data) (moment : Moment) → required as_str (codes "call") value ≡ None → object_call value moment ≡ None
-no_word value moment none =
-    absent_then (context_in value moment) (λ context. required as_str (codes "call") value >>= (λ name. call_named name value context))
-    (λ context. rw none)
+-- where no kind of call is named there is no call
+pub no_kind : (value : Data) (moment : Moment) → IsKindIn value None → object_call value moment ≡ None
+no_kind value moment none =
+    absent_then (context_in value moment) (λ context. required as_str (codes "call") value >>= (λ name. call_named name value context)) none
 
 -- the call of a value, once its context and its word are known
 pub object_call_at : (value : Data) (context : Context) (word : List ℕ) → context_in value context.moment ≡ Some context

@@ -4,7 +4,9 @@ use Rattle.serde_json.specs.Data.{Data, null, boolean, number, string, array, ob
 use Rattle.serde_json.specs.View.{view, items_view}
 use Rattle.serde_json.specs.declared.value.Value.{Value}
 use Rattle.tracing_tree_core.specs.declared.field.Field.{Field}
-use Rattle.tracing_tree.specs.Spelled.{pair_field}
+use Rattle.std.specs.Prelude.{option_and_then}
+use Rattle.std.proofs.Common.{ap, sym, append_assoc}
+use Rattle.tracing_tree.specs.Spelled.{pair_field, field_value, item_fields}
 
 one_item : (d : Data) → pair_field (item d no_items) ≡ None
 one_item null = refl
@@ -41,3 +43,13 @@ no_pair (v ∷ w ∷ x ∷ more) other = three_items (view v) (view w) (view x) 
 abbrev pub behind : List Field → Option (List Field) → Option (List Field)
 behind done None = None
 behind done (Some others) = Some (done ++ others)
+
+-- one field more
+behind_one : (done : List Field) (field : Field) (others : Option (List Field)) →
+    behind done (option_and_then (λ fields. Some (field ∷ fields)) others) ≡ behind (done ++ field ∷ []) others
+behind_one done field None = refl
+behind_one done field (Some fields) = ap Some (sym (append_assoc done (field ∷ []) fields))
+
+pub behind_more : (done : List Field) (value : Data) (field : Field) (others : Items) → field_value value ≡ Some field →
+    behind done (item_fields (item value others)) ≡ behind (done ++ field ∷ []) (item_fields others)
+behind_more done value field others is = rw is (behind_one done field (item_fields others))

@@ -27,3 +27,4 @@ pub mod LineSteps
 pub mod Differences
 pub mod Headline
 pub mod SideBySide
+pub mod CallKinds

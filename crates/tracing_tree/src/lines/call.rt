@@ -3,6 +3,7 @@
 ghost use Rattle.std.specs.Prelude.{◌≡◌, codes};
 ghost use Rattle.serde_json.specs.View.{view, items_view};
 ghost use Rattle.tracing_tree.specs.Readers.{Reads, ReadsCall, ReadsLine};
+ghost use Rattle.tracing_tree.specs.CallKinds.{word_of, IsKindIn};
 ghost use Rattle.tracing_tree.specs.Spelled.{call_named, new_in, record_in, event_in, id_in, target_in, parent_in, fields_in, level_value, parent_value, fields_value, item_fields, field_value, required};
 
 use super::LineCause;
@@ -21,75 +22,101 @@ pub(super) fn call_of_line(alloc: Global, line: &[u8]) -> Result<Call, LineCause
     ensures { ReadsLine line.now result }
 {
     match Value::from_slice(alloc, line) {
-        Ok(value) => call_of(alloc, &value),
+        Ok(mut value) => call_of(alloc, &mut value),
         Err(error) if error.is_memory() => Err(LineCause::Memory),
         Err(_) => Err(LineCause::NotACall),
     }
 }
 
-// The call that a value spells. `NotACall` where it spells none, and where a float is anywhere in it.
-fn call_of(alloc: Global, value: &Value) -> Result<Call, LineCause>
-    ensures { ReadsCall (view value.now) result }
+// The call that a value spells, whose fields are moved out of it. `NotACall` where it spells none, and where a float is anywhere
+// in it.
+fn call_of(alloc: Global, value: &mut Value) -> Result<Call, LineCause>
+    ensures { ReadsCall (view value.old) result }
 {
     if has_float(value) {
         return Err(LineCause::NotACall);
     }
     let context = context_in(alloc, value)?;
-    let word = value_at(value, "call")
-        .and_then(Value::as_str)
-        .ok_or(LineCause::NotACall)?;
-    call_named(alloc, word, value, context)
+    let kind = kind_in(value).ok_or(LineCause::NotACall)?;
+    call_of_kind(alloc, kind, value, context)
 }
 
-// The call of this word.
-fn call_named(alloc: Global, word: &str, value: &Value, context: Context) -> Result<Call, LineCause>
-    ensures { Reads (call_named word.now (view value.now) context) result }
+// The calls by their words.
+enum Kind {
+    New,
+    Clone,
+    Record,
+    Event,
+    Close,
+}
+
+// Which call the value names. None where it names none.
+fn kind_in(value: &Value) -> Option<Kind>
+    ensures { IsKindIn (view value.now) result }
 {
-    match word {
-        "new" => new_in(alloc, value, context),
-        "clone" => Ok(Call::Clone(id_in(value).ok_or(LineCause::NotACall)?)),
-        "record" => record_in(alloc, value),
-        "event" => event_in(alloc, value, context),
-        "close" => {
+    match value_at(value, "call")?.as_str()? {
+        "new" => Some(Kind::New),
+        "clone" => Some(Kind::Clone),
+        "record" => Some(Kind::Record),
+        "event" => Some(Kind::Event),
+        "close" => Some(Kind::Close),
+        _ => None,
+    }
+}
+
+// The call of this kind.
+fn call_of_kind(
+    alloc: Global,
+    kind: Kind,
+    value: &mut Value,
+    context: Context,
+) -> Result<Call, LineCause>
+    ensures { Reads (call_named (word_of kind) (view value.old) context) result }
+{
+    match kind {
+        Kind::New => new_in(alloc, value, context),
+        Kind::Clone => Ok(Call::Clone(id_in(value).ok_or(LineCause::NotACall)?)),
+        Kind::Record => record_in(alloc, value),
+        Kind::Event => event_in(alloc, value, context),
+        Kind::Close => {
             let id = id_in(value).ok_or(LineCause::NotACall)?;
             Ok(Call::Close(id, context))
         }
-        _ => Err(LineCause::NotACall),
     }
 }
 
 // A new span.
-fn new_in(alloc: Global, value: &Value, context: Context) -> Result<Call, LineCause>
-    ensures { Reads (new_in (view value.now) context) result }
+fn new_in(alloc: Global, value: &mut Value, context: Context) -> Result<Call, LineCause>
+    ensures { Reads (new_in (view value.old) context) result }
 {
     let name = value_at(value, "name").ok_or(LineCause::NotACall)?;
     let attributes = Attributes {
         name: text_value(alloc, name)?,
         target: target_in(alloc, value)?,
         parent: parent_in(value).ok_or(LineCause::NotACall)?,
-        fields: fields_in(alloc, value)?,
+        fields: take_fields(alloc, value)?,
     };
     Ok(Call::New(attributes, context))
 }
 
 // Fields for a span.
-fn record_in(alloc: Global, value: &Value) -> Result<Call, LineCause>
-    ensures { Reads (record_in (view value.now)) result }
+fn record_in(alloc: Global, value: &mut Value) -> Result<Call, LineCause>
+    ensures { Reads (record_in (view value.old)) result }
 {
     let id = id_in(value).ok_or(LineCause::NotACall)?;
-    let fields = fields_in(alloc, value)?;
+    let fields = take_fields(alloc, value)?;
     Ok(Call::Record(id, Record { fields }))
 }
 
 // An event.
-fn event_in(alloc: Global, value: &Value, context: Context) -> Result<Call, LineCause>
-    ensures { Reads (event_in (view value.now) context) result }
+fn event_in(alloc: Global, value: &mut Value, context: Context) -> Result<Call, LineCause>
+    ensures { Reads (event_in (view value.old) context) result }
 {
     let event = Event {
         level: level_in(value).ok_or(LineCause::NotACall)?,
         target: target_in(alloc, value)?,
         parent: parent_in(value).ok_or(LineCause::NotACall)?,
-        fields: fields_in(alloc, value)?,
+        fields: take_fields(alloc, value)?,
     };
     Ok(Call::Event(event, context))
 }
@@ -128,13 +155,13 @@ fn parent_in(value: &Value) -> Option<Parent>
     }
 }
 
-// Fields; none where they aren't there.
-fn fields_in(alloc: Global, value: &Value) -> Result<Fields, LineCause>
-    ensures { Reads (fields_in (view value.now)) result }
+// Moves the fields out; none where they aren't there.
+fn take_fields(alloc: Global, value: &mut Value) -> Result<Fields, LineCause>
+    ensures { Reads (fields_in (view value.old)) result }
 {
-    match value_at(value, "fields") {
-        Some(fields) => fields_value(alloc, fields),
-        None => Ok(Fields::new(alloc)),
+    match value.get_mut("fields") {
+        None | Some(Value::Null) => Ok(Fields::new(alloc)),
+        Some(fields) => fields_value(alloc, fields.take()),
     }
 }
 
@@ -165,35 +192,43 @@ fn parent_value(value: &Value) -> Option<Parent>
 }
 
 // An array of fields.
-fn fields_value(alloc: Global, value: &Value) -> Result<Fields, LineCause>
-    ensures { Reads (fields_value (view value.now)) result }
+fn fields_value(alloc: Global, value: Value) -> Result<Fields, LineCause>
+    ensures { Reads (fields_value (view value)) result }
 {
-    let items = value.as_array().ok_or(LineCause::NotACall)?;
-    item_fields(alloc, items)
+    match value {
+        Value::Array(items) => item_fields(alloc, items),
+        _ => Err(LineCause::NotACall),
+    }
 }
 
 // The fields of all the items.
-fn item_fields(alloc: Global, items: &Vec<Value>) -> Result<Fields, LineCause>
-    ensures { Reads (item_fields (items_view items.now.items)) result }
+fn item_fields(alloc: Global, items: Vec<Value>) -> Result<Fields, LineCause>
+    ensures { Reads (item_fields (items_view items.items)) result }
 {
     // Not of the exact size: so a span's list has room for the first fields that are recorded later.
     let mut fields = Vec::new(alloc);
     for item in items {
-        fields.push(field_value(alloc, item)?)?;
+        let field = field_value(item).ok_or(LineCause::NotACall)?;
+        fields.push(field)?;
     }
     Ok(Fields::from(fields))
 }
 
-// An array of two texts: a name and a value.
-fn field_value(alloc: Global, value: &Value) -> Result<Field, LineCause>
-    ensures { Reads (field_value (view value.now)) result }
+// An array of two texts: a name and a value. None where it isn't one.
+fn field_value(value: Value) -> Option<Field>
+    ensures { result ≡ field_value (view value) }
 {
-    let pair = value.as_array().ok_or(LineCause::NotACall)?;
-    match pair.as_slice() {
-        [name, text] => Ok(Field {
-            name: text_value(alloc, name)?,
-            value: text_value(alloc, text)?,
-        }),
-        _ => Err(LineCause::NotACall),
+    let Value::Array(mut pair) = value else {
+        return None;
+    };
+    if pair.len() != 2 {
+        return None;
     }
+    let (Some(Value::String(value)), Some(Value::String(name))) = (pair.pop(), pair.pop()) else {
+        return None;
+    };
+    Some(Field {
+        name: Text::from(name),
+        value: Text::from(value),
+    })
 }

@@ -1,22 +1,25 @@
 use Rattle.std.proofs.Common.{◌≡◌, None, Some, Err, codes, sym, ◌∙◌, rules, refl}
 use Rattle.serde_json.specs.View.{view}
 use Rattle.serde_json.specs.Find.{as_str}
+use Rattle.tracing_tree.specs.CallKinds.{word_of}
 use Rattle.tracing_tree.specs.Spelled.{required}
 use Rattle.tracing_tree.specs.declared.lines.LineCause.TheVariants.{NotACall}
-use Rattle.tracing_tree.proofs.Moments.{no_word, reads_none, reads_named}
+use Rattle.tracing_tree.proofs.Moments.{no_kind, reads_none, reads_named}
 use Rattle.tracing_tree.proofs.lines.call.call_of.Goals as goal
 
-pub returns-in_err-word : goal.returns-in_err-word
-returns-in_err-word c =
+pub returns-in_err-kind : goal.returns-in_err-kind
+returns-in_err-kind c =
     let value = view c.args.value.now in
-    let none : required as_str (codes "call") value ≡ None = search rules in
-    let refused : c.from_residual-in_err-word.result ≡ Err NotACall = search rules in
-    rw refused (refl, reads_none value (λ moment timed. no_word value moment none))
+    let none : c.kind_in.result ≡ None = search rules in
+    let unnamed = rw none at c.kind_in.ensures in
+    let refused : c.from_residual-in_err-kind.result ≡ Err NotACall = search rules in
+    rw refused (refl, reads_none value (λ moment timed. no_kind value moment unnamed))
 
 pub returns : goal.returns
 returns c =
     let value = view c.args.value.now in
-    let word : required as_str (codes "call") value ≡ Some c.in_ok-word.word.now = search rules in
+    let some : c.kind_in.result ≡ Some c.in_ok-kind.kind = search rules in
+    let word : required as_str (codes "call") value ≡ Some (word_of c.in_ok-kind.kind) = rw some at c.kind_in.ensures in
     let context = c.in_ok-context.ensures in
-    reads_named value c.in_ok-context.context c.in_ok-word.word.now c.call_named.result (sym c.has_float.ensures ∙ c.if-has_float.false)
-    context.0 context.1 word c.call_named.ensures
+    reads_named value c.in_ok-context.context (word_of c.in_ok-kind.kind) c.call_of_kind.result (sym c.has_float.ensures ∙ c.if-has_float.false)
+    context.0 context.1 word c.call_of_kind.ensures

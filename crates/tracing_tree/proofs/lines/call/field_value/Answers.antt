@@ -1,17 +1,15 @@
-use Rattle.std.proofs.Common.{◌≡◌, Some, length, refl, rules, arith}
-use borrow.Author.Tests.{ltb-true, ltb-false}
+use Rattle.std.proofs.Common.{◌≡◌, length, sym, ap, ◌∙◌, arith}
+use Rattle.std.proofs.lemmas.Grind.{common_steps}
+use Rattle.serde_json.specs.Data.{array}
 use Rattle.serde_json.specs.View.{view, items_view}
-use Rattle.serde_json.specs.Find.{as_array}
+use Rattle.serde_json.proofs.Views.{view-Array}
+use Rattle.tracing_tree.specs.Spelled.{field_value}
 use Rattle.tracing_tree.proofs.Pairs.{no_pair}
 use Rattle.tracing_tree.proofs.lines.call.field_value.Goals as goal
-use Rattle.tracing_tree.proofs.lines.call.field_value.Goals.{in_default-via-then-as_slice-lt2, in_default-via-else-as_slice-lt2+else-this-lt3}
 
-pub returns-in_default : goal.returns-in_default
-returns-in_default c =
-    let items = c.in_ok-pair.pair.now.items in
-    let spelled : as_array (view c.args.value.now) ≡ Some (items_view items) = search rules in
-    let other : length items ≡ 2 → ⊥ = elim c.in_default.branch [
-      | in_default-via-then-as_slice-lt2 w ↦ λ two. omega (arith, ltb-true, ltb-false)
-      | in_default-via-else-as_slice-lt2+else-this-lt3 w ↦ λ two. omega (arith, ltb-true, ltb-false)
-    ] in
-    (refl, rw spelled (no_pair items other))
+pub returns-then-len-ne2 : goal.returns-then-len-ne2
+returns-then-len-ne2 c =
+    let items = c.in-Array.pair.items in
+    let spelled : view c.args.value ≡ array (items_view items) = ap view c.in-Array.is ∙ view-Array c.in-Array.pair in
+    let other : length items ≡ 2 → ⊥ = λ two. grind (arith, common_steps) in
+    sym (ap field_value spelled ∙ no_pair items other)
