@@ -22,6 +22,7 @@ pub mod CommonLaws
 pub mod SlotLists
 pub mod KeptLists
 pub mod Ties
+pub mod TimerTexts
 pub mod ClosingParts
 pub mod Registers
 pub mod WalkedPaths

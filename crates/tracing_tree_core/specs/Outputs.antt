@@ -1,5 +1,5 @@
 -- What outputs and timers do with text.
-use Rattle.std.specs.Prelude.{◌≡◌, ◌≢◌, ℕ, ◌+◌, ◌<◌, ◌≤◌, Bool, IsTrue, List, [], ◌++◌, length, Option, None, Result, Ok, Err, MatchResult, IsSomeAnd}
+use Rattle.std.specs.Prelude.{◌≡◌, ◌≢◌, ℕ, ◌+◌, ◌<◌, ◌≤◌, Bool, IsTrue, List, [], ◌++◌, length, Option, None, Result, Ok, Err, MatchResult, IsSomeAnd, ⊤}
 use Rattle.std.specs.Io.KnownBytes.{Appends}
 use Rattle.tracing_tree_core.specs.declared.format.output.OutputFault.{OutputFault}
 use Rattle.tracing_tree_core.specs.declared.context.Refusal.{Refusal}
@@ -22,6 +22,12 @@ abbrev pub AppendsStated : Option (List ℕ) → List ℕ → List ℕ → Resul
 AppendsStated stated old new (Ok done) = IsSomeAnd stated (λ text. new ≡ old ++ text)
 AppendsStated stated old new (Err Memory) = new ≡ old
 AppendsStated stated old new (Err Fault) = (stated ≡ None) × (new ≡ old)
+
+-- a timer is refused memory only where it has a text, and one that isn't empty
+abbrev pub AsksForText : Option (List ℕ) → Result (Unit {0}) TimeFault → Type 0
+AsksForText stated (Ok done) = ⊤
+AsksForText stated (Err Memory) = IsSomeAnd stated (λ text. text ≢ [])
+AsksForText stated (Err Fault) = ⊤
 
 -- a beginning of a text that isn't the whole
 pub record IsCutShort (text front : List ℕ) : Type 0 where

@@ -11,7 +11,7 @@ pub mod utc;
 
 ghost use Rattle.std.specs.Prelude.{string_bytes};
 ghost use Rattle.tracing_tree_core.specs.Clock.{Timer, no_timer};
-ghost use Rattle.tracing_tree_core.specs.Outputs.{AppendsStated};
+ghost use Rattle.tracing_tree_core.specs.Outputs.{AppendsStated, AsksForText};
 
 pub use crate::context::Moment;
 use crate::context::Refusal;
@@ -48,11 +48,12 @@ pub trait FormatTime {
     /// The texts that it states, and where it faults.
     ghost timer: { Self → Timer };
 
-    /// Appends the text of the moment. `Fault` exactly where the timer has none, `Memory` where memory is refused; the text is
-    /// then as it was.
+    /// Appends the text of the moment. `Fault` exactly where the timer has none; `Memory` where memory is refused, and only
+    /// where there is a text that isn't empty. After either, `out` is as it was.
     fn format_time(&self, moment: &Moment, out: &mut String) -> Result<(), TimeFault>
-        ensures { AppendsStated ((timer self.now).moment_text moment.now)
-            (string_bytes out.old) (string_bytes out.new) result };
+        ensures stated { AppendsStated ((timer self.now).moment_text moment.now)
+            (string_bytes out.old) (string_bytes out.new) result }
+        ensures memory { AsksForText ((timer self.now).moment_text moment.now) result };
 
     /// Appends the text of an elapsed time, in nanoseconds, painted with ansi. Errors as of `format_time`.
     fn style_timestamp(
@@ -61,8 +62,9 @@ pub trait FormatTime {
         elapsed_ns: u64,
         out: &mut String,
     ) -> Result<(), TimeFault>
-        ensures { AppendsStated ((timer self.now).elapsed_text ansi elapsed_ns)
-            (string_bytes out.old) (string_bytes out.new) result };
+        ensures stated { AppendsStated ((timer self.now).elapsed_text ansi elapsed_ns)
+            (string_bytes out.old) (string_bytes out.new) result }
+        ensures memory { AsksForText ((timer self.now).elapsed_text ansi elapsed_ns) result };
 }
 
 /// Appends nothing.

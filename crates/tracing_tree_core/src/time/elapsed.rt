@@ -2,7 +2,7 @@
 
 ghost use Rattle.std.specs.Prelude.{◌≡◌, ◌≤◌, Some, string_bytes};
 ghost use Rattle.tracing_tree_core.specs.Clock.{dimmed_pair, elapsed_text, hundredths_text, nearest_count};
-ghost use Rattle.tracing_tree_core.specs.Outputs.{AppendsStated};
+ghost use Rattle.tracing_tree_core.specs.Outputs.{AppendsStated, AsksForText};
 ghost use Rattle.tracing_tree_core.specs.Pieces.{pieces_text, ShowsWhole, ShowsHundredths};
 
 use super::TimeFault;
@@ -16,8 +16,9 @@ pub(super) fn style_timestamp(
     elapsed_ns: u64,
     out: &mut String,
 ) -> Result<(), TimeFault>
-    ensures { AppendsStated (Some (elapsed_text higher_precision ansi elapsed_ns))
+    ensures stated { AppendsStated (Some (elapsed_text higher_precision ansi elapsed_ns))
         (string_bytes out.old) (string_bytes out.new) result }
+    ensures memory { AsksForText (Some (elapsed_text higher_precision ansi elapsed_ns)) result }
 {
     if higher_precision {
         let (hundredths, unit) = hundredths_in_unit(elapsed_ns);

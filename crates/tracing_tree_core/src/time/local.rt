@@ -48,6 +48,7 @@ impl FormatTime for LocalDateTime<'_> {
 
     ghost timer = { local_clock_timer };
 
+    #[tactic(auto, using(crate::proofs::TimerTexts::local_asks))]
     fn format_time(&self, moment: &Moment, out: &mut String) -> Result<(), TimeFault> {
         let offset = self.zone.to_offset(moment.wall);
         let shown = offset.to_datetime(moment.wall);

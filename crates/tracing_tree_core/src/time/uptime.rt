@@ -35,6 +35,7 @@ impl FormatTime for Uptime {
 
     ghost timer = { uptime_clock_timer };
 
+    #[tactic(auto, using(crate::proofs::TimerTexts::uptime_asks))]
     fn format_time(&self, moment: &Moment, out: &mut String) -> Result<(), TimeFault> {
         let elapsed = moment.mono.saturating_sub(self.epoch);
         let seconds = Piece::right(4, elapsed / 1_000_000_000);

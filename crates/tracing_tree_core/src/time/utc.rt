@@ -31,6 +31,7 @@ impl FormatTime for UtcDateTime {
 
     ghost timer = { utc_clock_timer };
 
+    #[tactic(auto, using(crate::proofs::TimerTexts::utc_asks))]
     fn format_time(&self, moment: &Moment, out: &mut String) -> Result<(), TimeFault> {
         let shown = Offset::UTC.to_datetime(moment.wall);
         let mut text = ShortText::new();

@@ -4,8 +4,8 @@ use Rattle.tracing_tree_core.specs.Outputs.{AppendsStated}
 use Rattle.tracing_tree_core.proofs.DateTexts.{date_time_offset}
 use Rattle.tracing_tree_core.proofs.time.local.LocalDateTimeFormatTime.format_time.Goals as goal
 
-pub returns : goal.returns
-returns c =
+pub returns-clause-stated : goal.returns-clause-stated
+returns-clause-stated c =
     let instant = c.args.moment.now.wall.nanosecond in
     let date = c.date.result in
     let dates = c.push_date.ensures.text

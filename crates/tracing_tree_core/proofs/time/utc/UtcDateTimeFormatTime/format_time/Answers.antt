@@ -4,8 +4,8 @@ use Rattle.tracing_tree_core.specs.Outputs.{AppendsStated}
 use Rattle.tracing_tree_core.proofs.DateTexts.{date_and_time, at_zero}
 use Rattle.tracing_tree_core.proofs.time.utc.UtcDateTimeFormatTime.format_time.Goals as goal
 
-pub returns : goal.returns
-returns c =
+pub returns-clause-stated : goal.returns-clause-stated
+returns-clause-stated c =
     let date = c.date.result in
     let dates = c.push_date.ensures.text
     ∙ ap (λ (empty : List ℕ). empty ++ date_text date.year date.month date.day) c.new-text.ensures in
