@@ -11,7 +11,7 @@ use tracing_tree::format::{Id, Output, Refusal, Tape, Wrap};
 use tracing_tree::lines::{LineCause, LineFault, run_lines};
 use tracing_tree::rows::{RowCause, RowFault, rows_to_json};
 use tracing_tree::style::Level;
-use tracing_tree_testing::{lined_over, made, told};
+use tracing_tree_for_tests::{lined_over, made, told};
 
 // What an attempt to read or to write comes to.
 #[derive(Clone, Copy, Debug)]

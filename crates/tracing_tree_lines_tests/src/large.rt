@@ -10,7 +10,7 @@ use tracing_tree::lines::run_lines;
 use tracing_tree::registry::{Attributes, Event, Parent};
 use tracing_tree::style::Level;
 use tracing_tree::text::Text;
-use tracing_tree_testing::{at, closed, lined, made, told};
+use tracing_tree_for_tests::{at, closed, lined, made, told};
 
 // Every ASCII character.
 const ASCII: &str = concat!(

@@ -8,7 +8,7 @@ use tracing_tree::layer::HierarchicalLayer;
 use tracing_tree::layered::Layered;
 use tracing_tree::lines::{LineCause, LineFault, run_lines};
 use tracing_tree::style::Level;
-use tracing_tree_testing::{made, told};
+use tracing_tree_for_tests::{made, told};
 
 // A row at level 1 of this amount is past all memory, and one at level 4 is too wide.
 const AMOUNT: usize = 1 << 62;

@@ -9,7 +9,7 @@ use tracing_tree::format::{Id, Output, OutputFault, Refusal, Tape, Wrap};
 use tracing_tree::lines::{LineCause, LineFault, run_lines};
 use tracing_tree::registry::LookupSpan;
 use tracing_tree::style::Level;
-use tracing_tree_testing::{lined_over, made, told};
+use tracing_tree_for_tests::{lined_over, made, told};
 
 // A writer that is interrupted so many times, and then takes at most a piece of what it is given. It counts its flushes.
 #[derive(Drop)]

@@ -5,7 +5,7 @@ use std::alloc::{AllocError, Global};
 use std::test::*;
 use tracing_tree::format::{Context, Id, Refusal};
 use tracing_tree::registry::{LookupSpan, Parent};
-use tracing_tree_testing::{at, attributes, recorded};
+use tracing_tree_for_tests::{at, attributes, recorded};
 
 // A span as the list keeps it.
 #[derive(Drop)]

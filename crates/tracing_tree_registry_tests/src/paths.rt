@@ -4,7 +4,7 @@ use std::alloc::{AllocError, Global};
 use std::test::*;
 use tracing_tree::format::Id;
 use tracing_tree::registry::{Common, LookupSpan, Parent, Registry, common};
-use tracing_tree_testing::{at, attributes};
+use tracing_tree_for_tests::{at, attributes};
 
 // Makes a span below this one, or a root.
 fn make(alloc: Global, spans: &mut Registry, parent: Option<u64>) -> Result<(), Fail> {

@@ -9,7 +9,7 @@ use tracing_tree::layer::HierarchicalLayer;
 use tracing_tree::layered::Layered;
 use tracing_tree::registry::{Attributes, Data, LookupSpan, Parent, Record, Registry};
 use tracing_tree::text::Text;
-use tracing_tree_testing::{at, attributes, closed, lined, made, made_in, recorded, told_in};
+use tracing_tree_for_tests::{at, attributes, closed, lined, made, made_in, recorded, told_in};
 
 fn recorded_in(alloc: Global, id: u64, value: &str) -> Result<Call, AllocError> {
     let fields = recorded(alloc, "k", value)?;

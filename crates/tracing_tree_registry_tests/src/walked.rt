@@ -6,7 +6,7 @@ use tracing_tree::call::Call;
 use tracing_tree::format::Id;
 use tracing_tree::registry::{LookupSpan, Parent, Record, Registry, SpanRef, Walked};
 use tracing_tree::style::Level;
-use tracing_tree_testing::{at, attributes, closed, made, made_in, recorded, told};
+use tracing_tree_for_tests::{at, attributes, closed, made, made_in, recorded, told};
 
 /// Two registries that are called alike.
 #[derive(Drop)]

@@ -14,7 +14,7 @@ use tracing_tree::format::{Refusal, Tape};
 use tracing_tree::layered::Layered;
 use tracing_tree::rows::{Row, Shape, read_rows};
 use tracing_tree::style::Level;
-use tracing_tree_testing::{closed, lined, made, told};
+use tracing_tree_for_tests::{closed, lined, made, told};
 
 // What a run answered, and the rows that are read of its drawing.
 #[derive(Drop)]

@@ -11,7 +11,7 @@ use tracing_tree::rows::{
     read_rows, rows_to_json,
 };
 use tracing_tree::style::Level;
-use tracing_tree_testing::{closed, lined, made, told};
+use tracing_tree_for_tests::{closed, lined, made, told};
 
 // The drawing of two spans with an event.
 const TREE: &str = "┐a \n└─┐b \n  ├─ WARN x\n┌─┘\n┘\n";

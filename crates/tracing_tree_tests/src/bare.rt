@@ -14,7 +14,7 @@ use tracing_tree::layered::Layered;
 use tracing_tree::registry::{Attributes, Event, LookupSpan, Parent, Record, Registry, Walked};
 use tracing_tree::style::Level;
 use tracing_tree::text::Text;
-use tracing_tree_testing::{at, closed, made, recorded, told};
+use tracing_tree_for_tests::{at, closed, made, recorded, told};
 
 // What both registries can do.
 trait Keeps: LookupSpan {

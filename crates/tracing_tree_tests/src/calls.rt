@@ -4,7 +4,7 @@ use std::test::*;
 use tracing_tree::call::Reply;
 use tracing_tree::format::{Id, Refusal};
 use tracing_tree::style::Level;
-use tracing_tree_testing::{closed, lined, lined_from, made, told};
+use tracing_tree_for_tests::{closed, lined, lined_from, made, told};
 
 #[test]
 fn draws_a_tree(rt: HostRuntime) -> Result<(), Fail> {

@@ -6,7 +6,7 @@ use tracing_tree::field::Fields;
 use tracing_tree::format::Id;
 use tracing_tree::registry::{Data, LookupSpan, SpanRef};
 use tracing_tree::text::Text;
-use tracing_tree_testing::recorded;
+use tracing_tree_for_tests::recorded;
 
 /// One root, with the id 1.
 #[derive(Drop)]

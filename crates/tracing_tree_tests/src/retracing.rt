@@ -11,7 +11,7 @@ use tracing_tree::layer::HierarchicalLayer;
 use tracing_tree::layered::Layered;
 use tracing_tree::registry::Parent;
 use tracing_tree::style::Level;
-use tracing_tree_testing::{closed, lined, made, told, told_in};
+use tracing_tree_for_tests::{closed, lined, made, told, told_in};
 
 // A layer over memory, with lines, of this amount.
 fn layer(alloc: Global, amount: usize) -> HierarchicalLayer<Tape, ()>

@@ -7,7 +7,7 @@ use tracing_tree::format::{Buffers, Config, FmtEvent, Refusal, SpanMode, Tape, w
 use tracing_tree::style::{ColorLevel, Level, Style, styled};
 use tracing_tree::text::Text;
 use tracing_tree::time::{FormatTime, TimeFault};
-use tracing_tree_testing::at;
+use tracing_tree_for_tests::at;
 
 #[test]
 fn paints_texts(rt: HostRuntime) -> Result<(), Fail> {

@@ -11,7 +11,7 @@ use tracing_tree::layer::HierarchicalLayer;
 use tracing_tree::layered::Layered;
 use tracing_tree::style::Level;
 use tracing_tree::time::{FormatTime, Moment, Uptime, UtcDateTime};
-use tracing_tree_testing::{closed, made, told};
+use tracing_tree_for_tests::{closed, made, told};
 
 // A layered over memory, with lines and this timer.
 fn timed<FT: FormatTime + Drop>(alloc: Global, timer: FT) -> Layered<Tape, FT> {
