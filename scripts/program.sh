@@ -31,6 +31,16 @@ count() {
     fi
 }
 
+# The file, or that one where it isn't there.
+file_or() {
+    if [ -e "$1" ]; then echo "$1"; else echo "$2"; fi
+}
+
+# The text of the file, or this one where it isn't there.
+text_or() {
+    if [ -e "$1" ]; then cat "$1"; else echo "$2"; fi
+}
+
 # A file of these lines.
 lines() {
     printf '%s\n' "${@:2}" > "$room/$1"
@@ -74,7 +84,7 @@ run_cases() {
     for input in "$cases"/data/*/*.in; do
         name=${input%.in}
         run < "$input" > "$room/out" 2> "$room/err"
-        count "on ${name#"$cases"/data/}" "$name.out" "$name.err" "$(cat "$name.status")"
+        count "on ${name#"$cases"/data/}" "$name.out" "$(file_or "$name.err" "$room/none")" "$(text_or "$name.status" 0)"
     done
     wanted=$(sed -n 's/^total: [0-9]* of //p' "$cases/stdout")
     [ "$runs" = "$wanted" ] || { echo "program: FAILED: $runs cases and not $wanted"; runs=$((runs + 1)); }

@@ -1,10 +1,11 @@
 //! Runs the worked cases that lie where it runs, and tells how many of each folder passed.
 //!
-//! A case is four files: `NAME.in` is what the program reads, `NAME.out` and `NAME.err` what it writes on standard output and
-//! standard error, and `NAME.status` its exit status.
+//! `NAME.in` is what the program reads in a case, `NAME.out` and `NAME.err` are what it writes on standard output and standard
+//! error, and `NAME.status` is its exit status. Without the last two it writes no error and ends with status 0.
 #![tactic(auto)]
 
 use std::alloc::{AllocError, Global};
+use std::io::ErrorKind;
 use std::path::Path;
 use std::rt::Files;
 use std::{fs, io};
@@ -102,8 +103,8 @@ fn passes<R: AllocGlobal + Files>(rt: &R, case: &str) -> io::Result<bool> {
     let told = fault_line(alloc, &run.fault)?;
     let ended = format!(in alloc; "{}", status(&run.fault, true))?;
     let out = read_part(rt, case, "out")?;
-    let err = read_part(rt, case, "err")?;
-    let wanted = read_part(rt, case, "status")?;
+    let err = read_part_or(rt, case, "err", "")?;
+    let wanted = read_part_or(rt, case, "status", "0")?;
     let drawn = run.writer.bytes() == out.as_slice();
     let blamed = told.as_bytes() == err.as_slice();
     Ok(drawn && blamed && ended.as_bytes() == wanted.trim_ascii())
@@ -113,6 +114,21 @@ fn passes<R: AllocGlobal + Files>(rt: &R, case: &str) -> io::Result<bool> {
 fn read_part<R: AllocGlobal + Files>(rt: &R, case: &str, part: &str) -> io::Result<Vec<u8>> {
     let path = format!(in rt.alloc(); "{case}.{part}")?;
     fs::read(rt, path.as_str())
+}
+
+// One file of a case, or this text where the case doesn't have it.
+fn read_part_or<R: AllocGlobal + Files>(
+    rt: &R,
+    case: &str,
+    part: &str,
+    absent: &str,
+) -> io::Result<Vec<u8>> {
+    match read_part(rt, case, part) {
+        Err(error) if error.kind() == ErrorKind::NotFound => {
+            Ok(Vec::from_slice(rt.alloc(), absent.as_bytes())?)
+        }
+        read => read,
+    }
 }
 
 // What the program writes on standard error.
