@@ -95,10 +95,6 @@ pub record IsLeft (slots : List Slot) (i : Id) (from to : ℕ) : Type 0 where
   pub below : (k : ℕ) (d : Slot) → k < from → k < length slots → (slot_id (get_or slots k d)).0 < i.0
   pub above : (k : ℕ) (d : Slot) → to ≤ k → k < length slots → i.0 < (slot_id (get_or slots k d)).0
 
--- at first all is left
-pub all-left : (slots : List Slot) (i : Id) → IsLeft slots i 0 (length slots)
-all-left slots i = record { below = (λ k d h within. absurd (omega arith)); above = (λ k d h within. absurd (omega arith)) }
-
 -- what lies up to a place with a lower id isn't left
 pub left-above : (slots : List Slot) (i : Id) (from to at : ℕ) (s : Slot) → AreRising (slot_ids slots) → IsLeft slots i from to →
     at < length slots → s ≡ get_or slots at s → (slot_id s).0 < i.0 → IsLeft slots i (at + 1) to

@@ -126,7 +126,8 @@ impl Nodes {
         requires same_id { (node new : KeptSpan) → FnOnceReturnsAtMut F.FnOnce change node tt new
             → new.span.id ≡ node.span.id }
         ensures { (f : KeptSpan → KeptSpan)
-            → ((node new : KeptSpan) → FnOnceReturnsAtMut F.FnOnce change node tt new → new ≡ f node)
+            → ((node new : KeptSpan) → FnOnceReturnsAtMut F.FnOnce change node tt new
+            → new ≡ f node)
             → self.new ≡ change_kept f id self.old }
     {
         if let Some(at) = position(self.slots.as_slice(), id) {
@@ -186,8 +187,8 @@ fn is_at(slots: &[Slot], place: usize, id: Id) -> bool
     }
 }
 
-// The same by a search. Where gaps were closed evenly it is near after three looks. It never takes more than a constant times the
-// logarithm of the length.
+// The same by a search among what is left, which looks in turn where the id lies if gaps were closed evenly there, and in the
+// middle. So it takes few looks where gaps are alike, and never more than twice as many as halving alone.
 fn search(slots: &[Slot], id: Id) -> Option<usize>
     requires { AreRising (slot_ids slots.now) }
     ensures { MatchOption result (find (slot_has id) slots.now ≡ None) (λ at.
@@ -195,47 +196,45 @@ fn search(slots: &[Slot], id: Id) -> Option<usize>
 {
     let mut from = 0;
     let mut to = slots.len();
-    let mut place = 0usize;
-    let mut looks = 0;
+    let (mut low, mut high) = ends(slots);
+    let mut evenly = true;
     while from < to {
-        let at = place.clamp(from, to - 1);
+        let left = to - from;
+        let ahead = if evenly {
+            share(left, id.0.wrapping_sub(low), high.wrapping_sub(low))
+        } else {
+            left / 2
+        };
+        let at = from + ahead.min(left - 1);
         let here = slots[at].id().0;
         if here == id.0 {
             return Some(at);
         }
         if here < id.0 {
             from = at + 1;
-            place = at.saturating_add(stride(slots, looks, id.0 - here, to - from));
+            low = here;
         } else {
             to = at;
-            place = at.saturating_sub(stride(slots, looks, here - id.0, to - from));
+            high = here;
         }
-        looks = looks.saturating_add(1);
+        evenly = !evenly;
     }
     None
 }
 
-// How many places to go on after so many looks, to an id so far off, where so many places are left. At first as many as it would
-// be if gaps were closed evenly; then twice as many each time, until that leads past the id; and then half of what is left.
-fn stride(slots: &[Slot], looks: u32, ids: u64, left: usize) -> usize {
-    if looks < 3 {
-        places_apart(slots, ids)
-    } else {
-        1usize.checked_shl(looks - 2).unwrap_or(left).min(left / 2)
+// The lowest and the highest id.
+fn ends(slots: &[Slot]) -> (u64, u64) {
+    match (slots.first(), slots.last()) {
+        (Some(oldest), Some(newest)) => (oldest.id().0, newest.id().0),
+        _ => (0, 0),
     }
 }
 
-// How many places ids so far apart lie apart, if gaps were closed evenly. The product can wrap where ids are very far apart, and
-// the search then begins anywhere.
-fn places_apart(slots: &[Slot], ids: u64) -> usize {
-    match (slots.first(), slots.last()) {
-        (Some(oldest), Some(newest)) => {
-            let all = newest.id().0.wrapping_sub(oldest.id().0);
-            let scaled = ids.wrapping_mul(slots.len() as u64);
-            scaled.checked_div(all).unwrap_or(0) as usize
-        }
-        _ => 0,
-    }
+// As large a part of so many places as these ids are of all. The product can wrap where ids are far apart, and the part is then
+// no good guess.
+fn share(places: usize, ids: u64, all: u64) -> usize {
+    let scaled = ids.wrapping_mul(places as u64);
+    scaled.checked_div(all).unwrap_or(0) as usize
 }
 
 // Closes the gaps at the end, and all gaps where they are more than half of the list. Each is closed once, so that a removal

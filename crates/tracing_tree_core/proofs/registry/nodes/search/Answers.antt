@@ -1,4 +1,4 @@
-use Rattle.std.proofs.Common.{◌≡◌, ◌<◌, length, arith, sym, ap, ◌∙◌}
+use Rattle.std.proofs.Common.{◌≡◌, ◌+◌, ◌<◌, length, arith, sym, ap, ◌∙◌}
 use Rattle.tracing_tree_core.specs.Slots.{slot_id}
 use Rattle.tracing_tree_core.proofs.SlotLists.{here-found, left-above, left-below, none-left}
 use Rattle.tracing_tree_core.proofs.registry.nodes.search.Goals as goal
@@ -6,7 +6,7 @@ use Rattle.tracing_tree_core.proofs.registry.nodes.search.Goals.{then-here-id-2,
 
 pub returns-then-here-id : goal.returns-then-here-id
 returns-then-here-id c =
-    let here : c.clamp-at.result < length c.args.slots.now = omega (arith, c.clamp-at.ensures, c.loop-from-test.true, c.loop-from.invariant.within) in
+    let here : c.loop-from.from + c.min.result < length c.args.slots.now = omega (arith, c.min.ensures, c.loop-from-test.true, c.loop-from.invariant.within) in
     here-found c.args.slots.now c.args.id _ _ c.requires here c.index-slots-at.is (ap (λ i. i.0) (sym c.id-here.ensures) ∙ c.if-here-id.true)
 
 pub loop-from-preserved : goal.loop-from-preserved
@@ -14,7 +14,7 @@ loop-from-preserved c =
     let slots = c.args.slots.now in
     let i = c.args.id in
     let inside = c.loop-from.invariant.within in
-    let here : c.clamp-at.result < length slots = omega (arith, c.clamp-at.ensures, c.loop-from-test.true, inside) in
+    let here : c.loop-from.from + c.min.result < length slots = omega (arith, c.min.ensures, c.loop-from-test.true, inside) in
     let read : c.id-here.result.0 ≡ (slot_id c.index-slots-at.result).0 = ap (λ j. j.0) c.id-here.ensures in
     elim c.if-here-id-2.branch [
       | then-here-id-2 w ↦
