@@ -13,7 +13,8 @@ fn main(rt: HostRuntime) -> ExitCode {
     ExitCode::from(status(&fault, flushed))
 }
 
-// Draws the tree. Answers the fault that ended the run, if one did, and whether the last text went out.
+// Draws the tree. Answers the fault that ended the run, if one did, and whether the last text went out
+// and no flush was refused before.
 fn draw<R: AllocGlobal + Input + Print>(rt: &R) -> (Option<LineFault>, bool) {
     let alloc = rt.alloc();
     let Ok(writer) = BufWriter::new(alloc, io::writer(rt)) else {
@@ -28,8 +29,9 @@ fn draw<R: AllocGlobal + Input + Print>(rt: &R) -> (Option<LineFault>, bool) {
         accepted: _,
         fault,
     } = run_lines(alloc, rt.reader(), Wrap::new(writer));
+    let stuck = writer.is_stuck();
     let flushed = writer.into_inner().flush().is_ok();
-    (fault, flushed)
+    (fault, flushed && !stuck)
 }
 
 // Puts the fault on standard error. A fault of standard error itself changes nothing.

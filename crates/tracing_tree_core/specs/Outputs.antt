@@ -49,10 +49,11 @@ pub record TapeView : Type 0 where
   pub bytes : List ℕ
   pub faults : ℕ
 
--- an output over a writer, and how many writes were refused
+-- an output over a writer, how many writes were refused, and whether a flush was
 pub record WrapView (W : Type 0) : Type 0 where
   pub writer : W
   pub faults : ℕ
+  pub stuck : Bool
 
 -- All of a text is written, or what is written is cut short. Where writes are whole a fault writes nothing.
 abbrev pub WritesWhole : Bool → List ℕ → Result (Unit {0}) OutputFault

@@ -220,6 +220,7 @@ fn flushes_are_refused(rt: HostRuntime) {
         assert_eq!(rt; wrap.write(b"ab"), Ok(2));
         wrap.flush();
         assert_eq!(rt; wrap.faults(), 0);
+        assert_eq!(rt; wrap.is_stuck(), wanted.is_err());
         assert_eq!(rt; wrap.write(b"c"), wanted);
         let faults = if wanted.is_ok() { 0 } else { 1 };
         assert_eq!(rt; wrap.faults(), faults);
@@ -251,6 +252,7 @@ fn blames_the_line_after_a_refused_flush(rt: HostRuntime) {
     let ran = run_lines(alloc, Slow { rest: TWO_SPANS }, writer);
     assert_eq!(rt; ran.fault, None);
     assert_eq!(rt; ran.writer.faults(), 0);
+    assert_eq!(rt; ran.writer.is_stuck(), true);
     assert_eq!(rt; ran.writer.into_inner().flushes, 3);
 }
 

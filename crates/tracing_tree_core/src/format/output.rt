@@ -1,6 +1,6 @@
 //! Outputs, which take bytes and count the writes that they refuse.
 
-ghost use Rattle.std.specs.Prelude.{◌≡◌, ℕ, ◌+◌, ◌-◌, ◌<◌, ◌≤◌, List, [], Bool, Option, Some, IfOk, IfSome, IfNone, length, take};
+ghost use Rattle.std.specs.Prelude.{◌≡◌, ℕ, ◌+◌, ◌-◌, ◌<◌, ◌≤◌, List, [], Bool, false, Option, Some, IfOk, IfSome, IfNone, length, take};
 ghost use Rattle.std.specs.Io.KnownBytes.{Appends, Keeps, WriteAppends};
 ghost use Rattle.tracing_tree_core.specs.Outputs.{TakesSome, CountsFault, WritesWhole};
 
@@ -177,19 +177,26 @@ impl<W: Write> Model for Wrap<W> {
 
     ghost Value = { WrapView W };
 
-    ghost view = { λ w. record { writer = w.writer; faults = w.faults } };
+    ghost view = { λ w. record { writer = w.writer; faults = w.faults; stuck = w.stuck } };
 }
 
 impl<W: Write> Wrap<W> {
     /// Makes an output over this writer, without faults.
     pub fn new(writer: W) -> Wrap<W>
-        ensures { result ≡ record { writer = writer; faults = 0 } }
+        ensures { result ≡ record { writer = writer; faults = 0; stuck = false } }
     {
         Wrap {
             writer,
             faults: 0,
             stuck: false,
         }
+    }
+
+    /// Whether a flush was refused, so that each write is a fault.
+    pub fn is_stuck(&self) -> bool
+        ensures { result ≡ self.now.stuck }
+    {
+        self.stuck
     }
 
     /// Returns the writer.
