@@ -69,7 +69,7 @@ HasOther history passes place =
     (slip : Slip) × Any (λ other. other ≡ slip) (all_slips passes) × (slip.place ≡ place)
     × ¬ (IsKept history slip)
 
--- a receipt for this place stands behind one that is not for a smaller place
+-- a receipt for this place stands after one that is not for a smaller place
 pub record IsLateIn (slips : Slips) (place : ℕ) : Type 0 where
   pub sooner : ℕ
   pub later : ℕ

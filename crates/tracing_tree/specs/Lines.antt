@@ -46,7 +46,7 @@ is_from_outside Read = true
 is_from_outside Memory = true
 is_from_outside (Refused refusal) = false
 
--- the fault is of the line behind these, and ends the run
+-- the fault is of the line after these, and ends the run
 abbrev pub IsFaultBehind : Settings → Timer → State → List (List ℕ) → ℕ → LineFault → Type 0
 IsFaultBehind settings timer state others judged fault =
     (fault.line ≡ judged + 2)
@@ -74,7 +74,7 @@ pub record StopsAtFirst (input : List ℕ) (accepted : ℕ) (fault : Option Line
 abbrev pub last_number : ℕ
 last_number = 18_446_744_073_709_551_615
 
--- so many lines behind the first may be judged, and no other cause ends the run at the last number
+-- so many lines after the first may be judged, and no other cause ends the run at the last number
 abbrev pub IsCounted : ℕ → Option LineFault → Type 0
 IsCounted judged fault =
     (judged + 1 < last_number)
@@ -108,7 +108,7 @@ module _ {input : List ℕ} {accepted : ℕ} {fault : Option LineFault} where
   abbrev pub lines_text : RunsLines input accepted fault → List ℕ
   lines_text r = draw r.settings (lines_run r.settings r.timer r.calls).rows
 
--- Behind the text of the accepted calls nothing is written, but after a fault of the writer a beginning of the text of the
+-- After the text of the accepted calls nothing is written, but after a fault of the writer a beginning of the text of the
 -- call that this line spells, and nothing where writes are whole.
 abbrev pub IsLeftBehind : Bool → Settings → Timer → State → List ℕ → LineCause → List ℕ → Type 0
 IsLeftBehind whole settings timer state line (Refused Writer) front =
@@ -124,7 +124,7 @@ IsLeftByFault whole settings timer state None (Some fault) front = front ≡ []
 IsLeftByFault whole settings timer state (Some line) (Some fault) front =
     IsLeftBehind whole settings timer state line fault.cause front
 
--- what a run over lines writes: the text of the accepted calls, and what is left behind it
+-- what a run over lines writes: the text of the accepted calls, and what a fault leaves after it
 pub record WritesLines {input : List ℕ} {accepted : ℕ} {fault : Option LineFault}
     (r : RunsLines input accepted fault)
     (old new : SeenWriter) : Type 0 where

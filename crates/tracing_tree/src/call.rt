@@ -22,7 +22,7 @@ pub enum Call {
     Close(Id, Context),
 }
 
-/// What an accepted call answers.
+/// The answer to an accepted call.
 #[derive(Clone, Copy, Debug, PartialEq, Eq)]
 pub enum Reply {
     /// The new span.

@@ -118,7 +118,7 @@ pub struct LinesRun<W: Output> {
 const BLOCK: usize = 64 * 1024;
 
 /// Runs the calls that the input's lines spell, under the settings that its first line spells, and draws them into the writer.
-/// It asks that the writer has no faults.
+/// The caller must ensure that the writer has no faults.
 ///
 /// The run ends after the first line that spells no call or whose call is refused: that line's number and the cause are the
 /// fault. A line of spaces, tabs and carriage returns alone is counted and skipped. An interrupted read is tried again at most

@@ -1,7 +1,7 @@
 //! Rows of a drawing: made one by one, drawn, and read back from the text of a drawing.
 //!
 //! What a row may be, how it is drawn and which line is read as what is in docs/FORMATS.md, 'Rows and their reader'. Where
-//! `read_rows` answers rows, drawing them gives the text again, and no other rows have that text.
+//! `read_rows` returns rows, drawing them gives the text again, and no other rows have that text.
 
 mod draw;
 mod json;

@@ -13,7 +13,7 @@ fn main(rt: HostRuntime) -> ExitCode {
     ExitCode::from(status(&fault, flushed))
 }
 
-// Draws the tree. Answers the fault that ended the run, if one did, and whether the last text went out
+// Draws the tree. Returns the fault that ended the run, if one did, and whether the last text went out
 // and no flush was refused before.
 fn draw<R: AllocGlobal + Input + Print>(rt: &R) -> (Option<LineFault>, bool) {
     let alloc = rt.alloc();

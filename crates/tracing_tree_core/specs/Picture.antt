@@ -201,7 +201,7 @@ picture settings row =
 
 -- ---- wrap marks
 
--- the levels wrap round behind this one
+-- the levels wrap round after this one
 abbrev pub is_last_before_wrap : Settings → ℕ → Bool
 is_last_before_wrap settings level =
     settings.indent_lines && nat_lt 0 level && ((level + 1) % settings.wraparound == 0)

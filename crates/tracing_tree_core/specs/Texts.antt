@@ -153,7 +153,7 @@ event_fields fields = spaced_fields (shown_fields fields)
 
 -- ---- prefixes
 
--- the thread's name, behind a colon if its number stands before it
+-- the thread's name, after a colon if its number stands before it
 abbrev pub thread_name_text : Bool → Option (List ℕ) → List ℕ
 thread_name_text numbered None = []
 thread_name_text numbered (Some name) = (if numbered then codes ":" else []) ++ name

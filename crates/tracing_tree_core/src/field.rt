@@ -43,7 +43,8 @@ impl Field {
         Field::rendered(alloc, name, if value { "true" } else { "false" })
     }
 
-    /// A field whose value is a text in Rust's debug form, between quotes and with escapes. It asks that the text is ASCII.
+    /// A field whose value is a text in Rust's debug form, between quotes and with escapes. The
+    /// caller must ensure that the text is ASCII.
     /// `AllocError` where memory is refused.
     pub fn text(alloc: Global, name: &str, value: &str) -> Result<Field, AllocError>
         requires { IsAscii value.now }

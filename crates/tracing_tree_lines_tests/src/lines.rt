@@ -8,7 +8,7 @@ use std::test::*;
 use tracing_tree::format::{Id, Refusal, Tape};
 use tracing_tree::lines::{LineCause, LineFault, run_lines};
 
-// A reader that gives one byte at a time. Behind the first `calm` bytes it fails `times` times before each.
+// A reader that gives one byte at a time. After the first `calm` bytes it fails `times` times before each.
 #[derive(Drop)]
 struct Hesitant<'a> {
     rest: &'a [u8],
@@ -52,7 +52,7 @@ impl Read for Hesitant<'_> {
     }
 }
 
-// Three lines, of which the last two are skipped; the third begins behind four bytes.
+// Three lines, of which the last two are skipped; the third begins after four bytes.
 const THREE_LINES: &[u8] = b"{}\n\n \t\n";
 
 // The fault of a run over the three lines, by a reader that fails so.
@@ -172,7 +172,7 @@ fn long_lines_that_are_wrong(rt: HostRuntime) -> Result<(), Fail> {
     Ok(())
 }
 
-// Nothing is read behind the line that ended the run.
+// Nothing is read after the line that ended the run.
 #[test]
 fn reads_no_further(rt: HostRuntime) {
     let alloc = rt.alloc();

@@ -96,7 +96,7 @@ fn read<R: AllocGlobal + Eprint + Input + Print>(rt: &R, amount: usize) -> ExitC
     ended(rt, run, flushed)
 }
 
-// Puts the fault on standard error, if there is one, and answers the status. A fault of standard error itself changes nothing.
+// Puts the fault on standard error, if there is one, and returns the status. A fault of standard error itself changes nothing.
 fn ended(rt: &impl Eprint, run: Result<(), RowFault>, flushed: bool) -> ExitCode {
     let told = match run {
         Err(fault) => eprintln!(rt; "{fault}"),

@@ -31,7 +31,7 @@ pub(super) fn holds_line<R: Read>(reader: &BufReader<R>) -> bool
     line_end(reader.buffer()).is_some()
 }
 
-// Reads the next line, without its line end, in place of what `line` held. Answers whether there is one: what stands behind
+// Reads the next line, without its line end, in place of what `line` held. Returns whether there is one: what stands after
 // the last line end is a line if it isn't empty.
 pub(super) fn read_line<B: BufRead>(reader: &mut B, line: &mut Vec<u8>) -> Result<bool, LineCause>
     ensures { ReadsNext (B.remaining reader.old) (B.remaining reader.new) line.new.items result }
@@ -42,7 +42,7 @@ pub(super) fn read_line<B: BufRead>(reader: &mut B, line: &mut Vec<u8>) -> Resul
     Ok(!line.is_empty())
 }
 
-// Reads up to the next line end, or to the end of the input, in place of what `line` held. Answers whether there was a line end.
+// Reads up to the next line end, or to the end of the input, in place of what `line` held. Returns whether there was a line end.
 pub(crate) fn read_ended<B: BufRead>(reader: &mut B, line: &mut Vec<u8>) -> Result<bool, LineCause>
     ensures { ReadsEnded (B.remaining reader.old) (B.remaining reader.new) line.new.items result }
 {

@@ -75,8 +75,8 @@ impl fmt::Display for RowFault {
 // The bytes that are asked of the reader at a time.
 const BLOCK: usize = 64 * 1024;
 
-/// Reads a drawing and writes one line of JSON for each row: what `read_rows` answers, and for events the places that
-/// `read_paths` answers. It keeps one row, one line and the places of the open levels. The caller must ensure that the amount is
+/// Reads a drawing and writes one line of JSON for each row: what `read_rows` returns, and for events the places that
+/// `read_paths` returns. It keeps one row, one line and the places of the open levels. The caller must ensure that the amount is
 /// 2 or more.
 ///
 /// At the first line that is no line of a row it ends with `NotARow`, after all rows before that line are written. An
@@ -153,7 +153,7 @@ impl RowsRead {
         }
     }
 
-    // Reads a line, and writes the row before it if that is complete. Answers whether there was a line.
+    // Reads a line, and writes the row before it if that is complete. Returns whether there was a line.
     fn read_line<B: BufRead, W: Write>(
         &mut self,
         input: &mut B,

@@ -92,7 +92,7 @@ impl Ancestry {
         }
     }
 
-    /// Takes the next row, which stands at this place, and answers its path if it is an event's. `AllocError` where memory is
+    /// Takes the next row, which stands at this place, and returns its path if it is an event's. `AllocError` where memory is
     /// refused; the row isn't taken then.
     pub fn take(
         &mut self,
@@ -190,7 +190,7 @@ impl Paths {
     }
 }
 
-/// The events of a drawing in order, each with the places of its ancestors in the rows that `read_rows` answers: as many entries
+/// The events of a drawing in order, each with the places of its ancestors in the rows that `read_rows` returns: as many entries
 /// as its level, of which each has the last row above the event that opens that very level, if there is one. The caller must
 /// ensure that the amount is 2 or more.
 ///

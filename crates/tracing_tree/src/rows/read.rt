@@ -259,7 +259,7 @@ impl Reader {
         Ok(Taken::First(self.last.replace(row)))
     }
 
-    // Takes the line if it is one more of the last row, and answers whether it is.
+    // Takes the line if it is one more of the last row, and returns whether it is.
     fn take_later(&mut self, alloc: Global, line: &str) -> Result<bool, AllocError>
         requires { IsTrue (is_unbroken line.now) }
         ensures { TriesLater self.old line.now result self.new }

@@ -352,7 +352,7 @@ impl Drawing<'_> {
         lined_frame(self.mode, amount, wrapped, first)
     }
 
-    // Whether the levels wrap round behind this one.
+    // Whether the levels wrap round after this one.
     fn is_last_before_wrap(&self) -> bool
         ensures { result ≡ is_last_before_wrap self.now.config.now self.now.level }
     {
@@ -360,7 +360,7 @@ impl Drawing<'_> {
         self.config.indent_lines() && self.level > 0 && self.wrapped_level() == last
     }
 
-    // Where the levels wrap round behind this one, a line up to the indent and the corner, if the row has one.
+    // Where the levels wrap round after this one, a line up to the indent and the corner, if the row has one.
     fn mark(&self, out: &mut String, corner: Option<char>) -> Result<(), AllocError>
         requires room { HasRoom self.now }
         requires last { is_last_before_wrap self.now.config.now self.now.level ≡ true }

@@ -16,7 +16,7 @@ pub struct Data {
     /// When it was made, in nanoseconds on the clock that only goes forward.
     pub start: u64,
 
-    /// Its fields, those of later records behind those that it was made with.
+    /// Its fields: those that it was made with, and then those of later records.
     pub fields: Fields,
 
     /// Whether a row of it was printed.

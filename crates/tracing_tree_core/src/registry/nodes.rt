@@ -16,7 +16,7 @@ use std::marker::Model;
 use std::mem;
 
 // The live spans. A span that goes leaves a gap, so that nothing moves. Gaps at the end go at once, and all gaps once they are
-// more than half of the list. The records lie in the list: behind pointers each would be one more block of memory to free.
+// more than half of the list. The records lie in the list itself: a pointer to each would be one more block of memory to free.
 #[derive(Drop)]
 pub(crate) struct Nodes {
     slots: Vec<Slot>,

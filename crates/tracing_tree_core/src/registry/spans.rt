@@ -55,7 +55,7 @@ impl Registry {
         }
     }
 
-    /// Makes a span with one handle, not printed yet, which starts at the context's moment, and answers its id.
+    /// Makes a span with one handle, not printed yet, which starts at the context's moment, and returns its id.
     ///
     /// `NotHeld` of a parent that isn't live, `TooMany` after `u64::MAX` was given out, `Memory`. On a refusal the registry is
     /// as it was, and the attributes are gone.
@@ -97,7 +97,7 @@ impl Registry {
         Ok(id)
     }
 
-    /// Adds one handle to a live span, also to one that only a child holds. Answers its id. Takes no memory.
+    /// Adds one handle to a live span, also to one that only a child holds. Returns its id. Takes no memory.
     ///
     /// `NotHeld` of a span that isn't live, `TooMany` where its handles can't be counted further; nothing has changed then.
     pub fn clone_span(&mut self, id: Id) -> Result<Id, Refusal>
@@ -114,7 +114,7 @@ impl Registry {
     }
 
     /// Takes one handle of a span away. A span with neither handle nor child left goes, then its parent if it has neither, and
-    /// so on upward. Answers whether the span went. Takes no memory.
+    /// so on upward. Returns whether the span went. Takes no memory.
     ///
     /// `NotHeld` of a span that isn't live or has no handle left; nothing has changed then.
     pub fn try_close(&mut self, id: Id) -> Result<bool, Refusal>
@@ -185,8 +185,8 @@ impl Registry {
         }
     }
 
-    /// Takes a new span out again: its id is the next one again. Takes no memory. It asks that the span is the newest given
-    /// out, live, with one handle and no child.
+    /// Takes a new span out again: its id is the next one again. Takes no memory. The caller must
+    /// ensure that the span is the newest given out, live, with one handle and no child.
     pub fn take_back(&mut self, id: Id)
         requires { IsNewest id self.old }
         ensures { self.new ≡ take_back id self.old }
@@ -275,7 +275,7 @@ fn closing_part<'a>(nodes: &Nodes, node: &'a Node) -> &'a [Id]
     &path[path.len() - count..]
 }
 
-// Removes a span without children, and counts it no longer among its parent's. Answers the parent.
+// Removes a span without children, and counts it no longer among its parent's. Returns the parent.
 fn remove_leaf(nodes: &mut Nodes, id: Id) -> Option<Id>
     requires kept { IsKept (spans_of nodes.old) None }
     requires tied { IsTied nodes.old }
