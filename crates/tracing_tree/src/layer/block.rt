@@ -3,7 +3,7 @@
 ghost use Rattle.std.specs.Prelude.{◌≡◌, ◌++◌, true, OnOk, OnErr, string_bytes};
 ghost use Rattle.tracing_tree_core.specs.declared.style.Style.TheVariants.{BoldGreen};
 ghost use Rattle.tracing_tree_core.specs.Texts.{label, styled, named_value, shown_field, span_fields, event_field, comma_after, event_fields};
-ghost use Rattle.tracing_tree.specs.Block.{shown_target, shown_brace, span_text, span_block, event_tail};
+ghost use Rattle.tracing_tree.specs.Block.{shown_target, span_text, span_block, event_tail};
 
 use std::alloc::AllocError;
 use tracing_tree_core::field::Field;
@@ -35,9 +35,14 @@ fn push_span_text(out: &mut String, config: &Config, span: &SpanRef) -> Result<(
 {
     push_span_target(out, config, span)?;
     push_styled(out, config.ansi(), Style::BoldGreen, span.name())?;
-    push_brace(out, config, "{", "\x1b[1;32m{\x1b[0m", " ")?;
-    push_span_fields(out, span.data().fields.as_slice())?;
-    push_brace(out, config, "}", "\x1b[1;32m}\x1b[0m", "")
+    let fields = span.data().fields.as_slice();
+    if !config.bracketed_fields() {
+        out.push_str(" ")?;
+        return push_span_fields(out, fields);
+    }
+    push_brace(out, config, "{", "\x1b[1;32m{\x1b[0m")?;
+    push_span_fields(out, fields)?;
+    push_brace(out, config, "}", "\x1b[1;32m}\x1b[0m")
 }
 
 // The target of a span, if targets are on.
@@ -52,26 +57,22 @@ fn push_span_target(out: &mut String, config: &Config, span: &SpanRef) -> Result
     out.push_str("::")
 }
 
-// A brace round the fields of a span, painted with ansi, or what stands there without braces.
+// A brace round the fields of a span, painted with ansi.
 fn push_brace(
     out: &mut String,
     config: &Config,
     brace: &str,
     painted: &str,
-    plain: &str,
 ) -> Result<(), AllocError>
     requires { painted.now ≡ styled true BoldGreen brace.now }
-    ensures { OnOk result
-        (string_bytes out.new ≡ string_bytes out.old
-        ++ shown_brace config.now brace.now plain.now) }
+    ensures { OnOk result (string_bytes out.new
+        ≡ string_bytes out.old ++ styled config.now.ansi BoldGreen brace.now) }
 {
-    if !config.bracketed_fields() {
-        return out.push_str(plain);
-    }
     if config.ansi() {
-        return out.push_str(painted);
+        out.push_str(painted)
+    } else {
+        out.push_str(brace)
     }
-    out.push_str(brace)
 }
 
 // Appends the block of a span's row: its label, if labels are on, then target, name and fields, of

@@ -361,20 +361,8 @@ impl Config {
         Ok(prefix)
     }
 
-    // Appends the prefix, of which most settings show nothing. After `AllocError` a beginning of it may stand in `out`.
+    // Appends the prefix. After `AllocError` a beginning of it may stand in `out`.
     pub(crate) fn push_prefix(&self, out: &mut String, context: &Context) -> Result<(), AllocError>
-        ensures { let prefix = prefix_text self.now context.now in
-            OnOk result (string_bytes out.new ≡ string_bytes out.old ++ prefix) }
-    {
-        if self.render_thread_ids || self.render_thread_names {
-            self.push_thread(out, context)
-        } else {
-            Ok(())
-        }
-    }
-
-    // Appends the thread's number and name, as far as the settings show them. After `AllocError` a beginning may stand in `out`.
-    fn push_thread(&self, out: &mut String, context: &Context) -> Result<(), AllocError>
         ensures { let prefix = prefix_text self.now context.now in
             OnOk result (string_bytes out.new ≡ string_bytes out.old ++ prefix) }
     {
