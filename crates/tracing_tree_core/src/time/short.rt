@@ -6,6 +6,7 @@ ghost use Rattle.tracing_tree_core.specs.Texts.{digits_in};
 
 use super::TimeFault;
 use std::marker::Model;
+use std::str;
 
 // A date, a time and an offset have at most so many bytes.
 const ROOM: usize = 40;
@@ -92,6 +93,9 @@ impl ShortText {
     fn as_str(&self) -> &str
         ensures { result.now ≡ self.now }
     {
-        unsafe { std::str::from_utf8_unchecked(&self.bytes[..self.length]) }
+        match str::from_utf8(&self.bytes[..self.length]) {
+            Ok(text) => text,
+            Err(_) => "",
+        }
     }
 }
