@@ -2,19 +2,19 @@
 use Rattle.std.specs.Prelude.{ℕ, true, false, List, [], ◌∷◌, Some, None, codes, pos}
 use Rattle.jiff_core.specs.Timestamp.{IsTimestampNanos}
 use Rattle.jiff_core.specs.declared.timestamp.Timestamp.{Timestamp}
-use Rattle.tracing_tree_core.specs.Settings.{Settings, default_settings}
-use Rattle.tracing_tree_core.specs.Ids.{id_of}
-use Rattle.tracing_tree_core.specs.Texts.{rendered_field}
-use Rattle.tracing_tree_core.specs.Clock.{no_timer}
+use Rattle.tracing_tree_core.specs.Drawing.Settings.{Settings, default_settings}
+use Rattle.tracing_tree_core.specs.Registry.Ids.{id_of}
+use Rattle.tracing_tree_core.specs.Drawing.Texts.{rendered_field}
+use Rattle.tracing_tree_core.specs.Time.Clock.{no_timer}
 use Rattle.tracing_tree_core.specs.declared.context.Context.{Context}
 use Rattle.tracing_tree_core.specs.declared.field.Field.{Field}
 use Rattle.tracing_tree_core.specs.declared.registry.Parent.{Parent}
 use Rattle.tracing_tree_core.specs.declared.registry.Parent.TheVariants.{Current}
 use Rattle.tracing_tree_core.specs.declared.style.Level.{Level}
 use Rattle.tracing_tree_core.specs.declared.style.Level.TheVariants.{Info, Warn}
-use Rattle.tracing_tree.specs.State.{State, opening_state}
-use Rattle.tracing_tree.specs.Seen.{SeenWriter}
-use Rattle.tracing_tree.specs.Run.{run, text_of}
+use Rattle.tracing_tree.specs.Calls.State.{State, opening_state}
+use Rattle.tracing_tree.specs.Calls.Seen.{SeenWriter}
+use Rattle.tracing_tree.specs.Calls.Run.{run, text_of}
 use Rattle.tracing_tree.specs.declared.call.Call.{Call}
 use Rattle.tracing_tree.specs.declared.call.Call.TheVariants.{New, Event, Close}
 

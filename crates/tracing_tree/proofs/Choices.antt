@@ -2,7 +2,7 @@
 use Rattle.std.specs.Prelude.{◌≡◌, ℕ, Bool, true, false, List, [], ◌∷◌, Some, None, cond, bytes_eq, refl}
 use Rattle.std.proofs.Common.{sym, ◌∙◌}
 use Rattle.std.proofs.lemmas.Slice.Eq.{bytes_eq-Decides}
-use Rattle.tracing_tree.specs.Spelled.{chosen}
+use Rattle.tracing_tree.specs.Lines.Spelled.{chosen}
 
 not_equal : (b : Bool) (P : Type 0) → (b ≡ true → P) → (P → ⊥) → b ≡ false
 not_equal true P holds never = absurd (never (holds refl))

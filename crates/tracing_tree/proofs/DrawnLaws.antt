@@ -3,29 +3,29 @@ use Rattle.std.proofs.Common.{◌≡◌, ◌≢◌, ◌⊎◌, ◌-◌, suc, tak
 use Rattle.std.proofs.lemmas.Grind.{flat_map-append}
 use Rattle.std.proofs.lemmas.List.{map-append}
 use Rattle.std.proofs.lemmas.List.Folds.{list_any-append}
-use Rattle.tracing_tree_core.specs.Settings.{Settings}
-use Rattle.tracing_tree_core.specs.Buffered.{BuffersView}
-use Rattle.tracing_tree_core.specs.Picture.{Row, draw, drawn_row, is_too_wide, unnamed_row}
+use Rattle.tracing_tree_core.specs.Drawing.Settings.{Settings}
+use Rattle.tracing_tree_core.specs.Drawing.Buffers.{BuffersView}
+use Rattle.tracing_tree_core.specs.Drawing.Picture.{Row, draw, drawn_row, is_too_wide, unnamed_row}
 use Rattle.tracing_tree_core.specs.declared.context.Refusal.{Refusal}
 use Rattle.tracing_tree_core.specs.declared.context.Refusal.TheVariants.{NotHeld, TooWide, TooMany, Memory, Timer, Writer, Failed}
-use Rattle.tracing_tree_core.specs.Forest.{Forest, IsForest, is_live, if_live, path_of, path_of_any}
+use Rattle.tracing_tree_core.specs.Registry.Forest.{Forest, IsForest, is_live, if_live, path_of, path_of_any}
 use Rattle.tracing_tree_core.specs.declared.context.Id.{Id}
 use Rattle.tracing_tree_core.specs.declared.context.Context.{Context}
 use Rattle.tracing_tree_core.specs.declared.registry.Event.{Event}
 use Rattle.tracing_tree_core.specs.declared.format.SpanMode.TheVariants.{Event as EventMode}
-use Rattle.tracing_tree_core.specs.Clock.{Timer as Clock}
+use Rattle.tracing_tree_core.specs.Time.Clock.{Timer as Clock}
 use Rattle.tracing_tree_core.proofs.PathLaws.{path_of-none}
 use Rattle.std.specs.Option.{option_or}
 use Rattle.std.specs.Bool.{then_some}
 use Rattle.std.specs.Io.KnownBytes.{Appends}
 use Rattle.std.proofs.KnownBytes.{Keeps-refl}
-use Rattle.tracing_tree_core.specs.Outputs.{IsCutShort, LeavesCut}
-use Rattle.tracing_tree.specs.State.{Turn}
-use Rattle.tracing_tree.specs.Seen.{SeenWriter}
-use Rattle.tracing_tree.specs.Refused.{draws_too_wide, is_event_too_wide}
-use Rattle.tracing_tree.specs.Rows.{then_turn, turn_of_row, turn_of_closes, event_depth, event_level, event_parent}
-use Rattle.tracing_tree.specs.Plan.{PlanView, rows_of_planned, row_of_planned, turn_of_plan}
-use Rattle.tracing_tree.specs.Drawn.{AddsRow, DrawsRows, Drafts, IsBlank, IsUndrawn, IsWritten, Sends, has_no_id, has_no_row, rows_cause, when_ok}
+use Rattle.tracing_tree_core.specs.Drawing.Outputs.{IsCutShort, LeavesCut}
+use Rattle.tracing_tree.specs.Calls.State.{Turn}
+use Rattle.tracing_tree.specs.Calls.Seen.{SeenWriter}
+use Rattle.tracing_tree.specs.Calls.Refused.{draws_too_wide, is_event_too_wide}
+use Rattle.tracing_tree.specs.Rows.Turns.{then_turn, turn_of_row, turn_of_closes, event_depth, event_level, event_parent}
+use Rattle.tracing_tree.specs.Rows.Plan.{PlanView, rows_of_planned, row_of_planned, turn_of_plan}
+use Rattle.tracing_tree.specs.Rows.Drawn.{AddsRow, DrawsRows, Drafts, IsBlank, IsUndrawn, IsWritten, Sends, has_no_id, has_no_row, rows_cause, when_ok}
 use Rattle.tracing_tree.specs.declared.layer.page.Page.{Page}
 use Rattle.tracing_tree.specs.declared.layer.plan.PlannedRow.{PlannedRow}
 

@@ -4,15 +4,8 @@ pub mod Choices
 pub mod Pairs
 pub mod Moments
 pub mod SpelledLines
-pub mod WorkedRows
-pub mod WorkedDrawing
-pub mod WorkedClosing
-pub mod WorkedRetraces
-pub mod WorkedReadings
-pub mod WorkedLines
 pub mod RunLaws
 pub mod PathPairs
-pub mod WorkedBare
 pub mod Marks
 pub mod Plans
 pub mod MarkedCloses
@@ -23,10 +16,9 @@ pub mod LineEnds
 pub mod LineRuns
 pub mod OpenedLines
 pub mod Reading
-pub mod WorkedLaws
 pub mod RowsRead
 pub mod DifferenceLemmas
 pub mod DifferenceRunLaws
 pub mod DifferenceYields
 pub mod DifferingLaws
-pub mod WorkedDifference
+pub mod Worked

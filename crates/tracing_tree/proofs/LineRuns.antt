@@ -4,21 +4,21 @@ use Rattle.std.specs.Prelude.{slice_get, IsSomeAnd, ⊤}
 use Rattle.std.specs.Io.KnownBytes.{Appends}
 use Rattle.std.proofs.KnownBytes.{Appends-nil, Appends-trans, Appends-kept}
 use Rattle.std.proofs.Math.Seq.{take-append_seam}
-use Rattle.tracing_tree_core.specs.Picture.{Row, draw}
+use Rattle.tracing_tree_core.specs.Drawing.Picture.{Row, draw}
 use Rattle.tracing_tree_core.specs.declared.context.Refusal.{Refusal}
 use Rattle.tracing_tree_core.specs.declared.context.Refusal.TheVariants as Refusals
-use Rattle.tracing_tree.specs.State.{State}
-use Rattle.tracing_tree.specs.Seen.{Seen, SeenWriter, seen_later}
-use Rattle.tracing_tree.specs.Step.{turn_of, reply_of, state_after}
-use Rattle.tracing_tree.specs.Refused.{cause_of}
-use Rattle.tracing_tree.specs.Run.{Run, run_by_cause, no_call, then_run, call_text}
-use Rattle.tracing_tree.specs.Answered.{IsAnswered, Writes}
-use Rattle.tracing_tree.specs.Headline.{run_from}
-use Rattle.tracing_tree.specs.Spelled.{input_lines, is_skipped, SpellsCall, SpellCalls}
-use Rattle.tracing_tree.specs.Readers.{IsUnlessMemory}
-use Rattle.tracing_tree.specs.Lines.{EndsRun, IsLeftBehind, IsLeftByFault, is_from_outside, last_number, CountsCause}
-use Rattle.tracing_tree.specs.LineReads.{TakesLine, HasNoLine}
-use Rattle.tracing_tree.specs.LineSteps.{MakesCall, SkipsLine, FailsLine, JudgesLine, Flushes, RunsOver, EndsLines}
+use Rattle.tracing_tree.specs.Calls.State.{State}
+use Rattle.tracing_tree.specs.Calls.Seen.{Seen, SeenWriter, seen_later}
+use Rattle.tracing_tree.specs.Calls.Step.{turn_of, reply_of, state_after}
+use Rattle.tracing_tree.specs.Calls.Refused.{cause_of}
+use Rattle.tracing_tree.specs.Calls.Run.{Run, run_by_cause, no_call, then_run, call_text}
+use Rattle.tracing_tree.specs.Calls.Answered.{IsAnswered, Writes}
+use Rattle.tracing_tree.specs.Calls.Headline.{run_from}
+use Rattle.tracing_tree.specs.Lines.Spelled.{input_lines, is_skipped, SpellsCall, SpellCalls}
+use Rattle.tracing_tree.specs.Lines.Values.{IsUnlessMemory}
+use Rattle.tracing_tree.specs.Lines.Runs.{EndsRun, IsLeftAfter, IsLeftByFault, is_from_outside, last_number, CountsCause}
+use Rattle.tracing_tree.specs.Lines.Reads.{TakesLine, HasNoLine}
+use Rattle.tracing_tree.specs.Lines.Steps.{MakesCall, SkipsLine, FailsLine, JudgesLine, Flushes, RunsOver, EndsLines}
 use Rattle.tracing_tree.specs.declared.call.Call.{Call}
 use Rattle.tracing_tree.specs.declared.call.Reply.{Reply}
 use Rattle.tracing_tree.specs.declared.lines.Judged.{Judged}
@@ -306,7 +306,7 @@ module _ (first : Seen) where
   blames : (lines others after : List (List ℕ)) (line : List ℕ) (accepted number : ℕ) (now next : Seen) (cause : LineCause) (front : List ℕ) →
       number < last_number → (so_far : IsSoFar lines others accepted number now) → others ≡ line ∷ after →
       EndsRun first.settings first.timer (run_from first so_far.calls).state line cause →
-      IsLeftBehind first.writer.whole first.settings first.timer (run_from first so_far.calls).state line cause front →
+      IsLeftAfter first.writer.whole first.settings first.timer (run_from first so_far.calls).state line cause front →
       Appends now.writer.bytes next.writer.bytes front → RunsOver lines accepted (Some (record { line = number; cause = cause })) first next
   blames lines others after line accepted number now next cause front below so_far e ends left appends =
       let r : Run = run_from first so_far.calls in
@@ -335,7 +335,7 @@ module _ (first : Seen) where
   -- what a refused call leaves behind the text
   leaves : (state : State) (line : List ℕ) (call : Call) (refusal : Refusal) (old new : SeenWriter) → SpellsCall line call →
       Writes {A = Reply} (call_text first.settings first.timer state call) (Err refusal) old new →
-      (front : List ℕ) × IsLeftBehind old.whole first.settings first.timer state line (Refused refusal) front × Appends old.bytes new.bytes front
+      (front : List ℕ) × IsLeftAfter old.whole first.settings first.timer state line (Refused refusal) front × Appends old.bytes new.bytes front
   leaves state line call Refusals.Writer old new spelled h = (h.front, (call, spelled, h.cut, h.nothing), h.appends)
   leaves state line call (Refusals.NotHeld j) old new spelled h = ([], refl, Appends-kept old.bytes old.bytes new.bytes [] (Appends-nil old.bytes) h.0)
   leaves state line call Refusals.TooWide old new spelled h = ([], refl, Appends-kept old.bytes old.bytes new.bytes [] (Appends-nil old.bytes) h.0)

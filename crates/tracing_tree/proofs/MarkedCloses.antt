@@ -3,15 +3,15 @@ use Rattle.std.proofs.Common.{◌≡◌, ◌+◌, ◌==◌, ◌&&◌, ◌-◌, c
 use Rattle.std.specs.Prelude.{take_while}
 use Rattle.std.specs.Option.{option_map_or}
 use Rattle.std.specs.List.{list_any, list_all, prefix_len}
-use Rattle.tracing_tree_core.specs.Settings.{Settings}
-use Rattle.tracing_tree_core.specs.Ids.{same_id}
-use Rattle.tracing_tree_core.specs.Spans.{Span, printed_span}
-use Rattle.tracing_tree_core.specs.Forest.{Forest, has_id, span_at, handles_of, is_child_of, children_of, goes_after, with_previous, going_up, closing_of, path_of, take_handle, mark_all}
+use Rattle.tracing_tree_core.specs.Drawing.Settings.{Settings}
+use Rattle.tracing_tree_core.specs.Registry.Ids.{same_id}
+use Rattle.tracing_tree_core.specs.Registry.Spans.{Span, printed_span}
+use Rattle.tracing_tree_core.specs.Registry.Forest.{Forest, has_id, span_at, handles_of, is_child_of, children_of, goes_after, with_previous, going_up, closing_of, path_of, take_handle, mark_all}
 use Rattle.tracing_tree_core.specs.declared.context.Id.{Id}
 use Rattle.tracing_tree_core.specs.declared.context.Context.{Context}
-use Rattle.tracing_tree.specs.State.{Turn}
-use Rattle.tracing_tree.specs.Rows.{turn_of_closes}
-use Rattle.tracing_tree.specs.Plan.{empty_plan, plan_of_closes}
+use Rattle.tracing_tree.specs.Calls.State.{Turn}
+use Rattle.tracing_tree.specs.Rows.Turns.{turn_of_closes}
+use Rattle.tracing_tree.specs.Rows.Plan.{empty_plan, plan_of_closes}
 use Rattle.tracing_tree.proofs.Reading.Kept.{marked, marked-same}
 use Rattle.tracing_tree.proofs.Marks.{span_at-marked, path_of-marked}
 use Rattle.tracing_tree.proofs.Plans.{turn-closes}

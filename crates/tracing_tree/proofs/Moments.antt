@@ -11,9 +11,9 @@ use Rattle.jiff_core.specs.Timestamp.{IsTimestampNanos}
 use Rattle.jiff_core.specs.declared.timestamp.Timestamp.{Timestamp}
 use Rattle.tracing_tree_core.specs.declared.context.Context.{Context}
 use Rattle.tracing_tree_core.specs.declared.context.Moment.{Moment}
-use Rattle.tracing_tree.specs.Readers.{Reads, ReadsCall, ValueSpells}
-use Rattle.tracing_tree.specs.CallKinds.{IsKindIn}
-use Rattle.tracing_tree.specs.Spelled.{◌>>=◌, IsMomentIn, context_in, required, call_named, object_call}
+use Rattle.tracing_tree.specs.Lines.Values.{Reads, ReadsCall, ValueSpells}
+use Rattle.tracing_tree.specs.Lines.CallKinds.{IsKindIn}
+use Rattle.tracing_tree.specs.Lines.Spelled.{◌>>=◌, IsMomentIn, context_in, required, call_named, object_call}
 use Rattle.tracing_tree.specs.declared.call.Call.{Call}
 use Rattle.tracing_tree.specs.declared.lines.LineCause.{LineCause}
 use Rattle.tracing_tree.specs.declared.lines.LineCause.TheVariants.{Settings as NoSettings, NotACall, Read, Memory, Refused}

@@ -7,15 +7,15 @@ use Rattle.std.specs.Io.KnownBytes.{prepend_known}
 use Rattle.std.proofs.KnownBytes.{prepend_known-nil}
 use Rattle.serde_json.specs.Data.{Data, null, boolean, number, string, array, object}
 use Rattle.serde_json.specs.Find.{as_null}
-use Rattle.tracing_tree_core.specs.Settings.{Settings}
-use Rattle.tracing_tree_core.specs.Ids.{id_of}
-use Rattle.tracing_tree.specs.Lines.{EndsAtFirst, CountsCause, LeavesRun}
-use Rattle.tracing_tree.specs.LineReads.{TakesLine, IsBeforeCalls, OpensWith}
-use Rattle.tracing_tree.specs.LineSteps.{RunsOver}
-use Rattle.tracing_tree.specs.State.{opening_state}
-use Rattle.tracing_tree.specs.Seen.{Seen, SeenWriter}
-use Rattle.tracing_tree.specs.Readers.{IsUnlessMemory}
-use Rattle.tracing_tree.specs.Spelled.{TimerChoice, SpellsSettings, chosen_timer, input_lines, unless_null}
+use Rattle.tracing_tree_core.specs.Drawing.Settings.{Settings}
+use Rattle.tracing_tree_core.specs.Registry.Ids.{id_of}
+use Rattle.tracing_tree.specs.Lines.Runs.{EndsAtFirst, CountsCause, LeavesRun}
+use Rattle.tracing_tree.specs.Lines.Reads.{TakesLine, IsBeforeCalls, OpensWith}
+use Rattle.tracing_tree.specs.Lines.Steps.{RunsOver}
+use Rattle.tracing_tree.specs.Calls.State.{opening_state}
+use Rattle.tracing_tree.specs.Calls.Seen.{Seen, SeenWriter}
+use Rattle.tracing_tree.specs.Lines.Values.{IsUnlessMemory}
+use Rattle.tracing_tree.specs.Lines.Spelled.{TimerChoice, SpellsSettings, chosen_timer, input_lines, unless_null}
 use Rattle.tracing_tree.specs.declared.lines.LineCause.{LineCause}
 use Rattle.tracing_tree.specs.declared.lines.LineCause.TheVariants.{Settings as NoSettings, NotACall, Read, Memory, Refused}
 use Rattle.tracing_tree.specs.declared.lines.LineFault.{LineFault}
@@ -23,22 +23,22 @@ use Rattle.tracing_tree.specs.declared.lines.LineFault.{LineFault}
 -- ---- members
 
 -- a null is absent
-pub is_absent : (value : Data) → is_some (as_null value) ≡ true → unless_null value ≡ None
-is_absent null e = refl
-is_absent (boolean b) e = cc
-is_absent (number n) e = cc
-is_absent (string s) e = cc
-is_absent (array ds) e = cc
-is_absent (object ms) e = cc
+pub absent : (value : Data) → is_some (as_null value) ≡ true → unless_null value ≡ None
+absent null e = refl
+absent (boolean b) e = cc
+absent (number n) e = cc
+absent (string s) e = cc
+absent (array ds) e = cc
+absent (object ms) e = cc
 
 -- another value is there
-pub is_there : (value : Data) → is_some (as_null value) ≡ false → unless_null value ≡ Some value
-is_there null e = cc
-is_there (boolean b) e = refl
-is_there (number n) e = refl
-is_there (string s) e = refl
-is_there (array ds) e = refl
-is_there (object ms) e = refl
+pub there : (value : Data) → is_some (as_null value) ≡ false → unless_null value ≡ Some value
+there null e = cc
+there (boolean b) e = refl
+there (number n) e = refl
+there (string s) e = refl
+there (array ds) e = refl
+there (object ms) e = refl
 
 -- ---- the first line
 

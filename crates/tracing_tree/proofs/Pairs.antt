@@ -6,7 +6,7 @@ use Rattle.serde_json.specs.declared.value.Value.{Value}
 use Rattle.tracing_tree_core.specs.declared.field.Field.{Field}
 use Rattle.std.specs.Prelude.{option_and_then}
 use Rattle.std.proofs.Common.{ap, sym, append_assoc}
-use Rattle.tracing_tree.specs.Spelled.{pair_field, field_value, item_fields}
+use Rattle.tracing_tree.specs.Lines.Spelled.{pair_field, field_value, item_fields}
 
 one_item : (d : Data) → pair_field (item d no_items) ≡ None
 one_item null = refl

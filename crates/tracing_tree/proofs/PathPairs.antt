@@ -3,13 +3,13 @@ use Rattle.std.proofs.Common.{◌≡◌, ℕ, zero, suc, ◌+◌, ◌<◌, Bool,
 use Rattle.std.specs.Prelude.{slice_get, filter_map}
 use Rattle.std.specs.Option.{option_map_or}
 use Rattle.std.specs.List.{enumerate_from, common_prefix_len, cons_option}
-use Rattle.tracing_tree_core.specs.Ids.{same_id}
-use Rattle.tracing_tree_core.specs.Spans.{Span}
-use Rattle.tracing_tree_core.specs.Forest.{Forest, span_at, is_live, path_of, path_of_any, Descends, IsForest}
+use Rattle.tracing_tree_core.specs.Registry.Ids.{same_id}
+use Rattle.tracing_tree_core.specs.Registry.Spans.{Span}
+use Rattle.tracing_tree_core.specs.Registry.Forest.{Forest, span_at, is_live, path_of, path_of_any, Descends, IsForest}
 use Rattle.tracing_tree_core.specs.declared.context.Id.{Id}
 use Rattle.tracing_tree_core.proofs.ForestLaws.{same_id-eq, path_of-is_path}
 use Rattle.tracing_tree_core.proofs.PathLaws.{path_of-none}
-use Rattle.tracing_tree.specs.Differences.{has_equal_at, differing, agree_at, AgreeDownward, PathsAgreeDownward, PathsDifferFreshly}
+use Rattle.tracing_tree.specs.Differences.Items.{has_equal_at, differing, agree_at, AgreeDownward, PathsAgreeDownward, PathsDifferFreshly}
 
 -- ---- places that agree
 

@@ -2,22 +2,22 @@
 use Rattle.std.proofs.Common.{◌≡◌, ◌&&◌, ℕ, ◌≤◌, length, subst, Bool, true, false, not, List, [], ◌∷◌, ◌++◌, map, Option, Some, None, is_some, if◌then◌else◌, refl, sym, ap, ◌∙◌, append_assoc, append-nil}
 use Rattle.std.specs.Option.{option_map_or, option_or}
 use Rattle.std.specs.List.{common_prefix_len}
-use Rattle.tracing_tree_core.specs.Ids.{same_id}
+use Rattle.tracing_tree_core.specs.Registry.Ids.{same_id}
 use Rattle.tracing_tree.proofs.Reading.Parts.{common-right}
 use Rattle.std.proofs.lemmas.List.{map-append}
-use Rattle.tracing_tree_core.specs.Settings.{Settings, retraces}
-use Rattle.tracing_tree_core.specs.Forest.{Forest, IsForest, is_printed, parent_of, path_of, path_of_any, fresh_ids, mark_all}
-use Rattle.tracing_tree_core.specs.Paths.{PartOnce}
+use Rattle.tracing_tree_core.specs.Drawing.Settings.{Settings, retraces}
+use Rattle.tracing_tree_core.specs.Registry.Forest.{Forest, IsForest, is_printed, parent_of, path_of, path_of_any, fresh_ids, mark_all}
+use Rattle.tracing_tree_core.specs.Registry.Paths.{PartOnce}
 use Rattle.tracing_tree_core.proofs.CommonLaws.{paths_part_once, nothing_parts_once}
-use Rattle.tracing_tree_core.specs.Picture.{Row}
+use Rattle.tracing_tree_core.specs.Drawing.Picture.{Row}
 use Rattle.tracing_tree_core.specs.declared.context.Id.{Id}
 use Rattle.tracing_tree_core.specs.declared.context.Context.{Context}
 use Rattle.tracing_tree_core.specs.declared.format.SpanMode.{SpanMode}
 use Rattle.tracing_tree_core.specs.declared.format.SpanMode.TheVariants.{PreOpen, Open, Close, PostClose}
-use Rattle.tracing_tree.specs.State.{Turn, quiet_turn}
-use Rattle.tracing_tree.specs.Rows.{span_row, parent_rows, fresh_kind, fresh_row, fresh_rows, retrace_to, then_turn, turn_of_new, turn_before_event, close_turn, turn_of_close, turn_of_closes}
-use Rattle.tracing_tree.specs.CloseRetrace.{retraces_before_close}
-use Rattle.tracing_tree.specs.Plan.{PlanView, empty_plan, row_of_planned, rows_of_planned, turn_of_plan, marked_by, planned_row, planned_parent, planned_fresh, planned_fresh_rows, retraced_plan, plan_of_new, plan_before_event, closed_plan, plan_of_close, plan_of_closes}
+use Rattle.tracing_tree.specs.Calls.State.{Turn, quiet_turn}
+use Rattle.tracing_tree.specs.Rows.Turns.{span_row, parent_rows, fresh_kind, fresh_row, fresh_rows, retrace_to, then_turn, turn_of_new, turn_before_event, close_turn, turn_of_close, turn_of_closes}
+use Rattle.tracing_tree.specs.Rows.CloseRetrace.{retraces_before_close}
+use Rattle.tracing_tree.specs.Rows.Plan.{PlanView, empty_plan, row_of_planned, rows_of_planned, turn_of_plan, marked_by, planned_row, planned_parent, planned_fresh, planned_fresh_rows, retraced_plan, plan_of_new, plan_before_event, closed_plan, plan_of_close, plan_of_closes}
 use Rattle.tracing_tree.specs.declared.layer.plan.PlannedRow.{PlannedRow}
 use Rattle.tracing_tree.proofs.Marks.{mark_all-none, mark_all-append, parent_of-marked, fresh_ids-marked, span_row-marked, parent_rows-marked}
 use Rattle.tracing_tree.proofs.Reading.Kept.{mark_printed-all}

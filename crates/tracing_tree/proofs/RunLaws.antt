@@ -1,10 +1,10 @@
 -- Two runs one after the other are the run of the joined lists.
 use Rattle.std.proofs.Common.{◌≡◌, List, [], ◌∷◌, ◌++◌, refl, ap, ◌∙◌}
 use Rattle.std.proofs.lemmas.List.{append_assoc}
-use Rattle.tracing_tree_core.specs.Settings.{Settings}
-use Rattle.tracing_tree_core.specs.Clock.{Timer}
-use Rattle.tracing_tree.specs.State.{State}
-use Rattle.tracing_tree.specs.Run.{Run, run, run_one, then_run}
+use Rattle.tracing_tree_core.specs.Drawing.Settings.{Settings}
+use Rattle.tracing_tree_core.specs.Time.Clock.{Timer}
+use Rattle.tracing_tree.specs.Calls.State.{State}
+use Rattle.tracing_tree.specs.Calls.Run.{Run, run, run_one, then_run}
 use Rattle.tracing_tree.specs.declared.call.Call.{Call}
 
 then_run-assoc : (a : Run) (b c : State → Run) → then_run a (λ s. then_run (b s) c) ≡ then_run (then_run a b) c

@@ -2,19 +2,19 @@
 use Rattle.std.proofs.Common.{◌≡◌, false, List, [], ◌∷◌, ◌++◌, Result, Ok, Err, refl, sym, ap, subst, ◌∙◌}
 use Rattle.std.specs.Io.KnownBytes.{Appends, Keeps}
 use Rattle.std.proofs.KnownBytes.{Appends-nil, Appends-trans, Appends-kept}
-use Rattle.tracing_tree_core.specs.Settings.{Settings}
-use Rattle.tracing_tree_core.specs.Clock.{Timer}
-use Rattle.tracing_tree_core.specs.Picture.{Row, draw}
+use Rattle.tracing_tree_core.specs.Drawing.Settings.{Settings}
+use Rattle.tracing_tree_core.specs.Time.Clock.{Timer}
+use Rattle.tracing_tree_core.specs.Drawing.Picture.{Row, draw}
 use Rattle.tracing_tree_core.specs.declared.context.Refusal.{Refusal}
 use Rattle.tracing_tree_core.specs.declared.context.Refusal.TheVariants as Refused
 use Rattle.tracing_tree_core.specs.declared.context.Refusal.TheVariants.{NotHeld, TooWide, TooMany, Memory, Writer, Failed}
-use Rattle.tracing_tree.specs.State.{State}
-use Rattle.tracing_tree.specs.Seen.{Seen, SeenWriter, seen_later}
-use Rattle.tracing_tree.specs.Step.{turn_of, state_after}
-use Rattle.tracing_tree.specs.Run.{Run, run, run_by_cause, then_run, accepted_calls, replies_among, state_after_answer, MayAnswer, call_text}
-use Rattle.tracing_tree.specs.Answered.{IsAnswered, Writes}
-use Rattle.tracing_tree.specs.Layers.{LayeredView, Changes}
-use Rattle.tracing_tree.specs.Headline.{AreAnswered, IsRunOf, Runs, run_from}
+use Rattle.tracing_tree.specs.Calls.State.{State}
+use Rattle.tracing_tree.specs.Calls.Seen.{Seen, SeenWriter, seen_later}
+use Rattle.tracing_tree.specs.Calls.Step.{turn_of, state_after}
+use Rattle.tracing_tree.specs.Calls.Run.{Run, run, run_by_cause, then_run, accepted_calls, replies_among, state_after_answer, MayAnswer, call_text}
+use Rattle.tracing_tree.specs.Calls.Answered.{IsAnswered, Writes}
+use Rattle.tracing_tree.specs.Calls.Layers.{LayeredView, Changes}
+use Rattle.tracing_tree.specs.Calls.Headline.{AreAnswered, IsRunOf, Runs, run_from}
 use Rattle.tracing_tree.specs.declared.call.Call.{Call}
 use Rattle.tracing_tree.specs.declared.call.Reply.{Reply}
 use Rattle.tracing_tree.proofs.DrawnLaws.{draw-append}

@@ -9,13 +9,13 @@ mod path;
 mod plan;
 
 ghost use Rattle.std.specs.Prelude.{◌≡◌, ◌<◌, [], false, None};
-ghost use Rattle.tracing_tree_core.specs.Settings.{default_settings};
-ghost use Rattle.tracing_tree_core.specs.Forest.{mark_all};
-ghost use Rattle.tracing_tree.specs.Rows.{event_depth, turn_of_new, turn_of_event, turn_of_closes};
-ghost use Rattle.tracing_tree.specs.Refused.{is_event_too_wide, timer_faults_at};
-ghost use Rattle.tracing_tree.specs.Layers.{is_fresh, IsFlushed};
-ghost use Rattle.tracing_tree.specs.Seen.{seen_writer};
-ghost use Rattle.tracing_tree.specs.Drawn.{failed_by, has_no_id, DoesTurn, IsBlank, IsReady, Sends};
+ghost use Rattle.tracing_tree_core.specs.Drawing.Settings.{default_settings};
+ghost use Rattle.tracing_tree_core.specs.Registry.Forest.{mark_all};
+ghost use Rattle.tracing_tree.specs.Rows.Turns.{event_depth, turn_of_new, turn_of_event, turn_of_closes};
+ghost use Rattle.tracing_tree.specs.Calls.Refused.{is_event_too_wide, timer_faults_at};
+ghost use Rattle.tracing_tree.specs.Calls.Layers.{is_fresh, IsFlushed};
+ghost use Rattle.tracing_tree.specs.Calls.Seen.{seen_writer};
+ghost use Rattle.tracing_tree.specs.Rows.Drawn.{failed_by, has_no_id, DoesTurn, IsBlank, IsReady, Sends};
 
 use drawing::Drawing;
 use page::Page;
@@ -43,8 +43,8 @@ pub struct HierarchicalLayer<W: Output, FT: FormatTime> {
 
 impl<W: Output, FT: FormatTime> Model for HierarchicalLayer<W, FT> {
     ghost use Rattle.std.specs.Prelude.{◌≡◌, false};
-    ghost use Rattle.tracing_tree.specs.Layers.{LayerView};
-    ghost use Rattle.tracing_tree.specs.Drawn.{IsClear};
+    ghost use Rattle.tracing_tree.specs.Calls.Layers.{LayerView};
+    ghost use Rattle.tracing_tree.specs.Rows.Drawn.{IsClear};
 
     ghost Value = { LayerView W FT };
 

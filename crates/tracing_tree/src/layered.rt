@@ -1,12 +1,12 @@
 //! A registry with a layer, which take each call whole, or refuse it and say why.
 
 ghost use Rattle.std.specs.Prelude.{◌≡◌, ◌≢◌, ◌<◌, [], false, None, OnErr, IfOk, length};
-ghost use Rattle.tracing_tree_core.specs.Ids.{id_of};
-ghost use Rattle.tracing_tree_core.specs.Forest.{empty_forest, if_live, path_of_any};
-ghost use Rattle.tracing_tree.specs.Layers.{seen, Changes};
-ghost use Rattle.tracing_tree.specs.LineSteps.{Flushes};
-ghost use Rattle.tracing_tree.specs.Answered.{IsAnswered};
-ghost use Rattle.tracing_tree.specs.Headline.{IsRunOf};
+ghost use Rattle.tracing_tree_core.specs.Registry.Ids.{id_of};
+ghost use Rattle.tracing_tree_core.specs.Registry.Forest.{empty_forest, if_live, path_of_any};
+ghost use Rattle.tracing_tree.specs.Calls.Layers.{seen, Changes};
+ghost use Rattle.tracing_tree.specs.Lines.Steps.{Flushes};
+ghost use Rattle.tracing_tree.specs.Calls.Answered.{IsAnswered};
+ghost use Rattle.tracing_tree.specs.Calls.Headline.{IsRunOf};
 
 use crate::call::{Call, Reply};
 use crate::layer::HierarchicalLayer;
@@ -29,7 +29,7 @@ pub struct Layered<W: Output, FT: FormatTime> {
 }
 
 impl<W: Output, FT: FormatTime> Model for Layered<W, FT> {
-    ghost use Rattle.tracing_tree.specs.Layers.{LayeredView};
+    ghost use Rattle.tracing_tree.specs.Calls.Layers.{LayeredView};
 
     ghost Value = { LayeredView W FT };
 

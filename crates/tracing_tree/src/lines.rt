@@ -8,11 +8,11 @@ mod value;
 
 ghost use Rattle.std.specs.Prelude.{◌≡◌, IfErr, IfSome, MatchResult};
 ghost use Rattle.std.specs.Io.Buffered.{reader_remaining};
-ghost use Rattle.tracing_tree.specs.Layers.{seen, Changes};
-ghost use Rattle.tracing_tree.specs.LineReads.{IsBeforeCalls, OpensWith};
-ghost use Rattle.tracing_tree.specs.Lines.{CountsEnd, EndsAtFirst, LeavesRun, status_of};
-ghost use Rattle.tracing_tree.specs.LineSteps.{EndsLines, Flushes, JudgesLine};
-ghost use Rattle.tracing_tree.specs.Seen.{seen_writer};
+ghost use Rattle.tracing_tree.specs.Calls.Layers.{seen, Changes};
+ghost use Rattle.tracing_tree.specs.Lines.Reads.{IsBeforeCalls, OpensWith};
+ghost use Rattle.tracing_tree.specs.Lines.Runs.{CountsEnd, EndsAtFirst, LeavesRun, status_of};
+ghost use Rattle.tracing_tree.specs.Lines.Steps.{EndsLines, Flushes, JudgesLine};
+ghost use Rattle.tracing_tree.specs.Calls.Seen.{seen_writer};
 
 use crate::layer::HierarchicalLayer;
 use crate::layered::Layered;

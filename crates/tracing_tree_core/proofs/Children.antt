@@ -6,10 +6,10 @@ use Rattle.std.proofs.lemmas.Bool.{not-true, or_parts}
 use Rattle.std.proofs.lemmas.Option.{slice_get_within, slice_get-get_or, same_Some}
 use Rattle.std.proofs.lemmas.List.{reverse-append, take-append-drop, take_more, take_rest}
 use Rattle.std.proofs.lemmas.List.Folds.{list_any-append}
-use Rattle.tracing_tree_core.specs.Ids.{same_id}
-use Rattle.tracing_tree_core.specs.Spans.{Span}
-use Rattle.tracing_tree_core.specs.Forest.{has_id, is_child_of, IsGrown, IsForest}
-use Rattle.tracing_tree_core.specs.Registered.{alone, is_other_child, lacks_others}
+use Rattle.tracing_tree_core.specs.Registry.Ids.{same_id}
+use Rattle.tracing_tree_core.specs.Registry.Spans.{Span}
+use Rattle.tracing_tree_core.specs.Registry.Forest.{has_id, is_child_of, IsGrown, IsForest}
+use Rattle.tracing_tree_core.specs.Registry.Registered.{alone, is_other_child, lacks_others}
 use Rattle.tracing_tree_core.specs.declared.context.Id.{Id}
 use Rattle.tracing_tree_core.proofs.ForestLaws.{same_id-eq}
 use Rattle.tracing_tree_core.proofs.RegistryLaws.{any-reverse}

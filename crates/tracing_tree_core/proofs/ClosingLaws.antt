@@ -2,8 +2,8 @@
 use Rattle.std.proofs.Common.{◌≡◌, Bool, true, false, List, [], ◌∷◌, ◌++◌, map, zip, reverse, take_while, Option, Some, None, refl, sym, ap, ◌∙◌, subst, if◌then◌else◌}
 use Rattle.std.specs.List.{list_all, last_or}
 use Rattle.std.proofs.lemmas.List.Sums.{take_while-cons}
-use Rattle.tracing_tree_core.specs.Forest.{Forest, goes_after, closing_of, take_handle, path_of, FirstStays, IsLongestGoing}
-use Rattle.tracing_tree_core.specs.Registered.{going_after}
+use Rattle.tracing_tree_core.specs.Registry.Forest.{Forest, goes_after, closing_of, take_handle, path_of, FirstStays, IsLongestGoing}
+use Rattle.tracing_tree_core.specs.Registry.Registered.{going_after}
 use Rattle.tracing_tree_core.specs.declared.context.Id.{Id}
 
 -- ids, each with the one before it, where something stands before the first

@@ -6,11 +6,11 @@ use Rattle.std.proofs.lemmas.Bool.{eqb-true, and_parts, or_parts}
 use Rattle.std.proofs.lemmas.Bool.Decides.{nat_tests}
 use Rattle.std.proofs.lemmas.List.{append-nil, reverse-append, reverse-reverse, take_rest}
 use Rattle.std.proofs.lemmas.Option.{same_Some}
-use Rattle.tracing_tree_core.specs.Ids.{same_id}
-use Rattle.tracing_tree_core.specs.Spans.{Span, KeptSpan}
-use Rattle.tracing_tree_core.specs.Forest.{has_id, is_child_of, children_of, path_of, path_of_any, goes_after, closing_of}
-use Rattle.tracing_tree_core.specs.Registered.{IsRising, IsKept, alone, going_after, lacks_others}
-use Rattle.tracing_tree_core.specs.Kept.{kept_at, spans_of, IsTied}
+use Rattle.tracing_tree_core.specs.Registry.Ids.{same_id}
+use Rattle.tracing_tree_core.specs.Registry.Spans.{Span, KeptSpan}
+use Rattle.tracing_tree_core.specs.Registry.Forest.{has_id, is_child_of, children_of, path_of, path_of_any, goes_after, closing_of}
+use Rattle.tracing_tree_core.specs.Registry.Registered.{IsRising, IsKept, alone, going_after, lacks_others}
+use Rattle.tracing_tree_core.specs.Registry.Kept.{kept_at, spans_of, IsTied}
 use Rattle.tracing_tree_core.specs.declared.context.Id.{Id}
 use Rattle.tracing_tree_core.proofs.ForestLaws.{same_id-eq}
 use Rattle.tracing_tree_core.proofs.PathLaws.{path_of-step}

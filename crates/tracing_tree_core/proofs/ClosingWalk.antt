@@ -5,9 +5,9 @@ use Rattle.std.proofs.lemmas.Bool.{not-true, and_parts, or_parts}
 use Rattle.std.proofs.lemmas.Option.{same_Some}
 use Rattle.std.proofs.lemmas.List.Folds.{list_any-append, list_all-append}
 use Rattle.std.proofs.lemmas.List.{reverse-append, reverse-reverse, append-nil}
-use Rattle.tracing_tree_core.specs.Ids.{same_id}
-use Rattle.tracing_tree_core.specs.Spans.{Span}
-use Rattle.tracing_tree_core.specs.Forest.{Forest, has_id, span_at, path_among, path_of, path_of_any, IsGrown, IsForest}
+use Rattle.tracing_tree_core.specs.Registry.Ids.{same_id}
+use Rattle.tracing_tree_core.specs.Registry.Spans.{Span}
+use Rattle.tracing_tree_core.specs.Registry.Forest.{Forest, has_id, span_at, path_among, path_of, path_of_any, IsGrown, IsForest}
 use Rattle.tracing_tree_core.specs.declared.context.Id.{Id}
 use Rattle.tracing_tree_core.proofs.PathLaws.{path_above, look-by, parent-among, above-older, path_of-step, path_of-none}
 use Rattle.tracing_tree_core.proofs.ForestLaws.{look, look-reverse, look-newest, path-newest, path-older, same_id-eq}

@@ -16,7 +16,7 @@ use Rattle.jiff_core.specs.declared.civil.datetime.DateTime.{DateTime}
 use Rattle.jiff_core.specs.declared.civil.time.Time.{Time}
 use Rattle.jiff_core.proofs.DateLemmas.{civil}
 use Rattle.jiff_core.proofs.SignedLemmas.{signed_arith}
-use Rattle.tracing_tree_core.specs.Clock.{Civil, IsCivilOn, civil_at, nanos_of_day, civil_text, date_text, time_text, offset_text, local_text, local_timer}
+use Rattle.tracing_tree_core.specs.Time.Clock.{Civil, IsCivilOn, civil_at, nanos_of_day, civil_text, date_text, time_text, offset_text, local_text, local_timer}
 use Rattle.tracing_tree_core.proofs.CivilLaws.{civil_at-is, IsCivilOn-one}
 
 -- the parts of a date and a time

@@ -5,7 +5,7 @@ use Rattle.std.proofs.lemmas.Str.{IsUtf8-append, IsUtf8-past_char, lead_after_as
 use Rattle.std.proofs.Math.Seq.{take-append_seam, get_or-append_seam}
 use Rattle.std.specs.Str.{IsUtf8}
 use Rattle.std.specs.String.Boundary.{IsSplitPoint}
-use Rattle.tracing_tree_core.specs.Pieces.{IsExtended}
+use Rattle.tracing_tree_core.specs.Time.Pieces.{IsExtended}
 use lib.Utf8.{encode, encodes}
 
 -- nothing was appended

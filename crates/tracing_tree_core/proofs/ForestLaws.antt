@@ -6,9 +6,9 @@ use Rattle.std.specs.List.{list_any, last_or}
 use Rattle.std.proofs.lemmas.List.Folds.{find-append}
 use Rattle.std.proofs.lemmas.List.{reverse-append, reverse-reverse}
 use Rattle.std.proofs.lemmas.Bool.{eqb-true, not-true, or_parts}
-use Rattle.tracing_tree_core.specs.Ids.{id_of, same_id}
-use Rattle.tracing_tree_core.specs.Spans.{Span}
-use Rattle.tracing_tree_core.specs.Forest.{Forest, has_id, span_at, is_live, path_among, path_of, Descends, IsPath, IsGrown, IsForest}
+use Rattle.tracing_tree_core.specs.Registry.Ids.{id_of, same_id}
+use Rattle.tracing_tree_core.specs.Registry.Spans.{Span}
+use Rattle.tracing_tree_core.specs.Registry.Forest.{Forest, has_id, span_at, is_live, path_among, path_of, Descends, IsPath, IsGrown, IsForest}
 use Rattle.tracing_tree_core.specs.declared.context.Id.{Id}
 
 -- the first span with this id

@@ -6,9 +6,9 @@ use Rattle.std.specs.Char.{encode_utf8}
 use Rattle.std.proofs.Math.Nat.{zero-add, add-zero, suc-add}
 use Rattle.std.proofs.lemmas.Bool.Decides.{nat_tests}
 use Rattle.std.proofs.lemmas.List.{append-nil}
-use Rattle.tracing_tree_core.specs.Settings.{Settings}
-use Rattle.tracing_tree_core.specs.Drawings.{frame_pieces, corner_pieces, span_pieces}
-use Rattle.tracing_tree_core.specs.Picture.{wrapped_level, row_frame, first_frame, corner_up_right, corner_up_left, corner_down_right, corner_down_left, space, horizontal, vertical, branch, blank, corners, branched, continued, frame_text}
+use Rattle.tracing_tree_core.specs.Drawing.Settings.{Settings}
+use Rattle.tracing_tree_core.specs.Drawing.Frames.{frame_pieces, corner_pieces, span_pieces}
+use Rattle.tracing_tree_core.specs.Drawing.Picture.{wrapped_level, row_frame, first_frame, corner_up_right, corner_up_left, corner_down_right, corner_down_left, space, horizontal, vertical, branch, blank, corners, branched, continued, frame_text}
 use Rattle.tracing_tree_core.specs.declared.format.SpanMode.{SpanMode}
 use Rattle.tracing_tree_core.specs.declared.format.SpanMode.TheVariants.{Open, Retrace, Close}
 

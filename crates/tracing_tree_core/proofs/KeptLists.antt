@@ -4,10 +4,10 @@ use Rattle.std.specs.Option.{option_map, option_map_or}
 use Rattle.std.proofs.lemmas.Bool.{eqb-true}
 use Rattle.std.proofs.lemmas.Bool.Decides.{nat_tests}
 use Rattle.std.proofs.lemmas.Option.{same_Some}
-use Rattle.tracing_tree_core.specs.Ids.{id_of, same_id}
-use Rattle.tracing_tree_core.specs.Spans.{Span, KeptSpan, child_more, child_less}
-use Rattle.tracing_tree_core.specs.Forest.{has_id}
-use Rattle.tracing_tree_core.specs.Kept.{keeps_id, kept_at, spans_of, change_kept, leave_out, with_child}
+use Rattle.tracing_tree_core.specs.Registry.Ids.{id_of, same_id}
+use Rattle.tracing_tree_core.specs.Registry.Spans.{Span, KeptSpan, child_more, child_less}
+use Rattle.tracing_tree_core.specs.Registry.Forest.{has_id}
+use Rattle.tracing_tree_core.specs.Registry.Kept.{keeps_id, kept_at, spans_of, change_kept, leave_out, with_child}
 use Rattle.tracing_tree_core.specs.declared.context.Id.{Id}
 use Rattle.tracing_tree_core.proofs.RegistryLaws.{changed, without}
 

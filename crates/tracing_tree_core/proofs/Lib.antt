@@ -12,7 +12,6 @@ pub mod CivilLaws
 pub mod Extended
 pub mod Numbers
 pub mod DateTexts
-pub mod WorkedClocks
 pub mod Written
 pub mod NewestLaws
 pub mod FrameTexts
@@ -26,4 +25,4 @@ pub mod TimerTexts
 pub mod ClosingParts
 pub mod Registers
 pub mod WalkedPaths
-pub mod WorkedPaths
+pub mod Worked

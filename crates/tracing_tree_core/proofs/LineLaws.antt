@@ -10,8 +10,8 @@ use Rattle.std.proofs.lemmas.List.{append-nil, take_all, take_more, length_push,
 use Rattle.std.proofs.lemmas.List.Elements.{All-from_get_or}
 use Rattle.std.proofs.lemmas.List.Splits.{slice_split_at, slice_split_none, length-slice_split}
 use Rattle.std.proofs.Math.Seq.{take-append_seam}
-use Rattle.tracing_tree_core.specs.Settings.{Settings}
-use Rattle.tracing_tree_core.specs.Picture.{Row, drawn_line, frame_text, row_frame, row_lines}
+use Rattle.tracing_tree_core.specs.Drawing.Settings.{Settings}
+use Rattle.tracing_tree_core.specs.Drawing.Picture.{Row, drawn_line, frame_text, row_frame, row_lines}
 use Rattle.tracing_tree_core.specs.declared.format.SpanMode.{SpanMode}
 
 -- ---- carriage returns

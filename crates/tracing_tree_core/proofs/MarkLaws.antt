@@ -5,8 +5,8 @@ use Rattle.std.specs.List.{repeat}
 use Rattle.std.specs.Char.{encode_utf8}
 use Rattle.std.proofs.lemmas.List.{append-nil}
 use Rattle.std.proofs.lemmas.Str.{encodes-append}
-use Rattle.tracing_tree_core.specs.Settings.{Settings}
-use Rattle.tracing_tree_core.specs.Picture.{Row, horizontal, is_last_before_wrap, mark_line, wrapped_level}
+use Rattle.tracing_tree_core.specs.Drawing.Settings.{Settings}
+use Rattle.tracing_tree_core.specs.Drawing.Picture.{Row, horizontal, is_last_before_wrap, mark_line, wrapped_level}
 
 -- the text after a push that may fail
 pub pushed : {T E : Type 0} (r : Result T E) (after before text whole : List ℕ) →

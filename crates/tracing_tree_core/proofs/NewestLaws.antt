@@ -6,10 +6,10 @@ use Rattle.std.proofs.lemmas.Bool.{or_parts}
 use Rattle.std.proofs.lemmas.List.Folds.{find-append}
 use Rattle.std.proofs.lemmas.List.Elements.{filter-append}
 use Rattle.std.proofs.lemmas.List.{append-nil}
-use Rattle.tracing_tree_core.specs.Ids.{same_id}
-use Rattle.tracing_tree_core.specs.Spans.{Span}
-use Rattle.tracing_tree_core.specs.Forest.{Forest, has_id, is_child_of, any_unless_live, id_after, add_span, take_back, IsGrown}
-use Rattle.tracing_tree_core.specs.Registered.{IsKept, IsNewest, alone}
+use Rattle.tracing_tree_core.specs.Registry.Ids.{same_id}
+use Rattle.tracing_tree_core.specs.Registry.Spans.{Span}
+use Rattle.tracing_tree_core.specs.Registry.Forest.{Forest, has_id, is_child_of, any_unless_live, id_after, add_span, take_back, IsGrown}
+use Rattle.tracing_tree_core.specs.Registry.Registered.{IsKept, IsNewest, alone}
 use Rattle.tracing_tree_core.specs.declared.context.Id.{Id}
 use Rattle.tracing_tree_core.proofs.SpanLists.{own_id}
 use Rattle.tracing_tree_core.proofs.ForestLaws.{is_some-find, same_id-eq}

@@ -4,9 +4,9 @@ use Rattle.std.specs.List.{prefix_len}
 use Rattle.std.proofs.lemmas.List.{append_assoc, length-append, reverse-append, reverse-reverse, replicate_more}
 use Rattle.std.proofs.lemmas.Fmt.{decimal_digit, decimal_step, decimal_nonempty}
 use Rattle.std.proofs.Math.Nat.{div-eq_of_lt, div-lt_iff_lt-mul, pow-suc}
-use Rattle.tracing_tree_core.specs.Clock.{significant_digits, without_end_zeros}
-use Rattle.tracing_tree_core.specs.Pieces.{filled_in}
-use Rattle.tracing_tree_core.specs.Texts.{digits_in}
+use Rattle.tracing_tree_core.specs.Time.Clock.{significant_digits, without_end_zeros}
+use Rattle.tracing_tree_core.specs.Time.Pieces.{filled_in}
+use Rattle.tracing_tree_core.specs.Drawing.Texts.{digits_in}
 
 -- ---- numbers
 

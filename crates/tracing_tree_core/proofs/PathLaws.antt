@@ -4,8 +4,8 @@ use Rattle.std.specs.Option.{option_map_or}
 use Rattle.std.specs.List.{list_any, last_or}
 use Rattle.std.proofs.lemmas.List.{reverse-reverse, append-nil, append_assoc}
 use Rattle.std.proofs.lemmas.Bool.{not-true, or_parts}
-use Rattle.tracing_tree_core.specs.Spans.{Span}
-use Rattle.tracing_tree_core.specs.Forest.{Forest, has_id, span_at, is_live, path_among, path_of, path_of_any, Descends, IsPath, IsPathIfLive, IsGrown, IsForest}
+use Rattle.tracing_tree_core.specs.Registry.Spans.{Span}
+use Rattle.tracing_tree_core.specs.Registry.Forest.{Forest, has_id, span_at, is_live, path_among, path_of, path_of_any, Descends, IsPath, IsPathIfLive, IsGrown, IsForest}
 use Rattle.tracing_tree_core.specs.declared.context.Id.{Id}
 use Rattle.tracing_tree_core.proofs.ForestLaws.{look, look-reverse, look-newest, older-not, path-newest, path-older, is_some-find, path_of-is_path}
 

@@ -10,10 +10,10 @@ use Rattle.std.proofs.lemmas.List.Elements.{filter-append}
 use Rattle.std.proofs.lemmas.Bool.Decides.{nat_tests}
 use Rattle.std.proofs.lemmas.Option.{slice_get_read, slice_get_cases}
 use Rattle.std.proofs.lemmas.List.{reverse-append, map-append, append-nil}
-use Rattle.tracing_tree_core.specs.Ids.{id_of, same_id}
-use Rattle.tracing_tree_core.specs.Spans.{Span}
-use Rattle.tracing_tree_core.specs.Forest.{Forest, has_id, is_child_of, span_at, update_span, id_after, any_unless_live, add_span, take_back, IsGrown, IsForest}
-use Rattle.tracing_tree_core.specs.Registered.{IsRising, IsKept, IsNewest, alone}
+use Rattle.tracing_tree_core.specs.Registry.Ids.{id_of, same_id}
+use Rattle.tracing_tree_core.specs.Registry.Spans.{Span}
+use Rattle.tracing_tree_core.specs.Registry.Forest.{Forest, has_id, is_child_of, span_at, update_span, id_after, any_unless_live, add_span, take_back, IsGrown, IsForest}
+use Rattle.tracing_tree_core.specs.Registry.Registered.{IsRising, IsKept, IsNewest, alone}
 use Rattle.tracing_tree_core.specs.declared.context.Id.{Id}
 use Rattle.tracing_tree_core.proofs.SpanLists.{all_above, own_id, find-id, set_is_update}
 use Rattle.tracing_tree_core.proofs.ForestLaws.{is_some-find}

@@ -8,10 +8,10 @@ use Rattle.std.proofs.lemmas.Bool.Decides.{nat_tests}
 use Rattle.std.proofs.lemmas.List.Folds.{list_all-append}
 use Rattle.std.proofs.lemmas.List.{map-append, append-nil, get_or_read}
 use Rattle.std.proofs.lemmas.Option.{slice_get-get_or, slice_get_within, slice_get_read, same_Some}
-use Rattle.tracing_tree_core.specs.Ids.{id_of, same_id}
-use Rattle.tracing_tree_core.specs.Spans.{KeptSpan}
-use Rattle.tracing_tree_core.specs.Kept.{keeps_id, kept_at, change_kept, leave_out, AreBelow}
-use Rattle.tracing_tree_core.specs.Slots.{slot_id, slot_node, is_gone, slot_has, present, slot_ids, AreRising, ends_in_gap, IsLaidOut}
+use Rattle.tracing_tree_core.specs.Registry.Ids.{id_of, same_id}
+use Rattle.tracing_tree_core.specs.Registry.Spans.{KeptSpan}
+use Rattle.tracing_tree_core.specs.Registry.Kept.{keeps_id, kept_at, change_kept, leave_out, AreBelow}
+use Rattle.tracing_tree_core.specs.Registry.Slots.{slot_id, slot_node, is_gone, slot_has, present, slot_ids, AreRising, ends_in_gap, IsLaidOut}
 use Rattle.tracing_tree_core.specs.declared.context.Id.{Id}
 use Rattle.tracing_tree_core.specs.declared.registry.slot.Slot.{Slot}
 use Rattle.tracing_tree_core.specs.declared.registry.slot.Slot.TheVariants.{Live, Gone}

@@ -9,10 +9,10 @@ use Rattle.std.proofs.lemmas.Bool.{eqb-true, and_parts}
 use Rattle.std.proofs.lemmas.Bool.Decides.{nat_tests}
 use Rattle.std.proofs.lemmas.Cmp.{ranked}
 use Rattle.std.proofs.lemmas.Option.{slice_get-get_or, slice_get_within, same_Some}
-use Rattle.tracing_tree_core.specs.Ids.{id_of}
-use Rattle.tracing_tree_core.specs.Spans.{Span}
-use Rattle.tracing_tree_core.specs.Forest.{has_id}
-use Rattle.tracing_tree_core.specs.Registered.{IsRising}
+use Rattle.tracing_tree_core.specs.Registry.Ids.{id_of}
+use Rattle.tracing_tree_core.specs.Registry.Spans.{Span}
+use Rattle.tracing_tree_core.specs.Registry.Forest.{has_id}
+use Rattle.tracing_tree_core.specs.Registry.Registered.{IsRising}
 use Rattle.tracing_tree_core.specs.declared.context.Id.{Id}
 
 -- all of these ids are above this number

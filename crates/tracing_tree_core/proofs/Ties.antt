@@ -8,11 +8,11 @@ use Rattle.std.proofs.lemmas.List.{map-append, reverse-append}
 use Rattle.std.proofs.lemmas.List.Folds.{find-append}
 use Rattle.std.proofs.lemmas.List.Elements.{filter-append}
 use Rattle.std.proofs.lemmas.Option.{same_Some}
-use Rattle.tracing_tree_core.specs.Ids.{same_id}
-use Rattle.tracing_tree_core.specs.Spans.{Span, KeptSpan, child_less}
-use Rattle.tracing_tree_core.specs.Forest.{has_id, is_child_of, parent_of, path_of, path_of_any, path_among, children_of, IsForest}
-use Rattle.tracing_tree_core.specs.Registered.{IsRising, alone}
-use Rattle.tracing_tree_core.specs.Kept.{keeps_id, kept_at, spans_of, change_kept, leave_out, with_child, kept_path, IsTied}
+use Rattle.tracing_tree_core.specs.Registry.Ids.{same_id}
+use Rattle.tracing_tree_core.specs.Registry.Spans.{Span, KeptSpan, child_less}
+use Rattle.tracing_tree_core.specs.Registry.Forest.{has_id, is_child_of, parent_of, path_of, path_of_any, path_among, children_of, IsForest}
+use Rattle.tracing_tree_core.specs.Registry.Registered.{IsRising, alone}
+use Rattle.tracing_tree_core.specs.Registry.Kept.{keeps_id, kept_at, spans_of, change_kept, leave_out, with_child, kept_path, IsTied}
 use Rattle.tracing_tree_core.specs.declared.context.Id.{Id}
 use Rattle.tracing_tree_core.proofs.ForestLaws.{path-newest, path-older, is_some-find, same_id-eq}
 use Rattle.tracing_tree_core.proofs.PathLaws.{path_of-none}

@@ -3,7 +3,7 @@ use Rattle.std.proofs.Common.{◌≡◌, ◌≢◌, ℕ, ◌+◌, ◌-◌, ◌<�
 use Rattle.std.proofs.lemmas.List.{take_rest}
 use Rattle.std.specs.Io.KnownBytes.{Appends, Keeps}
 use Rattle.std.proofs.KnownBytes.{Appends-kept}
-use Rattle.tracing_tree_core.specs.Outputs.{LeavesCut}
+use Rattle.tracing_tree_core.specs.Drawing.Outputs.{LeavesCut}
 
 not_empty : (rest : List ℕ) → 0 < length rest → rest ≢ []
 not_empty rest more e = let none : length rest ≡ 0 = ap length e in omega arith

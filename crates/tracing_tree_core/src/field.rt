@@ -2,7 +2,7 @@
 
 ghost use Rattle.std.specs.Prelude.{◌≡◌, ◌++◌, ◌<◌, [], false, IfOk, OnOk, OnErr, IsAscii, codes, string_bytes};
 ghost use Rattle.std.specs.Fmt.{digits};
-ghost use Rattle.tracing_tree_core.specs.Texts.{rendered_field, whole_field, truth_field, text_field, quoted, escaped};
+ghost use Rattle.tracing_tree_core.specs.Drawing.Texts.{rendered_field, whole_field, truth_field, text_field, quoted, escaped};
 
 use crate::text::Text;
 use std::alloc::{AllocError, Global};

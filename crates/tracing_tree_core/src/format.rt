@@ -1,7 +1,7 @@
 //! Settings, buffers, drawing and outputs.
 
 ghost use Rattle.std.specs.Prelude.{◌≡◌, ◌++◌, OnOk, OnErr, string_bytes};
-ghost use Rattle.tracing_tree_core.specs.Texts.{label};
+ghost use Rattle.tracing_tree_core.specs.Drawing.Texts.{label};
 
 pub mod buffers;
 pub mod config;

@@ -1,7 +1,7 @@
 //! Spans: what they are made of, which are live, and looking at them.
 
 ghost use Rattle.std.specs.Prelude.{◌≡◌};
-ghost use Rattle.tracing_tree_core.specs.Forest.{named_parent};
+ghost use Rattle.tracing_tree_core.specs.Registry.Forest.{named_parent};
 
 pub mod lookup;
 pub mod node;

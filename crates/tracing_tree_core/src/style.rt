@@ -1,7 +1,7 @@
 //! Styles and levels.
 
 ghost use Rattle.std.specs.Prelude.{◌≡◌, ◌≤◌, ◌++◌, ◌∷◌, [], IfOk, OnOk, OnErr, length, string_bytes};
-ghost use Rattle.tracing_tree_core.specs.Texts.{style_code, styled, level_text, color_level_text, shown_level};
+ghost use Rattle.tracing_tree_core.specs.Drawing.Texts.{style_code, styled, level_text, color_level_text, shown_level};
 
 use std::alloc::{AllocError, Global};
 use std::fmt;
@@ -95,7 +95,7 @@ pub struct ColorLevel<'a>(pub &'a Level);
 
 impl fmt::Display for ColorLevel<'_> {
     ghost use Rattle.std.specs.Prelude.{Some};
-    ghost use Rattle.tracing_tree_core.specs.Texts.{color_level_text};
+    ghost use Rattle.tracing_tree_core.specs.Drawing.Texts.{color_level_text};
 
     ghost output = { λ level. Some (color_level_text level.0.now) };
 

@@ -1,7 +1,7 @@
 //! Moments and timers.
 
 mod civil;
-pub mod clock;
+pub mod clocks;
 mod elapsed;
 pub mod local;
 mod pieces;
@@ -10,12 +10,12 @@ pub mod uptime;
 pub mod utc;
 
 ghost use Rattle.std.specs.Prelude.{string_bytes};
-ghost use Rattle.tracing_tree_core.specs.Clock.{Timer, no_timer};
-ghost use Rattle.tracing_tree_core.specs.Outputs.{AppendsStated, AsksForText};
+ghost use Rattle.tracing_tree_core.specs.Time.Clock.{Timer, no_timer};
+ghost use Rattle.tracing_tree_core.specs.Drawing.Outputs.{AppendsStated, AsksForText};
 
 pub use crate::context::Moment;
 use crate::context::Refusal;
-pub use clock::Clock;
+pub use clocks::Clock;
 pub use local::LocalDateTime;
 pub use uptime::Uptime;
 pub use utc::UtcDateTime;
@@ -31,7 +31,7 @@ pub enum TimeFault {
 }
 
 impl From<TimeFault> for Refusal {
-    ghost use Rattle.tracing_tree_core.specs.Outputs.{RefusesFault};
+    ghost use Rattle.tracing_tree_core.specs.Drawing.Outputs.{RefusesFault};
 
     ghost from_gives = { RefusesFault };
 

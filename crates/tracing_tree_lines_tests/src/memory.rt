@@ -59,7 +59,11 @@ fn an_event_too_wide_asks_for_no_memory(rt: HostRuntime) -> Result<(), Fail> {
 #[test]
 fn memory_refused_to_a_call_is_told_of_the_call(rt: HostRuntime) -> Result<(), Fail> {
     let alloc = rt.alloc();
-    let text = "{\"indent_amount\":4611686018427387904,\"indent_lines\":true}\n{\"call\":\"new\",\"name\":\"a\"}\n{\"call\":\"new\",\"name\":\"b\",\"current\":1}\n";
+    let text = concat!(
+        "{\"indent_amount\":4611686018427387904,\"indent_lines\":true}\n",
+        "{\"call\":\"new\",\"name\":\"a\"}\n",
+        "{\"call\":\"new\",\"name\":\"b\",\"current\":1}\n",
+    );
     let run = run_lines(alloc, text.as_bytes(), Tape::new(alloc));
     let fault = LineFault {
         line: 3,

@@ -1,9 +1,9 @@
 //! Differences of two iterators.
 
 ghost use Rattle.std.specs.Prelude.{◌≡◌, nat_eq, IfOk, Option};
-ghost use Rattle.tracing_tree_core.specs.Ids.{same_id};
-ghost use Rattle.tracing_tree_core.specs.Forest.{Forest, IsForest, path_of, path_of_any, fresh_ids};
-ghost use Rattle.tracing_tree.specs.Differences.{differing};
+ghost use Rattle.tracing_tree_core.specs.Registry.Ids.{same_id};
+ghost use Rattle.tracing_tree_core.specs.Registry.Forest.{Forest, IsForest, path_of, path_of_any, fresh_ids};
+ghost use Rattle.tracing_tree.specs.Differences.Items.{differing};
 
 use std::alloc::{AllocError, Global};
 use std::test::*;

@@ -2,16 +2,16 @@
 use Rattle.std.proofs.Common.{◌≡◌, ℕ, zero, suc, ◌+◌, ◌<◌, Bool, true, false, ◌&&◌, ◌==◌, List, [], ◌∷◌, length, map, take, filter, slice_get, Option, Some, None, option_map, IsSomeAnd, IsTrue, if◌then◌else◌, refl, sym, ap, ◌∙◌, subst, arith}
 use Rattle.std.specs.List.{enumerate_from, last_or}
 use Rattle.std.proofs.lemmas.List.{take-map}
-use Rattle.tracing_tree_core.specs.Settings.{Settings}
-use Rattle.tracing_tree_core.specs.Clock.{Timer}
-use Rattle.tracing_tree_core.specs.Forest.{path_of}
-use Rattle.tracing_tree_core.specs.Picture.{Row}
+use Rattle.tracing_tree_core.specs.Drawing.Settings.{Settings}
+use Rattle.tracing_tree_core.specs.Time.Clock.{Timer}
+use Rattle.tracing_tree_core.specs.Registry.Forest.{path_of}
+use Rattle.tracing_tree_core.specs.Drawing.Picture.{Row}
 use Rattle.tracing_tree_core.specs.declared.context.Id.{Id}
 use Rattle.tracing_tree_core.specs.declared.format.SpanMode.{SpanMode}
 use Rattle.tracing_tree_core.specs.declared.format.SpanMode.TheVariants as Kind
-use Rattle.tracing_tree.specs.RowText.{TextRow, shape_of, is_opening, opens_level, above}
-use Rattle.tracing_tree.specs.Readable.{text_row, text_rows}
-use Rattle.tracing_tree.specs.Reading.{ReadingLaw, AncestorsLaw, ReadingLaws, is_opening_kind, opens_at, forest_at, place_of, rows_of, latest}
+use Rattle.tracing_tree.specs.ReadBack.RowText.{TextRow, shape_of, is_opening, opens_level, above}
+use Rattle.tracing_tree.specs.ReadBack.Readable.{text_row, text_rows}
+use Rattle.tracing_tree.specs.Laws.Reading.{ReadingLaw, AncestorsLaw, ReadingLaws, is_opening_kind, opens_at, forest_at, place_of, rows_of, latest}
 use Rattle.tracing_tree.specs.declared.call.Call.{Call}
 use Rattle.tracing_tree.specs.declared.rows.row.Shape.TheVariants as Shape
 use Rattle.tracing_tree.proofs.Reading.Seen.{seen, latest-seen}

@@ -3,19 +3,19 @@ use Rattle.std.proofs.Common.{◌≡◌, Bool, true, false, not, ◌||◌, ◌&&
 use Rattle.std.specs.Option.{option_map_or}
 use Rattle.std.specs.List.{list_any}
 use Rattle.std.proofs.lemmas.Bool.{and_parts}
-use Rattle.tracing_tree_core.specs.Settings.{Settings, retraces}
-use Rattle.tracing_tree_core.specs.Ids.{same_id}
-use Rattle.tracing_tree_core.specs.Spans.{Span}
-use Rattle.tracing_tree_core.specs.Forest.{Forest, has_id, is_printed, parent_of, path_of_any, IsForest, fresh_ids, mark_all, closing_of, take_handle, without_spans}
-use Rattle.tracing_tree_core.specs.Picture.{Row}
+use Rattle.tracing_tree_core.specs.Drawing.Settings.{Settings, retraces}
+use Rattle.tracing_tree_core.specs.Registry.Ids.{same_id}
+use Rattle.tracing_tree_core.specs.Registry.Spans.{Span}
+use Rattle.tracing_tree_core.specs.Registry.Forest.{Forest, has_id, is_printed, parent_of, path_of_any, IsForest, fresh_ids, mark_all, closing_of, take_handle, without_spans}
+use Rattle.tracing_tree_core.specs.Drawing.Picture.{Row}
 use Rattle.tracing_tree_core.specs.declared.context.Id.{Id}
 use Rattle.tracing_tree_core.specs.declared.context.Context.{Context}
 use Rattle.tracing_tree_core.proofs.RegistryLaws.{IsSame, changed, changed-same}
 use Rattle.tracing_tree_core.proofs.ClosingSteps.{one_less, less-same}
-use Rattle.tracing_tree.specs.State.{Turn, quiet_turn}
-use Rattle.tracing_tree.specs.CloseRetrace.{retraces_before_close}
-use Rattle.tracing_tree.specs.Rows.{retrace_to, then_turn, close_turn, turn_of_close, turn_of_closes}
-use Rattle.tracing_tree.specs.Reading.{close_is_on_path, closes_are_on_path}
+use Rattle.tracing_tree.specs.Calls.State.{Turn, quiet_turn}
+use Rattle.tracing_tree.specs.Rows.CloseRetrace.{retraces_before_close}
+use Rattle.tracing_tree.specs.Rows.Turns.{retrace_to, then_turn, close_turn, turn_of_close, turn_of_closes}
+use Rattle.tracing_tree.specs.Laws.Reading.{close_is_on_path, closes_are_on_path}
 use Rattle.tracing_tree.proofs.Reading.Changes.{no_both, changed_all}
 use Rattle.tracing_tree.proofs.Reading.Left.{Each, GoesAlong, is_gone, closing-along}
 use Rattle.tracing_tree.proofs.Reading.Kept.{IsFollowed, IsAllShown, IsLatest, IsQuiet, followed-quiet, latest-same, all_shown-quiet, marked, marked-same, printed-marked, followed-left, latest-left, all_shown-left, latest-retrace, printed-live}

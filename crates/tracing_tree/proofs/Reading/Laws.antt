@@ -2,15 +2,15 @@
 use Rattle.std.proofs.Common.{◌≡◌, ◌+◌, Bool, true, false, ◌||◌, List, [], ◌∷◌, ◌++◌, length, take, slice_get, Some, None, refl, sym, ap, ◌∙◌, subst, append_assoc, length-append, arith, take_at, if◌then◌else◌}
 use Rattle.std.specs.List.{list_any}
 use Rattle.std.proofs.lemmas.Bool.{or_cases}
-use Rattle.tracing_tree_core.specs.Settings.{Settings, retraces}
-use Rattle.tracing_tree_core.specs.Clock.{Timer}
-use Rattle.tracing_tree_core.specs.Forest.{path_of, fresh_ids}
-use Rattle.tracing_tree_core.specs.Picture.{Row}
+use Rattle.tracing_tree_core.specs.Drawing.Settings.{Settings, retraces}
+use Rattle.tracing_tree_core.specs.Time.Clock.{Timer}
+use Rattle.tracing_tree_core.specs.Registry.Forest.{path_of, fresh_ids}
+use Rattle.tracing_tree_core.specs.Drawing.Picture.{Row}
 use Rattle.tracing_tree_core.specs.declared.context.Id.{Id}
-use Rattle.tracing_tree.specs.State.{State, Turn, opening_state, quiet_turn}
-use Rattle.tracing_tree.specs.Rows.{current_of, event_row, fresh_rows, retrace_to, turn_before_event}
-use Rattle.tracing_tree.specs.Run.{Run, run, run_one, run_by_cause}
-use Rattle.tracing_tree.specs.Reading.{EventInRun, ReadingLaw, OpenedBefore, forest_at, place_of, rows_of, run_is_on_path, opens_span}
+use Rattle.tracing_tree.specs.Calls.State.{State, Turn, opening_state, quiet_turn}
+use Rattle.tracing_tree.specs.Rows.Turns.{current_of, event_row, fresh_rows, retrace_to, turn_before_event}
+use Rattle.tracing_tree.specs.Calls.Run.{Run, run, run_one, run_by_cause}
+use Rattle.tracing_tree.specs.Laws.Reading.{EventInRun, ReadingLaw, OpenedBefore, forest_at, place_of, rows_of, run_is_on_path, opens_span}
 use Rattle.tracing_tree.specs.declared.call.Call.{Call}
 use Rattle.tracing_tree.specs.declared.call.Call.TheVariants as A
 use Rattle.tracing_tree.proofs.RunLaws.{run-append}

@@ -4,10 +4,10 @@ use Rattle.std.specs.Option.{option_map_or}
 use Rattle.std.specs.List.{list_all, list_any}
 use Rattle.std.proofs.lemmas.Bool.{not-true, and_parts, or_parts}
 use Rattle.std.proofs.lemmas.List.{reverse-append}
-use Rattle.tracing_tree_core.specs.Ids.{same_id}
-use Rattle.tracing_tree_core.specs.Spans.{Span}
-use Rattle.tracing_tree_core.specs.Forest.{Forest, has_id, path_among, path_of, IsGrown, IsForest, is_child_of, goes_after, closing_of, take_handle, without_spans}
-use Rattle.tracing_tree_core.specs.Registered.{going_after}
+use Rattle.tracing_tree_core.specs.Registry.Ids.{same_id}
+use Rattle.tracing_tree_core.specs.Registry.Spans.{Span}
+use Rattle.tracing_tree_core.specs.Registry.Forest.{Forest, has_id, path_among, path_of, IsGrown, IsForest, is_child_of, goes_after, closing_of, take_handle, without_spans}
+use Rattle.tracing_tree_core.specs.Registry.Registered.{going_after}
 use Rattle.tracing_tree_core.specs.declared.context.Id.{Id}
 use Rattle.tracing_tree_core.proofs.ForestLaws.{same_id-eq, is_some-find}
 use Rattle.tracing_tree_core.proofs.PathLaws.{path_above}

@@ -1,12 +1,12 @@
 -- What a run that began empty keeps, call by call.
 use Rattle.std.proofs.Common.{◌≡◌, ◌+◌, Bool, true, false, ◌||◌, ◌&&◌, List, [], ◌∷◌, ◌++◌, Option, Some, None, is_some, is_none, unwrap_or, refl, sym, subst, inl, inr, append_assoc, arith}
 use Rattle.std.proofs.lemmas.Bool.{and_parts}
-use Rattle.tracing_tree_core.specs.Settings.{Settings, retraces}
-use Rattle.tracing_tree_core.specs.Ids.{id_of}
-use Rattle.tracing_tree_core.specs.Clock.{Timer}
-use Rattle.tracing_tree_core.specs.Spans.{Span}
-use Rattle.tracing_tree_core.specs.Forest.{Forest, new_span, add_span, lacks_next, any_unless_live, named_parent}
-use Rattle.tracing_tree_core.specs.Picture.{Row}
+use Rattle.tracing_tree_core.specs.Drawing.Settings.{Settings, retraces}
+use Rattle.tracing_tree_core.specs.Registry.Ids.{id_of}
+use Rattle.tracing_tree_core.specs.Time.Clock.{Timer}
+use Rattle.tracing_tree_core.specs.Registry.Spans.{Span}
+use Rattle.tracing_tree_core.specs.Registry.Forest.{Forest, new_span, add_span, lacks_next, any_unless_live, named_parent}
+use Rattle.tracing_tree_core.specs.Drawing.Picture.{Row}
 use Rattle.tracing_tree_core.specs.declared.field.Field.{Field}
 use Rattle.tracing_tree_core.specs.declared.context.Id.{Id}
 use Rattle.tracing_tree_core.specs.declared.context.Context.{Context}
@@ -14,12 +14,12 @@ use Rattle.tracing_tree_core.specs.declared.context.Refusal.{Refusal}
 use Rattle.tracing_tree_core.specs.declared.context.Refusal.TheVariants as Refused
 use Rattle.tracing_tree_core.specs.declared.registry.Attributes.{Attributes}
 use Rattle.tracing_tree_core.proofs.RegistryLaws.{changed}
-use Rattle.tracing_tree.specs.State.{State, opening_state}
-use Rattle.tracing_tree.specs.Rows.{turn_of_new}
-use Rattle.tracing_tree.specs.Refused.{cause_of, first_cause, draws_too_wide}
-use Rattle.tracing_tree.specs.Step.{new_id, turn_of, state_after}
-use Rattle.tracing_tree.specs.Run.{Run, run, run_one, run_by_cause, after_refusal}
-use Rattle.tracing_tree.specs.Reading.{call_is_on_path, run_is_on_path}
+use Rattle.tracing_tree.specs.Calls.State.{State, opening_state}
+use Rattle.tracing_tree.specs.Rows.Turns.{turn_of_new}
+use Rattle.tracing_tree.specs.Calls.Refused.{cause_of, first_cause, draws_too_wide}
+use Rattle.tracing_tree.specs.Calls.Step.{new_id, turn_of, state_after}
+use Rattle.tracing_tree.specs.Calls.Run.{Run, run, run_one, run_by_cause, after_refusal}
+use Rattle.tracing_tree.specs.Laws.Reading.{call_is_on_path, run_is_on_path}
 use Rattle.tracing_tree.specs.declared.call.Call.{Call}
 use Rattle.tracing_tree.specs.declared.call.Call.TheVariants as A
 use Rattle.tracing_tree.proofs.Reading.Changes.{no_both}

@@ -3,16 +3,16 @@ use Rattle.std.proofs.Common.{◌≡◌, ℕ, ◌<◌, ◌≤◌, ◌+◌, ◌==
 use Rattle.std.specs.Option.{option_map_or}
 use Rattle.std.specs.List.{list_any, last_or}
 use Rattle.std.proofs.lemmas.List.Folds.{list_any-append}
-use Rattle.tracing_tree_core.specs.Settings.{Settings}
-use Rattle.tracing_tree_core.specs.Ids.{same_id}
-use Rattle.tracing_tree_core.specs.Forest.{Forest, is_printed, parent_of, path_of, level_of, IsForest}
-use Rattle.tracing_tree_core.specs.Picture.{Row}
+use Rattle.tracing_tree_core.specs.Drawing.Settings.{Settings}
+use Rattle.tracing_tree_core.specs.Registry.Ids.{same_id}
+use Rattle.tracing_tree_core.specs.Registry.Forest.{Forest, is_printed, parent_of, path_of, level_of, IsForest}
+use Rattle.tracing_tree_core.specs.Drawing.Picture.{Row}
 use Rattle.tracing_tree_core.specs.declared.context.Id.{Id}
 use Rattle.tracing_tree_core.specs.declared.context.Context.{Context}
 use Rattle.tracing_tree_core.specs.declared.format.SpanMode.{SpanMode}
 use Rattle.tracing_tree_core.specs.declared.format.SpanMode.TheVariants.{PreOpen, Open, Retrace}
-use Rattle.tracing_tree.specs.Rows.{span_row, parent_rows, fresh_kind, fresh_row, fresh_rows}
-use Rattle.tracing_tree.specs.Reading.{is_opening_kind, opens_at, opens_span, latest}
+use Rattle.tracing_tree.specs.Rows.Turns.{span_row, parent_rows, fresh_kind, fresh_row, fresh_rows}
+use Rattle.tracing_tree.specs.Laws.Reading.{is_opening_kind, opens_at, opens_span, latest}
 use Rattle.tracing_tree.proofs.Reading.Changes.{no_both, path-front}
 use Rattle.tracing_tree.proofs.Reading.Left.{is_gone}
 use Rattle.tracing_tree.proofs.Reading.Parts.{at_seam}

@@ -3,8 +3,8 @@ use Rattle.std.proofs.Common.{◌≡◌, ◌≢◌, eqb-true, eq-eqb, ℕ, zero,
 use Rattle.std.proofs.lemmas.Bool.{cases_lt, false≢true}
 use Rattle.std.specs.List.{enumerate_from, last_or, range_with_len, filter_map}
 use Rattle.std.proofs.lemmas.List.{take_all, take-append-le}
-use Rattle.tracing_tree.specs.RowText.{TextRow, above, event_path, event_path_at, event_paths, is_event, is_opening, last_place, opens_level}
-use Rattle.tracing_tree.specs.Ancestry.{AreLastPlaces, ArePathsOf, FollowsRows, place_at}
+use Rattle.tracing_tree.specs.ReadBack.RowText.{TextRow, above, event_path, event_path_at, event_paths, is_event, is_opening, last_place, opens_level}
+use Rattle.tracing_tree.specs.Laws.Ancestry.{AreLastPlaces, ArePathsOf, FollowsRows, place_at}
 use Rattle.tracing_tree.specs.declared.rows.paths.EventPath.{EventPath}
 use Rattle.tracing_tree.specs.declared.rows.row.Shape.{Shape}
 use Rattle.tracing_tree.specs.declared.rows.row.Shape.TheVariants.{PreOpen, OpenRoot, Open, CloseRoot, Close, PostClose, Event}

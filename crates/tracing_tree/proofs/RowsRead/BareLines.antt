@@ -3,10 +3,10 @@ use Rattle.std.proofs.Common.{◌≡◌, ◌≢◌, ℕ, ◌+◌, ◌-◌, ◌%�
 use Rattle.std.specs.Char.{encode_utf8}
 use Rattle.std.specs.List.{repeat, starts_with}
 use Rattle.std.proofs.lemmas.List.{append-nil}
-use Rattle.tracing_tree_core.specs.Picture.{horizontal, vertical, branch, corner_down_left, corner_up_left, corner_up_right, corner_down_right}
-use Rattle.tracing_tree.specs.RowText.{is_bare_text, begins_with_any, drawing_marks, without_start_spaces}
+use Rattle.tracing_tree_core.specs.Drawing.Picture.{horizontal, vertical, branch, corner_down_left, corner_up_left, corner_up_right, corner_down_right}
+use Rattle.tracing_tree.specs.ReadBack.RowText.{is_bare_text, begins_with_any, drawing_marks, without_start_spaces}
 use Rattle.tracing_tree.specs.declared.rows.row.Shape.TheVariants.{Event}
-use Rattle.tracing_tree.specs.ReadLine.{after_front, one_line_row, read_event, read_first, read_first_at, start_spaces}
+use Rattle.tracing_tree.specs.ReadBack.Line.{after_front, one_line_row, read_event, read_first, read_first_at, start_spaces}
 use Rattle.tracing_tree.proofs.RowsRead.Bytes.{begins-after}
 
 -- the text begins with none of the five marks of a first line

@@ -1,9 +1,9 @@
 -- Beginnings of texts, and the spaces at their start.
 use Rattle.std.proofs.Common.{◌≡◌, ◌≢◌, ℕ, zero, suc, ◌+◌, ◌==◌, Bool, true, false, List, [], ◌∷◌, ◌++◌, drop, Some, None, is_some, encode_utf8, if◌then◌else◌, refl, sym, ap, ◌∙◌, subst, arith, append_assoc, eq-eqb, eqb-true}
 use Rattle.std.specs.List.{repeat, starts_with}
-use Rattle.tracing_tree_core.specs.Picture.{space, horizontal}
-use Rattle.tracing_tree.specs.RowText.{without_start_spaces}
-use Rattle.tracing_tree.specs.ReadLine.{after_front, after_run, start_spaces}
+use Rattle.tracing_tree_core.specs.Drawing.Picture.{space, horizontal}
+use Rattle.tracing_tree.specs.ReadBack.RowText.{without_start_spaces}
+use Rattle.tracing_tree.specs.ReadBack.Line.{after_front, after_run, start_spaces}
 
 pub same : (x : ℕ) → (x == x) ≡ true
 same x = eq-eqb x x refl

@@ -4,10 +4,10 @@ use Rattle.std.specs.Char.{encode_utf8}
 use Rattle.std.specs.List.{range_with_len, list_all}
 use Rattle.std.proofs.lemmas.Bool.{and_parts, and_from, or_from}
 use Rattle.std.proofs.lemmas.List.Folds.{list_any-append, list_all-append}
-use Rattle.tracing_tree_core.specs.Picture.{Frame, has_line_end, frame_text, lined_frame, edge_frame, first_frame, later_frame, blank, corners, branched, continued, continuation_shift, shift_of, space, horizontal, vertical, branch, corner_down_left, corner_up_left, corner_up_right, corner_down_right}
+use Rattle.tracing_tree_core.specs.Drawing.Picture.{Frame, has_line_end, frame_text, lined_frame, edge_frame, first_frame, later_frame, blank, corners, branched, continued, continuation_shift, shift_of, space, horizontal, vertical, branch, corner_down_left, corner_up_left, corner_up_right, corner_down_right}
 use Rattle.tracing_tree_core.specs.declared.format.SpanMode.{SpanMode}
 use Rattle.tracing_tree_core.specs.declared.format.SpanMode.TheVariants.{PreOpen, Open, Close, Retrace, PostClose, Event}
-use Rattle.tracing_tree.specs.RowText.{is_unbroken, TextRow, kind_of, is_text_row}
+use Rattle.tracing_tree.specs.ReadBack.RowText.{is_unbroken, TextRow, kind_of, is_text_row}
 use Rattle.tracing_tree.specs.declared.rows.row.Shape.{Shape}
 use Rattle.tracing_tree.proofs.RowsRead.RowLines.{first_line, later_line, framed_lines, all_lines, proper-parts}
 

@@ -3,8 +3,8 @@ use Rattle.std.proofs.Common.{◌≡◌, ℕ, ◌<◌, ◌==◌, ◌&&◌, Bool,
 use Rattle.std.specs.List.{list_all, list_any}
 use Rattle.std.proofs.lemmas.Bool.{le-leb, and_from, false≢true}
 use Rattle.std.proofs.lemmas.List.Folds.{list_all-append, list_any_at}
-use Rattle.tracing_tree_core.specs.Picture.{frame_text, lined_frame}
-use Rattle.tracing_tree.specs.RowText.{TextRow, AreTextRows, ended, is_row_too_wide, is_text_row, kind_of, row_text, rows_text}
+use Rattle.tracing_tree_core.specs.Drawing.Picture.{frame_text, lined_frame}
+use Rattle.tracing_tree.specs.ReadBack.RowText.{TextRow, AreTextRows, ended, is_row_too_wide, is_text_row, kind_of, row_text, rows_text}
 use Rattle.tracing_tree.specs.declared.rows.row.Shape.{Shape}
 use Rattle.tracing_tree.proofs.RowsRead.RowLines.{framed_lines, later_line, ended-append, rows_text-append}
 use Rattle.tracing_tree.proofs.RowsRead.LinesDrawn.{framed-more}

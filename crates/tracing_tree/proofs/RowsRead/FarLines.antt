@@ -2,10 +2,10 @@
 use Rattle.std.proofs.Common.{◌≡◌, ℕ, zero, suc, ◌+◌, ◌-◌, ◌*◌, ◌<◌, ◌≤◌, ◌==◌, ◌&&◌, Bool, true, false, not, List, length, Option, Some, None, option_and_then, refl, sym, ap, ◌∙◌, arith, ne_eqb}
 use Rattle.std.specs.Char.{encode_utf8}
 use Rattle.std.proofs.Math.Nat.{suc-mul}
-use Rattle.tracing_tree_core.specs.Picture.{vertical, shift_of, continuation_shift}
-use Rattle.tracing_tree.specs.RowText.{kind_of, without_start_spaces}
+use Rattle.tracing_tree_core.specs.Drawing.Picture.{vertical, shift_of, continuation_shift}
+use Rattle.tracing_tree.specs.ReadBack.RowText.{kind_of, without_start_spaces}
 use Rattle.tracing_tree.specs.declared.rows.row.Shape.{Shape}
-use Rattle.tracing_tree.specs.ReadLine.{after_front, read_later, read_later_at, start_spaces}
+use Rattle.tracing_tree.specs.ReadBack.Line.{after_front, read_later, read_later_at, start_spaces}
 
 columns : (used amount : ℕ) → used * amount - amount ≡ (used - 1) * amount
 columns zero amount = omega arith

@@ -5,13 +5,13 @@ use Rattle.std.specs.Option.{option_map_or}
 use Rattle.std.specs.List.{repeat}
 use Rattle.std.proofs.lemmas.Bool.{le-leb, or_left, and_from}
 use Rattle.std.proofs.lemmas.Nat.{div-add-mod'}
-use Rattle.tracing_tree_core.specs.Picture.{space, horizontal, branch, corner_down_left, corner_up_left, corner_up_right, corner_down_right, frame_text, lined_frame, first_frame, corners, shift_of, blank}
+use Rattle.tracing_tree_core.specs.Drawing.Picture.{space, horizontal, branch, corner_down_left, corner_up_left, corner_up_right, corner_down_right, frame_text, lined_frame, first_frame, corners, shift_of, blank}
 use Rattle.tracing_tree_core.specs.declared.format.SpanMode.{SpanMode}
 use Rattle.tracing_tree_core.specs.declared.format.SpanMode.TheVariants as Kind
-use Rattle.tracing_tree.specs.RowText.{TextRow, kind_of, fits_shape, is_bare_text, is_one_line, without_start_spaces}
+use Rattle.tracing_tree.specs.ReadBack.RowText.{TextRow, kind_of, fits_shape, is_bare_text, is_one_line, without_start_spaces}
 use Rattle.tracing_tree.specs.declared.rows.row.Shape.{Shape}
 use Rattle.tracing_tree.specs.declared.rows.row.Shape.TheVariants.{PreOpen, OpenRoot, Open, CloseRoot, Close, PostClose, Event}
-use Rattle.tracing_tree.specs.ReadLine.{after_front, after_run, start_spaces, one_line_row, read_root, read_corners, read_event, read_first}
+use Rattle.tracing_tree.specs.ReadBack.Line.{after_front, after_run, start_spaces, one_line_row, read_root, read_corners, read_event, read_first}
 use Rattle.tracing_tree.proofs.RowsRead.Bytes.{after_front-is, after_run-is, spaces-before}
 use Rattle.tracing_tree.proofs.RowsRead.FirstRead.{lined-first, columns-before, corners-line, branch-line}
 

@@ -7,15 +7,15 @@ use Rattle.std.proofs.lemmas.Bool.{and_parts, or_parts}
 use Rattle.std.proofs.lemmas.List.{append-nil}
 use Rattle.std.proofs.Math.Nat.{suc-mul}
 use Rattle.std.proofs.lemmas.Nat.{div-mul-add, mod-mul-add}
-use Rattle.tracing_tree_core.specs.Picture.{space, horizontal, vertical, branch, corner_down_left, corner_up_left, corner_up_right, corner_down_right, frame_text, lined_frame, first_frame, corners, branched, shift_of, blank}
-use Rattle.tracing_tree_core.specs.Drawings.{frame_pieces}
+use Rattle.tracing_tree_core.specs.Drawing.Picture.{space, horizontal, vertical, branch, corner_down_left, corner_up_left, corner_up_right, corner_down_right, frame_text, lined_frame, first_frame, corners, branched, shift_of, blank}
+use Rattle.tracing_tree_core.specs.Drawing.Frames.{frame_pieces}
 use Rattle.tracing_tree_core.specs.declared.format.SpanMode.{SpanMode}
 use Rattle.tracing_tree_core.specs.declared.format.SpanMode.TheVariants as Kind
 use Rattle.tracing_tree_core.proofs.FrameTexts.{corners-pieces, branched-pieces}
-use Rattle.tracing_tree.specs.RowText.{TextRow, kind_of, fits_shape, is_bare_text, begins_with_any, drawing_marks, without_start_spaces}
+use Rattle.tracing_tree.specs.ReadBack.RowText.{TextRow, kind_of, fits_shape, is_bare_text, begins_with_any, drawing_marks, without_start_spaces}
 use Rattle.tracing_tree.specs.declared.rows.row.Shape.{Shape}
 use Rattle.tracing_tree.specs.declared.rows.row.Shape.TheVariants.{PreOpen, OpenRoot, Open, CloseRoot, Close, PostClose, Event}
-use Rattle.tracing_tree.specs.ReadLine.{after_front, start_spaces, one_line_row, read_corners, read_event, read_first_at, read_first}
+use Rattle.tracing_tree.specs.ReadBack.Line.{after_front, start_spaces, one_line_row, read_corners, read_event, read_first_at, read_first}
 use Rattle.tracing_tree.proofs.RowsRead.Bytes.{same, begins-after, after_front-gives, after_run-other, after_run-gives, rest-after, spaces-count}
 
 -- ---- frames

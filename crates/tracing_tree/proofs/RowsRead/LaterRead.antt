@@ -3,13 +3,13 @@ use Rattle.std.proofs.Common.{◌≡◌, ℕ, zero, suc, ◌+◌, ◌-◌, ◌*�
 use Rattle.std.specs.Char.{encode_utf8}
 use Rattle.std.specs.List.{repeat}
 use Rattle.std.proofs.lemmas.Bool.{and_parts}
-use Rattle.tracing_tree_core.specs.Picture.{space, vertical, frame_text, lined_frame, later_frame, continued, shift_of, continuation_shift}
-use Rattle.tracing_tree_core.specs.Drawings.{frame_pieces}
+use Rattle.tracing_tree_core.specs.Drawing.Picture.{space, vertical, frame_text, lined_frame, later_frame, continued, shift_of, continuation_shift}
+use Rattle.tracing_tree_core.specs.Drawing.Frames.{frame_pieces}
 use Rattle.tracing_tree_core.specs.declared.format.SpanMode.{SpanMode}
 use Rattle.tracing_tree_core.proofs.FrameTexts.{continued-pieces}
-use Rattle.tracing_tree.specs.RowText.{kind_of, without_start_spaces}
+use Rattle.tracing_tree.specs.ReadBack.RowText.{kind_of, without_start_spaces}
 use Rattle.tracing_tree.specs.declared.rows.row.Shape.{Shape}
-use Rattle.tracing_tree.specs.ReadLine.{after_front, start_spaces, read_later_at, read_later}
+use Rattle.tracing_tree.specs.ReadBack.Line.{after_front, start_spaces, read_later_at, read_later}
 use Rattle.tracing_tree.proofs.RowsRead.Bytes.{same, after_front-gives, after_front-is, spaces-before, rest-after, spaces-count}
 
 pub lined-later : (kind : SpanMode) (amount level place : ℕ) → 0 < level + shift_of kind → 0 < amount → 0 < place →

@@ -5,10 +5,10 @@ use Rattle.std.specs.List.{list_all}
 use Rattle.std.proofs.lemmas.Bool.{and_parts, and_from, or_parts, le-leb}
 use Rattle.std.proofs.lemmas.List.{append-nil}
 use Rattle.std.proofs.lemmas.List.Folds.{list_all-append, list_any-append}
-use Rattle.tracing_tree_core.specs.Picture.{has_line_end, frame_text, lined_frame, shift_of}
-use Rattle.tracing_tree.specs.RowText.{ended, is_unbroken, TextRow, kind_of, is_text_row, row_text, rows_text}
+use Rattle.tracing_tree_core.specs.Drawing.Picture.{has_line_end, frame_text, lined_frame, shift_of}
+use Rattle.tracing_tree.specs.ReadBack.RowText.{ended, is_unbroken, TextRow, kind_of, is_text_row, row_text, rows_text}
 use Rattle.tracing_tree.specs.declared.rows.row.Shape.{Shape}
-use Rattle.tracing_tree.specs.ReadLine.{LineRead, LineRead.FirstLine, LineRead.LaterLine, one_line_row, read_first, read_later, read_below, read_line, with_line, with_last, rows_after, last_after, read_from, read_lines}
+use Rattle.tracing_tree.specs.ReadBack.Line.{LineRead, LineRead.FirstLine, LineRead.LaterLine, one_line_row, read_first, read_later, read_below, read_line, with_line, with_last, rows_after, last_after, read_from, read_lines}
 use Rattle.tracing_tree.proofs.RowsRead.FirstDrawn.{IsFirstOf, first-is}
 use Rattle.tracing_tree.proofs.RowsRead.LaterRead.{later-is}
 use Rattle.tracing_tree.proofs.RowsRead.RowLines.{first_line, later_line, framed_lines, row_text-lines, rows_text-append, ended-append, fits-more, IsProper, proper-parts, proper-whole}

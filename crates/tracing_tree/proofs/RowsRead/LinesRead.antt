@@ -5,10 +5,10 @@ use Rattle.std.specs.Option.{option_map_or}
 use Rattle.std.specs.List.{list_all}
 use Rattle.std.proofs.lemmas.Bool.{and_parts}
 use Rattle.std.proofs.lemmas.List.{append-nil}
-use Rattle.tracing_tree_core.specs.Picture.{vertical, shift_of}
-use Rattle.tracing_tree.specs.RowText.{TextRow, kind_of, fits_shape, is_text_row, without_start_spaces}
+use Rattle.tracing_tree_core.specs.Drawing.Picture.{vertical, shift_of}
+use Rattle.tracing_tree.specs.ReadBack.RowText.{TextRow, kind_of, fits_shape, is_text_row, without_start_spaces}
 use Rattle.tracing_tree.specs.declared.rows.row.Shape.{Shape}
-use Rattle.tracing_tree.specs.ReadLine.{LineRead.FirstLine, LineRead.LaterLine, after_front, start_spaces, one_line_row, read_first, read_later_at, read_below, read_line, with_last, rows_after, last_after, read_from, read_lines}
+use Rattle.tracing_tree.specs.ReadBack.Line.{LineRead.FirstLine, LineRead.LaterLine, after_front, start_spaces, one_line_row, read_first, read_later_at, read_below, read_line, with_last, rows_after, last_after, read_from, read_lines}
 use Rattle.tracing_tree.proofs.RowsRead.FirstRead.{IsFirstRead, first-drawn}
 use Rattle.tracing_tree.proofs.RowsRead.LaterRead.{later-drawn}
 use Rattle.tracing_tree.proofs.RowsRead.RowLines.{first_line, later_line, framed_lines, all_lines, fits-first, fits-later, proper-parts}

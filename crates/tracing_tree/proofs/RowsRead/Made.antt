@@ -3,7 +3,7 @@ use Rattle.std.proofs.Common.{◌≡◌, ℕ, ◌==◌, ◌&&◌, Bool, true, fa
 use Rattle.std.specs.List.{list_all}
 use Rattle.std.proofs.lemmas.Bool.{false≢true, le-leb}
 use Rattle.std.proofs.lemmas.List.Folds.{list_all-map}
-use Rattle.tracing_tree.specs.RowText.{TextRow, fits_shape, is_text_row, is_unbroken}
+use Rattle.tracing_tree.specs.ReadBack.RowText.{TextRow, fits_shape, is_text_row, is_unbroken}
 use Rattle.tracing_tree.specs.declared.rows.row.Shape.{Shape}
 
 abbrev texts : List (String Global) → List (List ℕ)

@@ -4,13 +4,13 @@ use Rattle.std.specs.List.{list_all}
 use Rattle.std.proofs.lemmas.Bool.{cases_lt, and_parts}
 use Rattle.std.proofs.lemmas.List.{append-nil}
 use Rattle.std.proofs.lemmas.List.Folds.{list_all-append}
-use Rattle.tracing_tree_core.specs.Picture.{parts_of}
-use Rattle.tracing_tree.specs.RowText.{ended, is_unbroken, TextRow, IsReading, IsOnlyReading, IsFirstBadLine, first_lines}
-use Rattle.tracing_tree.specs.Readable.{ReadsDrawing, ReadsNoDrawing, text_rows}
-use Rattle.tracing_tree.specs.ReadTexts.{TellsFault}
+use Rattle.tracing_tree_core.specs.Drawing.Picture.{parts_of}
+use Rattle.tracing_tree.specs.ReadBack.RowText.{ended, is_unbroken, TextRow, IsReading, IsOnlyReading, IsFirstBadLine, first_lines}
+use Rattle.tracing_tree.specs.ReadBack.Readable.{ReadsDrawing, ReadsNoDrawing, text_rows}
+use Rattle.tracing_tree.specs.ReadBack.Texts.{TellsFault}
 use Rattle.tracing_tree.specs.declared.rows.read.ReadFault.{ReadFault}
 use Rattle.tracing_tree.specs.declared.rows.read.ReadFault.TheVariants.{Line, Memory}
-use Rattle.tracing_tree.specs.ReadLine.{LineRead, read_line, read_lines, read_from, rows_after, last_after}
+use Rattle.tracing_tree.specs.ReadBack.Line.{LineRead, read_line, read_lines, read_from, rows_after, last_after}
 use Rattle.tracing_tree.proofs.RowsRead.RowLines.{all_lines, rows_text-lines}
 use Rattle.tracing_tree.proofs.RowsRead.CleanFrames.{all-unbroken}
 use Rattle.tracing_tree.proofs.RowsRead.LinesRead.{lines-read}

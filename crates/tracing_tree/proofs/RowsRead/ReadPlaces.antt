@@ -4,11 +4,11 @@ use Rattle.std.specs.List.{list_all}
 use Rattle.std.proofs.lemmas.Bool.{and_parts, and_from, false≢true}
 use Rattle.std.proofs.lemmas.List.{append-nil}
 use Rattle.std.proofs.lemmas.List.Folds.{list_all-append}
-use Rattle.tracing_tree_core.specs.Picture.{has_line_end}
-use Rattle.tracing_tree.specs.RowText.{ended, is_unbroken, TextRow, IsOnlyReading, IsFirstBadLine}
-use Rattle.tracing_tree.specs.ReadLine.{LineRead, read_line, with_last, rows_after, last_after}
+use Rattle.tracing_tree_core.specs.Drawing.Picture.{has_line_end}
+use Rattle.tracing_tree.specs.ReadBack.RowText.{ended, is_unbroken, TextRow, IsOnlyReading, IsFirstBadLine}
+use Rattle.tracing_tree.specs.ReadBack.Line.{LineRead, read_line, with_last, rows_after, last_after}
 use Rattle.tracing_tree.proofs.RowsRead.RowLines.{ended-append}
-use Rattle.tracing_tree.specs.ReadTexts.{IsReadTo, TextLeft, all_left}
+use Rattle.tracing_tree.specs.ReadBack.Texts.{IsReadTo, TextLeft, all_left}
 use Rattle.tracing_tree.proofs.RowsRead.ReadSteps.{read_none, read_more, read_all, read_stops, read_unended}
 
 -- ---- texts by lines

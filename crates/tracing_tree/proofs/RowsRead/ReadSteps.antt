@@ -2,9 +2,9 @@
 use Rattle.std.proofs.Common.{◌≡◌, ℕ, ◌+◌, ◌≤◌, List, [], ◌∷◌, ◌++◌, length, Option, Some, None, option_and_then, true, refl, sym, ap, ◌∙◌, append_assoc}
 use Rattle.std.specs.List.{list_all}
 use Rattle.std.proofs.lemmas.List.{append-nil}
-use Rattle.tracing_tree.specs.RowText.{ended, is_unbroken, TextRow, IsOnlyReading, IsFirstBadLine}
-use Rattle.tracing_tree.specs.ReadTexts.{IsReadUpTo}
-use Rattle.tracing_tree.specs.ReadLine.{LineRead, read_line, read_lines, read_from, with_last, rows_after, last_after}
+use Rattle.tracing_tree.specs.ReadBack.RowText.{ended, is_unbroken, TextRow, IsOnlyReading, IsFirstBadLine}
+use Rattle.tracing_tree.specs.ReadBack.Texts.{IsReadUpTo}
+use Rattle.tracing_tree.specs.ReadBack.Line.{LineRead, read_line, read_lines, read_from, with_last, rows_after, last_after}
 use Rattle.tracing_tree.proofs.RowsRead.TextsRead.{read-only, bad-line, bad-end}
 
 pub read_none : (amount : ℕ) → IsReadUpTo amount [] [] None

@@ -6,13 +6,13 @@ use Rattle.std.proofs.lemmas.Bool.{and_parts, and_from, or_from, or_parts, le-le
 use Rattle.std.proofs.lemmas.List.{append-nil}
 use Rattle.std.proofs.lemmas.List.Folds.{list_all-append}
 use Rattle.std.proofs.Math.Nat.{mod-eq_of_lt}
-use Rattle.tracing_tree_core.specs.Settings.{Settings}
-use Rattle.tracing_tree_core.specs.Picture.{Row, AreParts, has_line_end, parts_of, row_lines, row_frame, unlined_frame, drawn_line, lined_frame, wrapped_level, is_last_before_wrap, mark_line, mark_before_corner, mark_after_corner, picture, drawn_row, draw}
+use Rattle.tracing_tree_core.specs.Drawing.Settings.{Settings}
+use Rattle.tracing_tree_core.specs.Drawing.Picture.{Row, AreParts, has_line_end, parts_of, row_lines, row_frame, unlined_frame, drawn_line, lined_frame, wrapped_level, is_last_before_wrap, mark_line, mark_before_corner, mark_after_corner, picture, drawn_row, draw}
 use Rattle.tracing_tree_core.specs.declared.format.SpanMode.{SpanMode}
 use Rattle.tracing_tree_core.specs.declared.format.SpanMode.TheVariants as Kind
 use Rattle.tracing_tree_core.proofs.PartsLaws.{parts_of-only, parts_of-are_parts}
-use Rattle.tracing_tree.specs.RowText.{ended, is_unbroken, AreTextRows, kind_of, open_shape, close_shape, shape_of, fits_shape, is_one_line, is_text_row, row_text, rows_text, IsOnlyReading}
-use Rattle.tracing_tree.specs.Readable.{IsReadable, is_readable_row, is_plain_at_edge, text_row, text_rows}
+use Rattle.tracing_tree.specs.ReadBack.RowText.{ended, is_unbroken, AreTextRows, kind_of, open_shape, close_shape, shape_of, fits_shape, is_one_line, is_text_row, row_text, rows_text, IsOnlyReading}
+use Rattle.tracing_tree.specs.ReadBack.Readable.{IsReadable, is_readable_row, is_plain_at_edge, text_row, text_rows}
 use Rattle.tracing_tree.specs.declared.rows.row.Shape.{Shape}
 use Rattle.tracing_tree.proofs.RowsRead.RowLines.{rows_text-lines, all_lines, proper-whole}
 use Rattle.tracing_tree.proofs.RowsRead.CleanFrames.{all-unbroken}

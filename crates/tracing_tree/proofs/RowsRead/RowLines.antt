@@ -2,8 +2,8 @@
 use Rattle.std.proofs.Common.{◌≡◌, ℕ, suc, ◌+◌, ◌<◌, ◌≤◌, ◌==◌, ◌&&◌, true, not, List, [], ◌∷◌, ◌++◌, length, map, flat_map, ⊎_elim, nat_le, refl, sym, ap, ◌∙◌, arith, append_assoc, eqb-true, ne_eqb}
 use Rattle.std.specs.List.{enumerate_from, list_all}
 use Rattle.std.proofs.lemmas.Bool.{and_parts, and_from, or_cases, or_left, or_right, leb-true, le-leb}
-use Rattle.tracing_tree_core.specs.Picture.{has_line_end, drawn_line, frame_text, lined_frame, shift_of}
-use Rattle.tracing_tree.specs.RowText.{ended, is_unbroken, TextRow, kind_of, fits_shape, is_bare_text, is_one_line, is_text_row, row_text, rows_text}
+use Rattle.tracing_tree_core.specs.Drawing.Picture.{has_line_end, drawn_line, frame_text, lined_frame, shift_of}
+use Rattle.tracing_tree.specs.ReadBack.RowText.{ended, is_unbroken, TextRow, kind_of, fits_shape, is_bare_text, is_one_line, is_text_row, row_text, rows_text}
 use Rattle.tracing_tree.specs.declared.rows.row.Shape.{Shape}
 use Rattle.tracing_tree.specs.declared.rows.row.Shape.TheVariants.{PreOpen, OpenRoot, Open, CloseRoot, Close, PostClose, Event}
 

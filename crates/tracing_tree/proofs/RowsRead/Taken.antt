@@ -1,9 +1,9 @@
 -- What a line does to a reader, and to a text that is being read.
 use Rattle.std.proofs.Common.{◌≡◌, ◌≢◌, ℕ, ◌+◌, ◌<◌, ◌≤◌, ◌==◌, List, [], ◌∷◌, ◌++◌, length, get_or, Option, Some, None, Ok, option_map, true, false, refl, sym, ap, ◌∙◌, subst, arith, eqb-true, length-append}
 use Rattle.std.specs.Option.{option_map_or}
-use Rattle.tracing_tree.specs.RowText.{TextRow, is_text_row, is_unbroken}
-use Rattle.tracing_tree.specs.ReadLine.{LineRead.FirstLine, LineRead.LaterLine, with_line, with_last, read_below, read_first, read_later, read_line}
-use Rattle.tracing_tree.specs.ReadTexts.{ReaderView, TakesLine, TakesLater, TextLeft, IsReadTo, TakesNext, TellsFault}
+use Rattle.tracing_tree.specs.ReadBack.RowText.{TextRow, is_text_row, is_unbroken}
+use Rattle.tracing_tree.specs.ReadBack.Line.{LineRead.FirstLine, LineRead.LaterLine, with_line, with_last, read_below, read_first, read_later, read_line}
+use Rattle.tracing_tree.specs.ReadBack.Texts.{ReaderView, TakesLine, TakesLater, TextLeft, IsReadTo, TakesNext, TellsFault}
 use Rattle.tracing_tree.specs.declared.rows.read.ReadFault.TheVariants.{Line}
 use Rattle.tracing_tree.specs.declared.rows.read.Taken.{Taken}
 use Rattle.tracing_tree.specs.declared.rows.read.Taken.TheVariants.{First, Later, Neither}

@@ -4,10 +4,10 @@ use Rattle.std.specs.List.{list_all, join_with_byte}
 use Rattle.std.proofs.lemmas.Bool.{and_parts, and_from, lt-ltb}
 use Rattle.std.proofs.lemmas.List.{append-nil, same_from_push}
 use Rattle.std.proofs.lemmas.List.Folds.{list_all-append}
-use Rattle.tracing_tree_core.specs.Picture.{parts_of}
+use Rattle.tracing_tree_core.specs.Drawing.Picture.{parts_of}
 use Rattle.tracing_tree_core.proofs.PartsLaws.{parts_of-only}
-use Rattle.tracing_tree.specs.RowText.{ended, is_unbroken, TextRow, AreTextRows, rows_text, IsReading, IsOnlyReading, IsUnreadable, IsFirstBadLine, first_lines}
-use Rattle.tracing_tree.specs.ReadLine.{read_lines}
+use Rattle.tracing_tree.specs.ReadBack.RowText.{ended, is_unbroken, TextRow, AreTextRows, rows_text, IsReading, IsOnlyReading, IsUnreadable, IsFirstBadLine, first_lines}
+use Rattle.tracing_tree.specs.ReadBack.Line.{read_lines}
 use Rattle.tracing_tree.proofs.RowsRead.RowLines.{all_lines, rows_text-lines}
 use Rattle.tracing_tree.proofs.RowsRead.CleanFrames.{all-unbroken}
 use Rattle.tracing_tree.proofs.RowsRead.LinesRead.{lines-read}

@@ -3,9 +3,9 @@ use Rattle.std.proofs.Common.{◌≡◌, ◌≢◌, ℕ, zero, suc, ◌+◌, ◌
 use Rattle.std.specs.Char.{encode_utf8}
 use Rattle.std.specs.List.{repeat}
 use Rattle.std.specs.Str.Pattern.{FindsTextPrefix, FindsCharPrefix, CutsPrefixes, IsFullyTrimmed, IsTrimStartMatches}
-use Rattle.tracing_tree_core.specs.Picture.{space, horizontal}
-use Rattle.tracing_tree.specs.RowText.{without_start_spaces}
-use Rattle.tracing_tree.specs.ReadLine.{after_front, after_run, start_spaces}
+use Rattle.tracing_tree_core.specs.Drawing.Picture.{space, horizontal}
+use Rattle.tracing_tree.specs.ReadBack.RowText.{without_start_spaces}
+use Rattle.tracing_tree.specs.ReadBack.Line.{after_front, after_run, start_spaces}
 use Rattle.tracing_tree.proofs.RowsRead.Bytes.{after_front-more, after_front-gives, after_front-is, rest-after, spaces-count}
 
 after-none : (front text : List ℕ) → ((rest : List ℕ) → text ≢ front ++ rest) → after_front front text ≡ None

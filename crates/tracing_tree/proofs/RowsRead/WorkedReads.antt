@@ -2,11 +2,11 @@
 use Rattle.std.proofs.Common.{◌≡◌, ℕ, List, [], ◌∷◌, Some, None, true, false, refl}
 use Rattle.std.specs.Char.{encode_utf8}
 use Rattle.std.specs.Prelude.{encode_utf8_all}
-use Rattle.tracing_tree_core.specs.Picture.{horizontal, vertical, branch, corner_down_left, corner_up_left, corner_up_right, corner_down_right}
-use Rattle.tracing_tree.specs.RowText.{TextRow}
+use Rattle.tracing_tree_core.specs.Drawing.Picture.{horizontal, vertical, branch, corner_down_left, corner_up_left, corner_up_right, corner_down_right}
+use Rattle.tracing_tree.specs.ReadBack.RowText.{TextRow}
 use Rattle.tracing_tree.specs.declared.rows.row.Shape.{Shape}
 use Rattle.tracing_tree.specs.declared.rows.row.Shape.TheVariants.{PreOpen, OpenRoot, Open, CloseRoot, Close, Event}
-use Rattle.tracing_tree.specs.ReadLine.{read_lines}
+use Rattle.tracing_tree.specs.ReadBack.Line.{read_lines}
 
 abbrev row : Shape → ℕ → List (List ℕ) → TextRow
 row shape level lines = record { shape = shape; level = level; lines = lines }

@@ -1,9 +1,9 @@
 //! Calls on a layer alone, over live spans that something else keeps.
 
 ghost use Rattle.std.specs.Prelude.{◌≡◌, IfOk, length};
-ghost use Rattle.tracing_tree_core.specs.Forest.{unless_live, if_live, path_of_any};
-ghost use Rattle.tracing_tree.specs.Layers.{seen, Changes};
-ghost use Rattle.tracing_tree.specs.Bare.{on_new_span, on_record, on_event, on_close, IsBareAnswered, IsChecked};
+ghost use Rattle.tracing_tree_core.specs.Registry.Forest.{unless_live, if_live, path_of_any};
+ghost use Rattle.tracing_tree.specs.Calls.Layers.{seen, Changes};
+ghost use Rattle.tracing_tree.specs.Calls.Bare.{on_new_span, on_record, on_event, on_close, IsBareAnswered, IsChecked};
 
 use super::HierarchicalLayer;
 use std::alloc::{AllocError, Global};

@@ -2,8 +2,8 @@
 
 ghost use Rattle.std.specs.Prelude.{◌≡◌, ◌++◌, true, OnOk, OnErr, string_bytes};
 ghost use Rattle.tracing_tree_core.specs.declared.style.Style.TheVariants.{BoldGreen};
-ghost use Rattle.tracing_tree_core.specs.Texts.{label, styled, named_value, shown_field, span_fields, event_field, comma_after, event_fields};
-ghost use Rattle.tracing_tree.specs.Block.{shown_target, span_text, span_block, event_tail};
+ghost use Rattle.tracing_tree_core.specs.Drawing.Texts.{label, styled, named_value, shown_field, span_fields, event_field, comma_after, event_fields};
+ghost use Rattle.tracing_tree.specs.Rows.Block.{shown_target, span_text, span_block, event_tail};
 
 use std::alloc::AllocError;
 use tracing_tree_core::field::Field;

@@ -1,12 +1,12 @@
 //! The rows of a call, planned and then drawn one after another.
 
 ghost use Rattle.std.specs.Prelude.{◌≡◌, ◌++◌, ◌∷◌, ◌-◌, [], false, if◌then◌else◌, OnOk, IfOk, IfErr, is_none, length, string_bytes};
-ghost use Rattle.tracing_tree_core.specs.Forest.{if_live, path_of_any};
-ghost use Rattle.tracing_tree.specs.Block.{moment_part, elapsed_part, event_block};
-ghost use Rattle.tracing_tree.specs.Rows.{block_of, event_row, event_depth, event_level, event_parent, time_in_current, turn_of_new, turn_of_event, turn_of_closes};
-ghost use Rattle.tracing_tree.specs.Plan.{row_of_planned, rows_of_planned};
-ghost use Rattle.tracing_tree.specs.Refused.{is_event_too_wide, timer_faults_at, lacks_elapsed};
-ghost use Rattle.tracing_tree.specs.Drawn.{DrawsRows, Drafts, IsBlank, IsUntimed, has_no_id};
+ghost use Rattle.tracing_tree_core.specs.Registry.Forest.{if_live, path_of_any};
+ghost use Rattle.tracing_tree.specs.Rows.Block.{moment_part, elapsed_part, event_block};
+ghost use Rattle.tracing_tree.specs.Rows.Turns.{block_of, event_row, event_depth, event_level, event_parent, time_in_current, turn_of_new, turn_of_event, turn_of_closes};
+ghost use Rattle.tracing_tree.specs.Rows.Plan.{row_of_planned, rows_of_planned};
+ghost use Rattle.tracing_tree.specs.Calls.Refused.{is_event_too_wide, timer_faults_at, lacks_elapsed};
+ghost use Rattle.tracing_tree.specs.Rows.Drawn.{DrawsRows, Drafts, IsBlank, IsUntimed, has_no_id};
 
 use super::block::{push_event_tail, push_span_block};
 use super::page::Page;

@@ -1,9 +1,9 @@
 //! The text of a call while it is built.
 
 ghost use Rattle.std.specs.Prelude.{◌≡◌, ◌++◌, [], None, string_bytes};
-ghost use Rattle.tracing_tree_core.specs.Texts.{prefix_text};
-ghost use Rattle.tracing_tree_core.specs.Picture.{drawn_row, is_too_wide, unnamed_row};
-ghost use Rattle.tracing_tree.specs.Drawn.{AddsRow};
+ghost use Rattle.tracing_tree_core.specs.Drawing.Texts.{prefix_text};
+ghost use Rattle.tracing_tree_core.specs.Drawing.Picture.{drawn_row, is_too_wide, unnamed_row};
+ghost use Rattle.tracing_tree.specs.Rows.Drawn.{AddsRow};
 
 use std::alloc::Global;
 use tracing_tree_core::format::{Buffers, Config, Context, Refusal, SpanMode, push_row};

@@ -1,7 +1,7 @@
 //! Paths of spans, lent or walked.
 
 ghost use Rattle.std.specs.Prelude.{◌≡◌, length};
-ghost use Rattle.tracing_tree.specs.Plan.{ids_of};
+ghost use Rattle.tracing_tree.specs.Rows.Plan.{ids_of};
 
 use tracing_tree_core::format::Id;
 

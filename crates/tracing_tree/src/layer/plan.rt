@@ -3,13 +3,13 @@
 
 ghost use Rattle.std.specs.Prelude.{◌≡◌, ◌≢◌, ◌≤◌, ◌++◌, ◌∷◌, [], Some, None, OnOk, OnErr, IfOk, drop, length};
 ghost use Rattle.std.specs.List.{common_prefix_len, list_any};
-ghost use Rattle.tracing_tree_core.specs.Settings.{retraces};
-ghost use Rattle.tracing_tree_core.specs.Ids.{same_id};
-ghost use Rattle.tracing_tree_core.specs.Paths.{PartOnce};
-ghost use Rattle.tracing_tree_core.specs.Forest.{IsForest, is_printed, path_of_any};
-ghost use Rattle.tracing_tree.specs.CloseRetrace.{retraces_before_close};
-ghost use Rattle.tracing_tree.specs.Rows.{current_of};
-ghost use Rattle.tracing_tree.specs.Plan.{ids_of, empty_plan, with_rows, marked_by, planned_row, planned_parent, planned_fresh, planned_fresh_rows, retraced_plan, closed_plan, plan_of_new, plan_before_event, plan_of_close, plan_of_closes};
+ghost use Rattle.tracing_tree_core.specs.Drawing.Settings.{retraces};
+ghost use Rattle.tracing_tree_core.specs.Registry.Ids.{same_id};
+ghost use Rattle.tracing_tree_core.specs.Registry.Paths.{PartOnce};
+ghost use Rattle.tracing_tree_core.specs.Registry.Forest.{IsForest, is_printed, path_of_any};
+ghost use Rattle.tracing_tree.specs.Rows.CloseRetrace.{retraces_before_close};
+ghost use Rattle.tracing_tree.specs.Rows.Turns.{current_of};
+ghost use Rattle.tracing_tree.specs.Rows.Plan.{ids_of, empty_plan, with_rows, marked_by, planned_row, planned_parent, planned_fresh, planned_fresh_rows, retraced_plan, closed_plan, plan_of_new, plan_before_event, plan_of_close, plan_of_closes};
 
 use super::path::Path;
 use std::alloc::{AllocError, Global};
@@ -35,7 +35,7 @@ pub(super) struct Plan {
 }
 
 impl Model for Plan {
-    ghost use Rattle.tracing_tree.specs.Plan.{PlanView};
+    ghost use Rattle.tracing_tree.specs.Rows.Plan.{PlanView};
 
     ghost Value = { PlanView };
 

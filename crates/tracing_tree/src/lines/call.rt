@@ -2,9 +2,9 @@
 
 ghost use Rattle.std.specs.Prelude.{◌≡◌, codes};
 ghost use Rattle.serde_json.specs.View.{view, items_view};
-ghost use Rattle.tracing_tree.specs.Readers.{Reads, ReadsCall, ReadsLine};
-ghost use Rattle.tracing_tree.specs.CallKinds.{word_of, IsKindIn};
-ghost use Rattle.tracing_tree.specs.Spelled.{call_named, new_in, record_in, event_in, id_in, target_in, parent_in, fields_in, level_value, parent_value, fields_value, item_fields, field_value, required};
+ghost use Rattle.tracing_tree.specs.Lines.Values.{Reads, ReadsCall, ReadsLine};
+ghost use Rattle.tracing_tree.specs.Lines.CallKinds.{word_of, IsKindIn};
+ghost use Rattle.tracing_tree.specs.Lines.Spelled.{call_named, new_in, record_in, event_in, id_in, target_in, parent_in, fields_in, level_value, parent_value, fields_value, item_fields, field_value, required};
 
 use super::LineCause;
 use super::context::{context_in, id_value};

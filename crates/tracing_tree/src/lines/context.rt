@@ -2,8 +2,8 @@
 
 ghost use Rattle.std.specs.Prelude.{◌≡◌};
 ghost use Rattle.serde_json.specs.View.{view};
-ghost use Rattle.tracing_tree.specs.Readers.{Reads, ReadsMoment, ReadsContext};
-ghost use Rattle.tracing_tree.specs.Spelled.{id_value, current_in, thread_name_in, wall_in};
+ghost use Rattle.tracing_tree.specs.Lines.Values.{Reads, ReadsMoment, ReadsContext};
+ghost use Rattle.tracing_tree.specs.Lines.Spelled.{id_value, current_in, thread_name_in, wall_in};
 
 use super::LineCause;
 use super::value::{text_value, value_at, whole_or};

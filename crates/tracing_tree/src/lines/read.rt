@@ -2,8 +2,8 @@
 
 ghost use Rattle.std.specs.Prelude.{◌≡◌, ◌==◌, is_some, position};
 ghost use Rattle.std.specs.Io.Buffered.{reader_buffer};
-ghost use Rattle.tracing_tree.specs.Spelled.{is_skipped};
-ghost use Rattle.tracing_tree.specs.LineReads.{ReadsEnded, ReadsPart, ReadsNext};
+ghost use Rattle.tracing_tree.specs.Lines.Spelled.{is_skipped};
+ghost use Rattle.tracing_tree.specs.Lines.Reads.{ReadsEnded, ReadsPart, ReadsNext};
 
 use super::LineCause;
 use memchr::memchr;

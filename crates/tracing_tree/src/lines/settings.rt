@@ -4,9 +4,9 @@ mod timer;
 
 ghost use Rattle.std.specs.Prelude.{◌≡◌, ◌<◌, IfSome};
 ghost use Rattle.serde_json.specs.View.{view};
-ghost use Rattle.tracing_tree_core.specs.Clock.{clock_timer};
-ghost use Rattle.tracing_tree.specs.Readers.{ReadsFirst};
-ghost use Rattle.tracing_tree.specs.Spelled.{chosen_timer, object_settings, positive_value, unnamed_settings, with_member, with_setting};
+ghost use Rattle.tracing_tree_core.specs.Time.Clock.{clock_timer};
+ghost use Rattle.tracing_tree.specs.Lines.Values.{ReadsFirst};
+ghost use Rattle.tracing_tree.specs.Lines.Spelled.{chosen_timer, object_settings, positive_value, unnamed_settings, with_member, with_setting};
 
 use super::LineCause;
 use serde_json::Value;
@@ -24,9 +24,9 @@ pub(super) struct Setup {
 }
 
 impl Model for Setup {
-    ghost use Rattle.tracing_tree_core.specs.Settings.{Settings};
-    ghost use Rattle.tracing_tree.specs.Readers.{choice_of};
-    ghost use Rattle.tracing_tree.specs.Spelled.{TimerChoice};
+    ghost use Rattle.tracing_tree_core.specs.Drawing.Settings.{Settings};
+    ghost use Rattle.tracing_tree.specs.Lines.Values.{choice_of};
+    ghost use Rattle.tracing_tree.specs.Lines.Spelled.{TimerChoice};
 
     ghost Value = { Settings × TimerChoice };
 
@@ -75,7 +75,7 @@ impl Setup {
     }
 
     // The same with a member of the object. A null counts as absent.
-    #[tactic(auto, using(crate::proofs::OpenedLines::is_absent, crate::proofs::OpenedLines::is_there))]
+    #[tactic(auto, using(crate::proofs::OpenedLines::absent, crate::proofs::OpenedLines::there))]
     fn with_member(self, key: &str, value: &Value) -> Option<Setup>
         ensures { result ≡ with_member key.now (view value.now) self }
     {

@@ -4,8 +4,8 @@ ghost use Rattle.std.specs.Prelude.{◌≡◌, Some, option_map};
 ghost use Rattle.serde_json.specs.View.{view, items_view, members_view};
 ghost use Rattle.serde_json.specs.Written.{has_float, items_have_float, members_have_float};
 ghost use Rattle.serde_json.specs.Find.{as_str};
-ghost use Rattle.tracing_tree.specs.Readers.{Reads};
-ghost use Rattle.tracing_tree.specs.Spelled.{value_at, flag, read_or, whole_value};
+ghost use Rattle.tracing_tree.specs.Lines.Values.{Reads};
+ghost use Rattle.tracing_tree.specs.Lines.Spelled.{value_at, flag, read_or, whole_value};
 
 use super::LineCause;
 use serde_json::{Map, Value};

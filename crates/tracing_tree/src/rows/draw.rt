@@ -1,8 +1,8 @@
 //! Rows drawn from their lines.
 
 ghost use Rattle.std.specs.Prelude.{◌≡◌, ◌++◌, ◌≤◌, false, OnOk, IsTrue, string_bytes};
-ghost use Rattle.tracing_tree.specs.RowText.{is_row_too_wide, is_text_row, kind_of, row_text};
-ghost use Rattle.tracing_tree.specs.DrawRows.{AnswersText, are_too_wide};
+ghost use Rattle.tracing_tree.specs.ReadBack.RowText.{is_row_too_wide, is_text_row, kind_of, row_text};
+ghost use Rattle.tracing_tree.specs.ReadBack.DrawRows.{AnswersText, are_too_wide};
 
 use super::row::{Row, Shape};
 use std::alloc::{AllocError, Global};

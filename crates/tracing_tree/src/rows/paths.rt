@@ -2,10 +2,10 @@
 
 ghost use Rattle.std.specs.List.{range_with_len};
 ghost use Rattle.std.specs.Prelude.{◌≡◌, ℕ, ◌+◌, ◌++◌, ◌∷◌, ◌<◌, ◌≤◌, ◌==◌, ◌^◌, List, [], Some, map, IfOk, IfErr, OnOk, OnErr, if◌then◌else◌};
-ghost use Rattle.tracing_tree.specs.Ancestry.{AreEventPaths, ArePathsOf, FindsInRuns, TakesRow, place_at};
-ghost use Rattle.tracing_tree.specs.ReadTexts.{TellsFault};
-ghost use Rattle.tracing_tree.specs.Readable.{ReadsNoDrawing};
-ghost use Rattle.tracing_tree.specs.RowText.{TextRow, is_event, is_opening};
+ghost use Rattle.tracing_tree.specs.Laws.Ancestry.{AreEventPaths, ArePathsOf, FindsInRuns, TakesRow, place_at};
+ghost use Rattle.tracing_tree.specs.ReadBack.Texts.{TellsFault};
+ghost use Rattle.tracing_tree.specs.ReadBack.Readable.{ReadsNoDrawing};
+ghost use Rattle.tracing_tree.specs.ReadBack.RowText.{TextRow, is_event, is_opening};
 
 use super::read::{ReadFault, Taken, TextReader};
 use super::row::{Row, Shape};

@@ -1,11 +1,11 @@
 //! Rows read back from the text of a drawing.
 
 ghost use Rattle.std.specs.Prelude.{◌≡◌, ℕ, ◌+◌, ◌≤◌, ◌<◌, ◌^◌, List, None, Some, Ok, false, IfOk, IfErr, IsTrue, MatchOption};
-ghost use Rattle.tracing_tree.specs.ReadLine.{after_run, one_line_row, read_corners, read_event, read_first, read_later, read_root};
-ghost use Rattle.tracing_tree.specs.ReadTexts.{TakesLine, TellsFault, TriesLater, IsReadTo, TakesNext, LeavesLess, all_left};
-ghost use Rattle.tracing_tree.specs.Readable.{ReadsDrawing, ReadsNoDrawing};
-ghost use Rattle.tracing_tree.specs.RowText.{TextRow, IsOnlyReading, is_unbroken, kind_of};
-ghost use Rattle.tracing_tree_core.specs.Picture.{continuation_shift, shift_of};
+ghost use Rattle.tracing_tree.specs.ReadBack.Line.{after_run, one_line_row, read_corners, read_event, read_first, read_later, read_root};
+ghost use Rattle.tracing_tree.specs.ReadBack.Texts.{TakesLine, TellsFault, TriesLater, IsReadTo, TakesNext, LeavesLess, all_left};
+ghost use Rattle.tracing_tree.specs.ReadBack.Readable.{ReadsDrawing, ReadsNoDrawing};
+ghost use Rattle.tracing_tree.specs.ReadBack.RowText.{TextRow, IsOnlyReading, is_unbroken, kind_of};
+ghost use Rattle.tracing_tree_core.specs.Drawing.Picture.{continuation_shift, shift_of};
 
 use super::row::{Row, Shape};
 use super::text::{after_character, after_repeated, has_line_end, is_bare_text, without_spaces};
@@ -212,7 +212,7 @@ pub struct Reader {
 
 impl Model for Reader {
     ghost use Rattle.std.specs.Prelude.{◌≤◌};
-    ghost use Rattle.tracing_tree.specs.ReadTexts.{ReaderView};
+    ghost use Rattle.tracing_tree.specs.ReadBack.Texts.{ReaderView};
 
     ghost Value = { ReaderView };
 
@@ -327,7 +327,7 @@ pub(super) struct TextReader<'a> {
 
 impl<'a> Model for TextReader<'a> {
     ghost use Rattle.std.specs.Prelude.{◌+◌, ◌<◌, ◌≤◌, ◌^◌, length};
-    ghost use Rattle.tracing_tree.specs.ReadTexts.{TextLeft};
+    ghost use Rattle.tracing_tree.specs.ReadBack.Texts.{TextLeft};
 
     ghost Value = { TextLeft };
 

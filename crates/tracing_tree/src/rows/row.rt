@@ -2,8 +2,8 @@
 
 ghost use Rattle.std.specs.List.{list_all};
 ghost use Rattle.std.specs.Prelude.{◌≡◌, ◌++◌, ◌∷◌, [], true, map, string_bytes, IfOk, OnErr, IsTrue};
-ghost use Rattle.tracing_tree.specs.ReadLine.{one_line_row, with_line};
-ghost use Rattle.tracing_tree.specs.RowText.{fits_shape, is_bare_line, is_text_row, is_unbroken, made_row};
+ghost use Rattle.tracing_tree.specs.ReadBack.Line.{one_line_row, with_line};
+ghost use Rattle.tracing_tree.specs.ReadBack.RowText.{fits_shape, is_bare_line, is_text_row, is_unbroken, made_row};
 
 use super::text::{has_line_end, is_bare_text};
 use std::alloc::{AllocError, Global};
@@ -100,7 +100,7 @@ pub struct Row {
 
 impl Model for Row {
     ghost use Rattle.std.specs.Prelude.{IsTrue};
-    ghost use Rattle.tracing_tree.specs.RowText.{TextRow, is_text_row};
+    ghost use Rattle.tracing_tree.specs.ReadBack.RowText.{TextRow, is_text_row};
 
     ghost Value = { TextRow };
 

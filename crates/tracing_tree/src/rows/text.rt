@@ -3,9 +3,9 @@
 ghost use Rattle.std.specs.Char.{encode_utf8};
 ghost use Rattle.std.specs.List.{repeat, starts_with};
 ghost use Rattle.std.specs.Prelude.{◌≡◌, ◌==◌, ◌+◌, ◌∷◌, [], None, Some, encode_utf8_all, length, MatchOption};
-ghost use Rattle.tracing_tree.specs.ReadLine.{after_front, start_spaces};
-ghost use Rattle.tracing_tree.specs.RowText.{begins_with_any, drawing_marks, is_bare_text, without_start_spaces};
-ghost use Rattle.tracing_tree_core.specs.Picture.{has_line_end};
+ghost use Rattle.tracing_tree.specs.ReadBack.Line.{after_front, start_spaces};
+ghost use Rattle.tracing_tree.specs.ReadBack.RowText.{begins_with_any, drawing_marks, is_bare_text, without_start_spaces};
+ghost use Rattle.tracing_tree_core.specs.Drawing.Picture.{has_line_end};
 
 // What follows this beginning, if the text has it.
 pub(super) fn after<'a>(text: &'a str, front: &str) -> Option<&'a str>

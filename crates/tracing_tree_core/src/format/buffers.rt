@@ -1,10 +1,10 @@
 //! The texts of a call while it is built.
 
 ghost use Rattle.std.specs.Prelude.{◌≡◌, ◌<◌, ◌++◌, [], None, OnOk, OnErr};
-ghost use Rattle.tracing_tree_core.specs.Texts.{prefix_text};
-ghost use Rattle.tracing_tree_core.specs.Picture.{drawn_row, is_too_wide, unnamed_row};
-ghost use Rattle.tracing_tree_core.specs.Outputs.{WritesWhole};
-ghost use Rattle.tracing_tree_core.specs.Buffered.{IndentsRow, emptied_when_ok};
+ghost use Rattle.tracing_tree_core.specs.Drawing.Texts.{prefix_text};
+ghost use Rattle.tracing_tree_core.specs.Drawing.Picture.{drawn_row, is_too_wide, unnamed_row};
+ghost use Rattle.tracing_tree_core.specs.Drawing.Outputs.{WritesWhole};
+ghost use Rattle.tracing_tree_core.specs.Drawing.Buffers.{IndentsRow, emptied_when_ok};
 
 use super::draw::push_row;
 use super::output::write_whole;
@@ -28,7 +28,7 @@ pub struct Buffers {
 
 impl Model for Buffers {
     ghost use Rattle.std.specs.Prelude.{string_bytes};
-    ghost use Rattle.tracing_tree_core.specs.Buffered.{BuffersView};
+    ghost use Rattle.tracing_tree_core.specs.Drawing.Buffers.{BuffersView};
 
     ghost Value = { BuffersView };
 

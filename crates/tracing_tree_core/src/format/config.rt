@@ -1,9 +1,9 @@
 //! Settings.
 
 ghost use Rattle.std.specs.Prelude.{◌≡◌, ◌+◌, ◌^◌, ◌++◌, ◌<◌, [], Ok, Err, IfOk, OnOk, string_bytes, if◌then◌else◌};
-ghost use Rattle.tracing_tree_core.specs.Picture.{is_too_wide, unnamed_row, wrapped_level};
-ghost use Rattle.tracing_tree_core.specs.Settings.{default_settings};
-ghost use Rattle.tracing_tree_core.specs.Texts.{prefix_text};
+ghost use Rattle.tracing_tree_core.specs.Drawing.Picture.{is_too_wide, unnamed_row, wrapped_level};
+ghost use Rattle.tracing_tree_core.specs.Drawing.Settings.{default_settings};
+ghost use Rattle.tracing_tree_core.specs.Drawing.Texts.{prefix_text};
 
 use super::{Context, Refusal, SpanMode};
 use std::alloc::{AllocError, Global};
@@ -31,7 +31,7 @@ pub struct Config {
 
 impl Model for Config {
     ghost use Rattle.std.specs.Prelude.{◌<◌, false};
-    ghost use Rattle.tracing_tree_core.specs.Settings.{Settings};
+    ghost use Rattle.tracing_tree_core.specs.Drawing.Settings.{Settings};
 
     ghost Value = { Settings };
 

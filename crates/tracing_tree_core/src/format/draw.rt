@@ -3,9 +3,9 @@
 ghost use Rattle.std.specs.List.{repeat};
 ghost use Rattle.std.specs.Prelude.{◌≡◌, ◌+◌, ◌*◌, ◌^◌, ◌<◌, ◌++◌, ◌∷◌, [], true, false, Err, OnOk, IfErr, string_bytes, encode_utf8, if◌then◌else◌};
 ghost use Rattle.std.specs.Str.Lines.{strip_carriage_return};
-ghost use Rattle.tracing_tree_core.specs.Drawings.{HasRoom, corner_pieces, frame_pieces, pushed_text, row_of, span_pieces};
-ghost use Rattle.tracing_tree_core.specs.Picture.{drawn_row, edge_frame, first_frame, frame_text, horizontal, is_last_before_wrap, is_too_wide, later_frame, lined_frame, mark_after_corner, mark_before_corner, mark_line, picture, row_frame, shift_of, unnamed_row, wrapped_level};
-ghost use Rattle.tracing_tree_core.specs.Texts.{prefix_text};
+ghost use Rattle.tracing_tree_core.specs.Drawing.Frames.{HasRoom, corner_pieces, frame_pieces, pushed_text, row_of, span_pieces};
+ghost use Rattle.tracing_tree_core.specs.Drawing.Picture.{drawn_row, edge_frame, first_frame, frame_text, horizontal, is_last_before_wrap, is_too_wide, later_frame, lined_frame, mark_after_corner, mark_before_corner, mark_line, picture, row_frame, shift_of, unnamed_row, wrapped_level};
+ghost use Rattle.tracing_tree_core.specs.Drawing.Texts.{prefix_text};
 
 use super::{Config, Context, Refusal, SpanMode};
 use std::alloc::AllocError;

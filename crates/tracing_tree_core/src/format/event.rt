@@ -1,7 +1,7 @@
 //! The fields of spans and events, as they stand in a row.
 
 ghost use Rattle.std.specs.Prelude.{◌≡◌, ◌++◌, OnOk, OnErr, string_bytes};
-ghost use Rattle.tracing_tree_core.specs.Texts.{comma_after, event_field, named_value, shown_field};
+ghost use Rattle.tracing_tree_core.specs.Drawing.Texts.{comma_after, event_field, named_value, shown_field};
 
 use super::Buffers;
 use crate::field::Field;

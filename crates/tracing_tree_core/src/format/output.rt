@@ -2,7 +2,7 @@
 
 ghost use Rattle.std.specs.Prelude.{◌≡◌, ℕ, ◌+◌, ◌-◌, ◌<◌, ◌≤◌, List, [], Bool, false, Option, Some, IfOk, IfSome, IfNone, length, take};
 ghost use Rattle.std.specs.Io.KnownBytes.{Appends, Keeps, WriteAppends};
-ghost use Rattle.tracing_tree_core.specs.Outputs.{TakesSome, CountsFault, WritesWhole};
+ghost use Rattle.tracing_tree_core.specs.Drawing.Outputs.{TakesSome, CountsFault, WritesWhole};
 
 use std::alloc::Global;
 use std::io::{ErrorKind, Write};
@@ -68,7 +68,7 @@ pub struct Tape {
 }
 
 impl Model for Tape {
-    ghost use Rattle.tracing_tree_core.specs.Outputs.{TapeView};
+    ghost use Rattle.tracing_tree_core.specs.Drawing.Outputs.{TapeView};
 
     ghost Value = { TapeView };
 
@@ -173,7 +173,7 @@ pub struct Wrap<W: Write> {
 }
 
 impl<W: Write> Model for Wrap<W> {
-    ghost use Rattle.tracing_tree_core.specs.Outputs.{WrapView};
+    ghost use Rattle.tracing_tree_core.specs.Drawing.Outputs.{WrapView};
 
     ghost Value = { WrapView W };
 

@@ -1,9 +1,9 @@
 //! Looking at live spans.
 
 ghost use Rattle.std.specs.Prelude.{◌≡◌, None, option_map, option_copied, IfOk, IfSome, OnOk, OnErr};
-ghost use Rattle.tracing_tree_core.specs.Spans.{shown_span};
-ghost use Rattle.tracing_tree_core.specs.Forest.{Forest, IsForest, IsPathIfLive, span_at, parent_of, path_of, add_fields, mark_printed};
-ghost use Rattle.tracing_tree_core.specs.Lookup.{data_at};
+ghost use Rattle.tracing_tree_core.specs.Registry.Spans.{shown_span};
+ghost use Rattle.tracing_tree_core.specs.Registry.Forest.{Forest, IsForest, IsPathIfLive, span_at, parent_of, path_of, add_fields, mark_printed};
+ghost use Rattle.tracing_tree_core.specs.Registry.Lookup.{data_at};
 
 use super::{Data, SpanRef};
 use crate::context::Id;

@@ -1,7 +1,7 @@
 //! A span as it is kept, and a look at it.
 
 ghost use Rattle.std.specs.Prelude.{◌≡◌, ◌<◌, IfOk, OnOk, OnErr};
-ghost use Rattle.tracing_tree_core.specs.Spans.{shown_span, handle_more, handle_less, child_more, child_less, kept_printed, fields_more};
+ghost use Rattle.tracing_tree_core.specs.Registry.Spans.{shown_span, handle_more, handle_less, child_more, child_less, kept_printed, fields_more};
 
 use super::Attributes;
 use crate::context::Id;
@@ -54,7 +54,7 @@ pub(crate) struct Node {
 }
 
 impl Model for Node {
-    ghost use Rattle.tracing_tree_core.specs.Spans.{KeptSpan};
+    ghost use Rattle.tracing_tree_core.specs.Registry.Spans.{KeptSpan};
 
     ghost Value = { KeptSpan };
 
@@ -174,7 +174,7 @@ pub struct SpanRef<'a> {
 }
 
 impl<'a> Model for SpanRef<'a> {
-    ghost use Rattle.tracing_tree_core.specs.Spans.{ShownSpan};
+    ghost use Rattle.tracing_tree_core.specs.Registry.Spans.{ShownSpan};
 
     ghost Value = { ShownSpan };
 

@@ -3,9 +3,9 @@
 ghost use Rattle.std.specs.Prelude.{◌≡◌, ◌<◌, ◌^◌, ◌++◌, [], ◌∷◌, None, Some, IfSome, MatchOption, OnOk, OnErr, find, length, slice_get, option_copied, false};
 ghost use Rattle.std.specs.Fn.{FnOnceReturnsAtMut};
 ghost use Rattle.std.specs.Option.{option_map_or};
-ghost use Rattle.tracing_tree_core.specs.Spans.{KeptSpan, handle_more, handle_less, child_more, child_less, kept_printed, fields_more};
-ghost use Rattle.tracing_tree_core.specs.Kept.{kept_at, change_kept, leave_out, AreBelow};
-ghost use Rattle.tracing_tree_core.specs.Slots.{slot_has, slot_ids, present, ends_in_gap, AreRising};
+ghost use Rattle.tracing_tree_core.specs.Registry.Spans.{KeptSpan, handle_more, handle_less, child_more, child_less, kept_printed, fields_more};
+ghost use Rattle.tracing_tree_core.specs.Registry.Kept.{kept_at, change_kept, leave_out, AreBelow};
+ghost use Rattle.tracing_tree_core.specs.Registry.Slots.{slot_has, slot_ids, present, ends_in_gap, AreRising};
 
 use super::node::Node;
 use super::slot::Slot;
@@ -25,8 +25,8 @@ pub(crate) struct Nodes {
 
 impl Model for Nodes {
     ghost use Rattle.std.specs.Prelude.{List};
-    ghost use Rattle.tracing_tree_core.specs.Spans.{KeptSpan};
-    ghost use Rattle.tracing_tree_core.specs.Slots.{present, IsLaidOut};
+    ghost use Rattle.tracing_tree_core.specs.Registry.Spans.{KeptSpan};
+    ghost use Rattle.tracing_tree_core.specs.Registry.Slots.{present, IsLaidOut};
 
     ghost Value = { List KeptSpan };
 

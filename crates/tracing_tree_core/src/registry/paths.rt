@@ -2,8 +2,8 @@
 
 ghost use Rattle.std.specs.Prelude.{◌≡◌};
 ghost use Rattle.std.specs.List.{common_prefix_len};
-ghost use Rattle.tracing_tree_core.specs.Ids.{same_id};
-ghost use Rattle.tracing_tree_core.specs.Paths.{PartOnce, looks_back};
+ghost use Rattle.tracing_tree_core.specs.Registry.Ids.{same_id};
+ghost use Rattle.tracing_tree_core.specs.Registry.Paths.{PartOnce, looks_back};
 
 use super::prefix::Common;
 use crate::context::Id;

@@ -1,7 +1,7 @@
 //! A place in the list of spans.
 
 ghost use Rattle.std.specs.Prelude.{◌≡◌, option_copied};
-ghost use Rattle.tracing_tree_core.specs.Slots.{slot_id, slot_node, is_gone};
+ghost use Rattle.tracing_tree_core.specs.Registry.Slots.{slot_id, slot_node, is_gone};
 
 use super::node::Node;
 use crate::context::Id;

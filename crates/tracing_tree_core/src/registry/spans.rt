@@ -2,10 +2,10 @@
 
 ghost use Rattle.std.specs.Prelude.{◌≡◌, ◌<◌, ◌++◌, [], ◌∷◌, None, Some, IfOk, IfSome, IsSome, OnOk, OnErr, Option, reverse, length, false, IsTrue, ◌↔◌};
 ghost use Rattle.std.specs.List.{list_any};
-ghost use Rattle.tracing_tree_core.specs.Ids.{id_of};
-ghost use Rattle.tracing_tree_core.specs.Forest.{IsForest, IsPathIfLive, IsClosing, empty_forest, span_at, is_live, is_child_of, parent_of, any_unless_live, path_of, id_after, closing_of, going_up, without_spans, take_back};
-ghost use Rattle.tracing_tree_core.specs.Registered.{IsNewSpan, IsCloned, IsClosed, ListsClosing, AsksLastHandle, listed, IsNewest, IsKept, alone};
-ghost use Rattle.tracing_tree_core.specs.Kept.{spans_of, kept_at, kept_path, with_child, without_span, AreBelow, IsTied};
+ghost use Rattle.tracing_tree_core.specs.Registry.Ids.{id_of};
+ghost use Rattle.tracing_tree_core.specs.Registry.Forest.{IsForest, IsPathIfLive, IsClosing, empty_forest, span_at, is_live, is_child_of, parent_of, any_unless_live, path_of, id_after, closing_of, going_up, without_spans, take_back};
+ghost use Rattle.tracing_tree_core.specs.Registry.Registered.{IsNewSpan, IsCloned, IsClosed, ListsClosing, AsksLastHandle, listed, IsNewest, IsKept, alone};
+ghost use Rattle.tracing_tree_core.specs.Registry.Kept.{spans_of, kept_at, kept_path, with_child, without_span, AreBelow, IsTied};
 
 use super::node::Node;
 use super::nodes::Nodes;
@@ -26,9 +26,9 @@ pub struct Registry {
 }
 
 impl Model for Registry {
-    ghost use Rattle.tracing_tree_core.specs.Forest.{Forest};
-    ghost use Rattle.tracing_tree_core.specs.Registered.{IsKept};
-    ghost use Rattle.tracing_tree_core.specs.Kept.{spans_of, IsTied};
+    ghost use Rattle.tracing_tree_core.specs.Registry.Forest.{Forest};
+    ghost use Rattle.tracing_tree_core.specs.Registry.Registered.{IsKept};
+    ghost use Rattle.tracing_tree_core.specs.Registry.Kept.{spans_of, IsTied};
 
     ghost Value = { Forest };
 

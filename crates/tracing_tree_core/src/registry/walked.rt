@@ -1,9 +1,9 @@
 //! Live spans whose paths are walked.
 
 ghost use Rattle.std.specs.Prelude.{◌≡◌, None, IfOk, OnErr, reverse};
-ghost use Rattle.tracing_tree_core.specs.Ids.{id_of};
-ghost use Rattle.tracing_tree_core.specs.Forest.{IsForest, IsPathIfLive, IsClosing, empty_forest, span_at, path_of, take_back};
-ghost use Rattle.tracing_tree_core.specs.Registered.{IsNewSpan, IsCloned, IsClosed, ListsClosing, AsksLastHandle, listed, IsNewest};
+ghost use Rattle.tracing_tree_core.specs.Registry.Ids.{id_of};
+ghost use Rattle.tracing_tree_core.specs.Registry.Forest.{IsForest, IsPathIfLive, IsClosing, empty_forest, span_at, path_of, take_back};
+ghost use Rattle.tracing_tree_core.specs.Registry.Registered.{IsNewSpan, IsCloned, IsClosed, ListsClosing, AsksLastHandle, listed, IsNewest};
 
 use super::{Attributes, Context, Data, LookupSpan, Registry, SpanRef};
 use crate::context::{Id, Refusal};
@@ -19,7 +19,7 @@ pub struct Walked {
 }
 
 impl Model for Walked {
-    ghost use Rattle.tracing_tree_core.specs.Forest.{Forest};
+    ghost use Rattle.tracing_tree_core.specs.Registry.Forest.{Forest};
 
     ghost Value = { Forest };
 

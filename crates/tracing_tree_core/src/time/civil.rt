@@ -1,7 +1,7 @@
 //! Dates, times and offsets as text.
 
 ghost use Rattle.std.specs.Prelude.{◌≡◌, ◌+◌, ◌^◌, ◌<◌, ◌≤◌, ◌++◌, ◌∷◌, decimal, length};
-ghost use Rattle.tracing_tree_core.specs.Clock.{date_text, time_text, fraction_text, offset_text};
+ghost use Rattle.tracing_tree_core.specs.Time.Clock.{date_text, time_text, fraction_text, offset_text};
 
 use super::short::ShortText;
 use jiff::civil::{Date, Time};

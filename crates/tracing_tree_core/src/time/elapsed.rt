@@ -1,9 +1,9 @@
 //! Elapsed times.
 
 ghost use Rattle.std.specs.Prelude.{◌≡◌, ◌≤◌, Some, string_bytes};
-ghost use Rattle.tracing_tree_core.specs.Clock.{dimmed_pair, elapsed_text, hundredths_text, nearest_count};
-ghost use Rattle.tracing_tree_core.specs.Outputs.{AppendsStated, AsksForText};
-ghost use Rattle.tracing_tree_core.specs.Pieces.{pieces_text, ShowsWhole, ShowsHundredths};
+ghost use Rattle.tracing_tree_core.specs.Time.Clock.{dimmed_pair, elapsed_text, hundredths_text, nearest_count};
+ghost use Rattle.tracing_tree_core.specs.Drawing.Outputs.{AppendsStated, AsksForText};
+ghost use Rattle.tracing_tree_core.specs.Time.Pieces.{pieces_text, ShowsWhole, ShowsHundredths};
 
 use super::TimeFault;
 use super::pieces::{Piece, append};

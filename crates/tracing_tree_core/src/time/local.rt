@@ -1,7 +1,7 @@
 //! Date and time at an offset or in a zone.
 
 ghost use Rattle.std.specs.Prelude.{◌≡◌};
-ghost use Rattle.tracing_tree_core.specs.Clock.{local_clock_timer, local_in_zone, local_timer};
+ghost use Rattle.tracing_tree_core.specs.Time.Clock.{local_clock_timer, local_in_zone, local_timer};
 
 use super::civil::{push_date, push_offset, push_time};
 use super::elapsed::style_timestamp;
@@ -44,7 +44,7 @@ impl<'a> LocalDateTime<'a> {
 }
 
 impl FormatTime for LocalDateTime<'_> {
-    ghost use Rattle.tracing_tree_core.specs.Clock.{local_clock_timer};
+    ghost use Rattle.tracing_tree_core.specs.Time.Clock.{local_clock_timer};
 
     ghost timer = { local_clock_timer };
 

@@ -1,9 +1,9 @@
 //! Texts of timers, put together from pieces. They are appended whole or not at all, and need no memory but the text's own.
 
 ghost use Rattle.std.specs.Prelude.{◌≡◌, ◌<◌, ◌++◌, Some, OnOk, replicate, decimal, string_bytes};
-ghost use Rattle.tracing_tree_core.specs.Outputs.{AppendsStated};
-ghost use Rattle.tracing_tree_core.specs.Texts.{digits_in, right_in};
-ghost use Rattle.tracing_tree_core.specs.Pieces.{filled_in, piece_text, pieces_text, groups_text, IsExtended};
+ghost use Rattle.tracing_tree_core.specs.Drawing.Outputs.{AppendsStated};
+ghost use Rattle.tracing_tree_core.specs.Drawing.Texts.{digits_in, right_in};
+ghost use Rattle.tracing_tree_core.specs.Time.Pieces.{filled_in, piece_text, pieces_text, groups_text, IsExtended};
 
 use super::TimeFault;
 use std::alloc::AllocError;

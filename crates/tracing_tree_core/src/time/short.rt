@@ -1,8 +1,8 @@
 //! Short ASCII texts on the stack. A date and a time are put together in one, and appended at once.
 
 ghost use Rattle.std.specs.Prelude.{◌≡◌, ◌+◌, ◌^◌, ◌<◌, ◌≤◌, ◌++◌, ◌∷◌, [], Some, length, string_bytes};
-ghost use Rattle.tracing_tree_core.specs.Outputs.{AppendsStated};
-ghost use Rattle.tracing_tree_core.specs.Texts.{digits_in};
+ghost use Rattle.tracing_tree_core.specs.Drawing.Outputs.{AppendsStated};
+ghost use Rattle.tracing_tree_core.specs.Drawing.Texts.{digits_in};
 
 use super::TimeFault;
 use std::marker::Model;
@@ -82,7 +82,8 @@ impl ShortText {
 
     /// Appends the text to another. On `Memory` that is as it was.
     pub(super) fn append_to(&self, out: &mut String) -> Result<(), TimeFault>
-        ensures { AppendsStated (Some self.now) (string_bytes out.old) (string_bytes out.new) result }
+        ensures { AppendsStated (Some self.now)
+            (string_bytes out.old) (string_bytes out.new) result }
     {
         match out.push_str(self.as_str()) {
             Ok(()) => Ok(()),

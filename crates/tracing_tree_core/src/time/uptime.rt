@@ -18,7 +18,7 @@ pub struct Uptime {
 /// From an epoch in nanoseconds on the clock of `Moment::mono`, with lower precision.
 impl From<u64> for Uptime {
     ghost use Rattle.std.specs.Prelude.{◌≡◌};
-    ghost use Rattle.tracing_tree_core.specs.Clock.{uptime_from};
+    ghost use Rattle.tracing_tree_core.specs.Time.Clock.{uptime_from};
 
     ghost from_gives = { λ epoch clock. clock ≡ uptime_from epoch };
 
@@ -31,7 +31,7 @@ impl From<u64> for Uptime {
 }
 
 impl FormatTime for Uptime {
-    ghost use Rattle.tracing_tree_core.specs.Clock.{uptime_clock_timer};
+    ghost use Rattle.tracing_tree_core.specs.Time.Clock.{uptime_clock_timer};
 
     ghost timer = { uptime_clock_timer };
 

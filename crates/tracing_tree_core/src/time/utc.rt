@@ -27,7 +27,7 @@ impl Default for UtcDateTime {
 }
 
 impl FormatTime for UtcDateTime {
-    ghost use Rattle.tracing_tree_core.specs.Clock.{utc_clock_timer};
+    ghost use Rattle.tracing_tree_core.specs.Time.Clock.{utc_clock_timer};
 
     ghost timer = { utc_clock_timer };
 

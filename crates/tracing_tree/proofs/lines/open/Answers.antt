@@ -1,7 +1,7 @@
 use Rattle.std.proofs.Common.{subst}
 use Rattle.std.specs.Io.Buffered.{reader_remaining}
 use Rattle.std.proofs.lemmas.Result.{err_from_is_err_and}
-use Rattle.tracing_tree.specs.LineReads.{TakesLine}
+use Rattle.tracing_tree.specs.Lines.Reads.{TakesLine}
 use Rattle.tracing_tree.proofs.OpenedLines.{opened_known, ends_first}
 use Rattle.tracing_tree.proofs.lines.open.Goals as goal
 

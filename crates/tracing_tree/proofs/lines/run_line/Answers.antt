@@ -1,7 +1,7 @@
 use Rattle.std.proofs.Common.{◌≡◌, false, Ok, refl, ap, subst, sym, ◌∙◌}
 use Rattle.std.proofs.lemmas.Result.{err_from_is_err_and}
-use Rattle.tracing_tree.specs.Spelled.{is_skipped}
-use Rattle.tracing_tree.specs.LineReads.{TakesLine, ReadsNext}
+use Rattle.tracing_tree.specs.Lines.Spelled.{is_skipped}
+use Rattle.tracing_tree.specs.Lines.Reads.{TakesLine, ReadsNext}
 use Rattle.tracing_tree.proofs.LineRuns.{fails_line}
 use Rattle.tracing_tree.proofs.lines.run_line.Goals as goal
 

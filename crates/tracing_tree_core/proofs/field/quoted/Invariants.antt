@@ -1,5 +1,5 @@
 use Rattle.std.proofs.Common.{◌≡◌, ◌∷◌, flat_map, take, string_bytes}
-use Rattle.tracing_tree_core.specs.Texts.{escaped}
+use Rattle.tracing_tree_core.specs.Drawing.Texts.{escaped}
 use Rattle.tracing_tree_core.proofs.field.quoted.Given as goal
 
 -- the quote, and the characters so far

@@ -1,7 +1,7 @@
 use Rattle.std.proofs.Common.{sym, subst, ◌∙◌}
-use Rattle.tracing_tree_core.specs.Ids.{id_of}
-use Rattle.tracing_tree_core.specs.Forest.{path_of}
-use Rattle.tracing_tree_core.specs.Paths.{PartOnce}
+use Rattle.tracing_tree_core.specs.Registry.Ids.{id_of}
+use Rattle.tracing_tree_core.specs.Registry.Forest.{path_of}
+use Rattle.tracing_tree_core.specs.Registry.Paths.{PartOnce}
 use Rattle.tracing_tree_core.proofs.CommonLaws.{paths_part_once}
 use Rattle.tracing_tree_registry_tests.proofs.paths.shared.Goals as goal
 

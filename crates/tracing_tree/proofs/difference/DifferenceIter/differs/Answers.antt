@@ -1,6 +1,6 @@
 use Rattle.std.proofs.Common.{refl, rules}
 use Rattle.std.proofs.iter.Next.{says_at}
-use Rattle.tracing_tree.specs.SideBySide.{difference_compare}
+use Rattle.tracing_tree.specs.Differences.Steps.{difference_compare}
 use Rattle.tracing_tree.proofs.DifferenceLemmas.{Differs-from_ne}
 use Rattle.tracing_tree.proofs.difference.DifferenceIter.differs.Goals as goal
 

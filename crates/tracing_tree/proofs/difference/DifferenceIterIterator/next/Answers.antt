@@ -1,6 +1,6 @@
 use Rattle.std.proofs.Common.{rules, refl, ◌∙◌, Some, None}
 use Rattle.std.proofs.iter.Next as it
-use Rattle.tracing_tree.specs.SideBySide.{difference_compare, Matches, Differs}
+use Rattle.tracing_tree.specs.Differences.Steps.{difference_compare, Matches, Differs}
 use Rattle.tracing_tree.proofs.DifferenceLemmas.{Differs-same, AllMatch-push}
 use Rattle.tracing_tree.proofs.difference.DifferenceIterIterator.next.Goals as goal
 

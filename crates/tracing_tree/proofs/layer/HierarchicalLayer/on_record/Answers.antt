@@ -1,11 +1,11 @@
 use Rattle.std.proofs.Common.{◌≡◌, ◌++◌, false, not, Option, None, Some, refl, sym, ap, ◌∙◌}
 use Rattle.std.proofs.KnownBytes.{Appends-nil}
 use Rattle.std.specs.Option.{is_some, option_map}
-use Rattle.tracing_tree_core.specs.Spans.{Span, shown_span}
-use Rattle.tracing_tree_core.specs.Forest.{span_at}
+use Rattle.tracing_tree_core.specs.Registry.Spans.{Span, shown_span}
+use Rattle.tracing_tree_core.specs.Registry.Forest.{span_at}
 use Rattle.tracing_tree_core.proofs.RegistryLaws.{forest-unchanged}
-use Rattle.tracing_tree.specs.Layers.{LayerView, seen}
-use Rattle.tracing_tree.specs.Refused.{first_cause}
+use Rattle.tracing_tree.specs.Calls.Layers.{LayerView, seen}
+use Rattle.tracing_tree.specs.Calls.Refused.{first_cause}
 use Rattle.tracing_tree.proofs.layer.HierarchicalLayer.on_record.Goals as goal
 
 -- what shows nothing isn't live

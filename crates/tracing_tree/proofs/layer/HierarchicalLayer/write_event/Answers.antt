@@ -1,6 +1,6 @@
 use Rattle.std.proofs.Common.{false, ap, sym, ◌∙◌}
-use Rattle.tracing_tree.specs.Rows.{turn_of_event}
-use Rattle.tracing_tree.specs.Refused.{is_event_too_wide, timer_faults_at}
+use Rattle.tracing_tree.specs.Rows.Turns.{turn_of_event}
+use Rattle.tracing_tree.specs.Calls.Refused.{is_event_too_wide, timer_faults_at}
 use Rattle.tracing_tree.proofs.DrawnLaws.{drafts-drawn, refused-last, refused-marks, written}
 use Rattle.tracing_tree.proofs.layer.HierarchicalLayer.write_event.Goals as goal
 

@@ -1,5 +1,5 @@
 use Rattle.std.proofs.Common.{◌≡◌, ◌++◌, take, map, flat_map, string_bytes}
-use Rattle.tracing_tree_core.specs.Texts.{named_value}
+use Rattle.tracing_tree_core.specs.Drawing.Texts.{named_value}
 use Rattle.tracing_tree.proofs.FieldTexts.{behind_comma}
 use Rattle.tracing_tree.proofs.layer.block.push_span_fields.Given as goal
 

@@ -1,5 +1,5 @@
 use Rattle.std.proofs.Common.{◌≡◌, false, ap, ◌∙◌}
-use Rattle.tracing_tree.specs.Drawn.{has_no_id}
+use Rattle.tracing_tree.specs.Rows.Drawn.{has_no_id}
 use Rattle.tracing_tree.proofs.TurnLaws.{closes, closes_held}
 use Rattle.tracing_tree.proofs.layered.Layered.close.Goals as goal
 

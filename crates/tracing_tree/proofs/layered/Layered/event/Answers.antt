@@ -1,7 +1,7 @@
 use Rattle.std.proofs.Common.{◌≡◌, false, refl, ap, ◌∙◌}
-use Rattle.tracing_tree.specs.Layers.{seen}
-use Rattle.tracing_tree.specs.Rows.{turn_of_event}
-use Rattle.tracing_tree.specs.Refused.{is_event_too_wide, timer_faults_at}
+use Rattle.tracing_tree.specs.Calls.Layers.{seen}
+use Rattle.tracing_tree.specs.Rows.Turns.{turn_of_event}
+use Rattle.tracing_tree.specs.Calls.Refused.{is_event_too_wide, timer_faults_at}
 use Rattle.tracing_tree.specs.declared.call.Call.TheVariants.{Event}
 use Rattle.tracing_tree.proofs.TurnLaws.{cause-turn, turn_refused}
 use Rattle.tracing_tree.proofs.layered.Layered.event.Goals as goal

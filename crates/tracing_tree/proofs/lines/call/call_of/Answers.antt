@@ -1,8 +1,8 @@
 use Rattle.std.proofs.Common.{◌≡◌, None, Some, Err, codes, sym, ◌∙◌, rules, refl}
 use Rattle.serde_json.specs.View.{view}
 use Rattle.serde_json.specs.Find.{as_str}
-use Rattle.tracing_tree.specs.CallKinds.{word_of}
-use Rattle.tracing_tree.specs.Spelled.{required}
+use Rattle.tracing_tree.specs.Lines.CallKinds.{word_of}
+use Rattle.tracing_tree.specs.Lines.Spelled.{required}
 use Rattle.tracing_tree.specs.declared.lines.LineCause.TheVariants.{NotACall}
 use Rattle.tracing_tree.proofs.Moments.{no_kind, reads_none, reads_named}
 use Rattle.tracing_tree.proofs.lines.call.call_of.Goals as goal

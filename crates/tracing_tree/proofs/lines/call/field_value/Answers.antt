@@ -3,7 +3,7 @@ use Rattle.std.proofs.lemmas.Grind.{common_steps}
 use Rattle.serde_json.specs.Data.{array}
 use Rattle.serde_json.specs.View.{view, items_view}
 use Rattle.serde_json.proofs.Views.{view-Array}
-use Rattle.tracing_tree.specs.Spelled.{field_value}
+use Rattle.tracing_tree.specs.Lines.Spelled.{field_value}
 use Rattle.tracing_tree.proofs.Pairs.{no_pair}
 use Rattle.tracing_tree.proofs.lines.call.field_value.Goals as goal
 

@@ -1,7 +1,7 @@
 use Rattle.std.proofs.Common.{◌≡◌, ◌++◌, ◌∷◌, [], Some, ap, sym, ◌∙◌, rules}
 use Rattle.std.specs.Vec.Iter.{into_iter_items}
 use Rattle.serde_json.specs.View.{view, items_view}
-use Rattle.tracing_tree.specs.Spelled.{item_fields, field_value}
+use Rattle.tracing_tree.specs.Lines.Spelled.{item_fields, field_value}
 use Rattle.tracing_tree.proofs.Pairs.{behind, behind_more}
 use Rattle.tracing_tree.proofs.lines.call.item_fields.Goals as goal
 

@@ -1,7 +1,7 @@
 use Rattle.std.proofs.Common.{◌≡◌}
 use Rattle.std.specs.Vec.Iter.{into_iter_items}
 use Rattle.serde_json.specs.View.{items_view}
-use Rattle.tracing_tree.specs.Spelled.{item_fields}
+use Rattle.tracing_tree.specs.Lines.Spelled.{item_fields}
 use Rattle.tracing_tree.proofs.Pairs.{behind}
 use Rattle.tracing_tree.proofs.lines.call.item_fields.Given as goal
 

@@ -1,6 +1,6 @@
 use Rattle.std.proofs.Common.{◌≡◌}
 use Rattle.serde_json.specs.View.{view, members_view}
-use Rattle.tracing_tree.specs.Spelled.{object_settings, with_members}
+use Rattle.tracing_tree.specs.Lines.Spelled.{object_settings, with_members}
 use Rattle.tracing_tree.proofs.lines.settings.settings_of.Given as goal
 
 -- what the rest makes of the settings so far is what the object asks for

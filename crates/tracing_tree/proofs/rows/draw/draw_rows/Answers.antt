@@ -1,7 +1,7 @@
 use Rattle.std.proofs.Common.{◌∙◌, ap, sym, subst, List}
 use Rattle.std.proofs.lemmas.Result.{err_from_is_err_and}
 use Rattle.std.proofs.lemmas.List.{take_all}
-use Rattle.tracing_tree.specs.RowText.{TextRow, AreTextRows, rows_text}
+use Rattle.tracing_tree.specs.ReadBack.RowText.{TextRow, AreTextRows, rows_text}
 use Rattle.tracing_tree.proofs.RowsRead.DrawnRows.{narrow-at}
 use Rattle.tracing_tree.proofs.rows.draw.draw_rows.Goals as goal
 

@@ -1,5 +1,5 @@
 use Rattle.std.proofs.Common.{◌≡◌, take, string_bytes}
-use Rattle.tracing_tree.specs.RowText.{AreTextRows, rows_text}
+use Rattle.tracing_tree.specs.ReadBack.RowText.{AreTextRows, rows_text}
 use Rattle.tracing_tree.proofs.rows.draw.draw_rows.Given as goal
 
 abbrev pub invariant-loop-row : goal.invariant-loop-row

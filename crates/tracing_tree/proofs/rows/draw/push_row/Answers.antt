@@ -1,7 +1,7 @@
 use Rattle.std.proofs.Common.{◌≡◌, ◌==◌, ◌∙◌, ◌+◌, ◌++◌, ◌∷◌, [], ◌<◌, List, ℕ, String, Global, ap, sym, map, length, take, string_bytes, arith, ne_eqb, if◌then◌else◌}
 use Rattle.std.proofs.lemmas.List.{take_more, take_all, map-append, length-map, length-take-le}
-use Rattle.tracing_tree_core.specs.Picture.{frame_text, lined_frame}
-use Rattle.tracing_tree.specs.RowText.{ended, kind_of}
+use Rattle.tracing_tree_core.specs.Drawing.Picture.{frame_text, lined_frame}
+use Rattle.tracing_tree.specs.ReadBack.RowText.{ended, kind_of}
 use Rattle.tracing_tree.proofs.RowsRead.RowLines.{framed_lines, row_text-lines}
 use Rattle.tracing_tree.proofs.RowsRead.DrawnRows.{line-pushed}
 use Rattle.tracing_tree.proofs.rows.draw.push_row.Goals as goal

@@ -1,5 +1,5 @@
 use Rattle.std.proofs.Common.{◌≡◌, ◌++◌, ◌==◌, map, take, string_bytes}
-use Rattle.tracing_tree.specs.RowText.{ended}
+use Rattle.tracing_tree.specs.ReadBack.RowText.{ended}
 use Rattle.tracing_tree.proofs.RowsRead.RowLines.{framed_lines}
 use Rattle.tracing_tree.proofs.rows.draw.push_row.Given as goal
 

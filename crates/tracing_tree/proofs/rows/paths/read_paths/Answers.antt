@@ -1,9 +1,9 @@
 use Rattle.std.proofs.Common.{◌≡◌, ◌∙◌, ◌+◌, ◌++◌, ◌∷◌, [], ◌≤◌, ℕ, List, Option, length, ap, sym, subst, refl, arith}
 use Rattle.std.proofs.lemmas.Result.{err_from_is_err_and}
-use Rattle.tracing_tree.specs.Ancestry.{AreLastPlaces}
-use Rattle.tracing_tree.specs.ReadLine.{with_last}
-use Rattle.tracing_tree.specs.ReadTexts.{IsReadTo, TellsFault, TextLeft}
-use Rattle.tracing_tree.specs.RowText.{TextRow, IsOnlyReading, event_paths}
+use Rattle.tracing_tree.specs.Laws.Ancestry.{AreLastPlaces}
+use Rattle.tracing_tree.specs.ReadBack.Line.{with_last}
+use Rattle.tracing_tree.specs.ReadBack.Texts.{IsReadTo, TellsFault, TextLeft}
+use Rattle.tracing_tree.specs.ReadBack.RowText.{TextRow, IsOnlyReading, event_paths}
 use Rattle.tracing_tree.specs.declared.rows.paths.Paths.{Paths}
 use Rattle.tracing_tree.proofs.RowsRead.AncestryLaws.{last_none}
 use Rattle.tracing_tree.proofs.RowsRead.PathsFound.{paths-found}

@@ -1,7 +1,7 @@
 use Rattle.std.proofs.Common.{◌≡◌, ◌≤◌, ◌+◌, List, length}
-use Rattle.tracing_tree.specs.Ancestry.{ArePathsOf}
-use Rattle.tracing_tree.specs.ReadTexts.{IsReadTo}
-use Rattle.tracing_tree.specs.RowText.{TextRow}
+use Rattle.tracing_tree.specs.Laws.Ancestry.{ArePathsOf}
+use Rattle.tracing_tree.specs.ReadBack.Texts.{IsReadTo}
+use Rattle.tracing_tree.specs.ReadBack.RowText.{TextRow}
 use Rattle.tracing_tree.proofs.rows.paths.read_paths.Given as goal
 
 abbrev pub invariant-loop-so_far : goal.invariant-loop-so_far

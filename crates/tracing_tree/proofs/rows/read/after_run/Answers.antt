@@ -1,6 +1,6 @@
 use Rattle.std.specs.Char.{encode_utf8}
 use Rattle.std.specs.List.{repeat}
-use Rattle.tracing_tree_core.specs.Picture.{horizontal}
+use Rattle.tracing_tree_core.specs.Drawing.Picture.{horizontal}
 use Rattle.tracing_tree.proofs.RowsRead.Trims.{after-first_none, stripped-run}
 use Rattle.tracing_tree.proofs.rows.read.after_run.Goals as goal
 

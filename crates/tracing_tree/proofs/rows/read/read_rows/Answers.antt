@@ -1,8 +1,8 @@
 use Rattle.std.proofs.Common.{◌≡◌, ◌∙◌, ◌≤◌, ℕ, List, Vec, Global, ap, sym, subst}
 use Rattle.std.proofs.lemmas.Result.{err_from_is_err_and}
-use Rattle.tracing_tree.specs.RowText.{TextRow, IsOnlyReading}
-use Rattle.tracing_tree.specs.ReadLine.{with_last}
-use Rattle.tracing_tree.specs.ReadTexts.{TellsFault}
+use Rattle.tracing_tree.specs.ReadBack.RowText.{TextRow, IsOnlyReading}
+use Rattle.tracing_tree.specs.ReadBack.Line.{with_last}
+use Rattle.tracing_tree.specs.ReadBack.Texts.{TellsFault}
 use Rattle.tracing_tree.proofs.RowsRead.ReadPlaces.{read_end}
 use Rattle.tracing_tree.proofs.RowsRead.ReadBack.{drawn-rows, drawn-faults}
 use Rattle.tracing_tree.proofs.rows.read.read_rows.Goals as goal

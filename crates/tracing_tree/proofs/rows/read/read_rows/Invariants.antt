@@ -1,5 +1,5 @@
 use Rattle.std.proofs.Common.{◌≡◌, length}
-use Rattle.tracing_tree.specs.ReadTexts.{IsReadTo}
+use Rattle.tracing_tree.specs.ReadBack.Texts.{IsReadTo}
 use Rattle.tracing_tree.proofs.rows.read.read_rows.Given as goal
 
 abbrev pub invariant-loop-rows : goal.invariant-loop-rows

@@ -2,7 +2,7 @@ use Rattle.std.proofs.Common.{◌≡◌, ◌-◌, ◌≤◌}
 use denote.Text.{Utf8}
 use denote.Shadow.{shadow}
 use Rattle.std.specs.List.{repeat}
-use Rattle.tracing_tree.specs.ReadLine.{after_front}
+use Rattle.tracing_tree.specs.ReadBack.Line.{after_front}
 use Rattle.tracing_tree.proofs.rows.text.after_repeated.Given as goal
 
 abbrev pub invariant-loop-done : goal.invariant-loop-done

@@ -1,8 +1,8 @@
 use Rattle.std.proofs.Common.{◌≡◌, ◌∙◌, ◌/◌, ◌-◌, ◌++◌, ℕ, [], List, ap, sym, refl, inl, inr, append_assoc}
 use Rattle.std.proofs.lemmas.List.{append-nil}
 use Rattle.std.specs.Char.{encode_utf8}
-use Rattle.tracing_tree_core.specs.Picture.{branch, corner_up_right, corner_down_left, corner_down_right, corner_up_left, horizontal}
-use Rattle.tracing_tree_core.specs.Drawings.{frame_pieces}
+use Rattle.tracing_tree_core.specs.Drawing.Picture.{branch, corner_up_right, corner_down_left, corner_down_right, corner_up_left, horizontal}
+use Rattle.tracing_tree_core.specs.Drawing.Frames.{frame_pieces}
 use Rattle.tracing_tree_core.proofs.FrameTexts.{parent-pieces, open-pieces, retrace-pieces, close-pieces, branched-pieces}
 use Rattle.tracing_tree_core.proofs.format.draw.first_frame.Goals as goal
 

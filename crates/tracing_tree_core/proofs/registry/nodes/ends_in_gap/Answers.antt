@@ -1,6 +1,6 @@
 use Rattle.std.proofs.Common.{false, sym, ap, ◌∙◌}
 use Rattle.std.specs.Option.{option_map_or}
-use Rattle.tracing_tree_core.specs.Slots.{is_gone}
+use Rattle.tracing_tree_core.specs.Registry.Slots.{is_gone}
 use Rattle.tracing_tree_core.proofs.SlotLists.{ends-read}
 use Rattle.tracing_tree_core.proofs.registry.nodes.ends_in_gap.Goals as goal
 

@@ -1,5 +1,5 @@
 use Rattle.std.proofs.Common.{◌≡◌, ◌+◌, ◌<◌, length, arith, sym, ap, ◌∙◌}
-use Rattle.tracing_tree_core.specs.Slots.{slot_id}
+use Rattle.tracing_tree_core.specs.Registry.Slots.{slot_id}
 use Rattle.tracing_tree_core.proofs.SlotLists.{here-found, left-above, left-below, none-left}
 use Rattle.tracing_tree_core.proofs.registry.nodes.search.Goals as goal
 use Rattle.tracing_tree_core.proofs.registry.nodes.search.Goals.{then-here-id-2, else-here-id-2}

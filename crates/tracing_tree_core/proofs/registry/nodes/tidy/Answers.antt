@@ -1,6 +1,6 @@
 use Rattle.std.proofs.Common.{List, not, rules, arith, sym, ap, ◌∙◌, subst}
 use Rattle.std.proofs.lemmas.Fn.{filter_same}
-use Rattle.tracing_tree_core.specs.Slots.{present, is_gone, slot_ids, ends_in_gap, AreRising}
+use Rattle.tracing_tree_core.specs.Registry.Slots.{present, is_gone, slot_ids, ends_in_gap, AreRising}
 use Rattle.tracing_tree_core.specs.declared.registry.slot.Slot.{Slot}
 use Rattle.tracing_tree_core.proofs.SlotLists.{IsTrimmed, trimmed, present-part, rising-part, ends-part}
 use Rattle.tracing_tree_core.proofs.registry.nodes.tidy.Goals as goal

@@ -1,5 +1,5 @@
 use Rattle.std.proofs.Common.{◌≡◌, length}
-use Rattle.tracing_tree_core.specs.Slots.{present, slot_ids, AreRising}
+use Rattle.tracing_tree_core.specs.Registry.Slots.{present, slot_ids, AreRising}
 use Rattle.tracing_tree_core.proofs.registry.nodes.tidy.Given as goal
 
 -- the same spans, in the order of their ids

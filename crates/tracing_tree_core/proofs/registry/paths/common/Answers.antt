@@ -1,5 +1,5 @@
 use Rattle.std.proofs.Common.{◌≤◌, arith, sym, ◌∙◌, length}
-use Rattle.tracing_tree_core.specs.Ids.{id_of}
+use Rattle.tracing_tree_core.specs.Registry.Ids.{id_of}
 use Rattle.tracing_tree_core.proofs.CommonLaws.{prefix-none, prefix-some}
 use Rattle.tracing_tree_core.proofs.registry.paths.common.Goals as goal
 

@@ -1,5 +1,5 @@
 use Rattle.std.proofs.Common.{◌≡◌, ℕ, ◌+◌, ◌≤◌, false, length, min}
-use Rattle.tracing_tree_core.specs.Paths.{agree_at}
+use Rattle.tracing_tree_core.specs.Registry.Paths.{agree_at}
 use Rattle.tracing_tree_core.proofs.registry.paths.common.Given as goal
 
 -- each place past the length was compared, and none of them agrees

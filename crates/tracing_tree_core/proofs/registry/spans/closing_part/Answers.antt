@@ -1,6 +1,6 @@
 use Rattle.std.proofs.Common.{◌≡◌, [], Some, arith, sym, ◌∙◌}
-use Rattle.tracing_tree_core.specs.Registered.{alone, going_after}
-use Rattle.tracing_tree_core.specs.Kept.{spans_of}
+use Rattle.tracing_tree_core.specs.Registry.Registered.{alone, going_after}
+use Rattle.tracing_tree_core.specs.Registry.Kept.{spans_of}
 use Rattle.tracing_tree_core.proofs.ClosingWalk.{way_up, path-falls}
 use Rattle.tracing_tree_core.proofs.ClosingParts.{kept-found, part-begins, part-none, part-child, part-more, part-cut, part-empty, rest-root, rest-missing, rest-kept, stays-handle, stays-child}
 use Rattle.tracing_tree_core.proofs.registry.spans.closing_part.Goals as goal

@@ -1,7 +1,7 @@
 use Rattle.std.proofs.Common.{length}
-use Rattle.tracing_tree_core.specs.Forest.{path_of_any}
-use Rattle.tracing_tree_core.specs.Registered.{alone}
-use Rattle.tracing_tree_core.specs.Kept.{spans_of}
+use Rattle.tracing_tree_core.specs.Registry.Forest.{path_of_any}
+use Rattle.tracing_tree_core.specs.Registry.Registered.{alone}
+use Rattle.tracing_tree_core.specs.Registry.Kept.{spans_of}
 use Rattle.tracing_tree_core.proofs.ClosingParts.{HasClosed}
 use Rattle.tracing_tree_core.proofs.registry.spans.closing_part.Given as goal
 

@@ -1,5 +1,5 @@
 use Rattle.std.proofs.Common.{sym, ap, ◌∙◌}
-use Rattle.tracing_tree_core.specs.Kept.{spans_of}
+use Rattle.tracing_tree_core.specs.Registry.Kept.{spans_of}
 use Rattle.tracing_tree_core.proofs.KeptLists.{spans-left}
 use Rattle.tracing_tree_core.proofs.Ties.{parent-read, tied-nothing, child-counted, tied-leaf, tied-root, spans-leaf}
 use Rattle.tracing_tree_core.proofs.registry.spans.remove_leaf.Goals as goal

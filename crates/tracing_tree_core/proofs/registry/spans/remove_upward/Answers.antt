@@ -1,5 +1,5 @@
 use Rattle.std.proofs.Common.{◌≡◌, ◌+◌, ◌-◌, ◌<◌, None, Some, length, arith, ap, ◌∙◌, subst}
-use Rattle.tracing_tree_core.specs.Kept.{spans_of}
+use Rattle.tracing_tree_core.specs.Registry.Kept.{spans_of}
 use Rattle.tracing_tree_core.proofs.ClosingSteps.{rest_of}
 use Rattle.tracing_tree_core.proofs.ClosingParts.{HasRemoved, next-goes, removed-more, removed-all}
 use Rattle.tracing_tree_core.proofs.registry.spans.remove_upward.Goals as goal

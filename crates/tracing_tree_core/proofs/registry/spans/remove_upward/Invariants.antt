@@ -1,5 +1,5 @@
 use Rattle.std.proofs.Common.{◌-◌, Some}
-use Rattle.tracing_tree_core.specs.Kept.{spans_of, IsTied}
+use Rattle.tracing_tree_core.specs.Registry.Kept.{spans_of, IsTied}
 use Rattle.tracing_tree_core.proofs.ClosingParts.{HasRemoved}
 use Rattle.tracing_tree_core.proofs.registry.spans.remove_upward.Given as goal
 

@@ -1,6 +1,6 @@
 use Rattle.std.proofs.Common.{◌≡◌, ◌<◌, ◌≤◌, ◌^◌}
-use Rattle.tracing_tree_core.specs.Clock.{fraction_text, significant_digits}
-use Rattle.tracing_tree_core.specs.Texts.{digits_in}
+use Rattle.tracing_tree_core.specs.Time.Clock.{fraction_text, significant_digits}
+use Rattle.tracing_tree_core.specs.Drawing.Texts.{digits_in}
 use Rattle.tracing_tree_core.proofs.time.civil.push_fraction.Given as goal
 
 -- the digits that are left show the fraction

@@ -1,7 +1,7 @@
 use Rattle.std.proofs.Common.{ap, ◌∙◌}
-use Rattle.tracing_tree.specs.Rows.{turn_of_closes}
-use Rattle.tracing_tree.specs.Plan.{empty_plan, plan_of_closes, turn_of_plan}
-use Rattle.tracing_tree.specs.Drawn.{has_no_id}
+use Rattle.tracing_tree.specs.Rows.Turns.{turn_of_closes}
+use Rattle.tracing_tree.specs.Rows.Plan.{empty_plan, plan_of_closes, turn_of_plan}
+use Rattle.tracing_tree.specs.Rows.Drawn.{has_no_id}
 use Rattle.tracing_tree.specs.declared.layer.page.Page.{Page}
 use Rattle.tracing_tree.proofs.DrawnLaws.{drafts, closes-loud}
 use Rattle.tracing_tree.proofs.Plans.{turn-closes}

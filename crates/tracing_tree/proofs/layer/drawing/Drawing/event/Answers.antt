@@ -1,9 +1,9 @@
 use Rattle.std.proofs.Common.{Bool, ap, sym, subst, ◌∙◌}
 use Rattle.std.proofs.lemmas.Result.{err_from_is_err_and}
-use Rattle.tracing_tree.specs.Rows.{current_of, event_row, then_turn, turn_of_row, turn_before_event}
-use Rattle.tracing_tree.specs.Refused.{timer_faults_at}
-use Rattle.tracing_tree.specs.Drawn.{Drafts}
-use Rattle.tracing_tree.specs.Plan.{empty_plan, plan_before_event, turn_of_plan}
+use Rattle.tracing_tree.specs.Rows.Turns.{current_of, event_row, then_turn, turn_of_row, turn_before_event}
+use Rattle.tracing_tree.specs.Calls.Refused.{timer_faults_at}
+use Rattle.tracing_tree.specs.Rows.Drawn.{Drafts}
+use Rattle.tracing_tree.specs.Rows.Plan.{empty_plan, plan_before_event, turn_of_plan}
 use Rattle.tracing_tree.specs.declared.layer.page.Page.{Page}
 use Rattle.tracing_tree.proofs.DrawnLaws.{drafts_event, refuses_event, fits-event}
 use Rattle.tracing_tree.proofs.Plans.{turn-event}

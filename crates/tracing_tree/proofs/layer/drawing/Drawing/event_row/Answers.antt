@@ -1,6 +1,6 @@
 use Rattle.std.proofs.Common.{Bool, ◌∷◌, [], ◌++◌, refl, sym, subst, ap}
-use Rattle.tracing_tree.specs.Rows.{event_row}
-use Rattle.tracing_tree.specs.Drawn.{DrawsRows}
+use Rattle.tracing_tree.specs.Rows.Turns.{event_row}
+use Rattle.tracing_tree.specs.Rows.Drawn.{DrawsRows}
 use Rattle.tracing_tree.proofs.DrawnLaws.{draws_like}
 use Rattle.tracing_tree.proofs.layer.drawing.Drawing.event_row.Goals as goal
 

@@ -1,6 +1,6 @@
 use Rattle.std.proofs.Common.{false, refl, ap, ◌∙◌}
-use Rattle.tracing_tree.specs.Rows.{turn_of_new}
-use Rattle.tracing_tree.specs.Plan.{empty_plan, plan_of_new, turn_of_plan}
+use Rattle.tracing_tree.specs.Rows.Turns.{turn_of_new}
+use Rattle.tracing_tree.specs.Rows.Plan.{empty_plan, plan_of_new, turn_of_plan}
 use Rattle.tracing_tree.specs.declared.layer.page.Page.{Page}
 use Rattle.tracing_tree.proofs.DrawnLaws.{drafts}
 use Rattle.tracing_tree.proofs.Plans.{turn-new}

@@ -1,5 +1,5 @@
 use Rattle.std.proofs.Common.{◌++◌, refl, ap}
-use Rattle.tracing_tree.specs.Plan.{row_of_planned}
+use Rattle.tracing_tree.specs.Rows.Plan.{row_of_planned}
 use Rattle.tracing_tree.proofs.DrawnLaws.{draws_like}
 use Rattle.tracing_tree.proofs.layer.drawing.Drawing.row.Goals as goal
 

@@ -1,6 +1,6 @@
 use Rattle.std.proofs.Common.{false, Ok, take}
-use Rattle.tracing_tree.specs.Plan.{rows_of_planned}
-use Rattle.tracing_tree.specs.Drawn.{DrawsRows}
+use Rattle.tracing_tree.specs.Rows.Plan.{rows_of_planned}
+use Rattle.tracing_tree.specs.Rows.Drawn.{DrawsRows}
 use Rattle.tracing_tree.proofs.layer.drawing.Drawing.rows.Given as goal
 
 -- the rows so far are drawn

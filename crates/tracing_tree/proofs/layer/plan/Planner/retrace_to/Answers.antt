@@ -1,6 +1,6 @@
 use Rattle.std.proofs.Common.{sym, subst, ◌∙◌}
-use Rattle.tracing_tree_core.specs.Forest.{path_of_any}
-use Rattle.tracing_tree_core.specs.Paths.{PartOnce}
+use Rattle.tracing_tree_core.specs.Registry.Forest.{path_of_any}
+use Rattle.tracing_tree_core.specs.Registry.Paths.{PartOnce}
 use Rattle.tracing_tree.proofs.Plans.{last_paths_part_once}
 use Rattle.tracing_tree.proofs.layer.plan.Planner.retrace_to.Goals as goal
 

@@ -1,6 +1,6 @@
 use Rattle.std.proofs.Common.{ap, sym}
 use Rattle.serde_json.specs.View.{view}
-use Rattle.tracing_tree.specs.Spelled.{◌>>=◌, all_settings}
+use Rattle.tracing_tree.specs.Lines.Spelled.{◌>>=◌, all_settings}
 use Rattle.tracing_tree.proofs.Choices.{chosen_none}
 use Rattle.tracing_tree.proofs.lines.settings.Setup.with.Goals as goal
 

@@ -1,7 +1,7 @@
 use Rattle.std.proofs.Common.{◌≡◌, bytes_eq, map}
 use Rattle.std.specs.List.{list_any, list_all}
 use Rattle.serde_json.specs.View.{members_view}
-use Rattle.tracing_tree.specs.Spelled.{present_keys}
+use Rattle.tracing_tree.specs.Lines.Spelled.{present_keys}
 use Rattle.tracing_tree.proofs.lines.settings.timer.are_among.Given as goal
 
 -- what holds of the rest holds of all

@@ -1,5 +1,5 @@
 use Rattle.std.proofs.Common.{◌≡◌, ◌+◌, ◌-◌, ℕ, length}
-use Rattle.tracing_tree.specs.Ancestry.{place_at}
+use Rattle.tracing_tree.specs.Laws.Ancestry.{place_at}
 use Rattle.tracing_tree.proofs.rows.paths.Ancestry.open.Given as goal
 
 abbrev pub invariant-loop-self : goal.invariant-loop-self

@@ -1,7 +1,7 @@
 use Rattle.std.proofs.Common.{◌≡◌, ◌∙◌, ◌==◌, ℕ, Some, true, false, ap, sym, map, if◌then◌else◌}
 use Rattle.std.specs.List.{range_with_len}
-use Rattle.tracing_tree.specs.Ancestry.{place_at}
-use Rattle.tracing_tree.specs.RowText.{is_event, is_opening}
+use Rattle.tracing_tree.specs.Laws.Ancestry.{place_at}
+use Rattle.tracing_tree.specs.ReadBack.RowText.{is_event, is_opening}
 use Rattle.tracing_tree.proofs.RowsRead.AncestryLaws.{follows-opening, follows-event, follows-other, opening-quiet}
 use Rattle.tracing_tree.proofs.rows.paths.Ancestry.take.Goals as goal
 

@@ -1,6 +1,6 @@
 use Rattle.std.proofs.Common.{◌∙◌, ◌+◌, ◌++◌, ◌∷◌, [], ap, sym, subst, refl, option_to_list}
 use Rattle.std.proofs.lemmas.List.{append-nil}
-use Rattle.tracing_tree.specs.Ancestry.{ArePathsOf, FollowsRows}
+use Rattle.tracing_tree.specs.Laws.Ancestry.{ArePathsOf, FollowsRows}
 use Rattle.tracing_tree.specs.declared.rows.paths.Paths.{Paths}
 use Rattle.tracing_tree.proofs.RowsRead.AncestryLaws.{paths-more}
 use Rattle.tracing_tree.proofs.rows.paths.Paths.take.Goals as goal

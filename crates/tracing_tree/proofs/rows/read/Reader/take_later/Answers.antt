@@ -1,6 +1,6 @@
 use Rattle.std.proofs.Common.{sym, subst, Some}
-use Rattle.tracing_tree.specs.RowText.{TextRow}
-use Rattle.tracing_tree.specs.ReadTexts.{ReaderView, TakesLater}
+use Rattle.tracing_tree.specs.ReadBack.RowText.{TextRow}
+use Rattle.tracing_tree.specs.ReadBack.Texts.{ReaderView, TakesLater}
 use Rattle.tracing_tree.proofs.RowsRead.Taken.{later-by, later-row}
 use Rattle.tracing_tree.proofs.rows.read.Reader.take_later.Goals as goal
 

@@ -1,4 +1,4 @@
-use Rattle.tracing_tree.specs.ReadLine.{one_line_row}
+use Rattle.tracing_tree.specs.ReadBack.Line.{one_line_row}
 use Rattle.tracing_tree.proofs.RowsRead.Taken.{first-row}
 use Rattle.tracing_tree.proofs.rows.read.Reader.take_unbroken.Goals as goal
 

@@ -1,6 +1,6 @@
 use Rattle.std.proofs.Common.{◌+◌, Ok, Some, sym, ◌∙◌, subst, refl, arith}
 use Rattle.std.proofs.lemmas.Str.Pattern.{split_parts}
-use Rattle.tracing_tree.specs.ReadTexts.{IsReadTo, TakesLine, TakesNext, TellsFault, TextLeft}
+use Rattle.tracing_tree.specs.ReadBack.Texts.{IsReadTo, TakesLine, TakesNext, TellsFault, TextLeft}
 use Rattle.tracing_tree.specs.declared.rows.read.ReadFault.TheVariants.{Line}
 use Rattle.tracing_tree.specs.declared.rows.read.Taken.{Taken}
 use Rattle.tracing_tree.proofs.RowsRead.ReadPlaces.{unbroken-from}

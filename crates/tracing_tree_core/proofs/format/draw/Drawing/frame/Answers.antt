@@ -1,6 +1,6 @@
 use Rattle.std.proofs.Common.{◌≡◌, ◌∙◌, ◌*◌, ℕ, List, [], Bor, refl, sym, ap}
-use Rattle.tracing_tree_core.specs.Drawings.{frame_pieces}
-use Rattle.tracing_tree_core.specs.Picture.{wrapped_level}
+use Rattle.tracing_tree_core.specs.Drawing.Frames.{frame_pieces}
+use Rattle.tracing_tree_core.specs.Drawing.Picture.{wrapped_level}
 use Rattle.tracing_tree_core.proofs.FrameTexts.{unlined-frame}
 use Rattle.tracing_tree_core.proofs.format.draw.Drawing.frame.Goals as goal
 use Rattle.tracing_tree_core.proofs.format.draw.Drawing.frame.Goals.{then-first, else-first}

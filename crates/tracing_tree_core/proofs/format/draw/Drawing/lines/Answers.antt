@@ -1,8 +1,8 @@
 use Rattle.std.proofs.Common.{rules, arith, ◌≡◌, ◌∙◌, ◌++◌, ◌∷◌, [], ℕ, List, ap, sym, true, false, string_bytes}
 use Rattle.std.proofs.lemmas.Str.Pattern.{split_parts}
-use Rattle.tracing_tree_core.specs.Drawings.{pushed_text, row_of}
-use Rattle.tracing_tree_core.specs.Picture.{picture}
-use Rattle.tracing_tree_core.specs.Texts.{prefix_text}
+use Rattle.tracing_tree_core.specs.Drawing.Frames.{pushed_text, row_of}
+use Rattle.tracing_tree_core.specs.Drawing.Picture.{picture}
+use Rattle.tracing_tree_core.specs.Drawing.Texts.{prefix_text}
 use Rattle.tracing_tree_core.proofs.LineLaws.{drawing-step, lined-last, unlined-last}
 use Rattle.tracing_tree_core.proofs.format.draw.Drawing.lines.Goals as goal
 

@@ -1,8 +1,8 @@
 use Rattle.std.proofs.Common.{◌++◌, string_bytes, length}
 use denote.Text.{Utf8}
 use denote.Shadow.{shadow}
-use Rattle.tracing_tree_core.specs.Drawings.{pushed_text, row_of}
-use Rattle.tracing_tree_core.specs.Picture.{picture}
+use Rattle.tracing_tree_core.specs.Drawing.Frames.{pushed_text, row_of}
+use Rattle.tracing_tree_core.specs.Drawing.Picture.{picture}
 use Rattle.tracing_tree_core.proofs.LineLaws.{IsDrawing}
 use Rattle.tracing_tree_core.proofs.format.draw.Drawing.lines.Given as goal
 

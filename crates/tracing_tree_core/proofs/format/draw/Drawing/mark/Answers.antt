@@ -1,9 +1,9 @@
 use Rattle.std.proofs.Common.{◌≡◌, ◌*◌, ◌++◌, ◌∷◌, [], refl, string_bytes}
 use Rattle.std.specs.Char.{encode_utf8}
 use Rattle.std.specs.List.{repeat}
-use Rattle.tracing_tree_core.specs.Drawings.{row_of}
-use Rattle.tracing_tree_core.specs.Picture.{horizontal, wrapped_level}
-use Rattle.tracing_tree_core.specs.Texts.{prefix_text}
+use Rattle.tracing_tree_core.specs.Drawing.Frames.{row_of}
+use Rattle.tracing_tree_core.specs.Drawing.Picture.{horizontal, wrapped_level}
+use Rattle.tracing_tree_core.specs.Drawing.Texts.{prefix_text}
 use Rattle.tracing_tree_core.proofs.MarkLaws.{mark-text, pushed, pushes-joined}
 use Rattle.tracing_tree_core.proofs.format.draw.Drawing.mark.Goals as goal
 

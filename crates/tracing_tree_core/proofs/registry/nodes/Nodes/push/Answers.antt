@@ -1,6 +1,6 @@
 use Rattle.std.proofs.Common.{◌≤◌, length, arith, refl, subst, sym}
-use Rattle.tracing_tree_core.specs.Kept.{AreBelow}
-use Rattle.tracing_tree_core.specs.Slots.{present}
+use Rattle.tracing_tree_core.specs.Registry.Kept.{AreBelow}
+use Rattle.tracing_tree_core.specs.Registry.Slots.{present}
 use Rattle.tracing_tree_core.proofs.SlotLists.{laid-push, present-push, present-fits}
 use Rattle.tracing_tree_core.proofs.registry.nodes.Nodes.push.Goals as goal
 

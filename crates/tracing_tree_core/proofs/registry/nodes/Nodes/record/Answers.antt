@@ -1,5 +1,5 @@
 use Rattle.std.proofs.Common.{◌∙◌, refl}
-use Rattle.tracing_tree_core.specs.Spans.{fields_more}
+use Rattle.tracing_tree_core.specs.Registry.Spans.{fields_more}
 use Rattle.tracing_tree_core.proofs.SlotLists.{at-place, kept-there, kept-nowhere, laid-write, attempt-id, present-attempt, live-attempt, present-gap, change-none}
 use Rattle.tracing_tree_core.proofs.registry.nodes.Nodes.record.Goals as goal
 use Rattle.tracing_tree_core.proofs.registry.nodes.Nodes.record.Goals.{in-Some+in_default-index_mut, in_default}

@@ -1,6 +1,6 @@
 use Rattle.std.proofs.Common.{List, length, set, arith, sym, ap, ◌∙◌, subst}
-use Rattle.tracing_tree_core.specs.Spans.{KeptSpan}
-use Rattle.tracing_tree_core.specs.Slots.{slot_node, present, IsLaidOut}
+use Rattle.tracing_tree_core.specs.Registry.Spans.{KeptSpan}
+use Rattle.tracing_tree_core.specs.Registry.Slots.{slot_node, present, IsLaidOut}
 use Rattle.tracing_tree_core.proofs.SlotLists.{at-place, kept-there, kept-nowhere, gone-rising, gone-leaves, gone-counts, gap-again, leave-none}
 use Rattle.tracing_tree_core.proofs.registry.nodes.Nodes.remove.Goals as goal
 

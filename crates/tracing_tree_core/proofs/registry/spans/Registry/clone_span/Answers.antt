@@ -1,6 +1,6 @@
 use Rattle.std.proofs.Common.{◌≡◌, ◌+◌, ◌==◌, true, false, arith, refl, sym}
 use Rattle.std.proofs.lemmas.Bool.Decides.{nat_tests}
-use Rattle.tracing_tree_core.specs.Spans.{Span, handle_more}
+use Rattle.tracing_tree_core.specs.Registry.Spans.{Span, handle_more}
 use Rattle.tracing_tree_core.proofs.Ties.{KeepsTies}
 use Rattle.tracing_tree_core.proofs.Registers.{seen, not-live, one-live, all-handles, kept-update, tied-update, forest-update}
 use Rattle.tracing_tree_core.proofs.registry.spans.Registry.clone_span.Goals as goal

@@ -1,6 +1,6 @@
 use Rattle.std.proofs.Common.{◌≡◌, ◌≢◌, length, reverse, rules, sym, ◌∙◌, subst}
 use Rattle.std.proofs.lemmas.Result.{err_from_is_err_and}
-use Rattle.tracing_tree_core.specs.Forest.{IsForest, closing_of}
+use Rattle.tracing_tree_core.specs.Registry.Forest.{IsForest, closing_of}
 use Rattle.tracing_tree_core.proofs.KeptLists.{kept-id}
 use Rattle.tracing_tree_core.proofs.Registers.{seen, no-handle, zero-handles, some-handles, kept-own, closing-one, closing-whole, closing-whole-is, empty-part, some-part}
 use Rattle.tracing_tree_core.proofs.registry.spans.Registry.closing_into.Goals as goal

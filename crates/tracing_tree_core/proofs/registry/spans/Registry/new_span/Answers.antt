@@ -1,6 +1,6 @@
 use Rattle.std.proofs.Common.{◌<◌, sym, ap, ◌∙◌, refl, arith}
-use Rattle.tracing_tree_core.specs.Forest.{Forest, named_parent, any_unless_live}
-use Rattle.tracing_tree_core.specs.Kept.{spans_of}
+use Rattle.tracing_tree_core.specs.Registry.Forest.{Forest, named_parent, any_unless_live}
+use Rattle.tracing_tree_core.specs.Registry.Kept.{spans_of}
 use Rattle.tracing_tree_core.proofs.RegistryLaws.{kept-new, forest-new}
 use Rattle.tracing_tree_core.proofs.NewestLaws.{newest-new, undone-new}
 use Rattle.tracing_tree_core.proofs.Registers.{below-next, spans-new, tied-new}

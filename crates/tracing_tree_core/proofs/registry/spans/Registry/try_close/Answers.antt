@@ -1,5 +1,5 @@
 use Rattle.std.proofs.Common.{◌==◌, not, length, refl, sym, ap, ◌∙◌}
-use Rattle.tracing_tree_core.specs.Spans.{handle_less}
+use Rattle.tracing_tree_core.specs.Registry.Spans.{handle_less}
 use Rattle.tracing_tree_core.proofs.ClosingSteps.{one_less, closed, kept-none}
 use Rattle.tracing_tree_core.proofs.KeptLists.{kept-id}
 use Rattle.tracing_tree_core.proofs.Registers.{seen, no-handle, zero-handles, some-handles, kept-own, kept-update, tied-update, forest-update, less-ties, count-up, more-none}

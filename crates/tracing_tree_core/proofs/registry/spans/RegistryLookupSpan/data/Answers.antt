@@ -1,6 +1,6 @@
 use Rattle.std.proofs.Common.{Some, sym, ap, ◌∙◌}
 use Rattle.std.specs.Option.{option_map, option_copied}
-use Rattle.tracing_tree_core.specs.Spans.{Span}
+use Rattle.tracing_tree_core.specs.Registry.Spans.{Span}
 use Rattle.tracing_tree_core.proofs.Registers.{seen}
 use Rattle.tracing_tree_core.proofs.registry.spans.RegistryLookupSpan.data.Goals as goal
 

@@ -1,6 +1,6 @@
 use Rattle.std.proofs.Common.{sym, ap, ◌∙◌}
 use Rattle.std.specs.Option.{option_and_then}
-use Rattle.tracing_tree_core.specs.Spans.{Span}
+use Rattle.tracing_tree_core.specs.Registry.Spans.{Span}
 use Rattle.tracing_tree_core.proofs.Registers.{seen}
 use Rattle.tracing_tree_core.proofs.registry.spans.RegistryLookupSpan.parent.Goals as goal
 

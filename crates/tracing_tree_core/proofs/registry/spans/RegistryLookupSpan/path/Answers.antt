@@ -1,5 +1,5 @@
 use Rattle.std.proofs.Common.{rules, sym, ◌∙◌, subst}
-use Rattle.tracing_tree_core.specs.Forest.{IsForest}
+use Rattle.tracing_tree_core.specs.Registry.Forest.{IsForest}
 use Rattle.tracing_tree_core.proofs.PathLaws.{path_of-whole}
 use Rattle.tracing_tree_core.proofs.Registers.{seen, error-live, path-gone, if-whole}
 use Rattle.tracing_tree_core.proofs.registry.spans.RegistryLookupSpan.path.Goals as goal

@@ -1,5 +1,5 @@
 use Rattle.std.proofs.Common.{refl}
-use Rattle.tracing_tree_core.specs.Spans.{kept_printed, printed_span}
+use Rattle.tracing_tree_core.specs.Registry.Spans.{kept_printed, printed_span}
 use Rattle.tracing_tree_core.proofs.Ties.{KeepsTies}
 use Rattle.tracing_tree_core.proofs.Registers.{kept-update, tied-update, forest-update}
 use Rattle.tracing_tree_core.proofs.registry.spans.RegistryLookupSpan.set_written.Goals as goal

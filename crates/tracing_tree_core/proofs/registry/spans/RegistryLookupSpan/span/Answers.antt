@@ -1,6 +1,6 @@
 use Rattle.std.proofs.Common.{sym, ap, ◌∙◌}
 use Rattle.std.specs.Option.{option_map}
-use Rattle.tracing_tree_core.specs.Spans.{shown_span}
+use Rattle.tracing_tree_core.specs.Registry.Spans.{shown_span}
 use Rattle.tracing_tree_core.proofs.Registers.{seen}
 use Rattle.tracing_tree_core.proofs.registry.spans.RegistryLookupSpan.span.Goals as goal
 

@@ -1,6 +1,6 @@
 use Rattle.std.proofs.Common.{◌++◌, ◌∙◌, ap, subst, Some, List, ℕ, string_bytes}
-use Rattle.tracing_tree_core.specs.Clock.{date_text, local_text}
-use Rattle.tracing_tree_core.specs.Outputs.{AppendsStated}
+use Rattle.tracing_tree_core.specs.Time.Clock.{date_text, local_text}
+use Rattle.tracing_tree_core.specs.Drawing.Outputs.{AppendsStated}
 use Rattle.tracing_tree_core.proofs.DateTexts.{date_time_offset}
 use Rattle.tracing_tree_core.proofs.time.local.LocalDateTimeFormatTime.format_time.Goals as goal
 

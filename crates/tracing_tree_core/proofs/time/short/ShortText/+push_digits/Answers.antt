@@ -1,5 +1,5 @@
 use Rattle.std.proofs.Common.{arith, ◌++◌, ◌%◌, ◌/◌, ◌-◌, ◌∙◌, sym, ap, append_assoc, List, ℕ}
-use Rattle.tracing_tree_core.specs.Texts.{digits_in}
+use Rattle.tracing_tree_core.specs.Drawing.Texts.{digits_in}
 use Rattle.tracing_tree_core.proofs.Numbers.{digits-alone, digits-two, digits_in-pair, digits-under}
 use Rattle.tracing_tree_core.proofs.time.short.ShortText.+push_digits.Goals as goal
 use Rattle.tracing_tree_core.proofs.time.short.ShortText.+push_digits.Goals.{then-places-gt2, else-places-gt2}

@@ -1,6 +1,6 @@
 use Rattle.std.proofs.Common.{◌++◌, ◌∙◌, ap, subst, Some, List, ℕ, string_bytes}
-use Rattle.tracing_tree_core.specs.Clock.{date_text}
-use Rattle.tracing_tree_core.specs.Outputs.{AppendsStated}
+use Rattle.tracing_tree_core.specs.Time.Clock.{date_text}
+use Rattle.tracing_tree_core.specs.Drawing.Outputs.{AppendsStated}
 use Rattle.tracing_tree_core.proofs.DateTexts.{date_and_time, at_zero}
 use Rattle.tracing_tree_core.proofs.time.utc.UtcDateTimeFormatTime.format_time.Goals as goal
 

@@ -1,0 +1,3 @@
+-- Examples computed from the definitions.
+pub mod Clocks
+pub mod Paths

@@ -1,0 +1,9 @@
+-- The live spans.
+pub mod Ids
+pub mod Spans
+pub mod Forest
+pub mod Lookup
+pub mod Paths
+pub mod Registered
+pub mod Kept
+pub mod Slots

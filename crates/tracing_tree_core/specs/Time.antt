@@ -1,0 +1,3 @@
+-- Timers and their texts.
+pub mod Clock
+pub mod Pieces
