@@ -1,0 +1,158 @@
+//! Equality holds exactly where all parts are equal: a function for each public type that derives it, and for `Text` and
+//! `Fields`, whose contract says so.
+//!
+//! `Moment` holds an instant of `jiff`, so it, `Context` and `Call` are left out; for `Attributes` and `Event` the search for a
+//! proof meets its limits.
+
+ghost use Rattle.std.specs.Prelude.{◌≡◌};
+ghost use Rattle.std.specs.Bool.{Decides};
+
+use tracing_tree::call::Reply;
+use tracing_tree::field::{Field, Fields};
+use tracing_tree::format::{Id, OutputFault, Refusal, SpanMode};
+use tracing_tree::lines::{LineCause, LineFault};
+use tracing_tree::registry::{Common, Parent, Record};
+use tracing_tree::rows::{DrawFault, ReadFault, RowCause, RowFault, Shape};
+use tracing_tree::style::{Level, Style};
+use tracing_tree::text::Text;
+use tracing_tree::time::{TimeFault, Uptime, UtcDateTime};
+
+pub fn texts(left: &Text, right: &Text) -> bool
+    ensures { Decides result (left.now ≡ right.now) }
+{
+    left == right
+}
+
+pub fn fields(left: &Field, right: &Field) -> bool
+    ensures { Decides result (left.now ≡ right.now) }
+{
+    left == right
+}
+
+#[tactic(auto, using(crate::proofs::Equality::fields_decide))]
+pub fn field_lists(left: &Fields, right: &Fields) -> bool
+    ensures { Decides result (left.now ≡ right.now) }
+{
+    left == right
+}
+
+pub fn styles(left: &Style, right: &Style) -> bool
+    ensures { Decides result (left.now ≡ right.now) }
+{
+    left == right
+}
+
+pub fn levels(left: &Level, right: &Level) -> bool
+    ensures { Decides result (left.now ≡ right.now) }
+{
+    left == right
+}
+
+pub fn ids(left: &Id, right: &Id) -> bool
+    ensures { Decides result (left.now ≡ right.now) }
+{
+    left == right
+}
+
+pub fn refusals(left: &Refusal, right: &Refusal) -> bool
+    ensures { Decides result (left.now ≡ right.now) }
+{
+    left == right
+}
+
+pub fn span_modes(left: &SpanMode, right: &SpanMode) -> bool
+    ensures { Decides result (left.now ≡ right.now) }
+{
+    left == right
+}
+
+pub fn parents(left: &Parent, right: &Parent) -> bool
+    ensures { Decides result (left.now ≡ right.now) }
+{
+    left == right
+}
+
+#[tactic(auto, using(crate::proofs::Equality::fields_decide))]
+pub fn records(left: &Record, right: &Record) -> bool
+    ensures { Decides result (left.now ≡ right.now) }
+{
+    left == right
+}
+
+pub fn commons(left: &Common, right: &Common) -> bool
+    ensures { Decides result (left.now ≡ right.now) }
+{
+    left == right
+}
+
+pub fn time_faults(left: &TimeFault, right: &TimeFault) -> bool
+    ensures { Decides result (left.now ≡ right.now) }
+{
+    left == right
+}
+
+pub fn output_faults(left: &OutputFault, right: &OutputFault) -> bool
+    ensures { Decides result (left.now ≡ right.now) }
+{
+    left == right
+}
+
+pub fn uptimes(left: &Uptime, right: &Uptime) -> bool
+    ensures { Decides result (left.now ≡ right.now) }
+{
+    left == right
+}
+
+pub fn utc_clocks(left: &UtcDateTime, right: &UtcDateTime) -> bool
+    ensures { Decides result (left.now ≡ right.now) }
+{
+    left == right
+}
+
+pub fn replies(left: &Reply, right: &Reply) -> bool
+    ensures { Decides result (left.now ≡ right.now) }
+{
+    left == right
+}
+
+pub fn line_causes(left: &LineCause, right: &LineCause) -> bool
+    ensures { Decides result (left.now ≡ right.now) }
+{
+    left == right
+}
+
+pub fn line_faults(left: &LineFault, right: &LineFault) -> bool
+    ensures { Decides result (left.now ≡ right.now) }
+{
+    left == right
+}
+
+pub fn draw_faults(left: &DrawFault, right: &DrawFault) -> bool
+    ensures { Decides result (left.now ≡ right.now) }
+{
+    left == right
+}
+
+pub fn row_causes(left: &RowCause, right: &RowCause) -> bool
+    ensures { Decides result (left.now ≡ right.now) }
+{
+    left == right
+}
+
+pub fn row_faults(left: &RowFault, right: &RowFault) -> bool
+    ensures { Decides result (left.now ≡ right.now) }
+{
+    left == right
+}
+
+pub fn read_faults(left: &ReadFault, right: &ReadFault) -> bool
+    ensures { Decides result (left.now ≡ right.now) }
+{
+    left == right
+}
+
+pub fn shapes(left: &Shape, right: &Shape) -> bool
+    ensures { Decides result (left.now ≡ right.now) }
+{
+    left == right
+}
