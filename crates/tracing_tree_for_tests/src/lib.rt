@@ -5,12 +5,12 @@ ghost use Rattle.std.specs.Prelude.{◌≡◌};
 
 use jiff::Timestamp;
 use std::alloc::{AllocError, Global};
-use tracing_tree::call::Call;
+use tracing_tree::call::{Call, Reply};
 use tracing_tree::field::{Field, Fields};
-use tracing_tree::format::{Context, Id, Output, Tape};
+use tracing_tree::format::{Context, Id, Output, Refusal, Tape};
 use tracing_tree::layer::HierarchicalLayer;
 use tracing_tree::layered::Layered;
-use tracing_tree::registry::{Attributes, Event, Parent};
+use tracing_tree::registry::{Attributes, Event, Parent, Record};
 use tracing_tree::style::Level;
 use tracing_tree::text::Text;
 use tracing_tree::time::Moment;
@@ -129,4 +129,74 @@ pub fn attributes(alloc: Global, name: &str, parent: Parent) -> Result<Attribute
         parent,
         fields: Fields::new(alloc),
     })
+}
+
+/// A call as a line of a table.
+#[derive(Clone, Copy)]
+pub enum Step<'a> {
+    /// A new span below the current one, if there is one.
+    New(&'a str, Option<u64>),
+
+    /// A new span below this parent, with this current span.
+    NewIn(&'a str, Parent, Option<u64>),
+
+    /// An event with a message, in the current span.
+    Told(Level, &'a str, Option<u64>),
+
+    /// An INFO event with a message, in this parent, with this current span.
+    ToldIn(&'a str, Parent, Option<u64>),
+
+    /// A value of the field `k`.
+    Record(u64, &'a str),
+
+    /// One more handle.
+    Clone(u64),
+
+    /// One handle less.
+    Close(u64),
+}
+
+impl Step<'_> {
+    /// The call itself.
+    pub fn call(self, alloc: Global) -> Result<Call, AllocError> {
+        Ok(match self {
+            Step::New(name, current) => made(alloc, name, current)?,
+            Step::NewIn(name, parent, current) => made_in(alloc, name, parent, current)?,
+            Step::Told(level, message, current) => told(alloc, level, message, current)?,
+            Step::ToldIn(message, parent, current) => told_in(alloc, message, parent, current)?,
+            Step::Record(id, value) => {
+                let fields = recorded(alloc, "k", value)?;
+                Call::Record(Id(id), Record { fields })
+            }
+            Step::Clone(id) => Call::Clone(Id(id)),
+            Step::Close(id) => closed(id),
+        })
+    }
+}
+
+/// The calls of these steps.
+pub fn calls(alloc: Global, steps: &[Step<'_>]) -> Result<Vec<Call>, AllocError> {
+    let mut calls = Vec::new(alloc);
+    for step in steps {
+        calls.push(step.call(alloc)?)?;
+    }
+    Ok(calls)
+}
+
+/// What a call is answered.
+pub type Answer = Result<Reply, Refusal>;
+
+/// Makes the calls up to the first that is not answered as it stands beside it: returns that call's place and its answer.
+pub fn first_unlike(
+    alloc: Global,
+    layered: &mut Layered<Tape, ()>,
+    steps: &[(Step<'_>, Answer)],
+) -> Result<Option<(usize, Answer)>, AllocError> {
+    for (place, (step, wanted)) in steps.iter().enumerate() {
+        let answer = layered.call(step.call(alloc)?);
+        if answer != *wanted {
+            return Ok(Some((place, answer)));
+        }
+    }
+    Ok(None)
 }

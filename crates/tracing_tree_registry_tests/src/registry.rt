@@ -1,55 +1,60 @@
 //! The registry by itself, and calls with clones, records and named parents.
 
 use std::alloc::{AllocError, Global};
+use std::process::Abort;
 use std::test::*;
-use tracing_tree::call::{Call, Reply};
-use tracing_tree::field::Fields;
+use tracing_tree::call::Reply;
 use tracing_tree::format::{Id, Refusal, Tape};
 use tracing_tree::layer::HierarchicalLayer;
 use tracing_tree::layered::Layered;
-use tracing_tree::registry::{Attributes, Data, LookupSpan, Parent, Record, Registry};
-use tracing_tree::text::Text;
-use tracing_tree_for_tests::{at, attributes, closed, lined, made, made_in, recorded, told_in};
+use tracing_tree::registry::{Data, LookupSpan, Parent, Registry};
+use tracing_tree_for_tests::{Answer, Step, at, attributes, calls, first_unlike, lined, recorded};
 
-fn recorded_in(alloc: Global, id: u64, value: &str) -> Result<Call, AllocError> {
-    let fields = recorded(alloc, "k", value)?;
-    Ok(Call::Record(Id(id), Record { fields }))
+// A root `a` and its child `b`, with the ids 1 and 2. A child of a span that isn't there is refused.
+fn root_and_child(rt: &(impl Abort + AllocGlobal)) -> Result<Registry, Fail> {
+    let alloc = rt.alloc();
+    let mut registry = Registry::new(alloc);
+    for (name, parent, wanted) in [
+        ("a", Parent::Root, Ok(Id(1))),
+        ("b", Parent::Of(Id(1)), Ok(Id(2))),
+        ("c", Parent::Of(Id(9)), Err(Refusal::NotHeld(Id(9)))),
+    ] {
+        let span = attributes(alloc, name, parent)?;
+        assert_eq!(rt; registry.new_span(span, &at(None)), wanted);
+    }
+    Ok(registry)
 }
 
 #[test]
 fn keeps_spans(rt: HostRuntime) -> Result<(), Fail> {
-    let alloc = rt.alloc();
-    let mut registry = Registry::new(alloc);
-    let root = attributes(alloc, "a", Parent::Root)?;
-    assert_eq!(rt; registry.new_span(root, &at(None)), Ok(Id(1)));
-    let child = attributes(alloc, "b", Parent::Of(Id(1)))?;
-    assert_eq!(rt; registry.new_span(child, &at(None)), Ok(Id(2)));
-    let orphan = attributes(alloc, "c", Parent::Of(Id(9)))?;
-    assert_eq!(rt;
-        registry.new_span(orphan, &at(None)),
-        Err(Refusal::NotHeld(Id(9)))
-    );
-
+    let registry = root_and_child(&rt)?;
     let look = registry.span(Id(2)).ok_or("no span")?;
     assert_eq!(rt; look.id(), Id(2));
     assert_eq!(rt; look.name(), "b");
     assert_eq!(rt; look.target(), "t");
     assert_eq!(rt; look.parent(), Some(Id(1)));
     assert_eq!(rt; look.data().written, false);
-    assert_eq!(rt;
-        registry.path(alloc, Id(2))?.as_slice(),
-        [Id(1), Id(2)].as_slice()
-    );
-    assert_eq!(rt;
-        registry.scope(alloc, Id(2))?.as_slice(),
-        [Id(2), Id(1)].as_slice()
-    );
+    Ok(())
+}
 
+#[test]
+fn lists_a_path_both_ways(rt: HostRuntime) -> Result<(), Fail> {
+    let registry = root_and_child(&rt)?;
+    let path = registry.path(rt.alloc(), Id(2))?;
+    assert_eq!(rt; path.as_slice(), [Id(1), Id(2)].as_slice());
+    let scope = registry.scope(rt.alloc(), Id(2))?;
+    assert_eq!(rt; scope.as_slice(), [Id(2), Id(1)].as_slice());
+    Ok(())
+}
+
+#[test]
+fn closes_a_parent_with_its_last_child(rt: HostRuntime) -> Result<(), Fail> {
+    let mut registry = root_and_child(&rt)?;
     assert_eq!(rt; registry.try_close(Id(1)), Ok(false));
-    assert_eq!(rt;
-        registry.closing(alloc, Id(2))?.as_slice(),
-        [Id(2), Id(1)].as_slice()
-    );
+    let Ok(closing) = registry.closing(rt.alloc(), Id(2)) else {
+        return Err(Fail::from("refused"));
+    };
+    assert_eq!(rt; closing.as_slice(), [Id(2), Id(1)].as_slice());
     assert_eq!(rt; registry.try_close(Id(2)), Ok(true));
     assert_eq!(rt; registry.span(Id(1)).is_none(), true);
     assert_eq!(rt; registry.try_close(Id(2)), Err(Refusal::NotHeld(Id(2))));
@@ -83,135 +88,159 @@ fn makes_data(rt: HostRuntime) -> Result<(), Fail> {
     Ok(())
 }
 
-#[test]
-fn a_clone_keeps_a_span(rt: HostRuntime) -> Result<(), Fail> {
+// Each of these calls is answered as it stands beside it, and they draw this.
+fn draws(
+    rt: &(impl Abort + AllocGlobal),
+    steps: &[(Step<'_>, Answer)],
+    text: &str,
+) -> Result<(), Fail> {
     let alloc = rt.alloc();
     let mut layered = lined(alloc);
-    let calls = vec![in alloc;
-        made(alloc, "a", None)?,
-        made(alloc, "b", Some(1))?,
-        Call::Clone(Id(1)),
-        closed(1),
-        closed(2),
-        closed(1),
-    ]?;
-    let wanted = [
-        Ok(Reply::Span(Id(1))),
-        Ok(Reply::Span(Id(2))),
-        Ok(Reply::Cloned(Id(1))),
-        Ok(Reply::Closed(false)),
-        Ok(Reply::Closed(true)),
-        Ok(Reply::Closed(true)),
-    ];
-    let answers = layered.run(alloc, calls)?;
-    assert_eq!(rt; answers.as_slice(), wanted.as_slice());
-    assert_eq!(rt; layered.writer().bytes(), "┐a \n└─┐b \n┌─┘\n┘\n".as_bytes());
+    assert_eq!(rt; first_unlike(alloc, &mut layered, steps)?, None);
+    assert_eq!(rt; layered.writer().bytes(), text.as_bytes());
     Ok(())
 }
 
-#[test]
-fn a_span_held_by_its_child_is_cloned(rt: HostRuntime) -> Result<(), Fail> {
-    let alloc = rt.alloc();
-    let mut layered = lined(alloc);
-    assert_eq!(rt;
-        layered.call(made(alloc, "a", None)?),
-        Ok(Reply::Span(Id(1)))
-    );
-    assert_eq!(rt;
-        layered.call(made(alloc, "b", Some(1))?),
-        Ok(Reply::Span(Id(2)))
-    );
-    assert_eq!(rt; layered.call(closed(1)), Ok(Reply::Closed(false)));
-    assert_eq!(rt; layered.call(Call::Clone(Id(1))), Ok(Reply::Cloned(Id(1))));
-    assert_eq!(rt; layered.call(closed(2)), Ok(Reply::Closed(true)));
-    assert_eq!(rt; layered.writer().bytes(), "┐a \n└─┐b \n┌─┘\n".as_bytes());
-    Ok(())
-}
-
-#[test]
-fn parents_are_named(rt: HostRuntime) -> Result<(), Fail> {
-    let alloc = rt.alloc();
-    let mut layered = lined(alloc);
-    assert_eq!(rt;
-        layered.call(made(alloc, "a", None)?),
-        Ok(Reply::Span(Id(1)))
-    );
-    assert_eq!(rt;
-        layered.call(made(alloc, "b", None)?),
-        Ok(Reply::Span(Id(2)))
-    );
-    assert_eq!(rt;
-        layered.call(made_in(alloc, "c", Parent::Of(Id(1)), Some(2))?),
-        Ok(Reply::Span(Id(3)))
-    );
-    assert_eq!(rt;
-        layered.call(told_in(alloc, "x", Parent::Of(Id(3)), Some(2))?),
-        Ok(Reply::Done)
-    );
-    assert_eq!(rt;
-        layered.call(told_in(alloc, "x", Parent::Root, Some(2))?),
-        Ok(Reply::Done)
-    );
-    assert_eq!(rt;
-        layered.call(made_in(alloc, "d", Parent::Of(Id(9)), None)?),
-        Err(Refusal::NotHeld(Id(9)))
-    );
-    let wanted = "┐a \n┐b \n└─┐c \n  ├─ INFO x\n INFO x\n";
-    assert_eq!(rt; layered.writer().bytes(), wanted.as_bytes());
-    Ok(())
-}
-
-#[test]
-fn fields_are_recorded(rt: HostRuntime) -> Result<(), Fail> {
+// The same of a run, with verbose closes or without.
+fn runs(
+    rt: &(impl Abort + AllocGlobal),
+    verbose: bool,
+    steps: &[Step<'_>],
+    answers: &[Answer],
+    text: &str,
+) -> Result<(), Fail> {
     let alloc = rt.alloc();
     let layer = HierarchicalLayer::new(alloc, 2, false, Tape::new(alloc))
         .with_indent_lines(true)
-        .with_verbose_exit(true);
+        .with_verbose_exit(verbose);
     let mut layered = Layered::new(alloc, layer);
-    let calls = vec![in alloc;
-        made(alloc, "a", None)?,
-        recorded_in(alloc, 1, "1")?,
-        recorded_in(alloc, 1, "2")?,
-        recorded_in(alloc, 9, "3")?,
-        closed(1),
-    ]?;
-    let wanted = [
-        Ok(Reply::Span(Id(1))),
-        Ok(Reply::Done),
-        Ok(Reply::Done),
-        Ok(Reply::Done),
-        Ok(Reply::Closed(true)),
-    ];
-    let answers = layered.run(alloc, calls)?;
-    assert_eq!(rt; answers.as_slice(), wanted.as_slice());
-    assert_eq!(rt; layered.writer().bytes(), "┐a \n┘a k=1, k=2\n".as_bytes());
+    let answered = layered.run(alloc, calls(alloc, steps)?)?;
+    assert_eq!(rt; answered.as_slice(), answers);
+    assert_eq!(rt; layered.writer().bytes(), text.as_bytes());
     Ok(())
+}
+
+const CLONED: [Step<'static>; 6] = [
+    Step::New("a", None),
+    Step::New("b", Some(1)),
+    Step::Clone(1),
+    Step::Close(1),
+    Step::Close(2),
+    Step::Close(1),
+];
+
+const CLONED_ANSWERS: [Answer; 6] = [
+    Ok(Reply::Span(Id(1))),
+    Ok(Reply::Span(Id(2))),
+    Ok(Reply::Cloned(Id(1))),
+    Ok(Reply::Closed(false)),
+    Ok(Reply::Closed(true)),
+    Ok(Reply::Closed(true)),
+];
+
+#[test]
+fn a_clone_keeps_a_span(rt: HostRuntime) -> Result<(), Fail> {
+    let text = "┐a \n└─┐b \n┌─┘\n┘\n";
+    runs(
+        &rt,
+        false,
+        CLONED.as_slice(),
+        CLONED_ANSWERS.as_slice(),
+        text,
+    )
+}
+
+const HELD_BY_A_CHILD: [(Step<'static>, Answer); 5] = [
+    (Step::New("a", None), Ok(Reply::Span(Id(1)))),
+    (Step::New("b", Some(1)), Ok(Reply::Span(Id(2)))),
+    (Step::Close(1), Ok(Reply::Closed(false))),
+    (Step::Clone(1), Ok(Reply::Cloned(Id(1)))),
+    (Step::Close(2), Ok(Reply::Closed(true))),
+];
+
+#[test]
+fn a_span_held_by_its_child_is_cloned(rt: HostRuntime) -> Result<(), Fail> {
+    draws(&rt, HELD_BY_A_CHILD.as_slice(), "┐a \n└─┐b \n┌─┘\n")
+}
+
+const NAMED_PARENTS: [(Step<'static>, Answer); 6] = [
+    (Step::New("a", None), Ok(Reply::Span(Id(1)))),
+    (Step::New("b", None), Ok(Reply::Span(Id(2)))),
+    (
+        Step::NewIn("c", Parent::Of(Id(1)), Some(2)),
+        Ok(Reply::Span(Id(3))),
+    ),
+    (
+        Step::ToldIn("x", Parent::Of(Id(3)), Some(2)),
+        Ok(Reply::Done),
+    ),
+    (Step::ToldIn("x", Parent::Root, Some(2)), Ok(Reply::Done)),
+    (
+        Step::NewIn("d", Parent::Of(Id(9)), None),
+        Err(Refusal::NotHeld(Id(9))),
+    ),
+];
+
+#[test]
+fn parents_are_named(rt: HostRuntime) -> Result<(), Fail> {
+    let text = "┐a \n┐b \n└─┐c \n  ├─ INFO x\n INFO x\n";
+    draws(&rt, NAMED_PARENTS.as_slice(), text)
+}
+
+const RECORDS: [Step<'static>; 5] = [
+    Step::New("a", None),
+    Step::Record(1, "1"),
+    Step::Record(1, "2"),
+    Step::Record(9, "3"),
+    Step::Close(1),
+];
+
+const RECORDS_ANSWERS: [Answer; 5] = [
+    Ok(Reply::Span(Id(1))),
+    Ok(Reply::Done),
+    Ok(Reply::Done),
+    Ok(Reply::Done),
+    Ok(Reply::Closed(true)),
+];
+
+#[test]
+fn fields_are_recorded(rt: HostRuntime) -> Result<(), Fail> {
+    let text = "┐a \n┘a k=1, k=2\n";
+    runs(
+        &rt,
+        true,
+        RECORDS.as_slice(),
+        RECORDS_ANSWERS.as_slice(),
+        text,
+    )
+}
+
+// Each call that needs a live span, here this one, which isn't live.
+fn steps_on(id: u64) -> [(Step<'static>, Answer); 5] {
+    let refused = Err(Refusal::NotHeld(Id(id)));
+    [
+        (Step::Clone(id), refused),
+        (Step::Close(id), refused),
+        (Step::New("b", Some(id)), refused),
+        (Step::NewIn("b", Parent::Of(Id(id)), None), refused),
+        (Step::Record(id, "1"), Ok(Reply::Done)),
+    ]
+}
+
+// A span that closes, calls on ids that aren't live, and another span.
+fn odd_steps(alloc: Global) -> Result<Vec<(Step<'static>, Answer)>, AllocError> {
+    let mut steps = Vec::new(alloc);
+    steps.push((Step::New("a", None), Ok(Reply::Span(Id(1)))))?;
+    steps.push((Step::Close(1), Ok(Reply::Closed(true))))?;
+    for id in [0, 1, 2, u64::MAX] {
+        steps.extend_from_slice(steps_on(id).as_slice())?;
+    }
+    steps.push((Step::New("b", None), Ok(Reply::Span(Id(2)))))?;
+    Ok(steps)
 }
 
 #[test]
 fn odd_ids_are_not_held(rt: HostRuntime) -> Result<(), Fail> {
-    let alloc = rt.alloc();
-    let mut layered = lined(alloc);
-    assert_eq!(rt;
-        layered.call(made(alloc, "a", None)?),
-        Ok(Reply::Span(Id(1)))
-    );
-    assert_eq!(rt; layered.call(closed(1)), Ok(Reply::Closed(true)));
-    for id in [0, 1, 2, u64::MAX] {
-        let refused = Err(Refusal::NotHeld(Id(id)));
-        assert_eq!(rt; layered.call(Call::Clone(Id(id))), refused);
-        assert_eq!(rt; layered.call(closed(id)), refused);
-        assert_eq!(rt; layered.call(made(alloc, "b", Some(id))?), refused);
-        assert_eq!(rt;
-            layered.call(made_in(alloc, "b", Parent::Of(Id(id)), None)?),
-            refused
-        );
-        assert_eq!(rt; layered.call(recorded_in(alloc, id, "1")?), Ok(Reply::Done));
-    }
-    assert_eq!(rt; layered.writer().bytes(), "┐a \n┘\n".as_bytes());
-    assert_eq!(rt;
-        layered.call(made(alloc, "b", None)?),
-        Ok(Reply::Span(Id(2)))
-    );
-    Ok(())
+    let steps = odd_steps(rt.alloc())?;
+    draws(&rt, steps.as_slice(), "┐a \n┘\n┐b \n")
 }

@@ -3,10 +3,10 @@
 use std::alloc::{AllocError, Global};
 use std::test::*;
 use tracing_tree::call::Call;
-use tracing_tree::format::Id;
-use tracing_tree::registry::{LookupSpan, Parent, Record, Registry, SpanRef, Walked};
+use tracing_tree::format::{Context, Id};
+use tracing_tree::registry::{Attributes, LookupSpan, Parent, Record, Registry, SpanRef, Walked};
 use tracing_tree::style::Level;
-use tracing_tree_for_tests::{at, attributes, closed, made, made_in, recorded, told};
+use tracing_tree_for_tests::{Step, at, attributes, calls, recorded};
 
 /// Two registries that are called alike.
 #[derive(Drop)]
@@ -44,31 +44,49 @@ impl Both {
 
     // Whether both answer this call alike. It is made twice, since a call is used up. An event only looks at its current span.
     fn agree(&mut self, alloc: Global, call: Call, again: Call) -> Result<bool, AllocError> {
-        match (call, again) {
-            (Call::New(attributes, context), Call::New(again, _)) => {
-                let made = self.lent.new_span(attributes, &context);
-                Ok(made.is_ok() && made == self.walked.new_span(again, &context))
-            }
-            (Call::Clone(id), _) => {
+        match call {
+            Call::New(attributes, context) => Ok(self.agree_on_new(attributes, again, &context)),
+            Call::Clone(id) => {
                 let cloned = self.lent.clone_span(id);
                 Ok(cloned.is_ok() && cloned == self.walked.clone_span(id))
             }
-            (Call::Record(id, record), Call::Record(_, again)) => {
+            Call::Record(id, record) => self.record(id, record, again),
+            Call::Event(_, context) => match context.current {
+                Some(id) => self.agree_on(alloc, id),
+                None => Ok(true),
+            },
+            Call::Close(id, _) => self.agree_on_close(alloc, id),
+        }
+    }
+
+    // Whether both make this span, and give it the same id.
+    fn agree_on_new(&mut self, attributes: Attributes, again: Call, context: &Context) -> bool {
+        match again {
+            Call::New(again, _) => {
+                let made = self.lent.new_span(attributes, context);
+                made.is_ok() && made == self.walked.new_span(again, context)
+            }
+            _ => false,
+        }
+    }
+
+    // Puts the same fields into both.
+    fn record(&mut self, id: Id, record: Record, again: Call) -> Result<bool, AllocError> {
+        match again {
+            Call::Record(_, again) => {
                 self.lent.record(id, record.fields)?;
                 self.walked.record(id, again.fields)?;
                 Ok(true)
             }
-            (Call::Event(_, context), _) => match context.current {
-                Some(id) => self.agree_on(alloc, id),
-                None => Ok(true),
-            },
-            (Call::Close(id, _), _) => {
-                let same = self.agree_on(alloc, id)?;
-                let closed = self.lent.try_close(id);
-                Ok(same && closed.is_ok() && closed == self.walked.try_close(id))
-            }
             _ => Ok(false),
         }
+    }
+
+    // Whether both show the same of this span, and let go of it alike.
+    fn agree_on_close(&mut self, alloc: Global, id: Id) -> Result<bool, AllocError> {
+        let same = self.agree_on(alloc, id)?;
+        let closed = self.lent.try_close(id);
+        Ok(same && closed.is_ok() && closed == self.walked.try_close(id))
     }
 }
 
@@ -110,121 +128,100 @@ fn agree_on_first(alloc: Global, both: &Both) -> Result<bool, AllocError> {
     Ok(true)
 }
 
-fn info(alloc: Global, message: &str, current: u64) -> Result<Call, AllocError> {
-    told(alloc, Level::Info, message, Some(current))
-}
-
 // A root, its child with an event, and their closes.
-fn child(alloc: Global) -> Result<Vec<Call>, AllocError> {
-    Ok(vec![in alloc;
-        made(alloc, "a", None)?,
-        made(alloc, "b", Some(1))?,
-        told(alloc, Level::Warn, "x", Some(2))?,
-        closed(2),
-        closed(1),
-    ]?)
-}
+const CHILD: [Step<'static>; 5] = [
+    Step::New("a", None),
+    Step::New("b", Some(1)),
+    Step::Told(Level::Warn, "x", Some(2)),
+    Step::Close(2),
+    Step::Close(1),
+];
 
 // A chain of three, an event in the middle one, and the close of the last.
-fn chain(alloc: Global) -> Result<Vec<Call>, AllocError> {
-    Ok(vec![in alloc;
-        made(alloc, "a", None)?,
-        made(alloc, "b", Some(1))?,
-        made(alloc, "c", Some(2))?,
-        info(alloc, "x", 2)?,
-        closed(3),
-    ]?)
-}
+const CHAIN: [Step<'static>; 5] = [
+    Step::New("a", None),
+    Step::New("b", Some(1)),
+    Step::New("c", Some(2)),
+    Step::Told(Level::Info, "x", Some(2)),
+    Step::Close(3),
+];
 
 // Two roots with an event each.
-fn roots(alloc: Global) -> Result<Vec<Call>, AllocError> {
-    Ok(vec![in alloc;
-        made(alloc, "a", None)?,
-        made(alloc, "b", None)?,
-        info(alloc, "x", 1)?,
-        info(alloc, "y", 2)?,
-    ]?)
-}
+const ROOTS: [Step<'static>; 4] = [
+    Step::New("a", None),
+    Step::New("b", None),
+    Step::Told(Level::Info, "x", Some(1)),
+    Step::Told(Level::Info, "y", Some(2)),
+];
 
 // A root with a child that closes after another root was made.
-fn stranger(alloc: Global) -> Result<Vec<Call>, AllocError> {
-    Ok(vec![in alloc;
-        made(alloc, "a", None)?,
-        made(alloc, "b", Some(1))?,
-        made(alloc, "c", None)?,
-        closed(2),
-        info(alloc, "x", 1)?,
-    ]?)
-}
+const STRANGER: [Step<'static>; 5] = [
+    Step::New("a", None),
+    Step::New("b", Some(1)),
+    Step::New("c", None),
+    Step::Close(2),
+    Step::Told(Level::Info, "x", Some(1)),
+];
 
 // A root and its child, with an event each.
-fn late(alloc: Global) -> Result<Vec<Call>, AllocError> {
-    Ok(vec![in alloc;
-        made(alloc, "a", None)?,
-        made(alloc, "b", Some(1))?,
-        info(alloc, "x", 1)?,
-        info(alloc, "y", 2)?,
-    ]?)
-}
-
-// A new span of this key.
-fn keyed(alloc: Global, name: &str, key: &str, parent: Parent) -> Result<Call, AllocError> {
-    let call = made_in(alloc, name, parent, None)?;
-    Ok(match call {
-        Call::New(mut attributes, context) => {
-            attributes.fields = recorded(alloc, "key", key)?;
-            Call::New(attributes, context)
-        }
-        other => other,
-    })
-}
-
-// Two tasks, and a span in each.
-fn inner(alloc: Global) -> Result<Vec<Call>, AllocError> {
-    Ok(vec![in alloc;
-        keyed(alloc, "spawn_fut", "a", Parent::Root)?,
-        keyed(alloc, "spawn_fut", "b", Parent::Root)?,
-        made_in(alloc, "a", Parent::Of(Id(1)), None)?,
-        made_in(alloc, "b", Parent::Of(Id(2)), None)?,
-    ]?)
-}
-
-// The same, where the tasks take turns.
-fn tasks(alloc: Global) -> Result<Vec<Call>, AllocError> {
-    let mut calls = inner(alloc)?;
-    for (message, id) in [("a", 3), ("b", 4)] {
-        calls.push(info(alloc, message, id)?)?;
-        calls.push(closed(id))?;
-    }
-    calls.push(closed(2))?;
-    calls.push(closed(1))?;
-    Ok(calls)
-}
+const LATE: [Step<'static>; 4] = [
+    Step::New("a", None),
+    Step::New("b", Some(1)),
+    Step::Told(Level::Info, "x", Some(1)),
+    Step::Told(Level::Info, "y", Some(2)),
+];
 
 // A handle on a parent that only its child holds, fields that come later, and the end of both.
-fn held(alloc: Global) -> Result<Vec<Call>, AllocError> {
-    let fields = recorded(alloc, "k", "1")?;
-    Ok(vec![in alloc;
-        made(alloc, "a", None)?,
-        made(alloc, "b", Some(1))?,
-        closed(1),
-        Call::Clone(Id(1)),
-        Call::Record(Id(1), Record { fields }),
-        closed(2),
-        closed(1),
-    ]?)
+const HELD: [Step<'static>; 7] = [
+    Step::New("a", None),
+    Step::New("b", Some(1)),
+    Step::Close(1),
+    Step::Clone(1),
+    Step::Record(1, "1"),
+    Step::Close(2),
+    Step::Close(1),
+];
+
+// A span in each of two tasks, which take turns, and their end.
+const TURNS: [Step<'static>; 8] = [
+    Step::NewIn("a", Parent::Of(Id(1)), None),
+    Step::NewIn("b", Parent::Of(Id(2)), None),
+    Step::Told(Level::Info, "a", Some(3)),
+    Step::Close(3),
+    Step::Told(Level::Info, "b", Some(4)),
+    Step::Close(4),
+    Step::Close(2),
+    Step::Close(1),
+];
+
+// A new root of this key, for a task.
+fn task(alloc: Global, key: &str) -> Result<Call, AllocError> {
+    let mut attributes = attributes(alloc, "spawn_fut", Parent::Root)?;
+    attributes.fields = recorded(alloc, "key", key)?;
+    Ok(Call::New(attributes, at(None)))
+}
+
+// Two tasks that take turns.
+fn tasks(alloc: Global) -> Result<Vec<Call>, AllocError> {
+    let mut all = Vec::new(alloc);
+    all.push(task(alloc, "a")?)?;
+    all.push(task(alloc, "b")?)?;
+    for step in TURNS {
+        all.push(step.call(alloc)?)?;
+    }
+    Ok(all)
 }
 
 // One of these runs.
 fn run_of(alloc: Global, number: u32) -> Result<Vec<Call>, AllocError> {
     match number {
-        0 => child(alloc),
-        1 => chain(alloc),
-        2 => roots(alloc),
-        3 => stranger(alloc),
-        4 => late(alloc),
+        0 => calls(alloc, CHILD.as_slice()),
+        1 => calls(alloc, CHAIN.as_slice()),
+        2 => calls(alloc, ROOTS.as_slice()),
+        3 => calls(alloc, STRANGER.as_slice()),
+        4 => calls(alloc, LATE.as_slice()),
         5 => tasks(alloc),
-        _ => held(alloc),
+        _ => calls(alloc, HELD.as_slice()),
     }
 }
 
