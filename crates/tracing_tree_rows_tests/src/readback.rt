@@ -14,7 +14,7 @@ use tracing_tree::format::{Refusal, Tape};
 use tracing_tree::layered::Layered;
 use tracing_tree::rows::{Row, Shape, read_rows};
 use tracing_tree::style::Level;
-use tracing_tree_for_tests::{closed, lined, made, told};
+use tracing_tree_for_tests::{Step, calls, lined};
 
 // What a run answered, and the rows that are read of its drawing.
 #[derive(Drop)]
@@ -50,20 +50,21 @@ fn read_back(alloc: Global, layered: &mut Layered<Tape, ()>, calls: Vec<Call>) -
     Some(ReadBack { answers, rows })
 }
 
+// Two spans, of which the inner one has an event and closes. One close is refused.
+const STEPS: [Step<'static>; 5] = [
+    Step::New("a", None),
+    Step::Close(7),
+    Step::New("b", Some(1)),
+    Step::Told(Level::Warn, "x", Some(2)),
+    Step::Close(2),
+];
+
 #[test]
 fn reads_a_run_back(rt: HostRuntime) -> Result<(), Fail> {
     let alloc = rt.alloc();
-    let mut layered = lined(alloc);
-    let calls = vec![in alloc;
-        made(alloc, "a", None)?,
-        closed(7),
-        made(alloc, "b", Some(1))?,
-        told(alloc, Level::Warn, "x", Some(2))?,
-        closed(2),
-    ]?;
-    let Some(back) = read_back(alloc, &mut layered, calls) else {
-        assert!(rt; false, "the drawing isn't read");
-        return Ok(());
+    let calls = calls(alloc, STEPS.as_slice())?;
+    let Some(back) = read_back(alloc, &mut lined(alloc), calls) else {
+        return Err(Fail::from("the drawing isn't read"));
     };
     let accepted = back.answers.iter().filter(|answer| answer.is_ok()).count();
     assert_eq!(rt; accepted, 4);

@@ -5,13 +5,12 @@ use std::io::Write;
 use std::process::Abort;
 use std::test::*;
 use std::{io, str};
-use tracing_tree::Call;
 use tracing_tree::rows::{
     DrawFault, EventPath, ReadFault, Row, RowCause, RowFault, Shape, draw_rows, read_paths,
     read_rows, rows_to_json,
 };
 use tracing_tree::style::Level;
-use tracing_tree_for_tests::{closed, lined, made, told};
+use tracing_tree_for_tests::{Step, lined};
 
 // The drawing of two spans with an event.
 const TREE: &str = "┐a \n└─┐b \n  ├─ WARN x\n┌─┘\n┘\n";
@@ -237,22 +236,31 @@ fn finds_ancestors(rt: HostRuntime) -> Result<(), Fail> {
     paths_are(&rt, "", "")
 }
 
-#[test]
-fn reads_what_a_run_drew(rt: HostRuntime) -> Result<(), Fail> {
+// The calls that draw the tree.
+const STEPS: [Step<'static>; 5] = [
+    Step::New("a", None),
+    Step::New("b", Some(1)),
+    Step::Told(Level::Warn, "x", Some(2)),
+    Step::Close(2),
+    Step::Close(1),
+];
+
+// What these calls draw. Each is accepted.
+fn drawn(rt: &(impl Abort + AllocGlobal), steps: &[Step<'_>]) -> Result<Vec<u8>, AllocError> {
     let alloc = rt.alloc();
     let mut layered = lined(alloc);
-    let mut calls: Vec<Call> = Vec::new(alloc);
-    calls.push(made(alloc, "a", None)?)?;
-    calls.push(made(alloc, "b", Some(1))?)?;
-    calls.push(told(alloc, Level::Warn, "x", Some(2))?)?;
-    calls.push(closed(2))?;
-    calls.push(closed(1))?;
-    for call in calls {
-        assert_eq!(rt; layered.call(call).is_ok(), true);
+    for step in steps {
+        let answer = layered.call(step.call(alloc)?);
+        assert_eq!(rt; answer.is_ok(), true);
     }
-    let Ok(text) = str::from_utf8(layered.writer().bytes()) else {
-        assert!(rt; false, "the drawing is no text");
-        return Ok(());
+    layered.writer().bytes().to_vec(alloc)
+}
+
+#[test]
+fn reads_what_a_run_drew(rt: HostRuntime) -> Result<(), Fail> {
+    let drawn = drawn(&rt, STEPS.as_slice())?;
+    let Ok(text) = str::from_utf8(drawn.as_slice()) else {
+        return Err(Fail::from("the drawing is no text"));
     };
     assert_eq!(rt; text, TREE);
     reads_as(
