@@ -7,15 +7,15 @@
 ghost use Rattle.std.specs.Prelude.{◌≡◌};
 ghost use Rattle.std.specs.Bool.{Decides};
 
-use tracing_tree::call::Reply;
+use tracing_tree::call::{Call, Reply};
 use tracing_tree::field::{Field, Fields};
-use tracing_tree::format::{Id, OutputFault, Refusal, SpanMode};
+use tracing_tree::format::{Context, Id, OutputFault, Refusal, SpanMode};
 use tracing_tree::lines::{LineCause, LineFault};
-use tracing_tree::registry::{Common, Parent, Record};
+use tracing_tree::registry::{Attributes, Common, Event, Parent, Record};
 use tracing_tree::rows::{DrawFault, ReadFault, RowCause, RowFault, Shape};
 use tracing_tree::style::{Level, Style};
 use tracing_tree::text::Text;
-use tracing_tree::time::{TimeFault, Uptime, UtcDateTime};
+use tracing_tree::time::{Moment, TimeFault, Uptime, UtcDateTime};
 
 pub fn texts(left: &Text, right: &Text) -> bool
     ensures { Decides result (left.now ≡ right.now) }
@@ -152,6 +152,36 @@ pub fn read_faults(left: &ReadFault, right: &ReadFault) -> bool
 }
 
 pub fn shapes(left: &Shape, right: &Shape) -> bool
+    ensures { Decides result (left.now ≡ right.now) }
+{
+    left == right
+}
+
+pub fn events(left: &Event, right: &Event) -> bool
+    ensures { Decides result (left.now ≡ right.now) }
+{
+    left == right
+}
+
+pub fn attributes(left: &Attributes, right: &Attributes) -> bool
+    ensures { Decides result (left.now ≡ right.now) }
+{
+    left == right
+}
+
+pub fn moments(left: &Moment, right: &Moment) -> bool
+    ensures { Decides result (left.now ≡ right.now) }
+{
+    left == right
+}
+
+pub fn contexts(left: &Context, right: &Context) -> bool
+    ensures { Decides result (left.now ≡ right.now) }
+{
+    left == right
+}
+
+pub fn calls(left: &Call, right: &Call) -> bool
     ensures { Decides result (left.now ≡ right.now) }
 {
     left == right

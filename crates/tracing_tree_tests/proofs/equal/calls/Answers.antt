@@ -1,0 +1,8 @@
+use Rattle.std.proofs.Common.{◌≡◌, Bool, sym, subst}
+use Rattle.std.specs.Bool.{Decides}
+use Rattle.tracing_tree_tests.proofs.Equality.{call_decides}
+use Rattle.tracing_tree_tests.proofs.equal.calls.Goals as goal
+
+pub returns : goal.returns
+returns c =
+    subst (λ (same : Bool). Decides same (c.args.left.now ≡ c.args.right.now)) (sym c.eq.ensures) (call_decides c.args.left.now c.args.right.now)
