@@ -1,4 +1,4 @@
--- Fields are equal where their names and values are.
+-- Values are equal where all their parts are.
 use Rattle.std.proofs.Common.{◌≡◌, ◌==◌, ◌&&◌, Bool, true, false, T, ℤ, List, Option, None, Some, unwrap_or, refl, sym, ap, ◌∙◌, subst, int_eq}
 use Rattle.std.specs.Bool.{Decides}
 use Rattle.std.specs.Str.{bytes_eq}

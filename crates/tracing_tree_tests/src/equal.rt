@@ -1,8 +1,5 @@
 //! Equality holds exactly where all parts are equal: a function for each public type that derives it, and for `Text` and
 //! `Fields`, whose contract says so.
-//!
-//! `Moment` holds an instant of `jiff`, so it, `Context` and `Call` are left out; for `Attributes` and `Event` the search for a
-//! proof meets its limits.
 
 ghost use Rattle.std.specs.Prelude.{◌≡◌};
 ghost use Rattle.std.specs.Bool.{Decides};
@@ -54,6 +51,18 @@ pub fn ids(left: &Id, right: &Id) -> bool
     left == right
 }
 
+pub fn moments(left: &Moment, right: &Moment) -> bool
+    ensures { Decides result (left.now ≡ right.now) }
+{
+    left == right
+}
+
+pub fn contexts(left: &Context, right: &Context) -> bool
+    ensures { Decides result (left.now ≡ right.now) }
+{
+    left == right
+}
+
 pub fn refusals(left: &Refusal, right: &Refusal) -> bool
     ensures { Decides result (left.now ≡ right.now) }
 {
@@ -72,8 +81,20 @@ pub fn parents(left: &Parent, right: &Parent) -> bool
     left == right
 }
 
+pub fn attributes(left: &Attributes, right: &Attributes) -> bool
+    ensures { Decides result (left.now ≡ right.now) }
+{
+    left == right
+}
+
 #[tactic(auto, using(crate::proofs::Equality::fields_decide))]
 pub fn records(left: &Record, right: &Record) -> bool
+    ensures { Decides result (left.now ≡ right.now) }
+{
+    left == right
+}
+
+pub fn events(left: &Event, right: &Event) -> bool
     ensures { Decides result (left.now ≡ right.now) }
 {
     left == right
@@ -104,6 +125,12 @@ pub fn uptimes(left: &Uptime, right: &Uptime) -> bool
 }
 
 pub fn utc_clocks(left: &UtcDateTime, right: &UtcDateTime) -> bool
+    ensures { Decides result (left.now ≡ right.now) }
+{
+    left == right
+}
+
+pub fn calls(left: &Call, right: &Call) -> bool
     ensures { Decides result (left.now ≡ right.now) }
 {
     left == right
@@ -152,36 +179,6 @@ pub fn read_faults(left: &ReadFault, right: &ReadFault) -> bool
 }
 
 pub fn shapes(left: &Shape, right: &Shape) -> bool
-    ensures { Decides result (left.now ≡ right.now) }
-{
-    left == right
-}
-
-pub fn events(left: &Event, right: &Event) -> bool
-    ensures { Decides result (left.now ≡ right.now) }
-{
-    left == right
-}
-
-pub fn attributes(left: &Attributes, right: &Attributes) -> bool
-    ensures { Decides result (left.now ≡ right.now) }
-{
-    left == right
-}
-
-pub fn moments(left: &Moment, right: &Moment) -> bool
-    ensures { Decides result (left.now ≡ right.now) }
-{
-    left == right
-}
-
-pub fn contexts(left: &Context, right: &Context) -> bool
-    ensures { Decides result (left.now ≡ right.now) }
-{
-    left == right
-}
-
-pub fn calls(left: &Call, right: &Call) -> bool
     ensures { Decides result (left.now ≡ right.now) }
 {
     left == right
