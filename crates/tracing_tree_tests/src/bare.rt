@@ -2,7 +2,9 @@
 
 ghost use Rattle.std.specs.Prelude.{◌≡◌, None, false};
 
+use crate::calls::TREE;
 use crate::lone::Lone;
+use crate::retracing::{ALTERNATING, CHAIN, LATE, STRANGER};
 use std::alloc::{AllocError, Global};
 use std::process::Abort;
 use std::test::*;
@@ -14,7 +16,7 @@ use tracing_tree::layered::Layered;
 use tracing_tree::registry::{Attributes, Event, LookupSpan, Parent, Record, Registry, Walked};
 use tracing_tree::style::Level;
 use tracing_tree::text::Text;
-use tracing_tree_for_tests::{at, closed, made, recorded, told};
+use tracing_tree_for_tests::{at, calls, recorded};
 
 // What both registries can do.
 trait Keeps: LookupSpan {
@@ -86,19 +88,30 @@ fn call<S: Keeps>(
     }
 }
 
-// The calls, one after another, draw this.
+// The calls of a case, one after another, draw its text over these spans.
 fn draws_over<S: Keeps + Drop>(
     rt: &impl Abort,
     alloc: Global,
-    mut layer: HierarchicalLayer<Tape, ()>,
     mut spans: S,
-    calls: Vec<Call>,
-    wanted: &str,
-) {
+    case: Case,
+) -> Result<(), Fail> {
+    let calls = case.calls(alloc)?;
+    let mut layer = case.layer(alloc);
     for next in calls {
         assert_eq!(rt; call(alloc, &mut layer, &mut spans, next), Ok(()));
     }
-    assert_eq!(rt; layer.writer().bytes(), wanted.as_bytes());
+    assert_eq!(rt; layer.writer().bytes(), case.text().as_bytes());
+    Ok(())
+}
+
+// They draw it as one run.
+fn draws_as_a_run(rt: &impl Abort, alloc: Global, case: Case) -> Result<(), Fail> {
+    let calls = case.calls(alloc)?;
+    let mut layered = Layered::new(alloc, case.layer(alloc));
+    let answers = layered.run(alloc, calls)?;
+    assert_eq!(rt; answers.iter().all(|answer| answer.is_ok()), true);
+    assert_eq!(rt; layered.writer().bytes(), case.text().as_bytes());
+    Ok(())
 }
 
 // Settings, calls, and what they draw.
@@ -145,43 +158,14 @@ impl Case {
     }
 
     fn calls(self, alloc: Global) -> Result<Vec<Call>, AllocError> {
-        let calls = match self {
-            Case::Nested => vec![in alloc;
-                made(alloc, "a", None)?,
-                made(alloc, "b", Some(1))?,
-                told(alloc, Level::Warn, "x", Some(2))?,
-                closed(2),
-                closed(1),
-            ]?,
-            Case::Deferred => vec![in alloc;
-                made(alloc, "a", None)?,
-                made(alloc, "b", Some(1))?,
-                made(alloc, "c", Some(2))?,
-                info(alloc, "x", 2)?,
-                closed(3),
-            ]?,
-            Case::Alternating => vec![in alloc;
-                made(alloc, "a", None)?,
-                made(alloc, "b", None)?,
-                info(alloc, "x", 1)?,
-                info(alloc, "y", 2)?,
-            ]?,
-            Case::Stranger => vec![in alloc;
-                made(alloc, "a", None)?,
-                made(alloc, "b", Some(1))?,
-                made(alloc, "c", None)?,
-                closed(2),
-                info(alloc, "x", 1)?,
-            ]?,
-            Case::Fresh => vec![in alloc;
-                made(alloc, "a", None)?,
-                made(alloc, "b", Some(1))?,
-                info(alloc, "x", 1)?,
-                info(alloc, "y", 2)?,
-            ]?,
-            Case::Concurrent => concurrent(alloc)?,
-        };
-        Ok(calls)
+        match self {
+            Case::Nested => calls(alloc, TREE.as_slice()),
+            Case::Deferred => calls(alloc, CHAIN.as_slice()),
+            Case::Alternating => calls(alloc, ALTERNATING.as_slice()),
+            Case::Stranger => calls(alloc, STRANGER.as_slice()),
+            Case::Fresh => calls(alloc, LATE.as_slice()),
+            Case::Concurrent => concurrent(alloc),
+        }
     }
 
     fn text(self) -> &'static str {
@@ -216,30 +200,55 @@ const CONCURRENT: &str = "\
 1:main┘
 ";
 
+// A call of one of two jobs, on the thread main.
+#[derive(Clone, Copy)]
+enum JobStep {
+    // A new span below this one.
+    Enter(&'static str, u64),
+
+    // An event with this message, in this span.
+    Tell(&'static str, u64),
+
+    // The end of a span.
+    Close(u64),
+}
+
+// The calls of the Rust crate's example `concurrent_eager` after its two roots.
+const JOB_STEPS: [JobStep; 8] = [
+    JobStep::Enter("a", 1),
+    JobStep::Enter("b", 2),
+    JobStep::Tell("a", 3),
+    JobStep::Close(3),
+    JobStep::Tell("b", 4),
+    JobStep::Close(4),
+    JobStep::Close(2),
+    JobStep::Close(1),
+];
+
+impl JobStep {
+    fn call(self, alloc: Global) -> Result<Call, AllocError> {
+        match self {
+            JobStep::Enter(name, parent) => spawned(alloc, name, Fields::new(alloc), Some(parent)),
+            JobStep::Tell(message, span) => happened(alloc, message, span),
+            JobStep::Close(id) => Ok(Call::Close(Id(id), on_main(alloc, None)?)),
+        }
+    }
+}
+
+// A new root for a job.
+fn job(alloc: Global, key: Field) -> Result<Call, AllocError> {
+    let fields = vec![in alloc; key]?;
+    spawned(alloc, "spawn_fut", Fields::from(fields), None)
+}
+
 // The calls of the Rust crate's example `concurrent_eager`.
 fn concurrent(alloc: Global) -> Result<Vec<Call>, AllocError> {
-    let calls = vec![in alloc;
-        spawned(
-            alloc,
-            "spawn_fut",
-            Fields::from(vec![in alloc; Field::text(alloc, "key", "a")?]?),
-            None
-        )?,
-        spawned(
-            alloc,
-            "spawn_fut",
-            Fields::from(vec![in alloc; Field::text(alloc, "key", "b")?]?),
-            None
-        )?,
-        spawned(alloc, "a", Fields::new(alloc), Some(1))?,
-        spawned(alloc, "b", Fields::new(alloc), Some(2))?,
-        happened(alloc, "a", 3)?,
-        Call::Close(Id(3), on_main(alloc, None)?),
-        happened(alloc, "b", 4)?,
-        Call::Close(Id(4), on_main(alloc, None)?),
-        Call::Close(Id(2), on_main(alloc, None)?),
-        Call::Close(Id(1), on_main(alloc, None)?),
-    ]?;
+    let mut calls = Vec::new(alloc);
+    calls.push(job(alloc, Field::text(alloc, "key", "a")?)?)?;
+    calls.push(job(alloc, Field::text(alloc, "key", "b")?)?)?;
+    for step in JOB_STEPS {
+        calls.push(step.call(alloc)?)?;
+    }
     Ok(calls)
 }
 
@@ -282,32 +291,9 @@ fn happened(alloc: Global, message: &str, current: u64) -> Result<Call, AllocErr
 // The calls draw their text over a registry that keeps paths, over one that walks them, and as one
 // run.
 fn draws_everywhere(rt: &impl Abort, alloc: Global, case: Case) -> Result<(), Fail> {
-    let wanted = case.text();
-    draws_over(
-        rt,
-        alloc,
-        case.layer(alloc),
-        Registry::new(alloc),
-        case.calls(alloc)?,
-        wanted,
-    );
-    draws_over(
-        rt,
-        alloc,
-        case.layer(alloc),
-        Walked::new(alloc),
-        case.calls(alloc)?,
-        wanted,
-    );
-    let mut layered = Layered::new(alloc, case.layer(alloc));
-    let answers = layered.run(alloc, case.calls(alloc)?)?;
-    assert_eq!(rt; answers.iter().all(|answer| answer.is_ok()), true);
-    assert_eq!(rt; layered.writer().bytes(), wanted.as_bytes());
-    Ok(())
-}
-
-fn info(alloc: Global, message: &str, current: u64) -> Result<Call, AllocError> {
-    told(alloc, Level::Info, message, Some(current))
+    draws_over(rt, alloc, Registry::new(alloc), case)?;
+    draws_over(rt, alloc, Walked::new(alloc), case)?;
+    draws_as_a_run(rt, alloc, case)
 }
 
 #[test]
@@ -351,16 +337,12 @@ fn draws_over_a_registry_of_ones_own(rt: HostRuntime) -> Result<(), Fail> {
     let values = Record {
         fields: recorded(alloc, "k", "1")?,
     };
-    assert_eq!(rt; layer.on_record(Id(1), &values, &mut lone), Ok(()));
-    assert_eq!(rt; layer.on_record(Id(9), &values, &mut lone), Ok(()));
-    assert_eq!(rt;
-        layer.on_close(Id(9), &mut lone, &at(None)),
-        Err(Refusal::NotHeld(Id(9)))
-    );
-    assert_eq!(rt;
-        layer.on_new_span(Id(9), &mut lone, &at(None)),
-        Err(Refusal::NotHeld(Id(9)))
-    );
+    for id in [Id(1), Id(9)] {
+        assert_eq!(rt; layer.on_record(id, &values, &mut lone), Ok(()));
+    }
+    let refused = Err(Refusal::NotHeld(Id(9)));
+    assert_eq!(rt; layer.on_close(Id(9), &mut lone, &at(None)), refused);
+    assert_eq!(rt; layer.on_new_span(Id(9), &mut lone, &at(None)), refused);
     let mut layer = layer.with_verbose_exit(true);
     assert_eq!(rt; layer.on_close(Id(1), &mut lone, &at(None)), Ok(()));
     assert_eq!(rt; layer.on_close(Id(1), &mut lone, &at(None)), Ok(()));

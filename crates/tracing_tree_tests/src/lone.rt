@@ -97,11 +97,19 @@ fn marks_and_records(rt: HostRuntime) -> Result<(), Fail> {
     let alloc = rt.alloc();
     let mut lone = Lone::new(alloc, "a")?;
     lone.set_written(Id(1));
-    lone.record(Id(1), recorded(alloc, "k", "1")?)?;
-    lone.record(Id(2), recorded(alloc, "k", "2")?)?;
+    for (id, value) in [(Id(1), "1"), (Id(2), "2")] {
+        lone.record(id, recorded(alloc, "k", value)?)?;
+    }
     let data = lone.data(Id(1)).ok_or("no data")?;
     assert_eq!(rt; data.written, true);
     assert_eq!(rt; data.fields.as_slice().len(), 1);
+    Ok(())
+}
+
+#[test]
+fn shows_its_root(rt: HostRuntime) -> Result<(), Fail> {
+    let alloc = rt.alloc();
+    let lone = Lone::new(alloc, "a")?;
     assert_eq!(rt; lone.path(alloc, Id(1))?.as_slice(), [Id(1)].as_slice());
     assert_eq!(rt; lone.path(alloc, Id(2))?.len(), 0);
     assert_eq!(rt; lone.parent(Id(1)), None);

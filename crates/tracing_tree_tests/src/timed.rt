@@ -11,7 +11,7 @@ use tracing_tree::layer::HierarchicalLayer;
 use tracing_tree::layered::Layered;
 use tracing_tree::style::Level;
 use tracing_tree::time::{FormatTime, Moment, Uptime, UtcDateTime};
-use tracing_tree_for_tests::{closed, made, told};
+use tracing_tree_for_tests::{Answer, Step, told};
 
 // A layered over memory, with lines and this timer.
 fn timed<FT: FormatTime + Drop>(alloc: Global, timer: FT) -> Layered<Tape, FT> {
@@ -46,6 +46,15 @@ fn draws<FT: FormatTime + Drop>(
     Ok(accepted && layered.writer().bytes() == wanted.as_bytes())
 }
 
+// These calls, each at a moment of the clock that only goes forward.
+fn calls_at(alloc: Global, steps: &[(Step<'_>, u64)]) -> Result<Vec<Call>, AllocError> {
+    let mut calls = Vec::new(alloc);
+    for (step, mono) in steps {
+        calls.push(then(step.call(alloc)?, *mono, 0))?;
+    }
+    Ok(calls)
+}
+
 // An INFO event outside every span, at an instant of a leap day.
 fn dated(alloc: Global) -> Result<Vec<Call>, AllocError> {
     let call = then(
@@ -66,40 +75,51 @@ fn dates_an_event(rt: HostRuntime) -> Result<(), Fail> {
 }
 
 // A root, and an event in it two seconds later.
-fn two_seconds(alloc: Global) -> Result<Vec<Call>, AllocError> {
-    Ok(vec![in alloc;
-        then(made(alloc, "a", None)?, 1_000_000_000, 0),
-        then(told(alloc, Level::Info, "x", Some(1))?, 3_000_042_000, 0),
-    ]?)
-}
+const TWO_SECONDS: [(Step<'static>, u64); 2] = [
+    (Step::New("a", None), 1_000_000_000),
+    (Step::Told(Level::Info, "x", Some(1)), 3_000_042_000),
+];
 
 #[test]
 fn times_an_event_in_a_span(rt: HostRuntime) -> Result<(), Fail> {
     let alloc = rt.alloc();
     let mut uptime = Uptime::from(0);
     let lower = "┐a \n├─   3.000042s   2s  INFO x\n";
-    assert!(rt; draws(alloc, uptime, two_seconds(alloc)?, lower)?);
+    assert!(rt;
+        draws(
+            alloc,
+            uptime,
+            calls_at(alloc, TWO_SECONDS.as_slice())?,
+            lower
+        )?
+    );
     uptime.higher_precision = true;
     let higher = "┐a \n├─   3.000042s  2.00s  INFO x\n";
-    assert!(rt; draws(alloc, uptime, two_seconds(alloc)?, higher)?);
+    assert!(rt;
+        draws(
+            alloc,
+            uptime,
+            calls_at(alloc, TWO_SECONDS.as_slice())?,
+            higher
+        )?
+    );
     Ok(())
 }
 
 // A root, its child, which begins after the event in it, and an event of a current span that isn't live.
-fn early_event(alloc: Global) -> Result<Vec<Call>, AllocError> {
-    Ok(vec![in alloc;
-        then(made(alloc, "a", None)?, 1_000_000_000, 0),
-        then(made(alloc, "b", Some(1))?, 5_000_000_000, 0),
-        then(told(alloc, Level::Info, "x", Some(2))?, 4_000_000_000, 0),
-        then(told(alloc, Level::Info, "y", Some(9))?, 4_000_000_000, 0),
-    ]?)
-}
+const EARLY_EVENT: [(Step<'static>, u64); 4] = [
+    (Step::New("a", None), 1_000_000_000),
+    (Step::New("b", Some(1)), 5_000_000_000),
+    (Step::Told(Level::Info, "x", Some(2)), 4_000_000_000),
+    (Step::Told(Level::Info, "y", Some(9)), 4_000_000_000),
+];
 
 #[test]
 fn takes_the_elapsed_time_of_the_current_span(rt: HostRuntime) -> Result<(), Fail> {
     let alloc = rt.alloc();
     let text = "┐a \n└─┐b \n  ├─   4.000000s   0ms INFO x\n   4.000000s INFO y\n";
-    assert!(rt; draws(alloc, Uptime::from(0), early_event(alloc)?, text)?);
+    let calls = calls_at(alloc, EARLY_EVENT.as_slice())?;
+    assert!(rt; draws(alloc, Uptime::from(0), calls, text)?);
     Ok(())
 }
 
@@ -112,24 +132,22 @@ fn takes_a_timer_of_ones_own(rt: HostRuntime) -> Result<(), Fail> {
 }
 
 // Calls, and how often a timer has been asked after each.
-fn asking(alloc: Global) -> Result<Vec<(Call, u32)>, AllocError> {
-    Ok(vec![in alloc;
-        (made(alloc, "a", None)?, 0),
-        (told(alloc, Level::Info, "x", Some(1))?, 1),
-        (told(alloc, Level::Info, "x", Some(1))?, 2),
-        (made(alloc, "b", Some(1))?, 2),
-        (told(alloc, Level::Info, "x", Some(2))?, 3),
-        (told(alloc, Level::Info, "x", Some(2))?, 4),
-        (closed(2), 4),
-        (made(alloc, "c", Some(1))?, 4),
-        (told(alloc, Level::Info, "x", Some(3))?, 5),
-        (made(alloc, "d", Some(3))?, 5),
-        (told(alloc, Level::Info, "x", Some(4))?, 6),
-        (closed(4), 6),
-        (closed(3), 6),
-        (told(alloc, Level::Info, "x", Some(1))?, 7),
-    ]?)
-}
+const ASKING: [(Step<'static>, u32); 14] = [
+    (Step::New("a", None), 0),
+    (Step::Told(Level::Info, "x", Some(1)), 1),
+    (Step::Told(Level::Info, "x", Some(1)), 2),
+    (Step::New("b", Some(1)), 2),
+    (Step::Told(Level::Info, "x", Some(2)), 3),
+    (Step::Told(Level::Info, "x", Some(2)), 4),
+    (Step::Close(2), 4),
+    (Step::New("c", Some(1)), 4),
+    (Step::Told(Level::Info, "x", Some(3)), 5),
+    (Step::New("d", Some(3)), 5),
+    (Step::Told(Level::Info, "x", Some(4)), 6),
+    (Step::Close(4), 6),
+    (Step::Close(3), 6),
+    (Step::Told(Level::Info, "x", Some(1)), 7),
+];
 
 #[test]
 fn asks_the_timer_once_an_event(rt: HostRuntime) -> Result<(), Fail> {
@@ -142,30 +160,33 @@ fn asks_the_timer_once_an_event(rt: HostRuntime) -> Result<(), Fail> {
         .with_verbose_exit(true)
         .with_timer(&asked);
     let mut layered = Layered::new(alloc, layer);
-    for (call, times) in asking(alloc)? {
-        layered.call(call)?;
+    for (step, times) in ASKING {
+        layered.call(step.call(alloc)?)?;
         assert_eq!(rt; asked.times.get(), times);
     }
     Ok(())
 }
 
+const TIMED_OUT: [(Step<'static>, u64); 3] = [
+    (Step::New("a", None), 2),
+    (Step::Told(Level::Info, "x", Some(1)), 7),
+    (Step::New("b", None), 0),
+];
+
+const TIMED_OUT_ANSWERS: [Answer; 3] = [
+    Ok(Reply::Span(Id(1))),
+    Err(Refusal::Timer),
+    Err(Refusal::Failed),
+];
+
 // Whether an event at 7 in a span that began at 2 is the fault of this timer, which leaves nothing but a failed layer.
 fn fails(alloc: Global, timer: StopAt) -> Result<bool, AllocError> {
     let mut layered = timed(alloc, timer);
-    let calls = vec![in alloc;
-        then(made(alloc, "a", None)?, 2, 0),
-        then(told(alloc, Level::Info, "x", Some(1))?, 7, 0),
-        made(alloc, "b", None)?,
-    ]?;
+    let calls = calls_at(alloc, TIMED_OUT.as_slice())?;
     let answers = layered.run(alloc, calls)?;
-    let wanted = [
-        Ok(Reply::Span(Id(1))),
-        Err(Refusal::Timer),
-        Err(Refusal::Failed),
-    ];
     let layer = layered.layer();
     Ok(
-        answers.as_slice() == wanted.as_slice()
+        answers.as_slice() == TIMED_OUT_ANSWERS.as_slice()
             && layer.writer().bytes() == "┐a \n".as_bytes()
             && layer.last_span() == Some(Id(1))
             && layer.failed(),
