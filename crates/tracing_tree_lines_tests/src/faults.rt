@@ -11,7 +11,7 @@ use tracing_tree::format::{Id, Output, Refusal, Tape, Wrap};
 use tracing_tree::lines::{LineCause, LineFault, run_lines};
 use tracing_tree::rows::{RowCause, RowFault, rows_to_json};
 use tracing_tree::style::Level;
-use tracing_tree_for_tests::{lined_over, made, told};
+use tracing_tree_for_tests::{Step, calls, lined_over};
 
 // What an attempt to read or to write comes to.
 #[derive(Clone, Copy, Debug)]
@@ -170,33 +170,35 @@ fn took(rt: &impl Abort, sink: &Sink<'_>, taken: &[u8], made: u32, shown: &[usiz
     assert_eq!(rt; sink.shown.as_slice(), shown);
 }
 
-// Over a writer of these attempts so many calls are accepted, and it takes so many bytes, by so many attempts.
-fn draws(
+// The calls that the lines of the input spell.
+const CALLS: [Step<'static>; 3] = [
+    Step::New("a", None),
+    Step::New("b", Some(1)),
+    Step::Told(Level::Info, "x", Some(2)),
+];
+
+// Makes the calls over a writer of these attempts, of which so many are accepted, and returns the writer.
+fn after_calls<'a>(
     rt: &(impl Abort + AllocGlobal),
-    script: &[(Attempt, u32)],
+    script: &'a [(Attempt, u32)],
     accepted: usize,
-    bytes: usize,
-    made_attempts: u32,
-) -> Result<(), Fail> {
+) -> Result<Sink<'a>, AllocError> {
     let alloc = rt.alloc();
-    let taken = &TREE.as_bytes()[..bytes.min(TREE.len())];
+    let calls = calls(alloc, CALLS.as_slice())?;
     let mut layered = lined_over(alloc, Wrap::new(Sink::new(alloc, script)));
-    let calls = vec![in alloc;
-        made(alloc, "a", None)?,
-        made(alloc, "b", Some(1))?,
-        told(alloc, Level::Info, "x", Some(2))?,
-    ]?;
     let answered = layered.run(alloc, calls)?;
     assert_eq!(rt; answered.as_slice(), answers(alloc, accepted)?.as_slice());
     let (_registry, layer) = layered.into_parts();
-    let nothing = [].as_slice();
-    took(
-        rt,
-        &layer.into_writer().into_inner(),
-        taken,
-        made_attempts,
-        nothing,
-    );
+    Ok(layer.into_writer().into_inner())
+}
+
+// Runs the lines over a writer of these attempts, of which so many calls are accepted, and returns the writer.
+fn after_lines<'a>(
+    rt: &(impl Abort + AllocGlobal),
+    script: &'a [(Attempt, u32)],
+    accepted: usize,
+) -> Sink<'a> {
+    let alloc = rt.alloc();
     let ran = run_lines(alloc, INPUT, Wrap::new(Sink::new(alloc, script)));
     let line = (accepted as u64).saturating_add(2);
     let cause = LineCause::Refused(Refusal::Writer);
@@ -208,6 +210,21 @@ fn draws(
     assert_eq!(rt; ran.fault, wanted);
     assert_eq!(rt; ran.accepted, accepted as u64);
     assert_eq!(rt; ran.writer.faults(), if accepted < 3 { 1 } else { 0 });
+    ran.writer.into_inner()
+}
+
+// Over a writer of these attempts so many calls are accepted, and it takes so many bytes, by so many attempts.
+fn draws(
+    rt: &(impl Abort + AllocGlobal),
+    script: &[(Attempt, u32)],
+    accepted: usize,
+    bytes: usize,
+    made: u32,
+) -> Result<(), Fail> {
+    let taken = &TREE.as_bytes()[..bytes.min(TREE.len())];
+    let nothing = [].as_slice();
+    let sink = after_calls(rt, script, accepted)?;
+    took(rt, &sink, taken, made, nothing);
     // The read that finds the end of the input is the only one after the first.
     let end = [34];
     let shown = if accepted < 3 {
@@ -215,7 +232,8 @@ fn draws(
     } else {
         end.as_slice()
     };
-    took(rt, &ran.writer.into_inner(), taken, made_attempts, shown);
+    let sink = after_lines(rt, script, accepted);
+    took(rt, &sink, taken, made, shown);
     Ok(())
 }
 

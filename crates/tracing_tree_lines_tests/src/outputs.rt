@@ -1,15 +1,17 @@
 //! Outputs that take little, are interrupted, or fault.
 
-use std::alloc::Global;
+use std::alloc::{AllocError, Global};
 use std::io;
 use std::io::{ErrorKind, Read, Write};
+use std::process::Abort;
 use std::test::*;
-use tracing_tree::call::{Call, Reply};
+use tracing_tree::call::Reply;
 use tracing_tree::format::{Id, Output, OutputFault, Refusal, Tape, Wrap};
+use tracing_tree::layered::Layered;
 use tracing_tree::lines::{LineCause, LineFault, run_lines};
 use tracing_tree::registry::LookupSpan;
 use tracing_tree::style::Level;
-use tracing_tree_for_tests::{lined_over, made, told};
+use tracing_tree_for_tests::{Answer, Step, lined_over};
 
 // A writer that is interrupted so many times, and then takes at most a piece of what it is given. It counts its flushes.
 #[derive(Drop)]
@@ -105,38 +107,57 @@ impl Choppy {
     }
 }
 
+// Two spans, of which the second is refused, and what every call after it is answered.
+const REFUSED: [(Step<'static>, Answer); 2] = [
+    (Step::New("a", None), Ok(Reply::Span(Id(1)))),
+    (Step::New("b", Some(1)), Err(Refusal::Writer)),
+];
+
+const FAILED: [(Step<'static>, Answer); 2] = [
+    (Step::Told(Level::Info, "x", None), Err(Refusal::Failed)),
+    (Step::Clone(1), Err(Refusal::Failed)),
+];
+
+// Each of these calls is answered as it stands beside it.
+fn answers(
+    rt: &(impl Abort + AllocGlobal),
+    layered: &mut Layered<Wrap<Choppy>, ()>,
+    steps: &[(Step<'_>, Answer)],
+) -> Result<(), AllocError> {
+    for (step, wanted) in steps {
+        let call = step.call(rt.alloc())?;
+        assert_eq!(rt; layered.call(call), *wanted);
+    }
+    Ok(())
+}
+
+// Makes the calls over this writer, and returns what it took.
+fn taken_until_it_fails(
+    rt: &(impl Abort + AllocGlobal),
+    writer: Choppy,
+) -> Result<Vec<u8>, AllocError> {
+    let alloc = rt.alloc();
+    let mut layered = lined_over(alloc, Wrap::new(writer));
+    answers(rt, &mut layered, REFUSED.as_slice())?;
+    assert_eq!(rt; layered.layer().failed(), true);
+    assert_eq!(rt; layered.layer().last_span(), Some(Id(1)));
+    assert_eq!(rt; layered.registry().span(Id(2)).is_none(), true);
+    answers(rt, &mut layered, FAILED.as_slice())?;
+    assert_eq!(rt; layered.writer().faults(), 1);
+    let (_registry, layer) = layered.into_parts();
+    Ok(layer.into_writer().into_inner().taken)
+}
+
 #[test]
 fn fails_with_its_writer(rt: HostRuntime) -> Result<(), Fail> {
-    let alloc = rt.alloc();
     for (stop, broken, left) in [
         (3, false, "┐a \n"),
         (3, true, "┐a \n"),
         (4, false, "┐a \n└"),
         (4, true, "┐a \n└"),
     ] {
-        let mut layered = lined_over(alloc, Wrap::new(Choppy::new(alloc, stop, broken)));
-        assert_eq!(rt;
-            layered.call(made(alloc, "a", None)?),
-            Ok(Reply::Span(Id(1)))
-        );
-        assert_eq!(rt;
-            layered.call(made(alloc, "b", Some(1))?),
-            Err(Refusal::Writer)
-        );
-        assert_eq!(rt; layered.layer().failed(), true);
-        assert_eq!(rt; layered.layer().last_span(), Some(Id(1)));
-        assert_eq!(rt; layered.registry().span(Id(2)).is_none(), true);
-        assert_eq!(rt;
-            layered.call(told(alloc, Level::Info, "x", None)?),
-            Err(Refusal::Failed)
-        );
-        assert_eq!(rt; layered.call(Call::Clone(Id(1))), Err(Refusal::Failed));
-        assert_eq!(rt; layered.writer().faults(), 1);
-        let (_registry, layer) = layered.into_parts();
-        assert_eq!(rt;
-            layer.into_writer().into_inner().taken.as_slice(),
-            left.as_bytes()
-        );
+        let taken = taken_until_it_fails(&rt, Choppy::new(rt.alloc(), stop, broken))?;
+        assert_eq!(rt; taken.as_slice(), left.as_bytes());
     }
     Ok(())
 }
