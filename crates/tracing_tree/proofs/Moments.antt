@@ -11,7 +11,7 @@ use Rattle.jiff_core.specs.Timestamp.{IsTimestampNanos}
 use Rattle.jiff_core.specs.declared.timestamp.Timestamp.{Timestamp}
 use Rattle.tracing_tree_core.specs.declared.context.Context.{Context}
 use Rattle.tracing_tree_core.specs.declared.context.Moment.{Moment}
-use Rattle.tracing_tree.specs.Lines.Values.{Reads, ReadsCall, ValueSpells}
+use Rattle.tracing_tree.specs.Lines.Values.{IsReadAs, ReadsCall, ValueSpells}
 use Rattle.tracing_tree.specs.Lines.CallKinds.{IsKindIn}
 use Rattle.tracing_tree.specs.Lines.Spelled.{◌>>=◌, IsMomentIn, context_in, required, call_named, object_call}
 use Rattle.tracing_tree.specs.declared.call.Call.{Call}
@@ -58,7 +58,7 @@ reads_none value nothing call s = none-some call (sym (nothing s.moment s.timed)
 
 pub reads_named : (value : Data) (context : Context) (word : List ℕ) (result : Result Call LineCause) → has_float value ≡ false
     → IsMomentIn value context.moment → context_in value context.moment ≡ Some context → required as_str (codes "call") value ≡ Some word
-    → Reads (call_named word value context) result → ReadsCall value result
+    → IsReadAs (call_named word value context) result → ReadsCall value result
 reads_named value context word (Ok call) whole timed spelled named reads =
     record { no_float = whole; moment = context.moment; timed = timed; spelled = object_call_at value context word spelled named ∙ reads }
 reads_named value context word (Err NoSettings) whole timed spelled named reads = absurd (not_settings reads.0)

@@ -9,7 +9,7 @@ use Rattle.tracing_tree_core.specs.Registry.Forest.{Forest, span_at, is_live, pa
 use Rattle.tracing_tree_core.specs.declared.context.Id.{Id}
 use Rattle.tracing_tree_core.proofs.ForestLaws.{same_id-eq, path_of-is_path}
 use Rattle.tracing_tree_core.proofs.PathLaws.{path_of-none}
-use Rattle.tracing_tree.specs.Differences.Items.{has_equal_at, differing, agree_at, AgreeDownward, PathsAgreeDownward, PathsDifferFreshly}
+use Rattle.tracing_tree.specs.Differences.Items.{has_equal_at, differing, same_at, AgreeDownward, PathsAgreeDownward, PathsDifferFreshly}
 
 -- ---- places that agree
 
@@ -19,7 +19,7 @@ same-refl i = grind (arith)
 no-false : {A : Type 0} → false ≡ true → A
 no-false e = cc
 
-agree-left_none : (new : List Id) (place : ℕ) → agree_at [] new place ≡ false
+agree-left_none : (new : List Id) (place : ℕ) → same_at [] new place ≡ false
 agree-left_none new place = elim (slice_get new place) as (λ o. option_map_or (λ i. false) o false ≡ false) [ None ↦ refl | Some i ↦ refl ]
 
 some-eq : {A : Type 0} (a b : A) → Some a ≡ Some b → a ≡ b
@@ -34,7 +34,7 @@ one-above forest above other i j e h k =
 
 -- lists that descend and agree somewhere descend from the same
 same-above : (forest : Forest) (above other : Option Id) (old new : List Id) (place : ℕ) →
-    Descends forest above old → Descends forest other new → agree_at old new place ≡ true → above ≡ other
+    Descends forest above old → Descends forest other new → same_at old new place ≡ true → above ≡ other
 same-above forest above other [] new place h k e = no-false (sym (agree-left_none new place) ∙ e)
 same-above forest above other (i ∷ old) [] place h k e = no-false e
 same-above forest above other (i ∷ old) (j ∷ new) zero h k e = one-above forest above other i j (same_id-eq i j e) h.0 k.0
@@ -42,7 +42,7 @@ same-above forest above other (i ∷ old) (j ∷ new) (suc place) h k e =
     one-above forest above other i j (some-eq i j (same-above forest (Some i) (Some j) old new place h.1 k.1 e)) h.0 k.0
 
 agree-below : (forest : Forest) (above other : Option Id) (old new : List Id) → Descends forest above old → Descends forest other new →
-    (low high : ℕ) → low < high → agree_at old new high ≡ true → agree_at old new low ≡ true
+    (low high : ℕ) → low < high → same_at old new high ≡ true → same_at old new low ≡ true
 agree-below forest above other [] new h k low high l e = no-false (sym (agree-left_none new high) ∙ e)
 agree-below forest above other (i ∷ old) [] h k low high l e = no-false e
 agree-below forest above other (i ∷ old) (j ∷ new) h k low zero l e = absurd (omega arith)
@@ -90,7 +90,7 @@ from_place-nothing n [] = refl
 from_place-nothing n (j ∷ right) = ap (λ ids. j ∷ ids) (from_place-nothing (n + 1) right)
 
 -- where no place agrees all items differ
-from_place-all : (left right : List Id) → ((place : ℕ) → agree_at left right place ≡ false) → from_place left 0 right ≡ right
+from_place-all : (left right : List Id) → ((place : ℕ) → same_at left right place ≡ false) → from_place left 0 right ≡ right
 from_place-all [] right h = from_place-nothing 0 right
 from_place-all (i ∷ left) [] h = refl
 from_place-all (i ∷ left) (j ∷ right) h =
@@ -108,9 +108,9 @@ differing-agreeing (i ∷ left) [] h = refl
 differing-agreeing (i ∷ left) (j ∷ right) h =
     by (differing-agreeing left right (λ low high l. h (suc low) (suc high) (omega arith))) (same_id i j) refl
   where
-    none : same_id i j ≡ false → (place : ℕ) → agree_at (i ∷ left) (j ∷ right) place ≡ false
+    none : same_id i j ≡ false → (place : ℕ) → same_at (i ∷ left) (j ∷ right) place ≡ false
     none e zero = e
-    none e (suc place) = elim (agree_at (i ∷ left) (j ∷ right) (suc place)) as (λ b. agree_at (i ∷ left) (j ∷ right) (suc place) ≡ b → b ≡ false) [
+    none e (suc place) = elim (same_at (i ∷ left) (j ∷ right) (suc place)) as (λ b. same_at (i ∷ left) (j ∷ right) (suc place) ≡ b → b ≡ false) [
       | true ↦ (λ k. no-false (sym e ∙ h 0 (suc place) (omega arith) k))
       | false ↦ (λ k. refl)
     ] refl

@@ -17,7 +17,7 @@ ghost use Rattle.tracing_tree.specs.Calls.Layers.{is_fresh, IsFlushed};
 ghost use Rattle.tracing_tree.specs.Calls.Seen.{seen_writer};
 ghost use Rattle.tracing_tree.specs.Rows.Drawn.{failed_by, has_no_id, DoesTurn, IsBlank, IsReady, Sends};
 
-use drawing::Drawing;
+use drawing::CallDrawing;
 use page::Page;
 use plan::Plan;
 use std::alloc::Global;
@@ -173,7 +173,7 @@ impl<W: Output, FT: FormatTime> HierarchicalLayer<W, FT> {
             DoesTurn (seen_writer W.Output) turn false false result old self.new
             forest (S.forest spans.new) }
     {
-        let drawn = Drawing {
+        let drawn = CallDrawing {
             config: &self.config,
             spans: &*spans,
             context,
@@ -205,7 +205,7 @@ impl<W: Output, FT: FormatTime> HierarchicalLayer<W, FT> {
             DoesTurn (seen_writer W.Output) turn faults wide result old self.new
             forest (S.forest spans.new) }
     {
-        let drawn = Drawing {
+        let drawn = CallDrawing {
             config: &self.config,
             spans: &*spans,
             context,
@@ -232,7 +232,7 @@ impl<W: Output, FT: FormatTime> HierarchicalLayer<W, FT> {
             DoesTurn (seen_writer W.Output) turn false (has_no_id ids.now) result old self.new
             forest (S.forest spans.new) }
     {
-        let drawn = Drawing {
+        let drawn = CallDrawing {
             config: &self.config,
             spans: &*spans,
             context,

@@ -3,7 +3,7 @@ use Rattle.std.proofs.Common.{◌≡◌, ◌≢◌, ℕ, ◌+◌, ◌<◌, ◌�
 use Rattle.std.specs.Option.{option_map_or}
 use Rattle.tracing_tree.specs.ReadBack.RowText.{TextRow, is_text_row, is_unbroken}
 use Rattle.tracing_tree.specs.ReadBack.Line.{LineRead.FirstLine, LineRead.LaterLine, with_line, with_last, read_below, read_first, read_later, read_line}
-use Rattle.tracing_tree.specs.ReadBack.Texts.{ReaderView, TakesLine, TakesLater, TextLeft, IsReadTo, TakesNext, TellsFault}
+use Rattle.tracing_tree.specs.ReadBack.Texts.{ReaderView, TakesTextLine, TakesLater, TextLeft, IsReadTo, TakesNext, TellsFault}
 use Rattle.tracing_tree.specs.declared.rows.read.ReadFault.TheVariants.{Line}
 use Rattle.tracing_tree.specs.declared.rows.read.Taken.{Taken}
 use Rattle.tracing_tree.specs.declared.rows.read.Taken.TheVariants.{First, Later, Neither}
@@ -26,7 +26,7 @@ later-by amount last row line text is e =
 
 -- a first line, where the last row doesn't go on
 pub first-by : (amount : ℕ) (last : Option TextRow) (line : List ℕ) (row : TextRow) → read_below amount last line ≡ None → read_first amount line ≡ Some row →
-    TakesLine (record { amount = amount; last = last }) line (Ok (First last)) (record { amount = amount; last = Some row })
+    TakesTextLine (record { amount = amount; last = last }) line (Ok (First last)) (record { amount = amount; last = Some row })
 first-by amount last line row none e = record {
   row = row;
   read = ap (λ o. option_map_or (λ text. Some (LaterLine text)) o (option_map FirstLine (read_first amount line))) none ∙ ap (option_map FirstLine) e;
@@ -54,7 +54,7 @@ abbrev pub left_by : ReaderView → List ℕ → ℕ → TextLeft
 left_by reader after lines = record { reader = reader; rest = after; lines = lines }
 
 pub taken-next : (text : List ℕ) (rows : List TextRow) (old : TextLeft) (line after : List ℕ) (taken : Taken) (reader : ReaderView) (lines : ℕ) → taken ≢ Neither →
-    old.rest ≡ line ++ (10 ∷ after) → ((i : ℕ) → i < length line → get_or line i 0 ≢ 10) → TakesLine old.reader line (Ok taken) reader → lines ≡ old.lines + 1 →
+    old.rest ≡ line ++ (10 ∷ after) → ((i : ℕ) → i < length line → get_or line i 0 ≢ 10) → TakesTextLine old.reader line (Ok taken) reader → lines ≡ old.lines + 1 →
     IsReadTo text rows old → TakesNext text rows old (Ok (Some taken)) (left_by reader after lines)
 taken-next text rows old line after (First before) reader lines some split unbroken t n h =
     subst (λ d. IsReadTo text (with_last rows d) (left_by reader after lines)) (sym t.complete)
@@ -68,7 +68,7 @@ taken-next text rows old line after Later reader lines some split unbroken t n h
 taken-next text rows old line after Neither reader lines some split unbroken t n h = absurd (some refl)
 
 pub taken-bad : (text : List ℕ) (rows : List TextRow) (old : TextLeft) (line after : List ℕ) (reader : ReaderView) (lines : ℕ) → 2 ≤ old.reader.amount →
-    old.rest ≡ line ++ (10 ∷ after) → ((i : ℕ) → i < length line → get_or line i 0 ≢ 10) → TakesLine old.reader line (Ok Neither) reader → lines ≡ old.lines + 1 →
+    old.rest ≡ line ++ (10 ∷ after) → ((i : ℕ) → i < length line → get_or line i 0 ≢ 10) → TakesTextLine old.reader line (Ok Neither) reader → lines ≡ old.lines + 1 →
     IsReadTo text rows old → TellsFault old.reader.amount text (Line lines)
 taken-bad text rows old line after reader lines two split unbroken t n h =
     subst (λ m. TellsFault old.reader.amount text (Line m)) (sym n) (read_bad text rows old line after two h split (unbroken-from line unbroken) t.0)

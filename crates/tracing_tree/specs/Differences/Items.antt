@@ -18,14 +18,14 @@ differing equal left right =
     (enumerate_from 0 right)
 
 -- whether both lists have the place, with the same id
-abbrev pub agree_at : List Id → List Id → ℕ → Bool
-agree_at old new place =
+abbrev pub same_at : List Id → List Id → ℕ → Bool
+same_at old new place =
     option_map_or (λ i. has_equal_at same_id old place i) (slice_get new place) false
 
 -- where two places agree, so do all before them
 abbrev pub AgreeDownward : List Id → List Id → Type 0
 AgreeDownward old new =
-    (low high : ℕ) → low < high → IsTrue (agree_at old new high) → IsTrue (agree_at old new low)
+    (low high : ℕ) → low < high → IsTrue (same_at old new high) → IsTrue (same_at old new low)
 
 -- The same of each two paths of a forest, where the first is of a span that may be missing. `PathPairs` proves this and the
 -- next of each well-formed forest.

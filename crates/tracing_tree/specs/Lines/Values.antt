@@ -21,9 +21,9 @@ IsUnlessMemory blamed reason Memory = ⊤
 IsUnlessMemory blamed reason (Refused refusal) = ⊥
 
 -- what is spelled is answered, and `NotACall` where nothing is; or memory was refused
-abbrev pub Reads : {A : Type 0} → Option A → Result A LineCause → Type 0
-Reads spelled (Ok value) = spelled ≡ Some value
-Reads spelled (Err cause) = IsUnlessMemory NotACall (spelled ≡ None) cause
+abbrev pub IsReadAs : {A : Type 0} → Option A → Result A LineCause → Type 0
+IsReadAs spelled (Ok value) = spelled ≡ Some value
+IsReadAs spelled (Err cause) = IsUnlessMemory NotACall (spelled ≡ None) cause
 
 -- the choice that a line asks for
 abbrev pub choice_of : Asked → TimerChoice

@@ -60,14 +60,14 @@ abbrev pub slips_at : List Slips → ℕ → ℕ
 slips_at passes place = count_by (λ slip. slip.place == place) (all_slips passes)
 
 -- the history has the receipt's call and reply at its place
-abbrev pub IsKept : List Entry → Slip → Type 0
-IsKept history slip = slice_get history slip.place ≡ Some slip.entry
+abbrev pub KeepsSlip : List Entry → Slip → Type 0
+KeepsSlip history slip = slice_get history slip.place ≡ Some slip.entry
 
 -- a receipt for this place that the history doesn't have
 abbrev pub HasOther : List Entry → List Slips → ℕ → Type 0
 HasOther history passes place =
     (slip : Slip) × Any (λ other. other ≡ slip) (all_slips passes) × (slip.place ≡ place)
-    × ¬ (IsKept history slip)
+    × ¬ (KeepsSlip history slip)
 
 -- a receipt for this place stands after one that is not for a smaller place
 pub record IsLateIn (slips : Slips) (place : ℕ) : Type 0 where

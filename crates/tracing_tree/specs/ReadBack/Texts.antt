@@ -35,11 +35,11 @@ TriesLater old line (Ok false) new = (read_below old.amount old.last line ≡ No
 TriesLater old line (Err error) new = new ≡ old
 
 -- what a line does to a reader
-abbrev pub TakesLine : ReaderView → List ℕ → Result Taken AllocError → ReaderView → Type 0
-TakesLine old line (Ok (First done)) new = TakesFirst old line done new
-TakesLine old line (Ok Later) new = TakesLater old line new
-TakesLine old line (Ok Neither) new = (read_line old.amount old.last line ≡ None) × (new ≡ old)
-TakesLine old line (Err error) new = new ≡ old
+abbrev pub TakesTextLine : ReaderView → List ℕ → Result Taken AllocError → ReaderView → Type 0
+TakesTextLine old line (Ok (First done)) new = TakesFirst old line done new
+TakesTextLine old line (Ok Later) new = TakesLater old line new
+TakesTextLine old line (Ok Neither) new = (read_line old.amount old.last line ≡ None) × (new ≡ old)
+TakesTextLine old line (Err error) new = new ≡ old
 
 -- ---- texts
 

@@ -18,13 +18,13 @@ use tracing_tree_core::time::FormatTime;
 
 // A call that is being drawn: the settings, the live spans, and what was handed in with it.
 #[derive(Drop)]
-pub(super) struct Drawing<'a, S: LookupSpan> {
+pub(super) struct CallDrawing<'a, S: LookupSpan> {
     pub(super) config: &'a Config,
     pub(super) spans: &'a S,
     pub(super) context: &'a Context,
 }
 
-impl<S: LookupSpan> Drawing<'_, S> {
+impl<S: LookupSpan> CallDrawing<'_, S> {
     // A new span.
     pub(super) fn new_span(&self, page: &mut Page, plan: &mut Plan, id: Id) -> Result<(), Refusal>
         requires { IsBlank page.old.bufs }

@@ -2,7 +2,7 @@
 
 ghost use Rattle.std.specs.Prelude.{◌≡◌, codes};
 ghost use Rattle.serde_json.specs.View.{view, items_view};
-ghost use Rattle.tracing_tree.specs.Lines.Values.{Reads, ReadsCall, ReadsLine};
+ghost use Rattle.tracing_tree.specs.Lines.Values.{IsReadAs, ReadsCall, ReadsLine};
 ghost use Rattle.tracing_tree.specs.Lines.CallKinds.{word_of, IsKindIn};
 ghost use Rattle.tracing_tree.specs.Lines.Spelled.{call_named, new_in, record_in, event_in, id_in, target_in, parent_in, fields_in, level_value, parent_value, fields_value, item_fields, field_value, required};
 
@@ -71,7 +71,7 @@ fn call_of_kind(
     value: &mut Value,
     context: Context,
 ) -> Result<Call, LineCause>
-    ensures { Reads (call_named (word_of kind) (view value.old) context) result }
+    ensures { IsReadAs (call_named (word_of kind) (view value.old) context) result }
 {
     match kind {
         Kind::New => new_in(alloc, value, context),
@@ -87,7 +87,7 @@ fn call_of_kind(
 
 // A new span.
 fn new_in(alloc: Global, value: &mut Value, context: Context) -> Result<Call, LineCause>
-    ensures { Reads (new_in (view value.old) context) result }
+    ensures { IsReadAs (new_in (view value.old) context) result }
 {
     let name = value_at(value, "name").ok_or(LineCause::NotACall)?;
     let attributes = Attributes {
@@ -101,7 +101,7 @@ fn new_in(alloc: Global, value: &mut Value, context: Context) -> Result<Call, Li
 
 // Fields for a span.
 fn record_in(alloc: Global, value: &mut Value) -> Result<Call, LineCause>
-    ensures { Reads (record_in (view value.old)) result }
+    ensures { IsReadAs (record_in (view value.old)) result }
 {
     let id = id_in(value).ok_or(LineCause::NotACall)?;
     let fields = take_fields(alloc, value)?;
@@ -110,7 +110,7 @@ fn record_in(alloc: Global, value: &mut Value) -> Result<Call, LineCause>
 
 // An event.
 fn event_in(alloc: Global, value: &mut Value, context: Context) -> Result<Call, LineCause>
-    ensures { Reads (event_in (view value.old) context) result }
+    ensures { IsReadAs (event_in (view value.old) context) result }
 {
     let event = Event {
         level: level_in(value).ok_or(LineCause::NotACall)?,
@@ -137,7 +137,7 @@ fn level_in(value: &Value) -> Option<Level>
 
 // A target, empty where it isn't there.
 fn target_in(alloc: Global, value: &Value) -> Result<Text, LineCause>
-    ensures { Reads (target_in (view value.now)) result }
+    ensures { IsReadAs (target_in (view value.now)) result }
 {
     match value_at(value, "target") {
         Some(target) => text_value(alloc, target),
@@ -157,7 +157,7 @@ fn parent_in(value: &Value) -> Option<Parent>
 
 // Moves the fields out; none where they aren't there.
 fn take_fields(alloc: Global, value: &mut Value) -> Result<Fields, LineCause>
-    ensures { Reads (fields_in (view value.old)) result }
+    ensures { IsReadAs (fields_in (view value.old)) result }
 {
     match value.get_mut("fields") {
         None | Some(Value::Null) => Ok(Fields::new(alloc)),
@@ -193,7 +193,7 @@ fn parent_value(value: &Value) -> Option<Parent>
 
 // An array of fields.
 fn fields_value(alloc: Global, value: Value) -> Result<Fields, LineCause>
-    ensures { Reads (fields_value (view value)) result }
+    ensures { IsReadAs (fields_value (view value)) result }
 {
     match value {
         Value::Array(items) => item_fields(alloc, items),
@@ -203,7 +203,7 @@ fn fields_value(alloc: Global, value: Value) -> Result<Fields, LineCause>
 
 // The fields of all the items.
 fn item_fields(alloc: Global, items: Vec<Value>) -> Result<Fields, LineCause>
-    ensures { Reads (item_fields (items_view items.items)) result }
+    ensures { IsReadAs (item_fields (items_view items.items)) result }
 {
     // Not of the exact size: so a span's list has room for the first fields that are recorded later.
     let mut fields = Vec::new(alloc);

@@ -2,7 +2,7 @@
 
 ghost use Rattle.std.specs.Prelude.{◌≡◌};
 ghost use Rattle.serde_json.specs.View.{view};
-ghost use Rattle.tracing_tree.specs.Lines.Values.{Reads, ReadsMoment, ReadsContext};
+ghost use Rattle.tracing_tree.specs.Lines.Values.{IsReadAs, ReadsMoment, ReadsContext};
 ghost use Rattle.tracing_tree.specs.Lines.Spelled.{id_value, current_in, thread_name_in, wall_in};
 
 use super::LineCause;
@@ -42,7 +42,7 @@ fn current_in(value: &Value) -> Option<Option<Id>>
 
 // The name of the thread, if it has one.
 fn thread_name_in(alloc: Global, value: &Value) -> Result<Option<Text>, LineCause>
-    ensures { Reads (thread_name_in (view value.now)) result }
+    ensures { IsReadAs (thread_name_in (view value.now)) result }
 {
     match value_at(value, "thread_name") {
         Some(name) => Ok(Some(text_value(alloc, name)?)),

@@ -4,7 +4,7 @@ ghost use Rattle.std.specs.Prelude.{◌≡◌, Some, option_map};
 ghost use Rattle.serde_json.specs.View.{view, items_view, members_view};
 ghost use Rattle.serde_json.specs.Written.{has_float, items_have_float, members_have_float};
 ghost use Rattle.serde_json.specs.Find.{as_str};
-ghost use Rattle.tracing_tree.specs.Lines.Values.{Reads};
+ghost use Rattle.tracing_tree.specs.Lines.Values.{IsReadAs};
 ghost use Rattle.tracing_tree.specs.Lines.Spelled.{value_at, flag, read_or, whole_value};
 
 use super::LineCause;
@@ -44,7 +44,7 @@ pub(super) fn whole_or(absent: u64, value: &Value, key: &str) -> Option<u64>
 
 // A copy of a text. `NotACall` where the value isn't one, `Memory` where memory is refused.
 pub(super) fn text_value(alloc: Global, value: &Value) -> Result<Text, LineCause>
-    ensures { Reads (as_str (view value.now)) result }
+    ensures { IsReadAs (as_str (view value.now)) result }
 {
     let text = value.as_str().ok_or(LineCause::NotACall)?;
     Ok(Text::from_str(alloc, text)?)

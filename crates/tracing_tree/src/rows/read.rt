@@ -2,7 +2,7 @@
 
 ghost use Rattle.std.specs.Prelude.{◌≡◌, ℕ, ◌+◌, ◌≤◌, ◌<◌, ◌^◌, List, None, Some, Ok, false, IfOk, IfErr, IsTrue, MatchOption};
 ghost use Rattle.tracing_tree.specs.ReadBack.Line.{after_run, one_line_row, read_corners, read_event, read_first, read_later, read_root};
-ghost use Rattle.tracing_tree.specs.ReadBack.Texts.{TakesLine, TellsFault, TriesLater, IsReadTo, TakesNext, LeavesLess, all_left};
+ghost use Rattle.tracing_tree.specs.ReadBack.Texts.{TakesTextLine, TellsFault, TriesLater, IsReadTo, TakesNext, LeavesLess, all_left};
 ghost use Rattle.tracing_tree.specs.ReadBack.Readable.{ReadsDrawing, ReadsNoDrawing};
 ghost use Rattle.tracing_tree.specs.ReadBack.RowText.{TextRow, IsOnlyReading, is_unbroken, kind_of};
 ghost use Rattle.tracing_tree_core.specs.Drawing.Picture.{continuation_shift, shift_of};
@@ -234,7 +234,7 @@ impl Reader {
     /// refused; the reader is as before then, and after `Neither`.
     pub fn take(&mut self, alloc: Global, line: &str) -> Result<Taken, AllocError>
         ensures taken { IsTrue (is_unbroken line.now) →
-            TakesLine self.old line.now result self.new }
+            TakesTextLine self.old line.now result self.new }
         ensures broken { is_unbroken line.now ≡ false →
             (result ≡ Ok Taken.Neither) × (self.new ≡ self.old) }
     {
@@ -247,7 +247,7 @@ impl Reader {
     // The same of a line that is known to hold no line end.
     fn take_unbroken(&mut self, alloc: Global, line: &str) -> Result<Taken, AllocError>
         requires { IsTrue (is_unbroken line.now) }
-        ensures { TakesLine self.old line.now result self.new }
+        ensures { TakesTextLine self.old line.now result self.new }
     {
         if self.take_later(alloc, line)? {
             return Ok(Taken::Later);

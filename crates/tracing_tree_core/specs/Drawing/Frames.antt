@@ -3,15 +3,15 @@ use Rattle.std.specs.Prelude.{ℕ, ◌+◌, ◌-◌, ◌*◌, ◌/◌, ◌<◌, 
 use Rattle.std.specs.List.{repeat}
 use Rattle.tracing_tree_core.specs.Drawing.Picture.{Row, space, horizontal, level_used, unnamed_row}
 use Rattle.tracing_tree_core.specs.Drawing.Texts.{prefix_text}
-use Rattle.tracing_tree_core.specs.declared.format.draw.Drawing.{Drawing}
-use Rattle.tracing_tree_core.specs.declared.format.draw.Frame.{Frame}
+use Rattle.tracing_tree_core.specs.declared.format.draw.RowDrawing.{RowDrawing}
+use Rattle.tracing_tree_core.specs.declared.format.draw.LineFront.{LineFront}
 
 -- spaces, a branch, so many of a filler, and a corner
 abbrev pub frame_pieces : ℕ → List ℕ → List ℕ → ℕ → List ℕ → List ℕ
 frame_pieces spaces branch filler filled corner =
     repeat spaces (space ∷ []) ++ branch ++ repeat filled filler ++ corner
 
-abbrev pub pushed_text : Frame → List ℕ
+abbrev pub pushed_text : LineFront → List ℕ
 pushed_text frame =
     frame_pieces frame.spaces frame.branch.now frame.filler.now frame.filled frame.corner.now
 
@@ -28,13 +28,13 @@ span_pieces left right true amount before =
     else frame_pieces before (space ∷ space ∷ []) [] 0 []
 
 -- the row that a drawing draws, with this block
-abbrev pub row_of : Drawing → List ℕ → Row
+abbrev pub row_of : RowDrawing → List ℕ → Row
 row_of drawing block =
     unnamed_row drawing.mode drawing.level block
     (prefix_text drawing.config.now drawing.context.now)
 
 -- the columns of its level fit `usize`
-abbrev pub HasRoom : Drawing → Type 0
+abbrev pub HasRoom : RowDrawing → Type 0
 HasRoom drawing =
     level_used drawing.config.now drawing.mode
     drawing.level * drawing.config.now.indent_amount < 2 ^ 64

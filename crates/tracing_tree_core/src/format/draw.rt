@@ -1,4 +1,4 @@
-//! The drawing of rows: what docs/FORMATS.md, "Drawing", says of frames, lines and wrap marks.
+//! The drawing of rows: what docs/FORMATS.md, "RowDrawing", says of frames, lines and wrap marks.
 
 ghost use Rattle.std.specs.List.{repeat};
 ghost use Rattle.std.specs.Prelude.{◌≡◌, ◌+◌, ◌*◌, ◌^◌, ◌<◌, ◌++◌, ◌∷◌, [], true, false, Err, OnOk, IfErr, string_bytes, encode_utf8, if◌then◌else◌};
@@ -12,7 +12,7 @@ use std::alloc::AllocError;
 
 // A row that is being drawn: everything but its block.
 #[derive(Clone, Copy)]
-struct Drawing<'a> {
+struct RowDrawing<'a> {
     config: &'a Config,
     context: &'a Context,
     mode: SpanMode,
@@ -21,7 +21,7 @@ struct Drawing<'a> {
 
 // What stands between the prefix and the text of a line: spaces, a branch, so many of a filler, and a corner.
 #[derive(Clone, Copy)]
-struct Frame {
+struct LineFront {
     spaces: usize,
     branch: &'static str,
     filler: &'static str,
@@ -29,12 +29,12 @@ struct Frame {
     corner: &'static str,
 }
 
-impl Frame {
+impl LineFront {
     // Spaces and a branch alone.
-    fn plain(spaces: usize, branch: &'static str) -> Frame
+    fn plain(spaces: usize, branch: &'static str) -> LineFront
         ensures { pushed_text result ≡ frame_pieces spaces branch.now [] 0 [] }
     {
-        Frame {
+        LineFront {
             spaces,
             branch,
             filler: "",
@@ -50,15 +50,15 @@ impl Frame {
         near: &'static str,
         from: usize,
         to: usize,
-    ) -> Frame
+    ) -> LineFront
         requires order { from < to }
         requires near { near.now ≡ left.now ++ encode_utf8 horizontal ++ right.now }
         ensures { pushed_text result ≡ corner_pieces left.now right.now from to }
     {
         if to - from == 2 {
-            return Frame::plain(from, near);
+            return LineFront::plain(from, near);
         }
-        Frame {
+        LineFront {
             spaces: from,
             branch: left,
             filler: "─",
@@ -76,19 +76,19 @@ impl Frame {
         verbose: bool,
         amount: usize,
         before: usize,
-    ) -> Frame
+    ) -> LineFront
         requires near { near.now ≡ left.now ++ encode_utf8 horizontal ++ right.now }
         requires amount { 0 < amount }
         requires fits { before + amount < 2 ^ 64 }
         ensures { pushed_text result ≡ span_pieces left.now right.now verbose amount before }
     {
         if !verbose {
-            return Frame::corners(left, right, near, before, before + amount);
+            return LineFront::corners(left, right, near, before, before + amount);
         }
         if amount < 2 {
-            return Frame::plain(before, "  ");
+            return LineFront::plain(before, "  ");
         }
-        Frame::corners(left, right, near, before + amount / 2, before + amount)
+        LineFront::corners(left, right, near, before + amount / 2, before + amount)
     }
 
     // Appends the pieces in order.
@@ -109,32 +109,32 @@ impl Frame {
 }
 
 // At the left edge only the corner of a span's row is drawn.
-fn edge_frame(mode: SpanMode) -> Frame
+fn edge_frame(mode: SpanMode) -> LineFront
     ensures { pushed_text result ≡ frame_text (edge_frame mode) }
 {
     match mode {
-        SpanMode::Open { .. } | SpanMode::Retrace { .. } => Frame::plain(0, "┐"),
-        SpanMode::Close { .. } => Frame::plain(0, "┘"),
-        SpanMode::PreOpen | SpanMode::PostClose | SpanMode::Event => Frame::plain(0, ""),
+        SpanMode::Open { .. } | SpanMode::Retrace { .. } => LineFront::plain(0, "┐"),
+        SpanMode::Close { .. } => LineFront::plain(0, "┘"),
+        SpanMode::PreOpen | SpanMode::PostClose | SpanMode::Event => LineFront::plain(0, ""),
     }
 }
 
 // The first line of a row further right, where so many columns stand before the branch.
-fn first_frame(mode: SpanMode, amount: usize, before: usize) -> Frame
+fn first_frame(mode: SpanMode, amount: usize, before: usize) -> LineFront
     requires amount { 0 < amount }
     requires fits { before + amount < 2 ^ 64 }
     ensures { pushed_text result ≡ frame_text (first_frame mode amount before) }
 {
     let parent = before + (amount / 2).max(1);
     match mode {
-        SpanMode::PreOpen => Frame::corners("└", "┐", "└─┐", before, parent),
-        SpanMode::PostClose => Frame::corners("┌", "┘", "┌─┘", before, parent),
+        SpanMode::PreOpen => LineFront::corners("└", "┐", "└─┐", before, parent),
+        SpanMode::PostClose => LineFront::corners("┌", "┘", "┌─┘", before, parent),
         SpanMode::Open { verbose } | SpanMode::Retrace { verbose } => {
-            Frame::span("└", "┐", "└─┐", verbose, amount, before)
+            LineFront::span("└", "┐", "└─┐", verbose, amount, before)
         }
-        SpanMode::Close { verbose } => Frame::span("┌", "┘", "┌─┘", verbose, amount, before),
-        SpanMode::Event if amount == 2 => Frame::plain(before, "├─"),
-        SpanMode::Event => Frame {
+        SpanMode::Close { verbose } => LineFront::span("┌", "┘", "┌─┘", verbose, amount, before),
+        SpanMode::Event if amount == 2 => LineFront::plain(before, "├─"),
+        SpanMode::Event => LineFront {
             spaces: before,
             branch: "├",
             filler: "─",
@@ -145,7 +145,7 @@ fn first_frame(mode: SpanMode, amount: usize, before: usize) -> Frame
 }
 
 // A later line of a row further right.
-fn later_frame(mode: SpanMode, amount: usize, before: usize) -> Frame
+fn later_frame(mode: SpanMode, amount: usize, before: usize) -> LineFront
     ensures { pushed_text result ≡ frame_text (later_frame mode amount before) }
 {
     let branch = match mode {
@@ -153,7 +153,7 @@ fn later_frame(mode: SpanMode, amount: usize, before: usize) -> Frame
         SpanMode::Close { .. } => " │",
         SpanMode::PreOpen | SpanMode::PostClose | SpanMode::Event => "│",
     };
-    Frame {
+    LineFront {
         spaces: before,
         branch,
         filler: " ",
@@ -163,7 +163,7 @@ fn later_frame(mode: SpanMode, amount: usize, before: usize) -> Frame
 }
 
 // The frame of the first line, or that of each later one, of a row that is drawn with lines at this wrapped level.
-fn lined_frame(mode: SpanMode, amount: usize, wrapped: usize, first: bool) -> Frame
+fn lined_frame(mode: SpanMode, amount: usize, wrapped: usize, first: bool) -> LineFront
     requires level { wrapped + shift_of mode < 2 ^ 64 }
     requires width { (wrapped + shift_of mode) * amount < 2 ^ 64 }
     ensures { pushed_text result
@@ -177,7 +177,7 @@ fn lined_frame(mode: SpanMode, amount: usize, wrapped: usize, first: bool) -> Fr
         return edge_frame(mode);
     }
     if amount == 0 {
-        return Frame::plain(0, "");
+        return LineFront::plain(0, "");
     }
     let before = used * amount - amount;
     if first {
@@ -265,7 +265,7 @@ pub fn push_row(
     ensures wide { result ≡ Err Refusal.TooWide → string_bytes out.new ≡ string_bytes out.old }
 {
     config.check_width(mode, level)?;
-    let drawing = Drawing {
+    let drawing = RowDrawing {
         config,
         context,
         mode,
@@ -277,7 +277,7 @@ pub fn push_row(
     }
 }
 
-impl Drawing<'_> {
+impl RowDrawing<'_> {
     // Appends the lines of a block, and before or after them the row's wrap mark.
     fn row(&self, out: &mut String, block: &str) -> Result<(), AllocError>
         requires { is_too_wide self.now.config.now (row_of self.now block.now) ≡ false }
@@ -317,7 +317,7 @@ impl Drawing<'_> {
     }
 
     // Appends one line.
-    fn line(&self, out: &mut String, frame: Frame, text: &str) -> Result<(), AllocError>
+    fn line(&self, out: &mut String, frame: LineFront, text: &str) -> Result<(), AllocError>
         ensures { OnOk result (string_bytes out.new ≡ string_bytes out.old
             ++ (prefix_text self.now.config.now self.now.context.now ++ pushed_text frame
             ++ text.now ++ 10 ∷ [])) }
@@ -337,7 +337,7 @@ impl Drawing<'_> {
     }
 
     // The frame of the first line, or that of each later one.
-    fn frame(&self, first: bool) -> Frame
+    fn frame(&self, first: bool) -> LineFront
         requires { HasRoom self.now }
         ensures { pushed_text result
             ≡ frame_text
@@ -347,7 +347,7 @@ impl Drawing<'_> {
         let wrapped = self.wrapped_level();
         let amount = self.config.indent_amount();
         if !self.config.indent_lines() {
-            return Frame::plain(wrapped * amount, if first { " " } else { "   " });
+            return LineFront::plain(wrapped * amount, if first { " " } else { "   " });
         }
         lined_frame(self.mode, amount, wrapped, first)
     }

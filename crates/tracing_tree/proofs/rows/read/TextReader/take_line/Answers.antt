@@ -1,6 +1,6 @@
 use Rattle.std.proofs.Common.{◌+◌, Ok, Some, sym, ◌∙◌, subst, refl, arith}
 use Rattle.std.proofs.lemmas.Str.Pattern.{split_parts}
-use Rattle.tracing_tree.specs.ReadBack.Texts.{IsReadTo, TakesLine, TakesNext, TellsFault, TextLeft}
+use Rattle.tracing_tree.specs.ReadBack.Texts.{IsReadTo, TakesTextLine, TakesNext, TellsFault, TextLeft}
 use Rattle.tracing_tree.specs.declared.rows.read.ReadFault.TheVariants.{Line}
 use Rattle.tracing_tree.specs.declared.rows.read.Taken.{Taken}
 use Rattle.tracing_tree.proofs.RowsRead.ReadPlaces.{unbroken-from}
@@ -36,7 +36,7 @@ returns-clause-next c text rows h =
     let read : IsReadTo text rows here = subst (λ (v : TextLeft). IsReadTo text rows v) (sym c.self.view_is) h in
     elim c.match-taken.branch [
       | in-Neither w ↦
-          let neither = subst (λ (t : Taken). TakesLine here.reader line (Ok t) reader) w.in-Neither.is c.in_ok-taken.ensures in
+          let neither = subst (λ (t : Taken). TakesTextLine here.reader line (Ok t) reader) w.in-Neither.is c.in_ok-taken.ensures in
           rw w.result-is (subst (λ (v : TextLeft). TellsFault v.reader.amount text (Line lines)) c.self.view_is
           (taken-bad text rows here line after reader lines c.self.invariant.0 cut.0 cut.1 neither refl read))
       | in_default-taken w ↦

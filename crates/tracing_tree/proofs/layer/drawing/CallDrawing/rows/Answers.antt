@@ -1,7 +1,7 @@
 use Rattle.std.proofs.Math.Seq.{split_at}
 use Rattle.std.proofs.lemmas.Result.{err_from_is_err_and}
 use Rattle.tracing_tree.proofs.DrawnLaws.{planned_refused}
-use Rattle.tracing_tree.proofs.layer.drawing.Drawing.rows.Goals as goal
+use Rattle.tracing_tree.proofs.layer.drawing.CallDrawing.rows.Goals as goal
 
 pub returns-in_err-row : goal.returns-in_err-row
 returns-in_err-row g c =

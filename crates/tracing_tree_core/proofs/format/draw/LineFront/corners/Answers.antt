@@ -1,6 +1,6 @@
 use Rattle.std.proofs.Common.{refl}
 use Rattle.std.specs.Char.{encode_utf8}
-use Rattle.tracing_tree_core.proofs.format.draw.Frame.corners.Goals as goal
+use Rattle.tracing_tree_core.proofs.format.draw.LineFront.corners.Goals as goal
 
 pub returns : goal.returns
 unfolding encode_utf8

@@ -5,7 +5,7 @@ use Rattle.tracing_tree.specs.Rows.Drawn.{has_no_id}
 use Rattle.tracing_tree.specs.declared.layer.page.Page.{Page}
 use Rattle.tracing_tree.proofs.DrawnLaws.{drafts, closes-loud}
 use Rattle.tracing_tree.proofs.Plans.{turn-closes}
-use Rattle.tracing_tree.proofs.layer.drawing.Drawing.closes.Goals as goal
+use Rattle.tracing_tree.proofs.layer.drawing.CallDrawing.closes.Goals as goal
 
 pub returns : goal.returns
 returns g c =

@@ -2,8 +2,8 @@ use Rattle.std.proofs.Common.{◌≡◌, ◌∙◌, ◌*◌, ℕ, List, [], Bor,
 use Rattle.tracing_tree_core.specs.Drawing.Frames.{frame_pieces}
 use Rattle.tracing_tree_core.specs.Drawing.Picture.{wrapped_level}
 use Rattle.tracing_tree_core.proofs.FrameTexts.{unlined-frame}
-use Rattle.tracing_tree_core.proofs.format.draw.Drawing.frame.Goals as goal
-use Rattle.tracing_tree_core.proofs.format.draw.Drawing.frame.Goals.{then-first, else-first}
+use Rattle.tracing_tree_core.proofs.format.draw.RowDrawing.frame.Goals as goal
+use Rattle.tracing_tree_core.proofs.format.draw.RowDrawing.frame.Goals.{then-first, else-first}
 
 pub returns-then-not-indent_lines : goal.returns-then-not-indent_lines
 returns-then-not-indent_lines c =

@@ -5,7 +5,7 @@ use Rattle.tracing_tree_core.specs.Drawing.Frames.{row_of}
 use Rattle.tracing_tree_core.specs.Drawing.Picture.{horizontal, wrapped_level}
 use Rattle.tracing_tree_core.specs.Drawing.Texts.{prefix_text}
 use Rattle.tracing_tree_core.proofs.MarkLaws.{mark-text, pushed, pushes-joined}
-use Rattle.tracing_tree_core.proofs.format.draw.Drawing.mark.Goals as goal
+use Rattle.tracing_tree_core.proofs.format.draw.RowDrawing.mark.Goals as goal
 
 pub returns : goal.returns
 unfolding encode_utf8

@@ -1,7 +1,7 @@
 use Rattle.std.proofs.Common.{false, Ok, take}
 use Rattle.tracing_tree.specs.Rows.Plan.{rows_of_planned}
 use Rattle.tracing_tree.specs.Rows.Drawn.{DrawsRows}
-use Rattle.tracing_tree.proofs.layer.drawing.Drawing.rows.Given as goal
+use Rattle.tracing_tree.proofs.layer.drawing.CallDrawing.rows.Given as goal
 
 -- the rows so far are drawn
 abbrev pub invariant-loop-row : goal.invariant-loop-row

@@ -4,7 +4,7 @@ use Rattle.tracing_tree_core.specs.Drawing.Frames.{pushed_text, row_of}
 use Rattle.tracing_tree_core.specs.Drawing.Picture.{picture}
 use Rattle.tracing_tree_core.specs.Drawing.Texts.{prefix_text}
 use Rattle.tracing_tree_core.proofs.LineLaws.{drawing-step, lined-last, unlined-last}
-use Rattle.tracing_tree_core.proofs.format.draw.Drawing.lines.Goals as goal
+use Rattle.tracing_tree_core.proofs.format.draw.RowDrawing.lines.Goals as goal
 
 pub loop-line-preserved : goal.loop-line-preserved
 loop-line-preserved c =

@@ -4,7 +4,7 @@ use denote.Shadow.{shadow}
 use Rattle.tracing_tree_core.specs.Drawing.Frames.{pushed_text, row_of}
 use Rattle.tracing_tree_core.specs.Drawing.Picture.{picture}
 use Rattle.tracing_tree_core.proofs.LineLaws.{IsDrawing}
-use Rattle.tracing_tree_core.proofs.format.draw.Drawing.lines.Given as goal
+use Rattle.tracing_tree_core.proofs.format.draw.RowDrawing.lines.Given as goal
 
 abbrev pub invariant-loop-line : goal.invariant-loop-line
 invariant-loop-line l =

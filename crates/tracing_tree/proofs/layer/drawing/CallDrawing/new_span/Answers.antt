@@ -4,7 +4,7 @@ use Rattle.tracing_tree.specs.Rows.Plan.{empty_plan, plan_of_new, turn_of_plan}
 use Rattle.tracing_tree.specs.declared.layer.page.Page.{Page}
 use Rattle.tracing_tree.proofs.DrawnLaws.{drafts}
 use Rattle.tracing_tree.proofs.Plans.{turn-new}
-use Rattle.tracing_tree.proofs.layer.drawing.Drawing.new_span.Goals as goal
+use Rattle.tracing_tree.proofs.layer.drawing.CallDrawing.new_span.Goals as goal
 
 pub returns : goal.returns
 returns g c =

@@ -1,7 +1,7 @@
 use Rattle.std.proofs.Common.{◌++◌, refl, ap}
 use Rattle.tracing_tree.specs.Rows.Plan.{row_of_planned}
 use Rattle.tracing_tree.proofs.DrawnLaws.{draws_like}
-use Rattle.tracing_tree.proofs.layer.drawing.Drawing.row.Goals as goal
+use Rattle.tracing_tree.proofs.layer.drawing.CallDrawing.row.Goals as goal
 
 pub returns : goal.returns
 returns g c =

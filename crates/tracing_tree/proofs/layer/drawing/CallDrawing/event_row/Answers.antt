@@ -2,7 +2,7 @@ use Rattle.std.proofs.Common.{Bool, ◌∷◌, [], ◌++◌, refl, sym, subst, a
 use Rattle.tracing_tree.specs.Rows.Turns.{event_row}
 use Rattle.tracing_tree.specs.Rows.Drawn.{DrawsRows}
 use Rattle.tracing_tree.proofs.DrawnLaws.{draws_like}
-use Rattle.tracing_tree.proofs.layer.drawing.Drawing.event_row.Goals as goal
+use Rattle.tracing_tree.proofs.layer.drawing.CallDrawing.event_row.Goals as goal
 
 pub returns : goal.returns
 returns g c =

@@ -7,7 +7,7 @@ use Rattle.tracing_tree.specs.Rows.Plan.{empty_plan, plan_before_event, turn_of_
 use Rattle.tracing_tree.specs.declared.layer.page.Page.{Page}
 use Rattle.tracing_tree.proofs.DrawnLaws.{drafts_event, refuses_event, fits-event}
 use Rattle.tracing_tree.proofs.Plans.{turn-event}
-use Rattle.tracing_tree.proofs.layer.drawing.Drawing.event.Goals as goal
+use Rattle.tracing_tree.proofs.layer.drawing.CallDrawing.event.Goals as goal
 
 pub returns : goal.returns
 returns g c =
