@@ -1,5 +1,5 @@
 -- The texts of the clocks aren't empty, so that each may ask for memory.
-use Rattle.std.proofs.Common.{◌≡◌, ◌≢◌, ◌/◌, ℕ, ℤ, Bool, true, false, if◌then◌else◌, nat_lt, List, [], ◌∷◌, ◌++◌, Result, Ok, Err, Some, codes, decimal, refl}
+use Rattle.std.proofs.Common.{◌≢◌, ◌/◌, ℕ, ℤ, Bool, true, false, if◌then◌else◌, nat_lt, List, [], ◌∷◌, ◌++◌, Result, Ok, Err, Some, codes, decimal, refl}
 use Rattle.tracing_tree_core.specs.Time.Clock.{dimmed_pair, elapsed_text, hundredths_text, nearest_count, micro_unit, Civil, civil_text, local_text, uptime_text}
 use Rattle.tracing_tree_core.specs.Drawing.Texts.{right_in}
 use Rattle.tracing_tree_core.specs.Drawing.Outputs.{AsksForText}

@@ -4,7 +4,6 @@ use Rattle.serde_json.specs.Data.{Data}
 use Rattle.serde_json.specs.Find.{as_str}
 use Rattle.tracing_tree_core.specs.declared.context.Context.{Context}
 use Rattle.tracing_tree.specs.Lines.Spelled.{required, ◌>>=◌, call_named}
-use Rattle.tracing_tree.specs.declared.call.Call.{Call}
 use Rattle.tracing_tree.specs.declared.lines.call.Kind.{Kind}
 use Rattle.tracing_tree.specs.declared.lines.call.Kind.TheVariants.{New, Clone, Record, Event, Close}
 

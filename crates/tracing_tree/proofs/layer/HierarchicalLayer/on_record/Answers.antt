@@ -4,7 +4,7 @@ use Rattle.std.specs.Option.{is_some, option_map}
 use Rattle.tracing_tree_core.specs.Registry.Spans.{Span, shown_span}
 use Rattle.tracing_tree_core.specs.Registry.Forest.{span_at}
 use Rattle.tracing_tree_core.proofs.RegistryLaws.{forest-unchanged}
-use Rattle.tracing_tree.specs.Calls.Layers.{LayerView, seen}
+use Rattle.tracing_tree.specs.Calls.Layers.{seen}
 use Rattle.tracing_tree.specs.Calls.Refused.{first_cause}
 use Rattle.tracing_tree.proofs.layer.HierarchicalLayer.on_record.Goals as goal
 

@@ -1,4 +1,4 @@
-use Rattle.std.proofs.Common.{false, ap, sym, ◌∙◌}
+use Rattle.std.proofs.Common.{ap, sym, ◌∙◌}
 use Rattle.tracing_tree.specs.Rows.Turns.{turn_of_event}
 use Rattle.tracing_tree.specs.Calls.Refused.{is_event_too_wide, timer_faults_at}
 use Rattle.tracing_tree.proofs.DrawnLaws.{drafts-drawn, refused-last, refused-marks, written}
