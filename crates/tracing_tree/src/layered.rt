@@ -37,8 +37,8 @@ impl<W: Output, FT: FormatTime> Model for Layered<W, FT> {
 }
 
 impl<W: Output, FT: FormatTime> Layered<W, FT> {
-    /// No spans, and this layer. The first id is 1. The caller must ensure that the
-    /// layer is fresh: it has no last span and hasn't failed.
+    /// No spans, and this layer. The first id is 1. The caller must ensure that the layer is fresh: it has no last span and hasn't
+    /// failed.
     pub fn new(alloc: Global, layer: HierarchicalLayer<W, FT>) -> Layered<W, FT>
         requires last { layer.last ≡ None }
         requires sound { layer.failed ≡ false }
@@ -47,8 +47,7 @@ impl<W: Output, FT: FormatTime> Layered<W, FT> {
         Layered::starting_at(alloc, 1, layer)
     }
 
-    /// No spans, and this layer. The first id is this. The caller must ensure that the layer is fresh,
-    /// as for `new`.
+    /// No spans, and this layer. The first id is this. The caller must ensure that the layer is fresh, as for `new`.
     pub fn starting_at(alloc: Global, first: u64, layer: HierarchicalLayer<W, FT>) -> Layered<W, FT>
         requires last { layer.last ≡ None }
         requires sound { layer.failed ≡ false }
@@ -117,8 +116,8 @@ impl<W: Output, FT: FormatTime> Layered<W, FT> {
         }
     }
 
-    /// Makes calls one after another, and returns the answer to each, in order. Room for the answers is taken first: on `AllocError` nothing
-    /// has changed. No calls need no room.
+    /// Makes calls one after another, and returns the answer to each, in order. Room for the answers is taken first: on
+    /// `AllocError` nothing has changed. No calls need no room.
     pub fn run(
         &mut self,
         alloc: Global,
