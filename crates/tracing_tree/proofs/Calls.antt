@@ -13,7 +13,7 @@ use Rattle.tracing_tree_core.specs.declared.registry.Parent.TheVariants.{Current
 use Rattle.tracing_tree_core.specs.declared.style.Level.{Level}
 use Rattle.tracing_tree_core.specs.declared.style.Level.TheVariants.{Info, Warn}
 use Rattle.tracing_tree.specs.Calls.State.{State, opening_state}
-use Rattle.tracing_tree.specs.Calls.Seen.{SeenWriter}
+use Rattle.tracing_tree_core.specs.Drawing.Writers.{SeenWriter}
 use Rattle.tracing_tree.specs.Calls.Run.{run, text_of}
 use Rattle.tracing_tree.specs.declared.call.Call.{Call}
 use Rattle.tracing_tree.specs.declared.call.Call.TheVariants.{New, Event, Close}

@@ -19,9 +19,8 @@ use Rattle.std.specs.Option.{option_or}
 use Rattle.std.specs.Bool.{then_some}
 use Rattle.std.specs.Io.KnownBytes.{Appends}
 use Rattle.std.proofs.KnownBytes.{Keeps-refl}
-use Rattle.tracing_tree_core.specs.Drawing.Outputs.{IsCutShort, LeavesCut}
+use Rattle.tracing_tree_core.specs.Drawing.Writers.{IsCutShort, LeavesCut, SeenWriter}
 use Rattle.tracing_tree.specs.Calls.State.{Turn}
-use Rattle.tracing_tree.specs.Calls.Seen.{SeenWriter}
 use Rattle.tracing_tree.specs.Calls.Refused.{draws_too_wide, is_event_too_wide}
 use Rattle.tracing_tree.specs.Rows.Turns.{then_turn, turn_of_row, turn_of_closes, event_depth, event_level, event_parent}
 use Rattle.tracing_tree.specs.Rows.Plan.{PlanView, rows_of_planned, row_of_planned, turn_of_plan}
@@ -132,9 +131,9 @@ draws_added settings row (Ok done) a b c e text blank h = (
 )
 draws_added settings row (Err TooWide) a b c e text blank h = (
   inl (cause-wide settings (row ∷ []) (wide-single settings row ∙ h.0) false),
-  h.1 ∙ ap (λ (bufs : BuffersView). bufs.current_span) e,
+  ap (λ (bufs : BuffersView). bufs.current_span) (h.1.bufs ∙ e),
 )
-draws_added settings row (Err Memory) a b c e text blank h = (inr (refl, refl), h.1 ∙ ap (λ (bufs : BuffersView). bufs.current_span) e)
+draws_added settings row (Err Memory) a b c e text blank h = (inr (refl, refl), ap (λ (bufs : BuffersView). bufs.current_span) (h.1.bufs ∙ e))
 draws_added settings row (Err (NotHeld i)) a b c e text blank h = absurd h
 draws_added settings row (Err TooMany) a b c e text blank h = absurd h
 draws_added settings row (Err Timer) a b c e text blank h = absurd h
@@ -293,7 +292,7 @@ written settings rows faults quiet (Ok done) (Ok also) a b c old new h none k =
     record { answer = h.0; written = (subst P text k.0, k.1) }
 written settings rows faults quiet (Ok done) (Err Writer) a b c old new h none k =
     let text : string_bytes b.text ≡ draw settings rows = h.2 ∙ ap (λ front. front ++ draw settings rows) none in
-    let P : List ℕ → Type 0 = λ t. LeavesCut old.whole t old.bytes new.bytes old.faults new.faults in
+    let P : List ℕ → Type 0 = λ t. LeavesCut t old new in
     let cut = subst P text k.0 in
     record { answer = (h.0, cut-some (draw settings rows) cut.front cut.cut); written = cut }
 written settings rows faults quiet (Ok done) (Err (NotHeld i)) a b c old new h none k = absurd k

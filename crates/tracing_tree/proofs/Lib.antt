@@ -3,6 +3,7 @@ pub mod FieldTexts
 pub mod Choices
 pub mod Pairs
 pub mod Moments
+pub mod BorrowedTrees
 pub mod SpelledLines
 pub mod RunLaws
 pub mod PathPairs

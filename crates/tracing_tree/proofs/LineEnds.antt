@@ -14,7 +14,7 @@ use Rattle.std.proofs.lemmas.List.Splits.{slice_split_at, slice_split_none, leng
 use Rattle.std.proofs.KnownBytes.{Consumes-nil, Consumes-trans}
 use Rattle.tracing_tree_core.specs.Drawing.Picture.{parts_of}
 use Rattle.tracing_tree.specs.Lines.Spelled.{input_lines, without_empty_last}
-use Rattle.tracing_tree.specs.Lines.Reads.{HasNoLineEnd, TakesPart, TakesNothing, TakesLine, ReadsNext}
+use Rattle.tracing_tree.specs.Lines.Reads.{HasNoLineEnd, TakesPart, TakesNothing, TakesLine, TakesEnded, TakesRest, ReadsNext}
 
 -- a line end
 abbrev pub is_end : ℕ → Bool
@@ -115,33 +115,44 @@ reads_nothing known middle left old new so_far none =
     kept (Some x) (Some y) (Some z) bytes p q = p ∙ ap (λ rest. bytes ++ rest) (sym q)
 
 -- the line end was read
-pub reads_line_end : (known middle left : Option (List ℕ)) (old new : List ℕ) → IsWithinLine known middle old → TakesPart (10 ∷ []) middle left old new → TakesLine known left new
-reads_line_end None middle left old new so_far last = tt
-reads_line_end (Some x) None left old new so_far last = absurd so_far.taken
-reads_line_end (Some x) (Some y) None old new so_far last = absurd last.taken
-reads_line_end (Some x) (Some y) (Some z) old new so_far last =
-    let clean : HasNoLineEnd (old ++ last.part) = All-append (λ byte. is_end byte ≡ false) old last.part so_far.clean last.within in
-    let whole : x ≡ (old ++ last.part) ++ 10 ∷ z = so_far.taken ∙ ap (λ rest. old ++ rest) (last.taken ∙ append_assoc last.part (10 ∷ []) z)
-    ∙ sym (append_assoc old last.part (10 ∷ z)) in
-    rw last.added (ap input_lines whole ∙ first_line_of (old ++ last.part) z clean)
+pub reads_line_end : (known middle left : Option (List ℕ)) (old new : List ℕ) → IsWithinLine known middle old → TakesPart (10 ∷ []) middle left old new → TakesEnded known left new
+reads_line_end known middle left old new so_far last = rw last.added (record {
+  within = All-append (λ byte. is_end byte ≡ false) old last.part so_far.clean last.within;
+  taken = subst (Consumes known left) (sym (append_assoc old last.part (10 ∷ [])))
+      (Consumes-trans known middle left old (last.part ++ 10 ∷ []) so_far.taken last.taken);
+})
 
 -- the input ended, within the line or before it
-pub reads_input_end : (known middle left : Option (List ℕ)) (old new : List ℕ) (empty : Bool) → IsWithinLine known middle old → TakesNothing middle left old new →
-    IsAtEnd middle → empty ≡ (length new == 0) → ReadsNext known left new (Ok (not empty))
-reads_input_end None middle left old new true so_far none end is = tt
-reads_input_end None middle left old new false so_far none end is = tt
-reads_input_end (Some x) None left old new empty so_far none end is = absurd so_far.taken
-reads_input_end (Some x) (Some y) None old new empty so_far none end is = absurd none.kept
-reads_input_end (Some x) (Some y) (Some z) old new true so_far none end is =
-    let empty : length new ≡ 0 = eqb-true (length new) 0 (sym is) in
-    let whole : x ≡ [] = so_far.taken ∙ ap (λ rest. old ++ rest) end ∙ append-nil old ∙ sym none.same ∙ nothing new empty in
-    ap input_lines whole
+pub reads_input_end : (known middle left : Option (List ℕ)) (old new : List ℕ) → IsWithinLine known middle old → TakesNothing middle left old new →
+    IsAtEnd middle → TakesRest known left new
+reads_input_end None middle left old new so_far none end = tt
+reads_input_end (Some x) None left old new so_far none end = absurd so_far.taken
+reads_input_end (Some x) (Some y) None old new so_far none end = absurd none.kept
+reads_input_end (Some x) (Some y) (Some z) old new so_far none end = (
+  rw none.same so_far.clean,
+  so_far.taken ∙ ap (λ rest. old ++ rest) end ∙ append-nil old ∙ sym none.same,
+  ap Some (none.kept ∙ end),
+)
+
+-- ---- the lines that were read
+
+-- a line that was taken with its line end is the first
+pub takes_first : (known left : Option (List ℕ)) (line : List ℕ) → TakesEnded known left line → TakesLine known left line
+takes_first None left line taken = tt
+takes_first (Some x) None line taken = absurd taken.taken
+takes_first (Some x) (Some z) line taken = ap input_lines (taken.taken ∙ append_assoc line (10 ∷ []) z) ∙ first_line_of line z taken.within
+
+-- what is left is the only line if it isn't empty
+pub takes_last : (known left : Option (List ℕ)) (line : List ℕ) (empty : Bool) → TakesRest known left line → empty ≡ (length line == 0) →
+    ReadsNext known left line (Ok (not empty))
+takes_last None left line true taken is = tt
+takes_last None left line false taken is = tt
+takes_last (Some x) left line true taken is =
+    let none : length line ≡ 0 = eqb-true (length line) 0 (sym is) in
+    ap input_lines (taken.1 ∙ nothing line none)
   where
     nothing : (bytes : List ℕ) → length bytes ≡ 0 → bytes ≡ []
     nothing [] e = refl
     nothing (b ∷ bytes) e = cc
-reads_input_end (Some x) (Some y) (Some z) old new false so_far none end is =
-    let whole : x ≡ new = so_far.taken ∙ ap (λ rest. old ++ rest) end ∙ append-nil old ∙ sym none.same in
-    let last : z ≡ [] = none.kept ∙ end in
-    let clean : HasNoLineEnd new = rw none.same so_far.clean in
-    ap input_lines whole ∙ only_line_of new clean (sym is) ∙ ap (λ rest. new ∷ input_lines rest) (sym last)
+takes_last (Some x) left line false taken is =
+    subst (λ l. TakesLine (Some x) l line) (sym taken.2) (ap input_lines taken.1 ∙ only_line_of line taken.0 (sym is))

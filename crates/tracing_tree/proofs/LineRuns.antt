@@ -8,7 +8,8 @@ use Rattle.tracing_tree_core.specs.Drawing.Picture.{Row, draw}
 use Rattle.tracing_tree_core.specs.declared.context.Refusal.{Refusal}
 use Rattle.tracing_tree_core.specs.declared.context.Refusal.TheVariants as Refusals
 use Rattle.tracing_tree.specs.Calls.State.{State}
-use Rattle.tracing_tree.specs.Calls.Seen.{Seen, SeenWriter, seen_later}
+use Rattle.tracing_tree_core.specs.Drawing.Writers.{SeenWriter}
+use Rattle.tracing_tree.specs.Calls.Seen.{Seen, seen_later}
 use Rattle.tracing_tree.specs.Calls.Step.{turn_of, reply_of, state_after}
 use Rattle.tracing_tree.specs.Calls.Refused.{cause_of}
 use Rattle.tracing_tree.specs.Calls.Run.{Run, run_by_cause, no_call, then_run, call_text}

@@ -13,7 +13,8 @@ use Rattle.tracing_tree.specs.Lines.Runs.{EndsAtFirst, CountsCause, LeavesRun}
 use Rattle.tracing_tree.specs.Lines.Reads.{TakesLine, IsBeforeCalls, OpensWith}
 use Rattle.tracing_tree.specs.Lines.Steps.{RunsOver}
 use Rattle.tracing_tree.specs.Calls.State.{opening_state}
-use Rattle.tracing_tree.specs.Calls.Seen.{Seen, SeenWriter}
+use Rattle.tracing_tree_core.specs.Drawing.Writers.{SeenWriter}
+use Rattle.tracing_tree.specs.Calls.Seen.{Seen}
 use Rattle.tracing_tree.specs.Lines.Values.{IsUnlessMemory}
 use Rattle.tracing_tree.specs.Lines.Spelled.{TimerChoice, SpellsSettings, chosen_timer, input_lines, unless_null}
 use Rattle.tracing_tree.specs.declared.lines.LineCause.{LineCause}

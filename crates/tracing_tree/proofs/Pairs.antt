@@ -1,11 +1,13 @@
 -- Arrays that are no pair.
-use Rattle.std.specs.Prelude.{◌≡◌, ℕ, List, [], ◌∷◌, ◌++◌, length, Option, Some, None, refl}
+use Rattle.std.specs.Prelude.{◌≡◌, ℕ, List, [], ◌∷◌, ◌++◌, length, get_or, Option, Some, None, refl}
 use Rattle.serde_json.specs.Data.{Data, null, boolean, number, string, array, object, Items, no_items, item}
-use Rattle.serde_json.specs.View.{view, items_view}
-use Rattle.serde_json.specs.declared.value.Value.{Value}
+use Rattle.std.specs.declared.alloc.Global.{Global}
+use Rattle.json.specs.Value.{items_view}
+use Rattle.json.specs.declared.value.Value.{Value}
+use Rattle.tracing_tree.specs.Lines.Borrowed.{borrowed_data, items_data, field_of}
 use Rattle.tracing_tree_core.specs.declared.field.Field.{Field}
 use Rattle.std.specs.Prelude.{option_and_then}
-use Rattle.std.proofs.Common.{ap, sym, append_assoc}
+use Rattle.std.proofs.Common.{ap, sym, ◌∙◌, append_assoc, arith}
 use Rattle.tracing_tree.specs.Lines.Spelled.{pair_field, field_value, item_fields}
 
 one_item : (d : Data) → pair_field (item d no_items) ≡ None
@@ -33,11 +35,36 @@ three_items (array ds) d e others = refl
 three_items (object ms) d e others = refl
 
 -- an array that isn't of two items is no field
-pub no_pair : (vs : List Value) → (length vs ≡ 2 → ⊥) → pair_field (items_view vs) ≡ None
+pub no_pair : (vs : List (Value Global)) → (length vs ≡ 2 → ⊥) → pair_field (items_data (items_view vs)) ≡ None
 no_pair [] other = refl
-no_pair (v ∷ []) other = one_item (view v)
+no_pair (v ∷ []) other = one_item (borrowed_data v)
 no_pair (v ∷ w ∷ []) other = absurd (other refl)
-no_pair (v ∷ w ∷ x ∷ more) other = three_items (view v) (view w) (view x) (items_view more)
+no_pair (v ∷ w ∷ x ∷ more) other = three_items (borrowed_data v) (borrowed_data w) (borrowed_data x) (items_data (items_view more))
+
+text_item : (s : List ℕ) (d : Data) → pair_field (item (string s) (item d no_items)) ≡ field_of (string s) d
+text_item s null = refl
+text_item s (boolean b) = refl
+text_item s (number n) = refl
+text_item s (string t) = refl
+text_item s (array ds) = refl
+text_item s (object ms) = refl
+
+two_items : (d e : Data) → pair_field (item d (item e no_items)) ≡ field_of d e
+two_items null e = refl
+two_items (boolean b) e = refl
+two_items (number n) e = refl
+two_items (string s) e = text_item s e
+two_items (array ds) e = refl
+two_items (object ms) e = refl
+
+-- an array of two items is the field of its items
+pub a_pair : (vs : List (Value Global)) (a b : Value Global) → length vs ≡ 2 → a ≡ get_or vs 0 a → b ≡ get_or vs 1 b
+    → pair_field (items_data (items_view vs)) ≡ field_of (borrowed_data a) (borrowed_data b)
+a_pair [] a b two first second = absurd (omega arith)
+a_pair (v ∷ []) a b two first second = absurd (omega arith)
+a_pair (v ∷ w ∷ []) a b two first second =
+    two_items (borrowed_data v) (borrowed_data w) ∙ ap (λ x. field_of (borrowed_data x) (borrowed_data w)) (sym first) ∙ ap (λ y. field_of (borrowed_data a) (borrowed_data y)) (sym second)
+a_pair (v ∷ w ∷ x ∷ more) a b two first second = absurd (omega arith)
 
 -- fields, and then those of the rest, if they can be read
 abbrev pub behind : List Field → Option (List Field) → Option (List Field)

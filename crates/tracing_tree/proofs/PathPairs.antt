@@ -1,15 +1,16 @@
 -- Two paths of one forest agree downward, and what the second has beyond the first is what differs.
 use Rattle.std.proofs.Common.{◌≡◌, ℕ, zero, suc, ◌+◌, ◌<◌, Bool, true, false, List, [], ◌∷◌, drop, Option, Some, None, option_map, refl, sym, ap, ◌∙◌, subst, if◌then◌else◌, arith}
-use Rattle.std.specs.Prelude.{slice_get, filter_map}
+use Rattle.std.specs.Prelude.{slice_get}
 use Rattle.std.specs.Option.{option_map_or}
-use Rattle.std.specs.List.{enumerate_from, common_prefix_len, cons_option}
+use Rattle.std.specs.List.{common_prefix_len}
 use Rattle.tracing_tree_core.specs.Registry.Ids.{same_id}
 use Rattle.tracing_tree_core.specs.Registry.Spans.{Span}
 use Rattle.tracing_tree_core.specs.Registry.Forest.{Forest, span_at, is_live, path_of, path_of_any, Descends, IsForest}
 use Rattle.tracing_tree_core.specs.declared.context.Id.{Id}
 use Rattle.tracing_tree_core.proofs.ForestLaws.{same_id-eq, path_of-is_path}
 use Rattle.tracing_tree_core.proofs.PathLaws.{path_of-none}
-use Rattle.tracing_tree.specs.Differences.Items.{has_equal_at, differing, same_at, AgreeDownward, PathsAgreeDownward, PathsDifferFreshly}
+use Rattle.tracing_tree.proofs.DifferingLaws.{differing-no_left, differing-equal, differing-unequal}
+use Rattle.tracing_tree.specs.Differences.Items.{differing, same_at, AgreeDownward, PathsAgreeDownward, PathsDifferFreshly}
 
 -- ---- places that agree
 
@@ -69,33 +70,12 @@ paths-agree_downward forest formed last i =
 
 -- ---- items that differ
 
--- what differs, where the first right item stands at this place
-abbrev from_place : List Id → ℕ → List Id → List Id
-from_place left n right =
-    filter_map (λ entry. if has_equal_at same_id left entry.0 entry.1 then None else Some entry.1) (enumerate_from n right)
-
-get-next : (i : Id) (left : List Id) (n : ℕ) → slice_get (i ∷ left) (n + 1) ≡ slice_get left n
-get-next i left n = let e : n + 1 ≡ suc n = omega arith in ap (slice_get (i ∷ left)) e
-
--- both sides one place on
-from_place-next : (i : Id) (left : List Id) (n : ℕ) (right : List Id) → from_place (i ∷ left) (n + 1) right ≡ from_place left n right
-from_place-next i left n [] = refl
-from_place-next i left n (j ∷ right) =
-    ap (λ o. cons_option (if option_map_or (λ other. same_id other j) o false then None else Some j) (from_place (i ∷ left) (n + 1 + 1) right))
-    (get-next i left n)
-    ∙ ap (cons_option (if has_equal_at same_id left n j then None else Some j)) (from_place-next i left (n + 1) right)
-
-from_place-nothing : (n : ℕ) (right : List Id) → from_place [] n right ≡ right
-from_place-nothing n [] = refl
-from_place-nothing n (j ∷ right) = ap (λ ids. j ∷ ids) (from_place-nothing (n + 1) right)
-
 -- where no place agrees all items differ
-from_place-all : (left right : List Id) → ((place : ℕ) → same_at left right place ≡ false) → from_place left 0 right ≡ right
-from_place-all [] right h = from_place-nothing 0 right
-from_place-all (i ∷ left) [] h = refl
-from_place-all (i ∷ left) (j ∷ right) h =
-    ap (λ b. cons_option (if b then None else Some j) (from_place (i ∷ left) 1 right)) (h 0)
-    ∙ ap (λ ids. j ∷ ids) (from_place-next i left 0 right ∙ from_place-all left right (λ place. h (suc place)))
+differing-none : (left right : List Id) → ((place : ℕ) → same_at left right place ≡ false) → differing same_id left right ≡ right
+differing-none [] right h = differing-no_left same_id right
+differing-none (i ∷ left) [] h = refl
+differing-none (i ∷ left) (j ∷ right) h =
+    differing-unequal same_id i left j right (h 0) ∙ ap (λ ids. j ∷ ids) (differing-none left right (λ place. h (suc place)))
 
 drop-next : (n : ℕ) (j : Id) (right : List Id) → drop (1 + n) (j ∷ right) ≡ drop n right
 drop-next n j right = let e : 1 + n ≡ suc n = omega arith in ap (λ m. drop m (j ∷ right)) e
@@ -103,7 +83,7 @@ drop-next n j right = let e : 1 + n ≡ suc n = omega arith in ap (λ m. drop m 
 -- where lists agree downward, what differs is what follows their common beginning
 pub differing-agreeing : (left right : List Id) → AgreeDownward left right →
     differing same_id left right ≡ drop (common_prefix_len same_id left right) right
-differing-agreeing [] right h = from_place-nothing 0 right
+differing-agreeing [] right h = differing-no_left same_id right
 differing-agreeing (i ∷ left) [] h = refl
 differing-agreeing (i ∷ left) (j ∷ right) h =
     by (differing-agreeing left right (λ low high l. h (suc low) (suc high) (omega arith))) (same_id i j) refl
@@ -118,11 +98,10 @@ differing-agreeing (i ∷ left) (j ∷ right) h =
     by : differing same_id left right ≡ drop (common_prefix_len same_id left right) right → (b : Bool) → same_id i j ≡ b →
         differing same_id (i ∷ left) (j ∷ right) ≡ drop (common_prefix_len same_id (i ∷ left) (j ∷ right)) (j ∷ right)
     by rest true e =
-        ap (λ b. cons_option (if b then None else Some j) (from_place (i ∷ left) 1 right)) e
-        ∙ from_place-next i left 0 right ∙ rest ∙ sym (drop-next (common_prefix_len same_id left right) j right)
+        differing-equal same_id i left j right e ∙ rest ∙ sym (drop-next (common_prefix_len same_id left right) j right)
         ∙ sym (ap (λ b. drop (if b then 1 + common_prefix_len same_id left right else 0) (j ∷ right)) e)
     by rest false e =
-        from_place-all (i ∷ left) (j ∷ right) (none e)
+        differing-none (i ∷ left) (j ∷ right) (none e)
         ∙ sym (ap (λ b. drop (if b then 1 + common_prefix_len same_id left right else 0) (j ∷ right)) e)
 
 -- on the paths of the last span and of another these are the fresh spans

@@ -21,3 +21,6 @@ pub mod Made
 pub mod DrawnRows
 pub mod AncestryLaws
 pub mod PathsFound
+pub mod JsonTexts
+pub mod JsonRuns
+pub mod JsonLines

@@ -9,7 +9,8 @@ use Rattle.tracing_tree_core.specs.declared.context.Refusal.{Refusal}
 use Rattle.tracing_tree_core.specs.declared.context.Refusal.TheVariants as Refused
 use Rattle.tracing_tree_core.specs.declared.context.Refusal.TheVariants.{NotHeld, TooWide, TooMany, Memory, Writer, Failed}
 use Rattle.tracing_tree.specs.Calls.State.{State}
-use Rattle.tracing_tree.specs.Calls.Seen.{Seen, SeenWriter, seen_later}
+use Rattle.tracing_tree_core.specs.Drawing.Writers.{SeenWriter}
+use Rattle.tracing_tree.specs.Calls.Seen.{Seen, seen_later}
 use Rattle.tracing_tree.specs.Calls.Step.{turn_of, state_after}
 use Rattle.tracing_tree.specs.Calls.Run.{Run, run, run_by_cause, then_run, accepted_calls, replies_among, state_after_answer, MayAnswer, call_text}
 use Rattle.tracing_tree.specs.Calls.Answered.{IsAnswered, Writes}

@@ -4,7 +4,7 @@ use Rattle.std.specs.Option.{option_or}
 use Rattle.std.specs.Bool.{then_some}
 use Rattle.tracing_tree_core.specs.Drawing.Settings.{Settings}
 use Rattle.tracing_tree_core.specs.Time.Clock.{Timer}
-use Rattle.tracing_tree_core.specs.Drawing.Outputs.{LeavesCut}
+use Rattle.tracing_tree_core.specs.Drawing.Writers.{LeavesCut, seen_writer}
 use Rattle.tracing_tree_core.specs.declared.context.Id.{Id}
 use Rattle.tracing_tree_core.specs.declared.context.Refusal.{Refusal}
 use Rattle.tracing_tree_core.specs.declared.context.Refusal.TheVariants as Refused
@@ -21,7 +21,7 @@ use Rattle.tracing_tree.specs.Rows.Plan.{empty_plan, plan_of_closes}
 use Rattle.tracing_tree_core.specs.declared.format.output.Output.{Ghosts as Output}
 use Rattle.tracing_tree_core.specs.declared.time.FormatTime.{Ghosts as FormatTime}
 use Rattle.tracing_tree.specs.Calls.Layers.{LayerView, LayeredView, Changes, seen}
-use Rattle.tracing_tree.specs.Calls.Seen.{Seen, seen_later, seen_writer}
+use Rattle.tracing_tree.specs.Calls.Seen.{Seen, seen_later}
 use Rattle.tracing_tree.specs.Calls.Step.{turn_of, new_id, with_new_span}
 use Rattle.tracing_tree.specs.Calls.Refused.{first_cause, cause_of, id_not_held, is_too_many, draws_too_wide, timer_faults, takes_no_memory}
 use Rattle.tracing_tree.specs.Calls.Run.{call_text}
@@ -51,7 +51,7 @@ answered_refused call rows faults quiet Memory old new sound cause text memory h
 answered_refused call rows faults quiet Refused.Timer old new sound cause text memory h left =
     record { allowed = cause ∙ h.answer; left = left; written = h.written }
 answered_refused call rows faults quiet Writer old new sound cause text memory h left =
-    let P : List ℕ → Type 0 = λ t. LeavesCut old.writer.whole t old.writer.bytes new.writer.bytes old.writer.faults new.writer.faults in
+    let P : List ℕ → Type 0 = λ t. LeavesCut t old.writer new.writer in
     record { allowed = (cause ∙ h.answer.0, λ none. h.answer.1 (sym text ∙ none)); left = left; written = subst P (sym text) h.written }
 answered_refused call rows faults quiet Failed old new sound cause text memory h left =
     record { allowed = cause ∙ h.answer; left = left ∙ ap (λ failed. seen_later old (record old.state { failed = failed }) new.writer) (sym sound); written = h.written }

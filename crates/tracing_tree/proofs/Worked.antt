@@ -8,3 +8,4 @@ pub mod Lines
 pub mod Bare
 pub mod Laws
 pub mod Difference
+pub mod Json

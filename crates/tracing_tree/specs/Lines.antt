@@ -5,3 +5,4 @@ pub mod Runs
 pub mod Reads
 pub mod Steps
 pub mod CallKinds
+pub mod Borrowed

@@ -4,3 +4,5 @@ pub mod Line
 pub mod Texts
 pub mod DrawRows
 pub mod Readable
+pub mod Json
+pub mod JsonSteps

@@ -8,13 +8,13 @@ mod page;
 mod path;
 mod plan;
 
-ghost use Rattle.std.specs.Prelude.{◌≡◌, ◌<◌, [], false, None};
+ghost use Rattle.std.specs.Prelude.{◌≡◌, ◌<◌, false, None};
 ghost use Rattle.tracing_tree_core.specs.Drawing.Settings.{default_settings};
 ghost use Rattle.tracing_tree_core.specs.Registry.Forest.{mark_all};
 ghost use Rattle.tracing_tree.specs.Rows.Turns.{event_depth, turn_of_new, turn_of_event, turn_of_closes};
 ghost use Rattle.tracing_tree.specs.Calls.Refused.{is_event_too_wide, timer_faults_at};
 ghost use Rattle.tracing_tree.specs.Calls.Layers.{is_fresh, IsFlushed};
-ghost use Rattle.tracing_tree.specs.Calls.Seen.{seen_writer};
+ghost use Rattle.tracing_tree_core.specs.Drawing.Writers.{seen_writer};
 ghost use Rattle.tracing_tree.specs.Rows.Drawn.{failed_by, has_no_id, DoesTurn, IsBlank, IsReady, Sends};
 
 use drawing::CallDrawing;
@@ -289,8 +289,6 @@ fn write_text<W: Output>(page: &mut Page, writer: &mut W) -> Result<(), Refusal>
         (seen_writer W.Output writer.old) (seen_writer W.Output writer.new) }
 {
     mem::swap(&mut page.bufs.current_buf, &mut page.text);
-    match page.bufs.flush_current_buf(writer) {
-        Ok(()) => Ok(()),
-        Err(_) => Err(Refusal::Writer),
-    }
+    let written = page.bufs.flush_current_buf(writer);
+    written.map_err(|_| Refusal::Writer)
 }

@@ -158,9 +158,7 @@ impl<W: Output, FT: FormatTime> Layered<W, FT> {
     {
         self.registry.closing_into(id, &mut self.closing)?;
         let ids = self.closing.as_slice();
-        if let Err(refusal) = self.layer.write_closes(ids, &mut self.registry, context) {
-            return Err(refusal);
-        }
+        self.layer.write_closes(ids, &mut self.registry, context)?;
         Ok(Reply::Closed(self.registry.try_close(id)?))
     }
 
@@ -191,9 +189,7 @@ impl<W: Output, FT: FormatTime> Layered<W, FT> {
     {
         let depth = depth(&self.registry, event.parent.named(context.current));
         let spans = &mut self.registry;
-        if let Err(refusal) = self.layer.write_event(event, depth, spans, context) {
-            return Err(refusal);
-        }
+        self.layer.write_event(event, depth, spans, context)?;
         Ok(Reply::Done)
     }
 }
@@ -203,8 +199,6 @@ impl<W: Output, FT: FormatTime> Layered<W, FT> {
 fn depth(registry: &Registry, id: Option<Id>) -> usize
     ensures { result ≡ length (path_of_any registry.now (if_live registry.now id)) }
 {
-    match id.and_then(|id| registry.kept_path(id)) {
-        Some(path) => path.len(),
-        None => 0,
-    }
+    let path = id.and_then(|id| registry.kept_path(id));
+    path.map_or(0, |path| path.len())
 }

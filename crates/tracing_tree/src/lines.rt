@@ -1,5 +1,6 @@
 //! The program's lines: the first spells settings, each further one a call.
 
+mod borrowed;
 mod call;
 mod context;
 pub(crate) mod read;
@@ -12,11 +13,12 @@ ghost use Rattle.tracing_tree.specs.Calls.Layers.{seen, Changes};
 ghost use Rattle.tracing_tree.specs.Lines.Reads.{IsBeforeCalls, OpensWith};
 ghost use Rattle.tracing_tree.specs.Lines.Runs.{CountsEnd, EndsAtFirst, LeavesRun, status_of};
 ghost use Rattle.tracing_tree.specs.Lines.Steps.{EndsLines, Flushes, JudgesLine};
-ghost use Rattle.tracing_tree.specs.Calls.Seen.{seen_writer};
+ghost use Rattle.tracing_tree_core.specs.Drawing.Writers.{seen_writer};
 
 use crate::layer::HierarchicalLayer;
 use crate::layered::Layered;
 use call::call_of_line;
+use json::Scratch;
 use read::{holds_line, is_skipped, read_line};
 use settings::{Setup, settings_of_line};
 use std::alloc::{AllocError, AllocFailed, Global};
@@ -190,10 +192,11 @@ fn run_calls<R: Read, W: Output, FT: FormatTime>(
         layered.old layered.new }
 {
     let mut line = Vec::new(alloc);
+    let mut scratch = Scratch::new(alloc);
     let mut accepted = 0;
     for number in 2..u64::MAX {
         show_before_read(lines, layered);
-        match run_line(alloc, lines, &mut line, layered) {
+        match run_line(alloc, lines, &mut line, &mut scratch, layered) {
             Ok(Judged::End) => return (accepted, None),
             Ok(Judged::Skipped) => {}
             Ok(Judged::Accepted) => accepted += 1,
@@ -239,6 +242,7 @@ fn run_line<B: BufRead, W: Output, FT: FormatTime>(
     alloc: Global,
     lines: &mut B,
     line: &mut Vec<u8>,
+    scratch: &mut Scratch,
     layered: &mut Layered<W, FT>,
 ) -> Result<Judged, LineCause>
     ensures { Changes (seen FT.FormatTime W.Output)
@@ -251,7 +255,7 @@ fn run_line<B: BufRead, W: Output, FT: FormatTime>(
     if is_skipped(line.as_slice()) {
         return Ok(Judged::Skipped);
     }
-    let call = call_of_line(alloc, line.as_slice())?;
+    let call = call_of_line(alloc, line.as_slice(), scratch)?;
     layered.call(call)?;
     Ok(Judged::Accepted)
 }

@@ -4,14 +4,14 @@
 //! `read_rows` returns rows, drawing them gives the text again, and no other rows have that text.
 
 mod draw;
-mod json;
+mod json_text;
 mod paths;
 mod read;
 mod row;
 mod text;
 
 pub use draw::{DrawFault, draw_rows};
-pub use json::{RowCause, RowFault, rows_to_json};
+pub use json_text::{RowCause, RowFault, rows_to_json};
 pub use paths::{Ancestry, EventPath, Places, read_paths};
 pub use read::{ReadFault, Reader, Taken, read_rows};
 pub use row::{Lines, Row, Shape};

@@ -1,5 +1,5 @@
 -- Lists of spans with gaps, in the order of their ids: where a span lies, and what an edit at its place does.
-use Rattle.std.proofs.Common.{◌≡◌, ℕ, zero, suc, ◌+◌, ◌-◌, ◌<◌, ◌≤◌, nat_lt, Bool, true, false, not, List, [], ◌∷◌, ◌++◌, length, get_or, set, find, filter, slice_get, length-append, Option, Some, None, MatchOption, Result, Ok, Err, if◌then◌else◌, arith, refl, sym, ap, ◌∙◌, subst}
+use Rattle.std.proofs.Common.{◌≡◌, ℕ, zero, suc, ◌+◌, ◌-◌, ◌<◌, ◌≤◌, nat_lt, Bool, true, false, not, List, [], ◌∷◌, ◌++◌, length, get_or, set, find, filter, slice_get, length-append, take, drop, take-append-drop, length-take-le, Option, Some, None, MatchOption, Result, Ok, Err, if◌then◌else◌, arith, refl, sym, ap, ◌∙◌, subst}
 use Rattle.std.specs.List.{list_all}
 use Rattle.std.specs.Option.{option_map_or, option_and_then, option_to_list}
 use Rattle.std.specs.Result.{OnOk, OnErr}
@@ -475,7 +475,7 @@ pub record IsTrimmed (old new : List Slot) : Type 0 where
   pub rising : AreRising (slot_ids new)
   pub fewer : length new < length old
 
-pub trimmed : (old new : List Slot) (taken : Option Slot) → old ≡ new ++ option_to_list taken → (taken ≡ None → length old ≡ 0) →
+trimmed : (old new : List Slot) (taken : Option Slot) → old ≡ new ++ option_to_list taken → (taken ≡ None → length old ≡ 0) →
     ends_in_gap old ≡ true → AreRising (slot_ids old) → IsTrimmed old new
 trimmed old new None e none ends rising = absurd (by old (none refl) ends)
   where
@@ -489,6 +489,22 @@ trimmed old new (Some (Gone j)) e none ends rising = record {
   rising = rising-less (slot_ids new) j (subst AreRising (ap slot_ids e ∙ map-append slot_id new (Gone j ∷ [])) rising);
   fewer = let n = ap (λ (xs : List Slot). length xs) e ∙ length-append new (Gone j ∷ []) in omega arith;
 }
+
+-- the last place, or none
+last-part : (old front rest : List Slot) → front ++ rest ≡ old → length front ≡ length old - 1 → ends_in_gap old ≡ true →
+    AreRising (slot_ids old) → IsTrimmed old front
+last-part old front [] e n ends rising =
+    let all = ap (λ (xs : List Slot). length xs) e in
+    trimmed old front None (sym e) (λ same. omega (arith, n, all, length-append front [])) ends rising
+last-part old front (slot ∷ []) e n ends rising = trimmed old front (Some slot) (sym e) (λ h. let never : Some slot ≡ None = h in cc) ends rising
+last-part old front (slot ∷ next ∷ rest) e n ends rising =
+    let all = ap (λ (xs : List Slot). length xs) e in
+    absurd (omega (arith, n, all, length-append front (slot ∷ next ∷ rest)))
+
+pub trimmed_end : (old : List Slot) → ends_in_gap old ≡ true → AreRising (slot_ids old) → IsTrimmed old (take (length old - 1) old)
+trimmed_end old ends rising =
+    last-part old (take (length old - 1) old) (drop (length old - 1) old) (take-append-drop (length old - 1) old)
+    (length-take-le (length old - 1) old (omega arith)) ends rising
 
 -- what is not in the list is not in a part of it
 above-part : (n : ℕ) (slots : List Slot) → ids_above n (slot_ids slots) ≡ true → ids_above n (slot_ids (filter (λ slot. not (is_gone slot)) slots)) ≡ true

@@ -1,9 +1,9 @@
 -- What a loop of writes has appended.
-use Rattle.std.proofs.Common.{◌≡◌, ◌≢◌, ℕ, ◌+◌, ◌-◌, ◌<◌, Bool, IsTrue, List, [], ◌∷◌, ◌++◌, Option, arith, length, take, drop, refl, sym, ap, ◌∙◌, append_assoc, take-append-drop}
+use Rattle.std.proofs.Common.{◌≡◌, ◌≢◌, ℕ, ◌+◌, ◌-◌, ◌<◌, IsTrue, List, [], ◌∷◌, ◌++◌, Option, arith, length, take, drop, refl, sym, ap, ◌∙◌, append_assoc, take-append-drop}
 use Rattle.std.proofs.lemmas.List.{take_rest}
 use Rattle.std.specs.Io.KnownBytes.{Appends, Keeps}
 use Rattle.std.proofs.KnownBytes.{Appends-kept}
-use Rattle.tracing_tree_core.specs.Drawing.Outputs.{LeavesCut}
+use Rattle.tracing_tree_core.specs.Drawing.Writers.{LeavesCut, SeenWriter}
 
 not_empty : (rest : List ℕ) → 0 < length rest → rest ≢ []
 not_empty rest more e = let none : length rest ≡ 0 = ap length e in omega arith
@@ -13,13 +13,14 @@ nothing_done [] h = refl
 nothing_done (x ∷ done) h = absurd (h (omega arith))
 
 -- a fault after some bytes leaves a text cut short
-pub cut_so_far : (whole : Bool) (a b c : Option (List ℕ)) (all done rest : List ℕ) (m n : ℕ) → all ≡ done ++ rest → 0 < length rest →
-    Appends a b done → Keeps b c → n ≡ m + 1 → (IsTrue whole → 0 < length done → rest ≡ []) → LeavesCut whole all a c m n
-cut_so_far whole a b c all done rest m n e more p q rose none = record {
+pub cut_so_far : (old new : SeenWriter) (so_far : Option (List ℕ)) (all done rest : List ℕ) → all ≡ done ++ rest → 0 < length rest →
+    Appends old.bytes so_far done → Keeps so_far new.bytes → new.faults ≡ old.faults + 1 → (IsTrue old.whole → 0 < length done → rest ≡ []) →
+    LeavesCut all old new
+cut_so_far old new so_far all done rest e more p q rose none = record {
   rose = rose;
   front = done;
   cut = record { rest = rest; whole = e; cut = not_empty rest more };
-  appends = Appends-kept a b c done p q;
+  appends = Appends-kept old.bytes so_far new.bytes done p q;
   nothing = λ w. nothing_done done (λ some. not_empty rest more (none w some));
 }
 

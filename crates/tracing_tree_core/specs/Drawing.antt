@@ -3,5 +3,6 @@ pub mod Settings
 pub mod Texts
 pub mod Picture
 pub mod Outputs
+pub mod Writers
 pub mod Buffers
 pub mod Frames

@@ -1,4 +1,5 @@
 pub mod Drawing
 pub mod Registry
+pub mod Text
 pub mod Equal
 pub mod Time

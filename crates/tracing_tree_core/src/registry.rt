@@ -6,6 +6,7 @@ ghost use Rattle.tracing_tree_core.specs.Registry.Forest.{named_parent};
 pub mod lookup;
 pub mod node;
 mod nodes;
+mod path;
 pub mod paths;
 pub mod prefix;
 mod slot;

@@ -1,41 +1,60 @@
 //! Text, which contracts see as its bytes.
 
-ghost use Rattle.std.specs.Prelude.{◌≡◌, IfOk};
+ghost use Rattle.std.specs.Prelude.{◌≡◌, ◌≤◌, IfOk, IsOk, length};
 
+use arrayvec::ArrayString;
 use std::alloc::{AllocError, Global};
 use std::marker::Model;
 
+// Names, targets and most values have at most so many bytes. They then lie in the value itself.
+const SHORT: usize = 16;
+
 /// A text, which contracts see as its bytes.
 ///
-/// It is a `String` whose room and place in memory no contract speaks of, so that two equal texts are equal values.
+/// At most 16 bytes lie in the value itself and take no memory. No contract speaks of the place where a text lies, so that two
+/// equal texts are equal values.
 #[derive(Debug, Drop)]
 pub struct Text {
-    inner: String,
+    kept: Kept,
+}
+
+// Where a text lies.
+#[derive(Debug, Drop)]
+enum Kept {
+    Short(ArrayString<SHORT>),
+    Long(String),
 }
 
 impl Model for Text {
-    ghost use Rattle.std.specs.Prelude.{List, ℕ, string_bytes};
+    ghost use Rattle.std.specs.Prelude.{List, ℕ};
+    ghost use Rattle.tracing_tree_core.specs.Text.{kept_bytes};
 
     ghost Value = { List ℕ };
 
-    ghost view = { λ t. string_bytes t.inner };
+    ghost view = { λ t. kept_bytes t.kept };
 }
 
 impl Text {
-    /// A copy of the characters. `AllocError` where memory is refused.
+    /// A copy of the characters. `AllocError` where memory is refused, which at most 16 bytes never ask for.
     pub fn from_str(alloc: Global, text: &str) -> Result<Text, AllocError>
-        ensures { IfOk result (λ copy. copy ≡ text.now) }
+        ensures copy { IfOk result (λ copy. copy ≡ text.now) }
+        ensures short { length text.now ≤ 16 → IsOk result }
     {
-        Ok(Text {
-            inner: String::from_str(alloc, text)?,
-        })
+        let kept = match ArrayString::from(text) {
+            Ok(short) => Kept::Short(short),
+            Err(_) => Kept::Long(String::from_str(alloc, text)?),
+        };
+        Ok(Text { kept })
     }
 
     /// The characters.
     pub fn as_str(&self) -> &str
         ensures { result.now ≡ self.now }
     {
-        self.inner.as_str()
+        match &self.kept {
+            Kept::Short(text) => text.as_str(),
+            Kept::Long(text) => text.as_str(),
+        }
     }
 }
 
@@ -45,20 +64,12 @@ impl From<String> for Text {
 
     ghost from_gives = { λ string text. text ≡ string_bytes string };
 
-    fn from(inner: String) -> Text {
-        Text { inner }
-    }
-}
-
-/// Takes no memory.
-impl From<Text> for String {
-    ghost use Rattle.std.specs.Prelude.{◌≡◌, string_bytes};
-
-    ghost from_gives = { λ text string. string_bytes string ≡ text };
-
-    fn from(text: Text) -> String {
-        let Text { inner } = text;
-        inner
+    fn from(text: String) -> Text {
+        let kept = match ArrayString::from(text.as_str()) {
+            Ok(short) => Kept::Short(short),
+            Err(_) => Kept::Long(text),
+        };
+        Text { kept }
     }
 }
 
@@ -66,9 +77,11 @@ impl Clone for Text {
     ghost is_clone = { λ source copy. copy ≡ source };
 
     fn clone(&self) -> Result<Text, AllocError> {
-        Ok(Text {
-            inner: self.inner.clone()?,
-        })
+        let kept = match &self.kept {
+            Kept::Short(text) => Kept::Short(*text),
+            Kept::Long(text) => Kept::Long(text.clone()?),
+        };
+        Ok(Text { kept })
     }
 }
 

@@ -49,6 +49,29 @@ fn keeps_values_of_fields(rt: HostRuntime) -> Result<(), Fail> {
     Ok(())
 }
 
+// Texts about the length from which on they need memory.
+const TEXTS: [&str; 5] = [
+    "",
+    "fifteen bytes..",
+    "sixteen bytes...",
+    "seventeen bytes..",
+    "\u{fc}ber sechzehn Bytes",
+];
+
+#[test]
+fn keeps_short_and_long_texts_alike(rt: HostRuntime) -> Result<(), Fail> {
+    let alloc = rt.alloc();
+    for text in TEXTS {
+        let copied = Text::from_str(alloc, text)?;
+        let moved = Text::from(String::from_str(alloc, text)?);
+        assert_eq!(rt; copied.as_str(), text);
+        assert_eq!(rt; moved.as_str(), text);
+        assert_eq!(rt; copied.clone()?.as_str(), text);
+        assert!(rt; copied == moved);
+    }
+    Ok(())
+}
+
 #[test]
 fn labels_events(rt: HostRuntime) -> Result<(), Fail> {
     let mut out = String::new(rt.alloc());

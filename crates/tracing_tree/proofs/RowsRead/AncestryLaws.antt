@@ -107,7 +107,7 @@ opening-quiet row e = by row.shape e
 -- ---- paths
 
 -- later rows change no path
-path-same : (rows more : List TextRow) (place : ℕ) (row : TextRow) → place ≤ length rows → event_path_at (rows ++ more) place row ≡ event_path_at rows place row
+pub path-same : (rows more : List TextRow) (place : ℕ) (row : TextRow) → place ≤ length rows → event_path_at (rows ++ more) place row ≡ event_path_at rows place row
 path-same rows more place row le =
     ap (λ (before : List TextRow). if is_event row.shape
     then Some (record { event = place; ancestors = map (λ level. last_place (opens_level level) before) (range_with_len 0 row.level) }) else None)

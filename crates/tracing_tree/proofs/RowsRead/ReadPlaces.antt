@@ -14,12 +14,12 @@ use Rattle.tracing_tree.proofs.RowsRead.ReadSteps.{read_none, read_more, read_al
 -- ---- texts by lines
 
 -- each text is lines and a rest
-record AreLines (text : List ℕ) : Type 0 where
-  lines : List (List ℕ)
-  rest : List ℕ
-  whole : text ≡ ended lines ++ rest
-  unbroken : list_all is_unbroken lines ≡ true
-  last : is_unbroken rest ≡ true
+pub record AreLines (text : List ℕ) : Type 0 where
+  pub lines : List (List ℕ)
+  pub rest : List ℕ
+  pub whole : text ≡ ended lines ++ rest
+  pub unbroken : list_all is_unbroken lines ≡ true
+  pub last : is_unbroken rest ≡ true
 
 first-more : (byte : ℕ) (text : List ℕ) → (byte == 10) ≡ false → is_unbroken text ≡ true → is_unbroken (byte ∷ text) ≡ true
 first-more byte text e h = ap (λ b. not (b || has_line_end text)) e ∙ h
@@ -38,7 +38,7 @@ onto byte text e (line ∷ lines) rest whole h last =
       last = last;
     }
 
-cut : (text : List ℕ) → AreLines text
+pub cut : (text : List ℕ) → AreLines text
 cut [] = record { lines = []; rest = []; whole = refl; unbroken = refl; last = refl }
 cut (byte ∷ text) = by (cut text) (byte == 10) refl
   where
@@ -62,7 +62,7 @@ unbroken-from (byte ∷ text) h = first-more byte text (ne_eqb byte 10 (h 0 (ome
 pub read_start : (amount : ℕ) (text : List ℕ) → IsReadTo text [] (all_left amount text)
 read_start amount text = record { before = []; upto = read_none amount; whole = refl; unbroken = refl; counted = refl }
 
-more-unbroken : (lines : List (List ℕ)) (line : List ℕ) → list_all is_unbroken lines ≡ true → is_unbroken line ≡ true → list_all is_unbroken (lines ++ line ∷ []) ≡ true
+pub more-unbroken : (lines : List (List ℕ)) (line : List ℕ) → list_all is_unbroken lines ≡ true → is_unbroken line ≡ true → list_all is_unbroken (lines ++ line ∷ []) ≡ true
 more-unbroken lines line h e =
     list_all-append is_unbroken lines (line ∷ []) ∙ and_from (list_all is_unbroken lines) (is_unbroken line && true) h (and_from (is_unbroken line) true e refl)
 

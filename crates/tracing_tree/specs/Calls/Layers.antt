@@ -6,7 +6,8 @@ use Rattle.tracing_tree_core.specs.Registry.Forest.{Forest}
 use Rattle.tracing_tree_core.specs.declared.context.Id.{Id}
 use Rattle.tracing_tree_core.specs.declared.format.output.Output.{Ghosts as Output}
 use Rattle.tracing_tree_core.specs.declared.time.FormatTime.{Ghosts as FormatTime}
-use Rattle.tracing_tree.specs.Calls.Seen.{Seen, seen_writer}
+use Rattle.tracing_tree_core.specs.Drawing.Writers.{seen_writer}
+use Rattle.tracing_tree.specs.Calls.Seen.{Seen}
 
 -- a layer: its settings, its writer and timer, the last span, and whether it has failed
 pub record LayerView (W FT : Type 0) : Type 0 where

@@ -1,5 +1,5 @@
 -- What readers of lines take of the bytes that a reader has left, where those are known.
-use Rattle.std.specs.Prelude.{◌≡◌, ℕ, ◌==◌, ◌++◌, Bool, true, false, not, length, List, [], ◌∷◌, Option, Some, None, Result, Ok, Err, ⊤, All}
+use Rattle.std.specs.Prelude.{◌≡◌, ℕ, ◌==◌, ◌++◌, Bool, true, false, List, [], ◌∷◌, Option, Some, None, Result, Ok, Err, ⊤, All}
 use Rattle.std.specs.Io.KnownBytes.{Consumes, Keeps, IsAtEnd}
 use Rattle.tracing_tree_core.specs.Drawing.Settings.{Settings}
 use Rattle.tracing_tree.specs.Lines.Spelled.{TimerChoice, SpellsSettings, input_lines}
@@ -51,10 +51,21 @@ ReadsNext known left line (Ok true) = TakesLine known left line
 ReadsNext known left line (Ok false) = HasNoLine known
 ReadsNext known left line (Err cause) = is_from_outside cause ≡ true
 
--- what reading up to a line end took: the first line, or without a line end what is left, which is a line if it isn't empty
+-- a line was taken with its line end
+pub record TakesEnded (known left : Option (List ℕ)) (line : List ℕ) : Type 0 where
+  pub within : HasNoLineEnd line
+  pub taken : Consumes known left (line ++ 10 ∷ [])
+
+-- what is left of the input was taken, and no line end stands in it
+abbrev pub TakesRest : Option (List ℕ) → Option (List ℕ) → List ℕ → Type 0
+TakesRest None left line = ⊤
+TakesRest (Some input) left line = HasNoLineEnd line × (input ≡ line) × (left ≡ Some [])
+
+-- what reading up to a line end took: a line with its line end, or without one what is left; it fails for a cause from outside
+-- alone
 abbrev pub ReadsEnded : Option (List ℕ) → Option (List ℕ) → List ℕ → Result Bool LineCause → Type 0
-ReadsEnded known left line (Ok true) = TakesLine known left line
-ReadsEnded known left line (Ok false) = ReadsNext known left line (Ok (not (length line == 0)))
+ReadsEnded known left line (Ok true) = TakesEnded known left line
+ReadsEnded known left line (Ok false) = TakesRest known left line
 ReadsEnded known left line (Err cause) = is_from_outside cause ≡ true
 
 -- a cause that is there before any call is made

@@ -5,10 +5,9 @@ use Rattle.tracing_tree_core.specs.Drawing.Settings.{Settings}
 use Rattle.tracing_tree_core.specs.Time.Clock.{Timer}
 use Rattle.tracing_tree_core.specs.Registry.Ids.{id_of}
 use Rattle.tracing_tree_core.specs.Drawing.Picture.{draw}
-use Rattle.tracing_tree_core.specs.Drawing.Outputs.{IsCutShort}
+use Rattle.tracing_tree_core.specs.Drawing.Writers.{IsCutShort, SeenWriter}
 use Rattle.tracing_tree_core.specs.declared.context.Refusal.TheVariants.{Writer}
 use Rattle.tracing_tree.specs.Calls.State.{State, opening_state}
-use Rattle.tracing_tree.specs.Calls.Seen.{SeenWriter}
 use Rattle.tracing_tree.specs.Calls.Run.{Run, run, call_text, MayAnswer}
 use Rattle.tracing_tree.specs.Lines.Spelled.{TimerChoice, chosen_timer, input_lines, SpellsSettings, SpellsCall, SpellCalls, SpellsNothing}
 use Rattle.tracing_tree.specs.declared.call.Call.{Call}

@@ -7,12 +7,11 @@ use Rattle.tracing_tree_core.specs.Drawing.Settings.{Settings}
 use Rattle.tracing_tree_core.specs.Drawing.Buffers.{BuffersView}
 use Rattle.tracing_tree_core.specs.Drawing.Picture.{Row, draw}
 use Rattle.tracing_tree_core.specs.Registry.Forest.{Forest}
-use Rattle.tracing_tree_core.specs.Drawing.Outputs.{LeavesCut}
+use Rattle.tracing_tree_core.specs.Drawing.Writers.{LeavesCut, SeenWriter}
 use Rattle.tracing_tree_core.specs.declared.context.Id.{Id}
 use Rattle.tracing_tree_core.specs.declared.context.Refusal.{Refusal}
 use Rattle.tracing_tree_core.specs.declared.context.Refusal.TheVariants.{TooWide, Memory, Timer, Writer}
 use Rattle.tracing_tree.specs.Calls.State.{Turn}
-use Rattle.tracing_tree.specs.Calls.Seen.{SeenWriter}
 use Rattle.tracing_tree.specs.Calls.Layers.{LayerView}
 use Rattle.tracing_tree.specs.Rows.Plan.{PlanView, marked_by}
 use Rattle.tracing_tree.specs.Calls.Refused.{draws_too_wide}
@@ -27,16 +26,19 @@ pub record IsBlank (bufs : BuffersView) : Type 0 where
   pub block : bufs.current_buf ≡ []
   pub indent : bufs.indent_buf ≡ []
 
+-- the buffers and the text of a page stay
+pub record KeepsPage (old new : Page) : Type 0 where
+  pub bufs : new.bufs ≡ old.bufs
+  pub text : string_bytes new.text ≡ string_bytes old.text
+
 -- The block becomes this text at the end of the page. A row that is too wide is refused for that;
--- a refusal leaves the last span.
+-- a refusal changes nothing.
 abbrev pub AddsRow : Bool → List ℕ → Result (Unit {0}) Refusal → Page → Page → Type 0
 AddsRow too_wide text (Ok done) old new =
     (too_wide ≡ false) × (new.bufs ≡ record old.bufs { current_buf = [] })
     × (string_bytes new.text ≡ string_bytes old.text ++ text)
-AddsRow too_wide text (Err TooWide) old new =
-    (too_wide ≡ true) × (new.bufs.current_span ≡ old.bufs.current_span)
-AddsRow too_wide text (Err Memory) old new =
-    (too_wide ≡ false) × (new.bufs.current_span ≡ old.bufs.current_span)
+AddsRow too_wide text (Err TooWide) old new = (too_wide ≡ true) × KeepsPage old new
+AddsRow too_wide text (Err Memory) old new = (too_wide ≡ false) × KeepsPage old new
 AddsRow too_wide text (Err refusal) old new = ⊥
 
 -- why rows are not drawn: one is too wide, or the timer has no text
@@ -111,9 +113,7 @@ Sends (Ok done) (Ok sent) old new before after =
     Appends before.bytes after.bytes (string_bytes old.text) × (after.faults ≡ before.faults)
     × IsClear new × (new.bufs.current_span ≡ old.bufs.current_span)
 Sends (Ok done) (Err Writer) old new before after =
-    LeavesCut before.whole (string_bytes old.text)
-    before.bytes after.bytes before.faults after.faults
-    × (new.bufs.current_span ≡ old.bufs.current_span)
+    LeavesCut (string_bytes old.text) before after × (new.bufs.current_span ≡ old.bufs.current_span)
 Sends (Ok done) (Err refusal) old new before after = ⊥
 Sends (Err cause) result old new before after =
     (result ≡ Err cause) × (after ≡ before)

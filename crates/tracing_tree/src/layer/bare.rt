@@ -110,10 +110,8 @@ impl<W: Output, FT: FormatTime> HierarchicalLayer<W, FT> {
         if self.failed {
             return Err(Refusal::Failed);
         }
-        match spans.span(id) {
-            Some(_) => Ok(()),
-            None => Err(Refusal::NotHeld(id)),
-        }
+        spans.span(id).ok_or(Refusal::NotHeld(id))?;
+        Ok(())
     }
 }
 

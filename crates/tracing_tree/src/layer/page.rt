@@ -1,6 +1,6 @@
 //! The text of a call while it is built.
 
-ghost use Rattle.std.specs.Prelude.{◌≡◌, ◌++◌, [], None, string_bytes};
+ghost use Rattle.std.specs.Prelude.{◌≡◌, [], None, string_bytes};
 ghost use Rattle.tracing_tree_core.specs.Drawing.Texts.{prefix_text};
 ghost use Rattle.tracing_tree_core.specs.Drawing.Picture.{drawn_row, is_too_wide, unnamed_row};
 ghost use Rattle.tracing_tree.specs.Rows.Drawn.{AddsRow};
@@ -27,7 +27,7 @@ impl Page {
         }
     }
 
-    // Draws the block in `current_buf` as a row, at the end of the text.
+    // Moves the block in `current_buf` to the end of the text, as its row. A refusal changes nothing.
     pub(super) fn add_row(
         &mut self,
         level: usize,

@@ -3,14 +3,9 @@
 ghost use Rattle.std.specs.Prelude.{◌≡◌, Some, option_map};
 ghost use Rattle.serde_json.specs.View.{view, items_view, members_view};
 ghost use Rattle.serde_json.specs.Written.{has_float, items_have_float, members_have_float};
-ghost use Rattle.serde_json.specs.Find.{as_str};
-ghost use Rattle.tracing_tree.specs.Lines.Values.{IsReadAs};
 ghost use Rattle.tracing_tree.specs.Lines.Spelled.{value_at, flag, read_or, whole_value};
 
-use super::LineCause;
 use serde_json::{Map, Value};
-use std::alloc::Global;
-use tracing_tree_core::text::Text;
 
 // The value of a key; a null counts as absent.
 pub(super) fn value_at<'v>(value: &'v Value, key: &str) -> Option<&'v Value>
@@ -40,14 +35,6 @@ pub(super) fn whole_or(absent: u64, value: &Value, key: &str) -> Option<u64>
         Some(found) => found.as_u64(),
         None => Some(absent),
     }
-}
-
-// A copy of a text. `NotACall` where the value isn't one, `Memory` where memory is refused.
-pub(super) fn text_value(alloc: Global, value: &Value) -> Result<Text, LineCause>
-    ensures { IsReadAs (as_str (view value.now)) result }
-{
-    let text = value.as_str().ok_or(LineCause::NotACall)?;
-    Ok(Text::from_str(alloc, text)?)
 }
 
 // Whether a float is anywhere in the value: a number that isn't whole, or not of 64 bits.

@@ -64,10 +64,7 @@ fn is_too_wide(row: &Row, amount: usize) -> bool
         Shape::PreOpen | Shape::PostClose => row.level().checked_add(1),
         _ => Some(row.level()),
     };
-    match used {
-        Some(used) => used.checked_mul(amount).is_none(),
-        None => true,
-    }
+    used.and_then(|used| used.checked_mul(amount)).is_none()
 }
 
 // Appends the lines of a row.

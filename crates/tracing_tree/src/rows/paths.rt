@@ -148,20 +148,14 @@ impl Ancestry {
 fn opens(shape: Shape) -> bool
     ensures { result ≡ is_opening shape }
 {
-    match shape {
-        Shape::OpenRoot | Shape::Open(_) => true,
-        _ => false,
-    }
+    matches!(shape, Shape::OpenRoot | Shape::Open(_))
 }
 
 // Whether rows of this shape are of events.
 fn is_event(shape: Shape) -> bool
     ensures { result ≡ is_event shape }
 {
-    match shape {
-        Shape::Event => true,
-        _ => false,
-    }
+    matches!(shape, Shape::Event)
 }
 
 // The paths of the events so far.

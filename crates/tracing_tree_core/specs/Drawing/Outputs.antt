@@ -1,6 +1,5 @@
 -- What outputs and timers do with text.
 use Rattle.std.specs.Prelude.{◌≡◌, ◌≢◌, ℕ, ◌+◌, ◌<◌, ◌≤◌, Bool, IsTrue, List, [], ◌++◌, length, Option, None, Result, Ok, Err, MatchResult, IsSomeAnd, ⊤}
-use Rattle.std.specs.Io.KnownBytes.{Appends}
 use Rattle.tracing_tree_core.specs.declared.format.output.OutputFault.{OutputFault}
 use Rattle.tracing_tree_core.specs.declared.context.Refusal.{Refusal}
 use Rattle.tracing_tree_core.specs.declared.context.Refusal.TheVariants as Refused
@@ -29,21 +28,6 @@ AsksForText stated (Ok done) = ⊤
 AsksForText stated (Err Memory) = IsSomeAnd stated (λ text. text ≢ [])
 AsksForText stated (Err Fault) = ⊤
 
--- a beginning of a text that isn't the whole
-pub record IsCutShort (text front : List ℕ) : Type 0 where
-  pub rest : List ℕ
-  pub whole : text ≡ front ++ rest
-  pub cut : rest ≢ []
-
--- a fault of the writer: its count rose by one, and what was written is cut short, or nothing where writes are whole
-pub record LeavesCut (whole : Bool) (text : List ℕ) (old new : Option (List ℕ))
-    (old_faults new_faults : ℕ) : Type 0 where
-  pub rose : new_faults ≡ old_faults + 1
-  pub front : List ℕ
-  pub cut : IsCutShort text front
-  pub appends : Appends old new front
-  pub nothing : IsTrue whole → front ≡ []
-
 -- an output in memory: what it holds, and how many writes were refused
 pub record TapeView : Type 0 where
   pub bytes : List ℕ
@@ -54,14 +38,6 @@ pub record WrapView (W : Type 0) : Type 0 where
   pub writer : W
   pub faults : ℕ
   pub stuck : Bool
-
--- All of a text is written, or what is written is cut short. Where writes are whole a fault writes nothing.
-abbrev pub WritesWhole : Bool → List ℕ → Result (Unit {0}) OutputFault
-    → Option (List ℕ) → Option (List ℕ) → ℕ → ℕ → Type 0
-WritesWhole whole text (Ok done) old new old_faults new_faults =
-    Appends old new text × (new_faults ≡ old_faults)
-WritesWhole whole text (Err fault) old new old_faults new_faults =
-    LeavesCut whole text old new old_faults new_faults
 
 -- a fault of a timer as a refusal of a call
 abbrev pub RefusesFault : TimeFault → Refusal → Type 0

@@ -1,5 +1,5 @@
 -- The texts of styles, levels, labels, fields and prefixes.
-use Rattle.std.specs.Prelude.{ℕ, ◌-◌, ◌==◌, ◌||◌, nat_lt, nat_eq, ℤ, Bool, true, false, not, if◌then◌else◌, List, [], ◌∷◌, ◌++◌, length, map, filter, flat_map, replicate, Option, Some, None, decimal, codes, bytes_eq}
+use Rattle.std.specs.Prelude.{◌≡◌, ℕ, ◌-◌, ◌==◌, ◌||◌, nat_lt, nat_eq, ℤ, Bool, true, false, not, if◌then◌else◌, List, [], ◌∷◌, ◌++◌, length, map, filter, flat_map, replicate, Option, Some, None, decimal, codes, bytes_eq}
 use Rattle.std.specs.List.{starts_with}
 use Rattle.std.specs.Fmt.{digits, signed_decimal}
 use Rattle.tracing_tree_core.specs.Drawing.Settings.{Settings}
@@ -11,6 +11,13 @@ use Rattle.tracing_tree_core.specs.declared.format.SpanMode.{SpanMode}
 use Rattle.tracing_tree_core.specs.declared.format.SpanMode.TheVariants.{PreOpen, Open, Close, Retrace, PostClose, Event}
 use Rattle.tracing_tree_core.specs.declared.field.Field.{Field}
 use Rattle.tracing_tree_core.specs.declared.context.Context.{Context}
+
+-- ---- texts that grow
+
+-- some text was appended, or nothing
+pub record IsExtended (old new : List ℕ) : Type 0 where
+  pub front : List ℕ
+  pub appended : new ≡ old ++ front
 
 -- ---- styles
 

@@ -3,6 +3,8 @@ use Rattle.std.specs.Prelude.{ℕ, ◌+◌, ◌-◌, List, ◌++◌, Option, tru
 use Rattle.tracing_tree_core.specs.declared.context.Id.{Id}
 use Rattle.tracing_tree_core.specs.declared.field.Field.{Field}
 use Rattle.tracing_tree_core.specs.declared.registry.node.Data.{Data}
+use Rattle.tracing_tree_core.specs.declared.registry.path.SpanPath.{SpanPath}
+use Rattle.tracing_tree_core.specs.declared.registry.path.SpanPath.TheVariants.{Short, Long}
 
 -- a live span
 pub record Span : Type 0 where
@@ -35,6 +37,11 @@ abbrev pub printed_span : Span → Span
 printed_span span = record span { kept = record span.kept { written = true } }
 
 -- ---- spans as a registry keeps them
+
+-- the path of a span, wherever it is kept
+abbrev pub path_ids : SpanPath → List Id
+path_ids (Short path) = path
+path_ids (Long ids) = ids.items
 
 -- a live span with its path, from its root down to it, and the number of its children
 pub record KeptSpan : Type 0 where

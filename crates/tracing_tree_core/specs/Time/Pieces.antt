@@ -18,11 +18,6 @@ piece_text (Right number places) = right_in places (decimal number)
 abbrev pub pieces_text : List Piece → List ℕ
 pieces_text pieces = flat_map piece_text pieces
 
--- some text was appended, or nothing
-pub record IsExtended (old new : List ℕ) : Type 0 where
-  pub front : List ℕ
-  pub appended : new ≡ old ++ front
-
 abbrev pub groups_text : List (Bor (List Piece)) → List ℕ
 groups_text groups = flat_map (λ pieces. pieces_text pieces.now) groups
 

@@ -3,11 +3,10 @@
 ghost use Rattle.std.specs.Prelude.{◌≡◌, ◌<◌, ◌++◌, [], None, OnOk, OnErr};
 ghost use Rattle.tracing_tree_core.specs.Drawing.Texts.{prefix_text};
 ghost use Rattle.tracing_tree_core.specs.Drawing.Picture.{drawn_row, is_too_wide, unnamed_row};
-ghost use Rattle.tracing_tree_core.specs.Drawing.Outputs.{WritesWhole};
+ghost use Rattle.tracing_tree_core.specs.Drawing.Writers.{WritesWhole, seen_writer};
 ghost use Rattle.tracing_tree_core.specs.Drawing.Buffers.{IndentsRow, emptied_when_ok};
 
 use super::draw::push_row;
-use super::output::write_whole;
 use super::{Config, Context, Id, Output, OutputFault, Refusal, SpanMode};
 use std::alloc::{AllocError, Global};
 use std::marker::Model;
@@ -55,8 +54,8 @@ impl Buffers {
     /// the whole, and nothing where the output's writes are whole.
     pub fn flush_current_buf<O: Output>(&mut self, out: &mut O) -> Result<(), OutputFault>
         requires { O.fault_count out.old < u64.MAX }
-        ensures written { WritesWhole O.WHOLE self.old.current_buf result (O.contents out.old)
-            (O.contents out.new) (O.fault_count out.old) (O.fault_count out.new) }
+        ensures written { WritesWhole self.old.current_buf result
+            (seen_writer O.Output out.old) (seen_writer O.Output out.new) }
         ensures buffers { self.new ≡ emptied_when_ok result self.old }
     {
         write_whole(self.current_buf.as_bytes(), out)?;
@@ -99,13 +98,23 @@ impl Buffers {
             self.new }
     {
         let block = self.current_buf.as_str();
-        let drawn = push_row(&mut self.indent_buf, block, indent, config, mode, context);
-        if let Err(refusal) = drawn {
-            self.indent_buf.clear();
-            return Err(refusal);
-        }
+        push_row(&mut self.indent_buf, block, indent, config, mode, context)?;
         self.current_buf.clear();
         mem::swap(&mut self.current_buf, &mut self.indent_buf);
         Ok(())
     }
+}
+
+// Writes all bytes, in as many writes as it takes.
+fn write_whole<O: Output>(bytes: &[u8], out: &mut O) -> Result<(), OutputFault>
+    requires { O.fault_count out.old < u64.MAX }
+    ensures { WritesWhole bytes.now result
+        (seen_writer O.Output out.old) (seen_writer O.Output out.new) }
+{
+    let mut rest = bytes;
+    while !rest.is_empty() {
+        let taken = out.write(rest)?;
+        rest = &rest[taken..];
+    }
+    Ok(())
 }

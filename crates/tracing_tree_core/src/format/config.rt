@@ -3,9 +3,10 @@
 ghost use Rattle.std.specs.Prelude.{◌≡◌, ◌+◌, ◌^◌, ◌++◌, ◌<◌, [], Ok, Err, IfOk, OnOk, string_bytes, if◌then◌else◌};
 ghost use Rattle.tracing_tree_core.specs.Drawing.Picture.{is_too_wide, unnamed_row, wrapped_level};
 ghost use Rattle.tracing_tree_core.specs.Drawing.Settings.{default_settings};
-ghost use Rattle.tracing_tree_core.specs.Drawing.Texts.{prefix_text};
+ghost use Rattle.tracing_tree_core.specs.Drawing.Texts.{IsExtended, prefix_text};
 
 use super::{Context, Refusal, SpanMode};
+use itoa::Buffer;
 use std::alloc::{AllocError, Global};
 use std::marker::Model;
 
@@ -333,10 +334,9 @@ impl Config {
             SpanMode::PreOpen | SpanMode::PostClose if self.indent_lines => wrapped + 1,
             _ => wrapped,
         };
-        match used.checked_mul(self.indent_amount) {
-            Some(_) => Ok(()),
-            None => Err(Refusal::TooWide),
-        }
+        let columns = used.checked_mul(self.indent_amount);
+        columns.ok_or(Refusal::TooWide)?;
+        Ok(())
     }
 
     // The level that counts for the indent. Few levels wrap round, and the others need no division.
@@ -361,14 +361,14 @@ impl Config {
         Ok(prefix)
     }
 
-    // Appends the prefix. After `AllocError` a beginning of it may stand in `out`.
+    // Appends the prefix, or a beginning of it.
     pub(crate) fn push_prefix(&self, out: &mut String, context: &Context) -> Result<(), AllocError>
-        ensures { let prefix = prefix_text self.now context.now in
+        ensures ok { let prefix = prefix_text self.now context.now in
             OnOk result (string_bytes out.new ≡ string_bytes out.old ++ prefix) }
+        ensures extended { IsExtended (string_bytes out.old) (string_bytes out.new) }
     {
         if self.render_thread_ids {
-            let number = context.thread_id;
-            write!(out, "{number}")?;
+            out.push_str(Buffer::new().format(context.thread_id))?;
         }
         if !self.render_thread_names {
             return Ok(());

@@ -1,11 +1,11 @@
 //! The drawing of rows: what docs/FORMATS.md, "RowDrawing", says of frames, lines and wrap marks.
 
 ghost use Rattle.std.specs.List.{repeat};
-ghost use Rattle.std.specs.Prelude.{◌≡◌, ◌+◌, ◌*◌, ◌^◌, ◌<◌, ◌++◌, ◌∷◌, [], true, false, Err, OnOk, IfErr, string_bytes, encode_utf8, if◌then◌else◌};
+ghost use Rattle.std.specs.Prelude.{◌≡◌, ◌+◌, ◌*◌, ◌^◌, ◌<◌, ◌++◌, ◌∷◌, [], true, false, Err, OnOk, OnErr, IfErr, string_bytes, encode_utf8, if◌then◌else◌};
 ghost use Rattle.std.specs.Str.Lines.{strip_carriage_return};
 ghost use Rattle.tracing_tree_core.specs.Drawing.Frames.{HasRoom, corner_pieces, frame_pieces, pushed_text, row_of, span_pieces};
 ghost use Rattle.tracing_tree_core.specs.Drawing.Picture.{drawn_row, edge_frame, first_frame, frame_text, horizontal, is_last_before_wrap, is_too_wide, later_frame, lined_frame, mark_after_corner, mark_before_corner, mark_line, picture, row_frame, shift_of, unnamed_row, wrapped_level};
-ghost use Rattle.tracing_tree_core.specs.Drawing.Texts.{prefix_text};
+ghost use Rattle.tracing_tree_core.specs.Drawing.Texts.{IsExtended, prefix_text};
 
 use super::{Config, Context, Refusal, SpanMode};
 use std::alloc::AllocError;
@@ -91,10 +91,11 @@ impl LineFront {
         LineFront::corners(left, right, near, before + amount / 2, before + amount)
     }
 
-    // Appends the pieces in order.
+    // Appends the pieces in order, or some of them.
     fn push(&self, out: &mut String) -> Result<(), AllocError>
-        ensures { OnOk result
+        ensures ok { OnOk result
             (string_bytes out.new ≡ string_bytes out.old ++ pushed_text self.now) }
+        ensures extended { IsExtended (string_bytes out.old) (string_bytes out.new) }
     {
         push_repeated(out, " ", self.spaces)?;
         out.push_str(self.branch)?;
@@ -188,7 +189,9 @@ fn lined_frame(mode: SpanMode, amount: usize, wrapped: usize, first: bool) -> Li
 }
 
 /// Appends what stands before the text of a row's first line, or of each later one, where rows are drawn with lines. The level
-/// isn't wrapped; the caller must ensure that its columns fit `usize`. `AllocError` where memory is refused.
+/// isn't wrapped; the caller must ensure that its columns fit `usize`. `AllocError` where memory is refused; `out` is as before
+/// then.
+#[tactic(auto, using(crate::proofs::Extended::cuts_back))]
 pub fn push_frame(
     out: &mut String,
     mode: SpanMode,
@@ -198,11 +201,19 @@ pub fn push_frame(
 ) -> Result<(), AllocError>
     requires level { level + shift_of mode < 2 ^ 64 }
     requires width { (level + shift_of mode) * amount < 2 ^ 64 }
-    ensures { OnOk result (string_bytes out.new
+    ensures ok { OnOk result (string_bytes out.new
         ≡ string_bytes out.old
         ++ frame_text (lined_frame mode amount level (if first then 0 else 1))) }
+    ensures err { OnErr result (string_bytes out.new ≡ string_bytes out.old) }
 {
-    lined_frame(mode, amount, level, first).push(out)
+    let length = out.len();
+    match lined_frame(mode, amount, level, first).push(out) {
+        Ok(()) => Ok(()),
+        Err(refused) => {
+            out.truncate(length);
+            Err(refused)
+        }
+    }
 }
 
 // The corner of the wrap mark that stands before a row that closes.
@@ -225,9 +236,11 @@ fn corner_after(mode: SpanMode) -> Option<char>
     }
 }
 
-// Appends a text so many times, with one growth.
+// Appends a text so many times, or fewer, with one growth.
 fn push_repeated(out: &mut String, text: &str, times: usize) -> Result<(), AllocError>
-    ensures { OnOk result (string_bytes out.new ≡ string_bytes out.old ++ repeat times text.now) }
+    ensures ok { OnOk result
+        (string_bytes out.new ≡ string_bytes out.old ++ repeat times text.now) }
+    ensures extended { IsExtended (string_bytes out.old) (string_bytes out.new) }
 {
     let room = text.len().checked_mul(times).ok_or(AllocError)?;
     out.reserve(room)?;
@@ -245,7 +258,8 @@ fn without_return(line: &str) -> &str
 }
 
 /// Appends the picture of a row with this block at this level (a number of spans, whatever the settings' wraparound). `TooWide`
-/// changes nothing; after `Memory` a beginning of the picture may stand in `out`.
+/// and `Memory` change nothing.
+#[tactic(auto, using(crate::proofs::Extended::cuts_back))]
 pub fn push_row(
     out: &mut String,
     block: &str,
@@ -262,7 +276,7 @@ pub fn push_row(
     ensures refusal { let row = unnamed_row mode level [] [] in
         IfErr result (λ refusal.
         refusal ≡ (if is_too_wide config.now row then Refusal.TooWide else Refusal.Memory)) }
-    ensures wide { result ≡ Err Refusal.TooWide → string_bytes out.new ≡ string_bytes out.old }
+    ensures err { OnErr result (string_bytes out.new ≡ string_bytes out.old) }
 {
     config.check_width(mode, level)?;
     let drawing = RowDrawing {
@@ -271,19 +285,24 @@ pub fn push_row(
         mode,
         level,
     };
+    let length = out.len();
     match drawing.row(out, block) {
         Ok(()) => Ok(()),
-        Err(_) => Err(Refusal::Memory),
+        Err(_) => {
+            out.truncate(length);
+            Err(Refusal::Memory)
+        }
     }
 }
 
 impl RowDrawing<'_> {
-    // Appends the lines of a block, and before or after them the row's wrap mark.
+    // Appends the lines of a block, and before or after them the row's wrap mark, or a beginning of that.
     fn row(&self, out: &mut String, block: &str) -> Result<(), AllocError>
         requires { is_too_wide self.now.config.now (row_of self.now block.now) ≡ false }
-        ensures { OnOk result
+        ensures ok { OnOk result
             (string_bytes out.new ≡ string_bytes out.old
             ++ drawn_row self.now.config.now (row_of self.now block.now)) }
+        ensures extended { IsExtended (string_bytes out.old) (string_bytes out.new) }
     {
         if !self.is_last_before_wrap() {
             return self.lines(out, block);
@@ -293,12 +312,14 @@ impl RowDrawing<'_> {
         self.mark(out, corner_after(self.mode))
     }
 
-    // Appends the lines of a block. With lines an empty last part is a line too, and also the last loses its carriage return.
+    // Appends the lines of a block, or a beginning of them. With lines an empty last part is a line too, and also the last loses
+    // its carriage return.
     fn lines(&self, out: &mut String, block: &str) -> Result<(), AllocError>
         requires { HasRoom self.now }
-        ensures { OnOk result
+        ensures ok { OnOk result
             (string_bytes out.new ≡ string_bytes out.old
             ++ picture self.now.config.now (row_of self.now block.now)) }
+        ensures extended { IsExtended (string_bytes out.old) (string_bytes out.new) }
     {
         let mut frame = self.frame(true);
         let mut rest = block;
@@ -316,11 +337,12 @@ impl RowDrawing<'_> {
         self.line(out, frame, rest)
     }
 
-    // Appends one line.
+    // Appends one line, or a beginning of it.
     fn line(&self, out: &mut String, frame: LineFront, text: &str) -> Result<(), AllocError>
-        ensures { OnOk result (string_bytes out.new ≡ string_bytes out.old
+        ensures ok { OnOk result (string_bytes out.new ≡ string_bytes out.old
             ++ (prefix_text self.now.config.now self.now.context.now ++ pushed_text frame
             ++ text.now ++ 10 ∷ [])) }
+        ensures extended { IsExtended (string_bytes out.old) (string_bytes out.new) }
     {
         self.config.push_prefix(out, self.context)?;
         frame.push(out)?;
@@ -360,13 +382,15 @@ impl RowDrawing<'_> {
         self.config.indent_lines() && self.level > 0 && self.wrapped_level() == last
     }
 
-    // Where the levels wrap round after this one, a line up to the indent and the corner, if the row has one.
+    // Where the levels wrap round after this one, appends a line up to the indent and the corner, if the row has one, or a
+    // beginning of that.
     fn mark(&self, out: &mut String, corner: Option<char>) -> Result<(), AllocError>
         requires room { HasRoom self.now }
         requires last { is_last_before_wrap self.now.config.now self.now.level ≡ true }
-        ensures { OnOk result
+        ensures ok { OnOk result
             (string_bytes out.new ≡ string_bytes out.old
             ++ mark_line self.now.config.now (row_of self.now []) corner) }
+        ensures extended { IsExtended (string_bytes out.old) (string_bytes out.new) }
     {
         let Some(corner) = corner else {
             return Ok(());

@@ -2,7 +2,7 @@
 
 ghost use Rattle.std.specs.Prelude.{◌≡◌, ℕ, ◌+◌, ◌-◌, ◌<◌, ◌≤◌, List, [], Bool, false, Option, Some, IfOk, IfSome, IfNone, length, take};
 ghost use Rattle.std.specs.Io.KnownBytes.{Appends, Keeps, WriteAppends};
-ghost use Rattle.tracing_tree_core.specs.Drawing.Outputs.{TakesSome, CountsFault, WritesWhole};
+ghost use Rattle.tracing_tree_core.specs.Drawing.Outputs.{TakesSome, CountsFault};
 
 use std::alloc::Global;
 use std::io::{ErrorKind, Write};
@@ -44,20 +44,6 @@ pub trait Output {
         ensures contents { Keeps (contents self.old) (contents self.new) }
         ensures count { fault_count self.new ≡ fault_count self.old }
     {}
-}
-
-// Writes all bytes, in as many writes as it takes.
-pub(crate) fn write_whole<O: Output>(bytes: &[u8], out: &mut O) -> Result<(), OutputFault>
-    requires { O.fault_count out.old < u64.MAX }
-    ensures { WritesWhole O.WHOLE bytes.now result (O.contents out.old) (O.contents out.new)
-        (O.fault_count out.old) (O.fault_count out.new) }
-{
-    let mut rest = bytes;
-    while !rest.is_empty() {
-        let taken = out.write(rest)?;
-        rest = &rest[taken..];
-    }
-    Ok(())
 }
 
 /// An output in memory. Each write is taken whole; a growth that is refused is its fault.

@@ -4,6 +4,7 @@ ghost use Rattle.std.specs.Prelude.{◌≡◌, ◌<◌, IfOk, OnOk, OnErr};
 ghost use Rattle.tracing_tree_core.specs.Registry.Spans.{shown_span, handle_more, handle_less, child_more, child_less, kept_printed, fields_more};
 
 use super::Attributes;
+use super::path::SpanPath;
 use crate::context::Id;
 use crate::field::Fields;
 use crate::text::Text;
@@ -47,14 +48,14 @@ pub(crate) struct Node {
     pub(crate) handles: u64,
     pub(crate) children: usize,
     pub(crate) parent: Option<Id>,
-    pub(crate) path: Vec<Id>,
+    pub(crate) path: SpanPath,
     pub(crate) kept: Data,
     pub(crate) name: Text,
     pub(crate) target: Text,
 }
 
 impl Model for Node {
-    ghost use Rattle.tracing_tree_core.specs.Registry.Spans.{KeptSpan};
+    ghost use Rattle.tracing_tree_core.specs.Registry.Spans.{KeptSpan, path_ids};
 
     ghost Value = { KeptSpan };
 
@@ -67,7 +68,7 @@ impl Model for Node {
         kept = n.kept;
         handles = n.handles;
       };
-      path = n.path.items;
+      path = path_ids n.path;
       children = n.children;
     } };
 }

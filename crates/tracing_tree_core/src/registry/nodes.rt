@@ -246,7 +246,7 @@ fn tidy(slots: &mut Vec<Slot>, live: usize)
     ensures ends { ends_in_gap slots.new.items ≡ false }
 {
     while ends_in_gap(slots.as_slice()) {
-        slots.pop();
+        slots.truncate(slots.len() - 1);
     }
     if live < slots.len() / 2 {
         slots.retain(|slot| !slot.is_gone());

@@ -9,6 +9,7 @@ ghost use Rattle.tracing_tree_core.specs.Registry.Kept.{spans_of, kept_at, kept_
 
 use super::node::Node;
 use super::nodes::Nodes;
+use super::path::SpanPath;
 use super::{Attributes, Context, Data, LookupSpan, SpanRef};
 use crate::context::{Id, Refusal};
 use crate::field::Fields;
@@ -71,7 +72,7 @@ impl Registry {
             return Err(Refusal::NotHeld(id));
         }
         let id = self.next.ok_or(Refusal::TooMany)?;
-        let path = path_below(&self.nodes, parent, id)?;
+        let path = SpanPath::below(self.nodes.allocator(), path_at(&self.nodes, parent), id)?;
         let Attributes {
             name,
             target,
@@ -219,17 +220,6 @@ fn path_at(nodes: &Nodes, id: Option<Id>) -> &[Id]
         Some(node) => node.path(),
         None => &[],
     }
-}
-
-// The path of a new span below this parent.
-fn path_below(nodes: &Nodes, parent: Option<Id>, id: Id) -> Result<Vec<Id>, AllocError>
-    ensures { IfOk result (λ path. path.items ≡ kept_path nodes.now parent ++ id ∷ []) }
-{
-    let above = path_at(nodes, parent);
-    let mut path = Vec::with_capacity(nodes.allocator(), above.len() + 1)?;
-    path.extend_from_slice(above)?;
-    path.push(id)?;
-    Ok(path)
 }
 
 // Puts a new span at the end, and counts it among its parent's children. Nothing has changed where memory is refused.

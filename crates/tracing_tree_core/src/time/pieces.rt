@@ -2,8 +2,8 @@
 
 ghost use Rattle.std.specs.Prelude.{◌≡◌, ◌<◌, ◌++◌, Some, OnOk, replicate, decimal, string_bytes};
 ghost use Rattle.tracing_tree_core.specs.Drawing.Outputs.{AppendsStated};
-ghost use Rattle.tracing_tree_core.specs.Drawing.Texts.{digits_in, right_in};
-ghost use Rattle.tracing_tree_core.specs.Time.Pieces.{filled_in, piece_text, pieces_text, groups_text, IsExtended};
+ghost use Rattle.tracing_tree_core.specs.Drawing.Texts.{IsExtended, digits_in, right_in};
+ghost use Rattle.tracing_tree_core.specs.Time.Pieces.{filled_in, piece_text, pieces_text, groups_text};
 
 use super::TimeFault;
 use std::alloc::AllocError;
@@ -46,6 +46,7 @@ impl Piece {
 }
 
 /// Appends the pieces of all groups. On `Memory` the text is as it was.
+#[tactic(auto, using(crate::proofs::Extended::cuts_back))]
 pub(super) fn append(out: &mut String, groups: &[&[Piece]]) -> Result<(), TimeFault>
     ensures { AppendsStated (Some (groups_text groups.now))
         (string_bytes out.old) (string_bytes out.new) result }

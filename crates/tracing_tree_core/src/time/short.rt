@@ -85,10 +85,7 @@ impl ShortText {
         ensures { AppendsStated (Some self.now)
             (string_bytes out.old) (string_bytes out.new) result }
     {
-        match out.push_str(self.as_str()) {
-            Ok(()) => Ok(()),
-            Err(_) => Err(TimeFault::Memory),
-        }
+        out.push_str(self.as_str()).map_err(|_| TimeFault::Memory)
     }
 
     fn as_str(&self) -> &str

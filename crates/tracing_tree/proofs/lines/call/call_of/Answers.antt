@@ -1,5 +1,5 @@
-use Rattle.std.proofs.Common.{◌≡◌, None, Some, Err, codes, sym, ◌∙◌, rules, refl}
-use Rattle.serde_json.specs.View.{view}
+use Rattle.std.proofs.Common.{◌≡◌, None, Some, Err, codes, rules, refl}
+use Rattle.tracing_tree.specs.Lines.Borrowed.{borrowed_data}
 use Rattle.serde_json.specs.Find.{as_str}
 use Rattle.tracing_tree.specs.Lines.CallKinds.{word_of}
 use Rattle.tracing_tree.specs.Lines.Spelled.{required}
@@ -9,7 +9,7 @@ use Rattle.tracing_tree.proofs.lines.call.call_of.Goals as goal
 
 pub returns-in_err-kind : goal.returns-in_err-kind
 returns-in_err-kind c =
-    let value = view c.args.value.now in
+    let value = borrowed_data c.args.value.now in
     let none : c.kind_in.result ≡ None = search rules in
     let unnamed = rw none at c.kind_in.ensures in
     let refused : c.from_residual-in_err-kind.result ≡ Err NotACall = search rules in
@@ -17,9 +17,9 @@ returns-in_err-kind c =
 
 pub returns : goal.returns
 returns c =
-    let value = view c.args.value.now in
+    let value = borrowed_data c.args.value.now in
     let some : c.kind_in.result ≡ Some c.in_ok-kind.kind = search rules in
     let word : required as_str (codes "call") value ≡ Some (word_of c.in_ok-kind.kind) = rw some at c.kind_in.ensures in
     let context = c.in_ok-context.ensures in
-    reads_named value c.in_ok-context.context (word_of c.in_ok-kind.kind) c.call_of_kind.result (sym c.has_float.ensures ∙ c.if-has_float.false)
+    reads_named value c.in_ok-context.context (word_of c.in_ok-kind.kind) c.call_of_kind.result c.requires
     context.0 context.1 word c.call_of_kind.ensures

@@ -1,4 +1,3 @@
-use Rattle.std.proofs.Common.{◌==◌, length, refl}
 use Rattle.tracing_tree.proofs.LineEnds.{reads_line_end, reads_input_end}
 use Rattle.tracing_tree.proofs.lines.read.read_ended.Goals as goal
 
@@ -10,4 +9,4 @@ returns-in-Line g c =
 pub returns-in-Input : goal.returns-in-Input
 returns-in-Input g c =
     let part = rw c.in-Input.is at c.in_ok-read_part.ensures in
-    reads_input_end _ _ _ _ _ (length c.read_part.new.line.items == 0) c.loop-part.invariant part.0 part.1 refl
+    reads_input_end _ _ _ _ _ c.loop-part.invariant part.0 part.1

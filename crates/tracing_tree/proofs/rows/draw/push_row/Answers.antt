@@ -24,7 +24,7 @@ loop-line-preserved c =
     let place : ℕ = if c.loop-line.first then 0 else 1 in
     let mode : c.mode_of-mode.result ≡ kind_of shape = c.mode_of-mode.ensures ∙ ap kind_of c.shape.ensures.shape in
     let framed : string_bytes c.push_frame.new.out ≡ string_bytes c.loop-line.out ++ frame =
-    c.in_ok-push_frame.ensures
+    c.in_ok-push_frame.ensures.ok
     ∙ ap (λ m. string_bytes c.loop-line.out ++ frame_text (lined_frame m c.args.amount c.level-level.result place)) mode
     ∙ ap (λ n. string_bytes c.loop-line.out ++ frame_text (lined_frame (kind_of shape) c.args.amount n place)) c.level-level.ensures in
     let start : List ℕ = string_bytes c.args.out.now in

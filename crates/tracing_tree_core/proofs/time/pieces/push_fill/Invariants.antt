@@ -1,5 +1,5 @@
 use Rattle.std.proofs.Common.{◌≡◌, ◌++◌, replicate, string_bytes}
-use Rattle.tracing_tree_core.specs.Time.Pieces.{IsExtended}
+use Rattle.tracing_tree_core.specs.Drawing.Texts.{IsExtended}
 use Rattle.tracing_tree_core.proofs.time.pieces.push_fill.Given as goal
 
 abbrev pub invariant-loop : goal.invariant-loop

@@ -1,5 +1,6 @@
 use Rattle.std.proofs.Common.{◌≡◌, ◌++◌, take, string_bytes}
-use Rattle.tracing_tree_core.specs.Time.Pieces.{groups_text, IsExtended}
+use Rattle.tracing_tree_core.specs.Time.Pieces.{groups_text}
+use Rattle.tracing_tree_core.specs.Drawing.Texts.{IsExtended}
 use Rattle.tracing_tree_core.proofs.time.pieces.push_groups.Given as goal
 
 -- the groups so far

@@ -3,6 +3,7 @@ use Rattle.std.proofs.lemmas.Str.Pattern.{split_parts}
 use Rattle.tracing_tree_core.specs.Drawing.Frames.{pushed_text, row_of}
 use Rattle.tracing_tree_core.specs.Drawing.Picture.{picture}
 use Rattle.tracing_tree_core.specs.Drawing.Texts.{prefix_text}
+use Rattle.tracing_tree_core.proofs.Extended.{extended_twice}
 use Rattle.tracing_tree_core.proofs.LineLaws.{drawing-step, lined-last, unlined-last}
 use Rattle.tracing_tree_core.proofs.format.draw.RowDrawing.lines.Goals as goal
 
@@ -21,12 +22,13 @@ loop-line-preserved c =
       drawing-step settings row (string_bytes c.args.out.now ++ picture settings row) text (string_bytes c.line.new.out)
           c.loop-line.rest.now frame (pushed_text c.frame-frame-in-Some.result) line c.in-Some.others.now
           c.loop-line.invariant.1 cut.0 cut.1
-          (c.in_ok-line.ensures ∙ ap (λ (here : List ℕ). text ++ (prefix ++ frame ++ here ++ 10 ∷ [])) c.without_return.ensures)
+          (c.in_ok-line.ensures.ok ∙ ap (λ (here : List ℕ). text ++ (prefix ++ frame ++ here ++ 10 ∷ [])) c.without_return.ensures)
           c.frame-frame-in-Some.ensures,
+      extended_twice (string_bytes c.args.out.now) text (string_bytes c.line.new.out) c.loop-line.invariant.2 c.line.ensures.extended,
     )
 
-pub returns-then-indent_lines : goal.returns-then-indent_lines
-returns-then-indent_lines c =
+pub returns-then-indent_lines-clause-ok : goal.returns-then-indent_lines-clause-ok
+returns-then-indent_lines-clause-ok c =
     let self = c.args.self.now in
     let settings = self.config.now in
     let row = row_of self c.args.block.now in
@@ -36,10 +38,10 @@ returns-then-indent_lines c =
     lined-last c.line-then-indent_lines.result settings row (string_bytes c.args.out.now ++ picture settings row)
     (string_bytes c.loop-line.out) (string_bytes c.line-then-indent_lines.new.out) c.loop-line.rest.now (pushed_text c.loop-line.frame)
     c.without_return-then-indent_lines.result.now c.loop-line.invariant.1 lined unbroken c.without_return-then-indent_lines.ensures
-    c.line-then-indent_lines.ensures
+    c.line-then-indent_lines.ensures.ok
 
-pub returns : goal.returns
-returns c =
+pub returns-clause-ok : goal.returns-clause-ok
+returns-clause-ok c =
     let self = c.args.self.now in
     let settings = self.config.now in
     let row = row_of self c.args.block.now in
@@ -49,4 +51,4 @@ returns c =
     let filled = sym c.is_empty.ensures ∙ c.if-is_empty.false in
     unlined-last c.line-2.result settings row (string_bytes c.args.out.now ++ picture settings row)
     (string_bytes c.loop-line.out) (string_bytes c.line-2.new.out) c.loop-line.rest.now (pushed_text c.loop-line.frame)
-    c.loop-line.invariant.1 unlined unbroken filled c.line-2.ensures
+    c.loop-line.invariant.1 unlined unbroken filled c.line-2.ensures.ok

@@ -3,6 +3,7 @@ use denote.Text.{Utf8}
 use denote.Shadow.{shadow}
 use Rattle.tracing_tree_core.specs.Drawing.Frames.{pushed_text, row_of}
 use Rattle.tracing_tree_core.specs.Drawing.Picture.{picture}
+use Rattle.tracing_tree_core.specs.Drawing.Texts.{IsExtended}
 use Rattle.tracing_tree_core.proofs.LineLaws.{IsDrawing}
 use Rattle.tracing_tree_core.proofs.format.draw.RowDrawing.lines.Given as goal
 
@@ -12,6 +13,7 @@ invariant-loop-line l =
     let row = row_of l.self l.block in
     shadow (Utf8 l.rest)
     × IsDrawing settings row (string_bytes l.initial.out ++ picture settings row) (string_bytes l.out) l.rest (pushed_text l.frame)
+    × IsExtended (string_bytes l.initial.out) (string_bytes l.out)
 
 abbrev pub decreases-loop-line : goal.decreases-loop-line
 decreases-loop-line l = length l.rest

@@ -4,12 +4,13 @@ use Rattle.std.specs.List.{repeat}
 use Rattle.tracing_tree_core.specs.Drawing.Frames.{row_of}
 use Rattle.tracing_tree_core.specs.Drawing.Picture.{horizontal, wrapped_level}
 use Rattle.tracing_tree_core.specs.Drawing.Texts.{prefix_text}
+use Rattle.tracing_tree_core.proofs.Extended.{extended_push, extended_twice}
 use Rattle.tracing_tree_core.proofs.MarkLaws.{mark-text, pushed, pushes-joined}
 use Rattle.tracing_tree_core.proofs.format.draw.RowDrawing.mark.Goals as goal
 
-pub returns : goal.returns
+pub returns-clause-ok : goal.returns-clause-ok
 unfolding encode_utf8
-returns c =
+returns-clause-ok c =
     let self = c.args.self.now in
     let settings = self.config.now in
     let prefix = prefix_text settings self.context.now in
@@ -24,4 +25,9 @@ returns c =
     c.push_str.ensures.bytes
     (pushes-joined (string_bytes c.args.out.now) prefix (repeat columns (encode_utf8 horizontal)) (encode_utf8 corner) (10 ∷ [])
     (string_bytes c.push_prefix.new.out) (string_bytes c.push_repeated.new.out) (string_bytes c.push.new.self)
-    c.in_ok-push_prefix.ensures c.in_ok-push_repeated.ensures c.in_ok-push.ensures.bytes))
+    c.in_ok-push_prefix.ensures.ok c.in_ok-push_repeated.ensures.ok c.in_ok-push.ensures.bytes))
+
+pub returns-clause-extended : goal.returns-clause-extended
+returns-clause-extended c =
+    extended_twice _ _ _ (extended_twice _ _ _ c.push_prefix.ensures.extended c.push_repeated.ensures.extended)
+    (extended_twice _ _ _ (extended_push _ _ _ _ c.push.ensures.bytes) (extended_push _ _ _ _ c.push_str.ensures.bytes))

@@ -1,4 +1,5 @@
-use Rattle.std.proofs.Common.{◌<◌, sym, ap, ◌∙◌, refl, arith}
+use Rattle.std.proofs.Common.{◌<◌, List, [], ◌∷◌, ◌++◌, sym, ap, ◌∙◌, refl, arith}
+use Rattle.tracing_tree_core.specs.declared.context.Id.{Id}
 use Rattle.tracing_tree_core.specs.Registry.Forest.{Forest, named_parent, any_unless_live}
 use Rattle.tracing_tree_core.specs.Registry.Kept.{spans_of}
 use Rattle.tracing_tree_core.proofs.RegistryLaws.{kept-new, forest-new}
@@ -16,7 +17,7 @@ invariant_of-self-2 c =
       kept-new (spans_of c.self.inside.nodes) _ _ _ c.in_ok-id.id _ c.self.invariant.0 c.in_ok-id.ensures.ok_part refl range (sym c.in_default.ensures)
           spans c.following-self-inside.ensures,
       tied-new c.self.inside.nodes _ _ c.in_ok-id.id _ c.self.invariant.0 c.self.invariant.1 c.in_ok-id.ensures.ok_part refl (sym c.in_default.ensures)
-          c.in_ok-path.ensures refl c.in_ok-push_below.ensures.ok,
+          (c.in_ok-path.ensures ∙ ap (λ (ids : List Id). ids ++ c.in_ok-id.id ∷ []) c.path_at.ensures) refl c.in_ok-push_below.ensures.ok,
     )
 
 pub returns-clause-made : goal.returns-clause-made
