@@ -26,13 +26,12 @@ laws: build
 	@cd crates/tracing_tree_rows_laws && rt run -- 10000 2> ../../bin/laws.log || { cat ../../bin/laws.log; exit 1; }
 	@python3 scripts/reading_law.py bin/tracing_tree
 
-# The whole gate: what must not compile, runs of the built programs, every proof from nothing, the must-fail edits, the tests and the
-# programs.
+# The whole gate: what must not compile, every proof from nothing, the must-fail edits and the tests, and runs of the programs as
+# `rt ci` has just proved and built them.
 test:
 	@misuse/run.sh
-	@$(MAKE) --no-print-directory build
-	@scripts/program.sh bin/tracing_tree bin/tracing_tree_read
 	@rt ci
+	@scripts/program.sh crates/tracing_tree_cli/out/tracing_tree_cli crates/tracing_tree_read/out/tracing_tree_read
 
 # Times the library by its own calls, the program on inputs that are made here, and the reading of drawings. It asserts nothing.
 bench: build

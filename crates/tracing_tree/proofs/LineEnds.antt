@@ -12,7 +12,7 @@ use Rattle.std.proofs.lemmas.List.Sums.{fails_before_first}
 use Rattle.std.proofs.lemmas.List.Quantifiers.{position-Some}
 use Rattle.std.proofs.lemmas.List.Splits.{slice_split_at, slice_split_none, length-slice_split}
 use Rattle.std.proofs.KnownBytes.{Consumes-nil, Consumes-trans}
-use Rattle.tracing_tree_core.specs.Drawing.Picture.{parts_of}
+use Rattle.tracing_tree_base.specs.Drawing.Picture.{parts_of}
 use Rattle.tracing_tree.specs.Lines.Spelled.{input_lines, without_empty_last}
 use Rattle.tracing_tree.specs.Lines.Reads.{HasNoLineEnd, TakesPart, TakesNothing, TakesLine, TakesEnded, TakesRest, ReadsNext}
 

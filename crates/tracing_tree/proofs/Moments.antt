@@ -9,12 +9,12 @@ use Rattle.serde_json.specs.Find.{as_str}
 use Rattle.serde_json.specs.Written.{has_float}
 use Rattle.jiff_core.specs.Timestamp.{IsTimestampNanos}
 use Rattle.jiff_core.specs.declared.timestamp.Timestamp.{Timestamp}
-use Rattle.tracing_tree_core.specs.declared.context.Context.{Context}
-use Rattle.tracing_tree_core.specs.declared.context.Moment.{Moment}
+use Rattle.tracing_tree_base.specs.declared.context.Context.{Context}
+use Rattle.tracing_tree_base.specs.declared.context.Moment.{Moment}
 use Rattle.tracing_tree.specs.Lines.Values.{IsReadAs, ReadsCall, ValueSpells}
 use Rattle.tracing_tree.specs.Lines.CallKinds.{IsKindIn}
 use Rattle.tracing_tree.specs.Lines.Spelled.{◌>>=◌, IsMomentIn, context_in, required, call_named, object_call}
-use Rattle.tracing_tree.specs.declared.call.Call.{Call}
+use Rattle.tracing_tree_layer.specs.declared.call.Call.{Call}
 use Rattle.tracing_tree.specs.declared.lines.LineCause.{LineCause}
 use Rattle.tracing_tree.specs.declared.lines.LineCause.TheVariants.{Settings as NoSettings, NotACall, Read, Memory, Refused}
 

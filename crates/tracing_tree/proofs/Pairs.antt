@@ -5,7 +5,7 @@ use Rattle.std.specs.declared.alloc.Global.{Global}
 use Rattle.json.specs.Value.{items_view}
 use Rattle.json.specs.declared.value.Value.{Value}
 use Rattle.tracing_tree.specs.Lines.Borrowed.{borrowed_data, items_data, field_of}
-use Rattle.tracing_tree_core.specs.declared.field.Field.{Field}
+use Rattle.tracing_tree_base.specs.declared.field.Field.{Field}
 use Rattle.std.specs.Prelude.{option_and_then}
 use Rattle.std.proofs.Common.{ap, sym, ◌∙◌, append_assoc, arith}
 use Rattle.tracing_tree.specs.Lines.Spelled.{pair_field, field_value, item_fields}

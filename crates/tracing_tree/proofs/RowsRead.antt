@@ -1,25 +1,4 @@
--- Rows that are read back: lines, rows and texts, and what the code of the reader tells of them.
-pub mod Bytes
-pub mod FirstRead
-pub mod FirstDrawn
-pub mod LaterRead
-pub mod RowLines
-pub mod LinesRead
-pub mod LinesDrawn
-pub mod CleanFrames
-pub mod TextsRead
-pub mod ReadableDrawn
-pub mod ReadSteps
-mod WorkedReads
-pub mod Trims
-pub mod BareLines
-pub mod FarLines
-pub mod ReadPlaces
-pub mod Taken
-pub mod ReadBack
-pub mod Made
-pub mod DrawnRows
-pub mod AncestryLaws
+-- Ancestors that are found in the text of a run's drawing, and rows as lines of JSON.
 pub mod PathsFound
 pub mod JsonTexts
 pub mod JsonRuns

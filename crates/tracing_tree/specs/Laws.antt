@@ -1,3 +1,2 @@
--- What a reader may conclude from the rows of a run.
-pub mod Reading
+-- What a reader may conclude from the text of a run's drawing.
 pub mod Ancestry

@@ -1,8 +1,3 @@
--- Drawings that are read back.
-pub mod RowText
-pub mod Line
-pub mod Texts
-pub mod DrawRows
-pub mod Readable
+-- Rows as lines of JSON.
 pub mod Json
 pub mod JsonSteps

@@ -9,14 +9,13 @@ mod value;
 
 ghost use Rattle.std.specs.Prelude.{◌≡◌, IfErr, IfSome, MatchResult};
 ghost use Rattle.std.specs.Io.Buffered.{reader_remaining};
-ghost use Rattle.tracing_tree.specs.Calls.Layers.{seen, Changes};
+ghost use Rattle.tracing_tree_layer.specs.Calls.Layers.{seen, Changes};
 ghost use Rattle.tracing_tree.specs.Lines.Reads.{IsBeforeCalls, OpensWith};
 ghost use Rattle.tracing_tree.specs.Lines.Runs.{CountsEnd, EndsAtFirst, LeavesRun, status_of};
-ghost use Rattle.tracing_tree.specs.Lines.Steps.{EndsLines, Flushes, JudgesLine};
-ghost use Rattle.tracing_tree_core.specs.Drawing.Writers.{seen_writer};
+ghost use Rattle.tracing_tree_layer.specs.Calls.Layers.{Flushes};
+ghost use Rattle.tracing_tree.specs.Lines.Steps.{EndsLines, JudgesLine};
+ghost use Rattle.tracing_tree_base.specs.Drawing.Writers.{seen_writer};
 
-use crate::layer::HierarchicalLayer;
-use crate::layered::Layered;
 use call::call_of_line;
 use json::Scratch;
 use read::{holds_line, is_skipped, read_line};
@@ -27,6 +26,8 @@ use std::io::{BufRead, BufReader, Read};
 use thiserror::Error;
 use tracing_tree_core::format::{Output, Refusal};
 use tracing_tree_core::time::FormatTime;
+use tracing_tree_layer::layer::HierarchicalLayer;
+use tracing_tree_layer::layered::Layered;
 
 /// Why a line ended the run.
 #[derive(Clone, Copy, Debug, PartialEq, Eq, Error)]

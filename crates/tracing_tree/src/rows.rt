@@ -1,17 +1,11 @@
-//! Rows of a drawing: made one by one, drawn, and read back from the text of a drawing.
-//!
-//! What a row may be, how it is drawn and which line is read as what is in docs/FORMATS.md, 'Rows and their reader'. Where
-//! `read_rows` returns rows, drawing them gives the text again, and no other rows have that text.
+//! Rows of a drawing, the paths of its events, and its rows as lines of JSON.
 
-mod draw;
 mod json_text;
 mod paths;
-mod read;
-mod row;
-mod text;
 
-pub use draw::{DrawFault, draw_rows};
 pub use json_text::{RowCause, RowFault, rows_to_json};
-pub use paths::{Ancestry, EventPath, Places, read_paths};
-pub use read::{ReadFault, Reader, Taken, read_rows};
-pub use row::{Lines, Row, Shape};
+pub use paths::read_paths;
+pub use tracing_tree_rows::{
+    Ancestry, DrawFault, EventPath, Lines, Places, ReadFault, Reader, Row, Shape, Taken, draw_rows,
+    read_rows,
+};

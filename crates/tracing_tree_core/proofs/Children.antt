@@ -10,7 +10,7 @@ use Rattle.tracing_tree_core.specs.Registry.Ids.{same_id}
 use Rattle.tracing_tree_core.specs.Registry.Spans.{Span}
 use Rattle.tracing_tree_core.specs.Registry.Forest.{has_id, is_child_of, IsGrown, IsForest}
 use Rattle.tracing_tree_core.specs.Registry.Registered.{alone, is_other_child, lacks_others}
-use Rattle.tracing_tree_core.specs.declared.context.Id.{Id}
+use Rattle.tracing_tree_base.specs.declared.context.Id.{Id}
 use Rattle.tracing_tree_core.proofs.ForestLaws.{same_id-eq}
 use Rattle.tracing_tree_core.proofs.RegistryLaws.{any-reverse}
 

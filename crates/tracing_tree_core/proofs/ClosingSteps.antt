@@ -12,7 +12,7 @@ use Rattle.tracing_tree_core.specs.Registry.Ids.{same_id}
 use Rattle.tracing_tree_core.specs.Registry.Spans.{Span}
 use Rattle.tracing_tree_core.specs.Registry.Forest.{Forest, has_id, is_child_of, span_at, handles_of, update_span, take_handle, path_of, is_live, path_among, IsForest, IsClosing, IsLongestGoing, goes_after, going_up, closing_of, after_close, unless_handle, without_spans}
 use Rattle.tracing_tree_core.specs.Registry.Registered.{IsRising, IsKept, alone, going_after, is_other_child, lacks_others}
-use Rattle.tracing_tree_core.specs.declared.context.Id.{Id}
+use Rattle.tracing_tree_base.specs.declared.context.Id.{Id}
 use Rattle.tracing_tree_core.proofs.ForestLaws.{same_id-eq, path_of-is_path}
 use Rattle.tracing_tree_core.proofs.PathLaws.{path_above}
 use Rattle.tracing_tree_core.proofs.ClosingLaws.{going-cons, closing_of-longest}

@@ -8,7 +8,7 @@ use Rattle.std.proofs.lemmas.List.{reverse-append, reverse-reverse, append-nil}
 use Rattle.tracing_tree_core.specs.Registry.Ids.{same_id}
 use Rattle.tracing_tree_core.specs.Registry.Spans.{Span}
 use Rattle.tracing_tree_core.specs.Registry.Forest.{Forest, has_id, span_at, path_among, path_of, path_of_any, IsGrown, IsForest}
-use Rattle.tracing_tree_core.specs.declared.context.Id.{Id}
+use Rattle.tracing_tree_base.specs.declared.context.Id.{Id}
 use Rattle.tracing_tree_core.proofs.PathLaws.{path_above, look-by, parent-among, above-older, path_of-step, path_of-none}
 use Rattle.tracing_tree_core.proofs.ForestLaws.{look, look-reverse, look-newest, path-newest, path-older, same_id-eq}
 use Rattle.tracing_tree_core.proofs.RegistryLaws.{forest_of}

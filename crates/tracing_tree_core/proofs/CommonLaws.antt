@@ -8,7 +8,7 @@ use Rattle.std.proofs.lemmas.List.{take-append-drop, take_more}
 use Rattle.tracing_tree_core.specs.Registry.Ids.{same_id}
 use Rattle.tracing_tree_core.specs.Registry.Forest.{Forest, is_live, path_of, Descends, IsPath, IsForest}
 use Rattle.tracing_tree_core.specs.Registry.Paths.{agree_at, PartOnce, looks_back}
-use Rattle.tracing_tree_core.specs.declared.context.Id.{Id}
+use Rattle.tracing_tree_base.specs.declared.context.Id.{Id}
 use Rattle.tracing_tree_core.proofs.ForestLaws.{same_id-eq, last_or-push, path_of-is_path}
 use Rattle.tracing_tree_core.proofs.PathLaws.{path_of-only, path_of-none}
 

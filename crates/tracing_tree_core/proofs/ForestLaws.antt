@@ -9,7 +9,7 @@ use Rattle.std.proofs.lemmas.Bool.{eqb-true, not-true, or_parts}
 use Rattle.tracing_tree_core.specs.Registry.Ids.{id_of, same_id}
 use Rattle.tracing_tree_core.specs.Registry.Spans.{Span}
 use Rattle.tracing_tree_core.specs.Registry.Forest.{Forest, has_id, span_at, is_live, path_among, path_of, Descends, IsPath, IsGrown, IsForest}
-use Rattle.tracing_tree_core.specs.declared.context.Id.{Id}
+use Rattle.tracing_tree_base.specs.declared.context.Id.{Id}
 
 -- the first span with this id
 abbrev pub look : List Span → Id → Option Span

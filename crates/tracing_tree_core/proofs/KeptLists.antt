@@ -8,7 +8,7 @@ use Rattle.tracing_tree_core.specs.Registry.Ids.{id_of, same_id}
 use Rattle.tracing_tree_core.specs.Registry.Spans.{Span, KeptSpan, child_more, child_less}
 use Rattle.tracing_tree_core.specs.Registry.Forest.{has_id}
 use Rattle.tracing_tree_core.specs.Registry.Kept.{keeps_id, kept_at, spans_of, change_kept, leave_out, with_child}
-use Rattle.tracing_tree_core.specs.declared.context.Id.{Id}
+use Rattle.tracing_tree_base.specs.declared.context.Id.{Id}
 use Rattle.tracing_tree_core.proofs.RegistryLaws.{changed, without}
 
 -- a search of changed elements, where the change leaves the test

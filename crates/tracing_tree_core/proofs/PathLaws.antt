@@ -6,7 +6,7 @@ use Rattle.std.proofs.lemmas.List.{reverse-reverse, append-nil, append_assoc}
 use Rattle.std.proofs.lemmas.Bool.{not-true, or_parts}
 use Rattle.tracing_tree_core.specs.Registry.Spans.{Span}
 use Rattle.tracing_tree_core.specs.Registry.Forest.{Forest, has_id, span_at, is_live, path_among, path_of, path_of_any, Descends, IsPath, IsPathIfLive, IsGrown, IsForest}
-use Rattle.tracing_tree_core.specs.declared.context.Id.{Id}
+use Rattle.tracing_tree_base.specs.declared.context.Id.{Id}
 use Rattle.tracing_tree_core.proofs.ForestLaws.{look, look-reverse, look-newest, older-not, path-newest, path-older, is_some-find, path_of-is_path}
 
 -- the path of a parent that may be missing

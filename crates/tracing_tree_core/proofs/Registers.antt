@@ -14,7 +14,7 @@ use Rattle.tracing_tree_core.specs.Registry.Spans.{Span, KeptSpan, handle_less}
 use Rattle.tracing_tree_core.specs.Registry.Forest.{Forest, has_id, is_child_of, span_at, handles_of, unless_live, unless_handle, has_all_handles, any_unless_live, update_span, closing_of, going_up, children_of, path_of, IsPathIfLive, IsClosing, IsForest}
 use Rattle.tracing_tree_core.specs.Registry.Registered.{IsKept, IsNewest, alone, going_after, lacks_others}
 use Rattle.tracing_tree_core.specs.Registry.Kept.{keeps_id, kept_at, spans_of, change_kept, with_child, kept_path, AreBelow, IsTied}
-use Rattle.tracing_tree_core.specs.declared.context.Id.{Id}
+use Rattle.tracing_tree_base.specs.declared.context.Id.{Id}
 use Rattle.tracing_tree_core.proofs.ForestLaws.{is_some-find}
 use Rattle.tracing_tree_core.proofs.PathLaws.{path_of-none, path_of-whole}
 use Rattle.tracing_tree_core.proofs.RegistryLaws.{forest_of, changed, changed-same, forest-updated, rising-changed, below-changed, all_below, without, parent-live, taken-back}

@@ -13,7 +13,7 @@ use Rattle.tracing_tree_core.specs.Registry.Ids.{id_of}
 use Rattle.tracing_tree_core.specs.Registry.Spans.{Span}
 use Rattle.tracing_tree_core.specs.Registry.Forest.{has_id}
 use Rattle.tracing_tree_core.specs.Registry.Registered.{IsRising}
-use Rattle.tracing_tree_core.specs.declared.context.Id.{Id}
+use Rattle.tracing_tree_base.specs.declared.context.Id.{Id}
 
 -- all of these ids are above this number
 abbrev pub all_above : ℕ → List Span → Bool

@@ -13,7 +13,7 @@ use Rattle.tracing_tree_core.specs.Registry.Spans.{Span, KeptSpan, child_less}
 use Rattle.tracing_tree_core.specs.Registry.Forest.{has_id, is_child_of, parent_of, path_of, path_of_any, path_among, children_of, IsForest}
 use Rattle.tracing_tree_core.specs.Registry.Registered.{IsRising, alone}
 use Rattle.tracing_tree_core.specs.Registry.Kept.{keeps_id, kept_at, spans_of, change_kept, leave_out, with_child, kept_path, IsTied}
-use Rattle.tracing_tree_core.specs.declared.context.Id.{Id}
+use Rattle.tracing_tree_base.specs.declared.context.Id.{Id}
 use Rattle.tracing_tree_core.proofs.ForestLaws.{path-newest, path-older, is_some-find, same_id-eq}
 use Rattle.tracing_tree_core.proofs.PathLaws.{path_of-none}
 use Rattle.tracing_tree_core.proofs.RegistryLaws.{IsSame, changed, changed-same, reverse-map, without, reverse-filter, any-reverse}

@@ -1,3 +1,2 @@
 -- Examples computed from the definitions.
-pub mod Clocks
 pub mod Paths

@@ -1,5 +1,1 @@
-pub mod Drawing
 pub mod Registry
-pub mod Text
-pub mod Equal
-pub mod Time

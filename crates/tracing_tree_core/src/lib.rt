@@ -1,10 +1,6 @@
 //! Spans, their texts and their drawing: the base of `tracing_tree`.
 #![tactic(auto)]
 
-pub mod context;
-pub mod field;
-pub mod format;
 pub mod registry;
-pub mod style;
-pub mod text;
-pub mod time;
+
+pub use tracing_tree_base::{context, field, format, style, text, time};

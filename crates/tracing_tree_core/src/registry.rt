@@ -13,15 +13,15 @@ mod slot;
 pub mod spans;
 pub mod walked;
 
-pub use crate::context::{Context, Id};
-use crate::field::Fields;
-use crate::style::Level;
-use crate::text::Text;
 pub use lookup::LookupSpan;
 pub use node::{Data, SpanRef};
 pub use paths::common;
 pub use prefix::Common;
 pub use spans::Registry;
+pub use tracing_tree_base::context::{Context, Id};
+use tracing_tree_base::field::Fields;
+use tracing_tree_base::style::Level;
+use tracing_tree_base::text::Text;
 pub use walked::Walked;
 
 /// The parent that a new span or an event names.

@@ -3,7 +3,7 @@
 ghost use Rattle.std.specs.Prelude.{◌≡◌, nat_eq, IfOk, Option};
 ghost use Rattle.tracing_tree_core.specs.Registry.Ids.{same_id};
 ghost use Rattle.tracing_tree_core.specs.Registry.Forest.{Forest, IsForest, path_of, path_of_any, fresh_ids};
-ghost use Rattle.tracing_tree.specs.Differences.Items.{differing};
+ghost use Rattle.tracing_tree_layer.specs.Differences.Items.{differing};
 
 use std::alloc::{AllocError, Global};
 use std::test::*;

@@ -6,12 +6,12 @@ use Rattle.std.proofs.KnownBytes.{Appends-trans, Appends-kept}
 use Rattle.serde_json.proofs.OnLiterals.{serde_json_on_literals}
 use Rattle.serde_json.specs.Data.{number, unsigned, array, Items, member}
 use Rattle.serde_json.specs.Written.{items_text, members_text}
-use Rattle.tracing_tree.specs.ReadBack.RowText.{TextRow}
+use Rattle.tracing_tree_rows.specs.ReadBack.RowText.{TextRow}
 use Rattle.tracing_tree.specs.ReadBack.Json.{ancestors_member, place_items, row_json, text_items}
 use Rattle.tracing_tree.specs.ReadBack.JsonSteps.{ancestors_text, level_text, shape_text}
-use Rattle.tracing_tree.specs.declared.rows.paths.EventPath.{EventPath}
-use Rattle.tracing_tree.specs.declared.rows.row.Shape.{Shape}
-use Rattle.tracing_tree.specs.declared.rows.row.Shape.TheVariants.{PreOpen, OpenRoot, Open, CloseRoot, Close, PostClose, Event}
+use Rattle.tracing_tree_rows.specs.declared.paths.EventPath.{EventPath}
+use Rattle.tracing_tree_rows.specs.declared.row.Shape.{Shape}
+use Rattle.tracing_tree_rows.specs.declared.row.Shape.TheVariants.{PreOpen, OpenRoot, Open, CloseRoot, Close, PostClose, Event}
 
 -- what is so where all went well
 pub on_ok : {E : Type 0} (result : Result (Unit {0}) E) (x a b : List ℕ) → x ≡ (if is_ok result then a else b) → OnOk result (x ≡ a)

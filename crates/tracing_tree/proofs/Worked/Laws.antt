@@ -1,18 +1,18 @@
 -- The reading laws on worked runs: what they say where their premises hold, and that they fail without the premise on closes.
 use Rattle.std.proofs.Common.{◌≡◌, true, List, [], ◌∷◌, Option, Some, unwrap_or, refl, sym, ap, ◌∙◌, arith}
 use Rattle.std.specs.Prelude.{codes}
-use Rattle.tracing_tree_core.specs.Drawing.Settings.{Settings}
+use Rattle.tracing_tree_base.specs.Drawing.Settings.{Settings}
 use Rattle.tracing_tree_core.specs.Registry.Ids.{id_of}
-use Rattle.tracing_tree_core.specs.Time.Clock.{no_timer}
-use Rattle.tracing_tree_core.specs.declared.context.Id.{Id}
+use Rattle.tracing_tree_base.specs.Time.Clock.{no_timer}
+use Rattle.tracing_tree_base.specs.declared.context.Id.{Id}
 use Rattle.tracing_tree_core.specs.declared.registry.Parent.TheVariants.{Current}
-use Rattle.tracing_tree_core.specs.declared.style.Level.TheVariants.{Info}
-use Rattle.tracing_tree.specs.Calls.State.{opening_state}
-use Rattle.tracing_tree.specs.Laws.Reading.{EventInRun, ReadingLaw, run_is_on_path, latest, rows_of}
-use Rattle.tracing_tree.specs.declared.call.Call.{Call}
-use Rattle.tracing_tree.proofs.Calls.{lined, outside, inside, made, message, informed, closed}
+use Rattle.tracing_tree_base.specs.declared.style.Level.TheVariants.{Info}
+use Rattle.tracing_tree_layer.specs.Calls.State.{opening_state}
+use Rattle.tracing_tree_layer.specs.Laws.Reading.{EventInRun, ReadingLaw, run_is_on_path, latest, rows_of}
+use Rattle.tracing_tree_layer.specs.declared.call.Call.{Call}
+use Rattle.tracing_tree_layer.proofs.Calls.{lined, outside, inside, made, message, informed, closed}
 use Rattle.tracing_tree.proofs.Worked.Readings.{close_off_path, stranger_above}
-use Rattle.tracing_tree.proofs.Reading.Laws.{reading-law}
+use Rattle.tracing_tree_layer.proofs.Reading.Laws.{reading-law}
 
 abbrev pub retraced : Settings
 retraced = record lined { span_retrace = true }

@@ -5,12 +5,12 @@ use Rattle.std.specs.Char.{encode_utf8}
 use Rattle.serde_json.proofs.OnLiterals.{serde_json_on_literals}
 use Rattle.serde_json.specs.Data.{string, object, member, no_members}
 use Rattle.serde_json.specs.Written.{has_float}
-use Rattle.tracing_tree_core.specs.declared.context.Moment.{Moment}
-use Rattle.tracing_tree.specs.declared.call.Call.{Call}
+use Rattle.tracing_tree_base.specs.declared.context.Moment.{Moment}
+use Rattle.tracing_tree_layer.specs.declared.call.Call.{Call}
 use Rattle.tracing_tree.specs.Lines.Runs.{LeavesRun}
 use Rattle.tracing_tree.specs.declared.lines.LineCause.TheVariants.{Settings as NoSettings, NotACall}
 use Rattle.tracing_tree.specs.Lines.Spelled.{line_settings, line_object, object_call, SpellsCall, SpellsNothing, input_lines, is_skipped, ◌>>=◌, no_clock, local_clock, uptime_clock}
-use Rattle.tracing_tree.proofs.Calls.{plain, lined, start_of_1970, outside, inside, made, warned, closed, holding}
+use Rattle.tracing_tree_layer.proofs.Calls.{plain, lined, start_of_1970, outside, inside, made, warned, closed, holding}
 
 -- lines alone
 pub lines_on : line_settings (codes "{\"indent_lines\":true}") ≡ Some (record lined { ansi = false }, no_clock)

@@ -2,18 +2,18 @@
 use Rattle.std.specs.Prelude.{◌≡◌, ℕ, true, false, List, [], ◌∷◌, Some, None, refl, codes, encode_utf8_all}
 use Rattle.std.specs.Char.{encode_utf8}
 use Rattle.tracing_tree_core.specs.Registry.Ids.{id_of}
-use Rattle.tracing_tree_core.specs.Time.Clock.{no_timer}
-use Rattle.tracing_tree.specs.Calls.State.{opening_state}
-use Rattle.tracing_tree.specs.Calls.Run.{run}
-use Rattle.tracing_tree.specs.declared.call.Call.{Call}
-use Rattle.tracing_tree.specs.ReadBack.RowText.{TextRow, AreTextRows, rows_text, is_text_row, made_row, is_row_too_wide, first_lines, event_paths}
-use Rattle.tracing_tree.specs.ReadBack.DrawRows.{are_too_wide}
-use Rattle.tracing_tree.specs.Laws.Ancestry.{place_at}
-use Rattle.tracing_tree.specs.ReadBack.Readable.{IsReadable, text_rows}
-use Rattle.tracing_tree.specs.Laws.Reading.{run_is_on_path, latest, rows_of}
-use Rattle.tracing_tree.specs.declared.rows.row.Shape.{Shape}
-use Rattle.tracing_tree.specs.declared.rows.row.Shape.TheVariants.{PreOpen, OpenRoot, Open, CloseRoot, Close, Event}
-use Rattle.tracing_tree.proofs.Calls.{lined, outside, inside, made, informed, warned, closed}
+use Rattle.tracing_tree_base.specs.Time.Clock.{no_timer}
+use Rattle.tracing_tree_layer.specs.Calls.State.{opening_state}
+use Rattle.tracing_tree_layer.specs.Calls.Run.{run}
+use Rattle.tracing_tree_layer.specs.declared.call.Call.{Call}
+use Rattle.tracing_tree_rows.specs.ReadBack.RowText.{TextRow, AreTextRows, rows_text, is_text_row, made_row, is_row_too_wide, first_lines, event_paths}
+use Rattle.tracing_tree_rows.specs.ReadBack.DrawRows.{are_too_wide}
+use Rattle.tracing_tree_rows.specs.ReadBack.Paths.{place_at}
+use Rattle.tracing_tree_rows.specs.ReadBack.Readable.{IsReadable, text_rows}
+use Rattle.tracing_tree_layer.specs.Laws.Reading.{run_is_on_path, latest, rows_of}
+use Rattle.tracing_tree_rows.specs.declared.row.Shape.{Shape}
+use Rattle.tracing_tree_rows.specs.declared.row.Shape.TheVariants.{PreOpen, OpenRoot, Open, CloseRoot, Close, Event}
+use Rattle.tracing_tree_layer.proofs.Calls.{lined, outside, inside, made, informed, warned, closed}
 
 abbrev pub row : Shape → ℕ → List (List ℕ) → TextRow
 row shape level lines = record { shape = shape; level = level; lines = lines }

@@ -9,9 +9,9 @@ use Rattle.serde_json.specs.Find.{as_u64, as_i64, as_str, is_float}
 use Rattle.serde_json.specs.Read.{number_of, of_json, read}
 use Rattle.serde_json.specs.Written.{has_float}
 use Rattle.tracing_tree.specs.Lines.Values.{IsUnlessMemory}
-use Rattle.tracing_tree_core.specs.declared.field.Field.{Field}
+use Rattle.tracing_tree_base.specs.declared.field.Field.{Field}
 use Rattle.tracing_tree.specs.Lines.Spelled.{◌>>=◌, SpellsCall}
-use Rattle.tracing_tree.specs.declared.call.Call.{Call}
+use Rattle.tracing_tree_layer.specs.declared.call.Call.{Call}
 use Rattle.tracing_tree.specs.declared.lines.LineCause.{LineCause}
 use Rattle.tracing_tree.specs.declared.lines.LineCause.TheVariants.{NotACall}
 

@@ -1,16 +1,16 @@
 -- What one line does to a layer, and what lines do to it one after another.
 use Rattle.std.specs.Prelude.{◌≡◌, ℕ, ◌≤◌, true, false, List, ◌++◌, length, take, slice_get, Option, None, IfSome, Result, Ok, Err}
-use Rattle.std.specs.Io.KnownBytes.{Appends, Keeps}
-use Rattle.tracing_tree_core.specs.Drawing.Picture.{draw}
-use Rattle.tracing_tree_core.specs.declared.context.Refusal.{Refusal}
-use Rattle.tracing_tree.specs.Calls.Seen.{Seen}
-use Rattle.tracing_tree.specs.Calls.Headline.{run_from}
-use Rattle.tracing_tree.specs.Calls.Answered.{IsAnswered}
+use Rattle.std.specs.Io.KnownBytes.{Appends}
+use Rattle.tracing_tree_base.specs.Drawing.Picture.{draw}
+use Rattle.tracing_tree_base.specs.declared.context.Refusal.{Refusal}
+use Rattle.tracing_tree_layer.specs.Calls.Seen.{Seen}
+use Rattle.tracing_tree_layer.specs.Calls.Headline.{run_from}
+use Rattle.tracing_tree_layer.specs.Calls.Answered.{IsAnswered}
 use Rattle.tracing_tree.specs.Lines.Spelled.{input_lines, is_skipped, SpellsCall, SpellCalls, SpellsNothing}
 use Rattle.tracing_tree.specs.Lines.Runs.{IsCounted, IsFaultAfter, IsLeftByFault, CountsEnd}
 use Rattle.tracing_tree.specs.Lines.Reads.{TakesLine, HasNoLine}
-use Rattle.tracing_tree.specs.declared.call.Call.{Call}
-use Rattle.tracing_tree.specs.declared.call.Reply.{Reply}
+use Rattle.tracing_tree_layer.specs.declared.call.Call.{Call}
+use Rattle.tracing_tree_layer.specs.declared.call.Reply.{Reply}
 use Rattle.tracing_tree.specs.declared.lines.Judged.{Judged}
 use Rattle.tracing_tree.specs.declared.lines.Judged.TheVariants.{End, Skipped, Accepted}
 use Rattle.tracing_tree.specs.declared.lines.LineCause.{LineCause}
@@ -51,11 +51,6 @@ JudgesLine known left (Err NotACall) old new = FailsLine known left × (new ≡ 
 JudgesLine known left (Err Read) old new = new ≡ old
 JudgesLine known left (Err Memory) old new = new ≡ old
 JudgesLine known left (Err (Refused refusal)) old new = MakesCall known left (Err refusal) old new
-
--- The writer passed on what it held back: its known bytes, its count of faults and all else stay.
-pub record Flushes (old new : Seen) : Type 0 where
-  pub kept : Keeps old.writer.bytes new.writer.bytes
-  pub same : new ≡ record old { writer = record old.writer { bytes = new.writer.bytes } }
 
 -- A run over lines: the calls that these lines spell are accepted, the others are skipped, and the next line is to blame. What
 -- is written is the drawing of the run of these calls, and what the fault leaves.

@@ -4,16 +4,16 @@ use Rattle.std.specs.List.{enumerate_from}
 use Rattle.std.specs.Io.KnownBytes.{Appends}
 use Rattle.serde_json.specs.Data.{Data, null, unsigned, boolean, number, string, array, object, Items, no_items, item, Members, no_members, member}
 use Rattle.serde_json.specs.Written.{compact_text}
-use Rattle.tracing_tree_core.specs.Drawing.Picture.{Row, parts_of}
-use Rattle.tracing_tree_core.specs.Drawing.Settings.{Settings}
-use Rattle.tracing_tree.specs.ReadBack.Readable.{IsDrawing, text_rows}
-use Rattle.tracing_tree.specs.ReadBack.RowText.{TextRow, IsOnlyReading, IsFirstBadLine, event_path_at, first_lines}
+use Rattle.tracing_tree_base.specs.Drawing.Picture.{Row, parts_of}
+use Rattle.tracing_tree_base.specs.Drawing.Settings.{Settings}
+use Rattle.tracing_tree_rows.specs.ReadBack.Readable.{IsDrawing, text_rows}
+use Rattle.tracing_tree_rows.specs.ReadBack.RowText.{TextRow, IsOnlyReading, IsFirstBadLine, event_path_at, first_lines}
 use Rattle.tracing_tree.specs.declared.rows.json_text.RowCause.{RowCause}
 use Rattle.tracing_tree.specs.declared.rows.json_text.RowCause.TheVariants.{NotARow, Read, Memory, Writer}
 use Rattle.tracing_tree.specs.declared.rows.json_text.RowFault.{RowFault}
-use Rattle.tracing_tree.specs.declared.rows.paths.EventPath.{EventPath}
-use Rattle.tracing_tree.specs.declared.rows.row.Shape.{Shape}
-use Rattle.tracing_tree.specs.declared.rows.row.Shape.TheVariants.{PreOpen, OpenRoot, Open, CloseRoot, Close, PostClose, Event}
+use Rattle.tracing_tree_rows.specs.declared.paths.EventPath.{EventPath}
+use Rattle.tracing_tree_rows.specs.declared.row.Shape.{Shape}
+use Rattle.tracing_tree_rows.specs.declared.row.Shape.TheVariants.{PreOpen, OpenRoot, Open, CloseRoot, Close, PostClose, Event}
 
 -- ---- one row
 

@@ -3,18 +3,18 @@ use Rattle.std.specs.Prelude.{◌≡◌, ℕ, ◌+◌, ◌≤◌, Bool, true, fa
 use Rattle.std.specs.Io.KnownBytes.{Appends}
 use Rattle.serde_json.specs.Data.{boolean}
 use Rattle.serde_json.specs.Written.{compact_text, items_text}
-use Rattle.tracing_tree.specs.Laws.Ancestry.{AreLastPlaces}
+use Rattle.tracing_tree_rows.specs.ReadBack.Paths.{AreLastPlaces}
 use Rattle.tracing_tree.specs.ReadBack.Json.{EndsAtLine, IsNotARow, json_line, json_lines, place_items, shape_name, verbose_of}
-use Rattle.tracing_tree.specs.ReadBack.RowText.{TextRow}
-use Rattle.tracing_tree.specs.ReadBack.Texts.{IsReadTo}
+use Rattle.tracing_tree_rows.specs.ReadBack.RowText.{TextRow}
+use Rattle.tracing_tree_rows.specs.ReadBack.Texts.{IsReadTo}
 use Rattle.tracing_tree.specs.declared.rows.json_text.Ended.{Ended}
 use Rattle.tracing_tree.specs.declared.rows.json_text.JsonRows.{JsonRows}
 use Rattle.tracing_tree.specs.declared.rows.json_text.RowCause.{RowCause}
 use Rattle.tracing_tree.specs.declared.rows.json_text.RowCause.TheVariants.{NotARow, Read, Memory, Writer}
 use Rattle.tracing_tree.specs.declared.rows.json_text.RowFault.{RowFault}
 use Rattle.tracing_tree.specs.declared.rows.json_text.RowsRead.{RowsRead}
-use Rattle.tracing_tree.specs.declared.rows.paths.EventPath.{EventPath}
-use Rattle.tracing_tree.specs.declared.rows.row.Shape.{Shape}
+use Rattle.tracing_tree_rows.specs.declared.paths.EventPath.{EventPath}
+use Rattle.tracing_tree_rows.specs.declared.row.Shape.{Shape}
 
 -- all of a text is written, or a beginning
 abbrev pub WritesText : List ℕ → Result (Unit {0}) RowCause → Option (List ℕ) → Option (List ℕ)

@@ -11,13 +11,13 @@ ghost use Rattle.tracing_tree.specs.Lines.Spelled.{call_named, new_in, record_in
 use super::LineCause;
 use super::borrowed::{as_str, items_of, text_value, value_at, whole_value_of_line};
 use super::context::{context_in, id_value};
-use crate::call::Call;
 use json::{Scratch, Value};
 use std::alloc::Global;
 use tracing_tree_core::format::{Context, Field, Fields, Id};
 use tracing_tree_core::registry::{Attributes, Event, Parent, Record};
 use tracing_tree_core::style::Level;
 use tracing_tree_core::text::Text;
+use tracing_tree_layer::call::Call;
 
 // The call that a line spells. `NotACall` where it spells none, `Memory` where memory is refused.
 pub(super) fn call_of_line(

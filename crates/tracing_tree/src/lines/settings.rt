@@ -4,7 +4,7 @@ mod timer;
 
 ghost use Rattle.std.specs.Prelude.{◌≡◌, ◌<◌, IfSome};
 ghost use Rattle.serde_json.specs.View.{view};
-ghost use Rattle.tracing_tree_core.specs.Time.Clock.{clock_timer};
+ghost use Rattle.tracing_tree_base.specs.Time.Clock.{clock_timer};
 ghost use Rattle.tracing_tree.specs.Lines.Values.{ReadsFirst};
 ghost use Rattle.tracing_tree.specs.Lines.Spelled.{chosen_timer, object_settings, positive_value, unnamed_settings, with_member, with_setting};
 
@@ -24,7 +24,7 @@ pub(super) struct Setup {
 }
 
 impl Model for Setup {
-    ghost use Rattle.tracing_tree_core.specs.Drawing.Settings.{Settings};
+    ghost use Rattle.tracing_tree_base.specs.Drawing.Settings.{Settings};
     ghost use Rattle.tracing_tree.specs.Lines.Values.{choice_of};
     ghost use Rattle.tracing_tree.specs.Lines.Spelled.{TimerChoice};
 

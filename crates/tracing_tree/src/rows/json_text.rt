@@ -6,17 +6,15 @@ ghost use Rattle.serde_json.specs.Written.{compact_text, items_text};
 ghost use Rattle.tracing_tree.specs.Lines.Reads.{HasNoLineEnd};
 ghost use Rattle.tracing_tree.specs.ReadBack.Json.{WritesDrawing, WritesRows, place_items, place_value, row_json, shape_name, text_items};
 ghost use Rattle.tracing_tree.specs.ReadBack.JsonSteps.{HasWritten, ReadsRowLine, ReadsRowLines, SoFar, TakesRowLine, WritesNext, WritesText, ancestors_text, drops_last, fault_at, level_text, shape_text};
-ghost use Rattle.tracing_tree.specs.ReadBack.RowText.{TextRow};
+ghost use Rattle.tracing_tree_rows.specs.ReadBack.RowText.{TextRow};
 
-use super::paths::{Ancestry, EventPath, Places};
-use super::read::{Reader, Taken};
-use super::row::{Row, Shape};
 use crate::lines::LineCause;
 use crate::lines::read::read_ended;
 use std::alloc::{AllocError, AllocFailed, Global};
 use std::io::{BufRead, BufReader, ErrorKind, Read, Write};
 use std::{fmt, str};
 use thiserror::Error;
+use tracing_tree_rows::{Ancestry, EventPath, Places, Reader, Row, Shape, Taken};
 
 /// Why the reading of a drawing ended.
 #[derive(Clone, Copy, Debug, PartialEq, Eq, Error)]

@@ -1,7 +1,7 @@
 -- A live span, and what a look at it shows.
 use Rattle.std.specs.Prelude.{ℕ, ◌+◌, ◌-◌, List, ◌++◌, Option, true}
-use Rattle.tracing_tree_core.specs.declared.context.Id.{Id}
-use Rattle.tracing_tree_core.specs.declared.field.Field.{Field}
+use Rattle.tracing_tree_base.specs.declared.context.Id.{Id}
+use Rattle.tracing_tree_base.specs.declared.field.Field.{Field}
 use Rattle.tracing_tree_core.specs.declared.registry.node.Data.{Data}
 use Rattle.tracing_tree_core.specs.declared.registry.path.SpanPath.{SpanPath}
 use Rattle.tracing_tree_core.specs.declared.registry.path.SpanPath.TheVariants.{Short, Long}

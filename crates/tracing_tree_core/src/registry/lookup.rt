@@ -6,9 +6,9 @@ ghost use Rattle.tracing_tree_core.specs.Registry.Forest.{Forest, IsForest, IsPa
 ghost use Rattle.tracing_tree_core.specs.Registry.Lookup.{data_at};
 
 use super::{Data, SpanRef};
-use crate::context::Id;
-use crate::field::Fields;
 use std::alloc::{AllocError, Global};
+use tracing_tree_base::context::Id;
+use tracing_tree_base::field::Fields;
 
 /// Live spans that a layer looks at and marks. (`LookupSpan` of the Rust crate's registry.)
 pub trait LookupSpan {

@@ -5,11 +5,11 @@ ghost use Rattle.tracing_tree_core.specs.Registry.Spans.{shown_span, handle_more
 
 use super::Attributes;
 use super::path::SpanPath;
-use crate::context::Id;
-use crate::field::Fields;
-use crate::text::Text;
 use std::alloc::AllocError;
 use std::marker::Model;
+use tracing_tree_base::context::Id;
+use tracing_tree_base::field::Fields;
+use tracing_tree_base::text::Text;
 
 /// What the layer keeps with a span.
 #[derive(Debug, Drop)]

@@ -9,11 +9,11 @@ ghost use Rattle.tracing_tree_core.specs.Registry.Slots.{slot_has, slot_ids, pre
 
 use super::node::Node;
 use super::slot::Slot;
-use crate::context::Id;
-use crate::field::Fields;
 use std::alloc::{AllocError, Global};
 use std::marker::Model;
 use std::mem;
+use tracing_tree_base::context::Id;
+use tracing_tree_base::field::Fields;
 
 // The live spans. A span that goes leaves a gap, so that nothing moves. Gaps at the end go at once, and all gaps once they are
 // more than half of the list. The records lie in the list itself: a pointer to each would be one more block of memory to free.

@@ -3,9 +3,9 @@
 ghost use Rattle.std.specs.Prelude.{◌≡◌, ◌++◌, ◌∷◌, [], IfOk, IfSome};
 ghost use Rattle.tracing_tree_core.specs.Registry.Spans.{path_ids};
 
-use crate::context::Id;
 use std::alloc::{AllocError, Global};
 use std::marker::Model;
+use tracing_tree_base::context::Id;
 
 // Paths of at most so many spans lie in the span's record itself. Few spans are nested deeper.
 const SHORT: usize = 5;
@@ -50,7 +50,7 @@ pub(crate) struct ShortPath {
 
 impl Model for ShortPath {
     ghost use Rattle.std.specs.Prelude.{◌≤◌, List, take};
-    ghost use Rattle.tracing_tree_core.specs.declared.context.Id.{Id};
+    ghost use Rattle.tracing_tree_base.specs.declared.context.Id.{Id};
 
     ghost Value = { List Id };
 

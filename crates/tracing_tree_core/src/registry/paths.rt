@@ -6,7 +6,7 @@ ghost use Rattle.tracing_tree_core.specs.Registry.Ids.{same_id};
 ghost use Rattle.tracing_tree_core.specs.Registry.Paths.{PartOnce, looks_back};
 
 use super::prefix::Common;
-use crate::context::Id;
+use tracing_tree_base::context::Id;
 
 /// Returns what two paths of one forest share. Takes no memory.
 ///

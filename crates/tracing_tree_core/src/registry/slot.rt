@@ -4,7 +4,7 @@ ghost use Rattle.std.specs.Prelude.{◌≡◌, option_copied};
 ghost use Rattle.tracing_tree_core.specs.Registry.Slots.{slot_id, slot_node, is_gone};
 
 use super::node::Node;
-use crate::context::Id;
+use tracing_tree_base::context::Id;
 
 // A place in the list: a live span, or the gap that a span left.
 #[derive(Drop)]

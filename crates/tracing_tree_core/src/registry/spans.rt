@@ -11,10 +11,10 @@ use super::node::Node;
 use super::nodes::Nodes;
 use super::path::SpanPath;
 use super::{Attributes, Context, Data, LookupSpan, SpanRef};
-use crate::context::{Id, Refusal};
-use crate::field::Fields;
 use std::alloc::{AllocError, Global};
 use std::marker::Model;
+use tracing_tree_base::context::{Id, Refusal};
+use tracing_tree_base::field::Fields;
 
 /// The live spans and the next id. A span is live while it has a handle or a live child.
 ///

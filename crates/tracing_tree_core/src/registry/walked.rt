@@ -6,10 +6,10 @@ ghost use Rattle.tracing_tree_core.specs.Registry.Forest.{IsForest, IsPathIfLive
 ghost use Rattle.tracing_tree_core.specs.Registry.Registered.{IsNewSpan, IsCloned, IsClosed, ListsClosing, AsksLastHandle, listed, IsNewest};
 
 use super::{Attributes, Context, Data, LookupSpan, Registry, SpanRef};
-use crate::context::{Id, Refusal};
-use crate::field::Fields;
 use std::alloc::{AllocError, Global};
 use std::marker::Model;
+use tracing_tree_base::context::{Id, Refusal};
+use tracing_tree_base::field::Fields;
 
 /// A [`Registry`] that lends no path: each path is found by a walk from the span up to its root. It has the same calls with the
 /// same contracts.

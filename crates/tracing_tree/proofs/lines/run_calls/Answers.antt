@@ -1,8 +1,8 @@
 use Rattle.std.proofs.Common.{◌≡◌, refl, arith, rules, Ok}
 use Rattle.std.specs.Io.Buffered.{reader_remaining}
-use Rattle.tracing_tree.specs.Calls.Layers.{seen}
+use Rattle.tracing_tree_layer.specs.Calls.Layers.{seen}
 use Rattle.tracing_tree.specs.declared.lines.Judged.TheVariants.{Skipped, Accepted}
-use Rattle.tracing_tree.proofs.Runs.{change_then}
+use Rattle.tracing_tree_layer.proofs.Runs.{change_then}
 use Rattle.tracing_tree.proofs.LineRuns.{starts, goes_on_flushed, goes_on_skipped, goes_on_accepted, ends_input, ends_at, ends_unjudged}
 use Rattle.tracing_tree.proofs.lines.run_calls.Goals.{in-Ok-Skipped, in-Ok-Accepted}
 use Rattle.tracing_tree.proofs.lines.run_calls.Goals as goal

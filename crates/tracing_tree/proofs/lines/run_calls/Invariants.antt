@@ -1,6 +1,6 @@
 use Rattle.std.proofs.Common.{◌+◌, ◌≤◌}
 use Rattle.std.specs.Io.Buffered.{reader_remaining}
-use Rattle.tracing_tree.specs.Calls.Layers.{seen, Changes}
+use Rattle.tracing_tree_layer.specs.Calls.Layers.{seen, Changes}
 use Rattle.tracing_tree.proofs.LineRuns.{GoesOver}
 use Rattle.tracing_tree.proofs.lines.run_calls.Given as goal
 

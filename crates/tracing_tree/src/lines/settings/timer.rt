@@ -3,7 +3,7 @@
 ghost use Rattle.std.specs.Prelude.{◌≡◌, map, option_map, bytes_eq};
 ghost use Rattle.std.specs.List.{list_any, list_all};
 ghost use Rattle.serde_json.specs.View.{view, members_view};
-ghost use Rattle.tracing_tree_core.specs.Time.Clock.{clock_timer};
+ghost use Rattle.tracing_tree_base.specs.Time.Clock.{clock_timer};
 ghost use Rattle.tracing_tree.specs.Lines.Values.{choice_of};
 ghost use Rattle.tracing_tree.specs.Lines.Spelled.{chosen_timer, has_only_keys, offset_value, present_keys, timer_value, none_value, utc_value, local_value, uptime_value};
 

@@ -1,7 +1,7 @@
 use Rattle.std.proofs.Common.{rules, ◌≡◌, sym, subst, List, Option}
 use Rattle.std.proofs.lemmas.Iterator.{YieldsList, YieldsList-from_slice, items_from_collect}
 use Rattle.std.proofs.lemmas.Iterator.Consumers.{YieldsList-from_copied}
-use Rattle.tracing_tree.proofs.DifferenceYields.{YieldsList-from_difference}
+use Rattle.tracing_tree_layer.proofs.DifferenceYields.{YieldsList-from_difference}
 use Rattle.tracing_tree_tests.proofs.difference.differences_of_references.Goals as goal
 
 YieldsList-same : {S A B : Type 0} {steps : S → Option A → S → Type 0} {v : A → B} {s t : S} {ys : List B} → t ≡ s → YieldsList steps v s ys → YieldsList steps v t ys

@@ -2,7 +2,7 @@ use Rattle.std.proofs.Common.{rules, ap, ◌∙◌}
 use Rattle.std.proofs.lemmas.Iterator.{YieldsList-from_slice, items_from_collect}
 use Rattle.std.proofs.lemmas.Iterator.Consumers.{YieldsList-from_copied}
 use Rattle.std.specs.Slice.Iter.{iter_rest}
-use Rattle.tracing_tree.proofs.DifferenceYields.{YieldsList-from_yields}
+use Rattle.tracing_tree_layer.proofs.DifferenceYields.{YieldsList-from_yields}
 use Rattle.tracing_tree_tests.proofs.difference.differences_of_slices.Goals as goal
 
 pub returns : goal.returns

@@ -1,6 +1,6 @@
 use Rattle.std.proofs.Common.{◌≡◌, ℕ, List, Some, codes, sym, ◌∷◌, [], rules}
-use Rattle.tracing_tree_core.specs.declared.style.Level.{Level}
-use Rattle.tracing_tree_core.specs.declared.style.Level.TheVariants.{Trace, Debug, Info, Warn, Error}
+use Rattle.tracing_tree_base.specs.declared.style.Level.{Level}
+use Rattle.tracing_tree_base.specs.declared.style.Level.TheVariants.{Trace, Debug, Info, Warn, Error}
 use Rattle.tracing_tree.specs.Lines.Borrowed.{borrowed_data}
 use Rattle.serde_json.specs.Find.{as_str}
 use Rattle.tracing_tree.proofs.Choices.{chosen_none}

@@ -1,6 +1,6 @@
 use Rattle.std.proofs.Common.{◌++◌, take, refl}
 use Rattle.std.proofs.KnownBytes.{Appends-trans, Appends-kept, Keeps-refl}
-use Rattle.tracing_tree_core.proofs.Written.{moves_front}
+use Rattle.tracing_tree_base.proofs.Written.{moves_front}
 use Rattle.tracing_tree.proofs.RowsRead.JsonTexts.{writes-more, writes-no-more}
 use Rattle.tracing_tree.proofs.rows.json_text.write_text.Goals as goal
 use Rattle.tracing_tree.proofs.rows.json_text.write_text.Goals.{in-Ok, in-Err}

@@ -1,8 +1,8 @@
 use Rattle.std.proofs.Common.{◌≡◌, ◌∙◌, ◌+◌, ◌<◌, ◌^◌, Option, Some, None, sym, subst, arith, length}
 use Rattle.std.specs.Io.KnownBytes.{Appends}
 use Rattle.tracing_tree.specs.ReadBack.Json.{json_lines}
-use Rattle.tracing_tree.specs.ReadBack.Line.{with_last}
-use Rattle.tracing_tree.specs.ReadBack.RowText.{TextRow}
+use Rattle.tracing_tree_rows.specs.ReadBack.Line.{with_last}
+use Rattle.tracing_tree_rows.specs.ReadBack.RowText.{TextRow}
 use Rattle.tracing_tree.proofs.RowsRead.JsonRuns.{concludes, drops}
 use Rattle.tracing_tree.proofs.rows.json_text.RowsRead.finish.Goals as goal
 

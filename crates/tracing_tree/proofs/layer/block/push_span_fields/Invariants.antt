@@ -1,9 +1,0 @@
-use Rattle.std.proofs.Common.{◌≡◌, ◌++◌, take, map, flat_map, string_bytes}
-use Rattle.tracing_tree_core.specs.Drawing.Texts.{named_value}
-use Rattle.tracing_tree.proofs.FieldTexts.{behind_comma}
-use Rattle.tracing_tree.proofs.layer.block.push_span_fields.Given as goal
-
--- the fields so far, each behind a comma
-abbrev pub invariant-loop-field : goal.invariant-loop-field
-invariant-loop-field l =
-    string_bytes l.out ≡ string_bytes l.initial.out ++ flat_map behind_comma (map named_value (take l.field-index l.others))

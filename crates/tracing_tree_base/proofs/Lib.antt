@@ -1,0 +1,12 @@
+pub mod PartsLaws
+pub mod CountLaws
+pub mod CivilLaws
+pub mod Extended
+pub mod Numbers
+pub mod DateTexts
+pub mod Written
+pub mod FrameTexts
+pub mod LineLaws
+pub mod MarkLaws
+pub mod TimerTexts
+pub mod Worked

@@ -1,0 +1,2 @@
+-- Examples computed from the definitions.
+pub mod Clocks

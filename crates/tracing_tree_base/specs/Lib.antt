@@ -1,0 +1,4 @@
+pub mod Drawing
+pub mod Text
+pub mod Equal
+pub mod Time

@@ -1,0 +1,86 @@
+//! The fields of spans and events, as they stand in a row.
+
+ghost use Rattle.std.specs.Prelude.{◌≡◌, ◌++◌, OnOk, OnErr, string_bytes};
+ghost use Rattle.tracing_tree_base.specs.Drawing.Texts.{comma_after, event_field, named_value, shown_field};
+
+use super::Buffers;
+use crate::field::Field;
+use std::alloc::AllocError;
+
+/// Appends the fields of an event to the block of its row, one after another. (`FmtEvent` of the
+/// Rust crate.)
+#[derive(Drop)]
+pub struct FmtEvent<'a> {
+    /// The fields go to the end of `current_buf`.
+    pub bufs: &'a mut Buffers,
+
+    /// Whether a comma stands before the next field.
+    pub comma: bool,
+}
+
+impl FmtEvent<'_> {
+    /// Appends a field after a space, and after a comma if another field stands before it. A field
+    /// whose name begins with `log.` is skipped. On `AllocError` nothing has changed.
+    pub fn record(&mut self, field: &Field) -> Result<(), AllocError>
+        ensures ok { let old = self.old in
+            let text = old.bufs.now.current_buf ++ event_field old.comma field.now in
+            OnOk result (self.new.bufs.now ≡ record old.bufs.now { current_buf = text }) }
+        ensures comma { let old = self.old in
+            OnOk result (self.new.comma ≡ comma_after old.comma field.now) }
+        ensures err { OnErr result (self.new.bufs.now ≡ self.old.bufs.now) }
+        ensures kept { OnErr result (self.new.comma ≡ self.old.comma) }
+    {
+        let bufs = &mut *self.bufs;
+        push_event_field(&mut bufs.current_buf, &mut self.comma, field)
+    }
+}
+
+/// Appends a field of an event, as [`FmtEvent::record`] does, and notes whether a comma stands before
+/// the next one. On `AllocError` nothing has changed.
+pub fn push_event_field(out: &mut String, comma: &mut bool, field: &Field) -> Result<(), AllocError>
+    ensures text { OnOk result (string_bytes out.new
+        ≡ string_bytes out.old ++ event_field comma.old field.now) }
+    ensures comma { OnOk result (comma.new ≡ comma_after comma.old field.now) }
+    ensures err { OnErr result (string_bytes out.new ≡ string_bytes out.old) }
+    ensures kept { OnErr result (comma.new ≡ comma.old) }
+{
+    let (name, value) = (field.name.as_str(), field.value.as_str());
+    if name.starts_with("log.") {
+        return Ok(());
+    }
+    out.reserve(name.len().saturating_add(value.len()).saturating_add(3))?;
+    out.push_str(if *comma { ", " } else { " " })?;
+    *comma = true;
+    if name != "message" {
+        out.push_str(name)?;
+        out.push_str("=")?;
+    }
+    out.push_str(value)
+}
+
+/// Appends a field as `name=value`, and a field named `message` as its value alone. On `AllocError`
+/// nothing is appended.
+pub fn push_shown(out: &mut String, field: &Field) -> Result<(), AllocError>
+    ensures ok { OnOk result (string_bytes out.new
+        ≡ string_bytes out.old ++ shown_field field.now) }
+    ensures err { OnErr result (string_bytes out.new ≡ string_bytes out.old) }
+{
+    if field.name.as_str() == "message" {
+        return out.push_str(field.value.as_str());
+    }
+    push_named(out, field)
+}
+
+/// Appends a field as `name=value`. On `AllocError` nothing is appended.
+pub fn push_named(out: &mut String, field: &Field) -> Result<(), AllocError>
+    ensures ok { OnOk result (string_bytes out.new
+        ≡ string_bytes out.old ++ named_value field.now) }
+    ensures err { OnErr result (string_bytes out.new ≡ string_bytes out.old) }
+{
+    let name = field.name.as_str();
+    let value = field.value.as_str();
+    out.reserve(name.len().saturating_add(value.len()).saturating_add(1))?;
+    out.push_str(name)?;
+    out.push_str("=")?;
+    out.push_str(value)
+}

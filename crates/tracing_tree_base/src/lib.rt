@@ -1,0 +1,10 @@
+//! Texts, fields and styles, what a call tells beside its span, timers, and the drawing of a row: what
+//! `tracing_tree_core` passes on and its registry stands on.
+#![tactic(auto)]
+
+pub mod context;
+pub mod field;
+pub mod format;
+pub mod style;
+pub mod text;
+pub mod time;

@@ -1,0 +1,103 @@
+//! Moments and timers.
+
+mod civil;
+pub mod clocks;
+mod elapsed;
+pub mod local;
+mod pieces;
+mod short;
+pub mod uptime;
+pub mod utc;
+
+ghost use Rattle.std.specs.Prelude.{string_bytes};
+ghost use Rattle.tracing_tree_base.specs.Time.Clock.{Timer, no_timer};
+ghost use Rattle.tracing_tree_base.specs.Drawing.Outputs.{AppendsStated, AsksForText};
+
+pub use crate::context::Moment;
+use crate::context::Refusal;
+pub use clocks::Clock;
+pub use local::LocalDateTime;
+pub use uptime::Uptime;
+pub use utc::UtcDateTime;
+
+/// Why a timer wrote nothing.
+#[derive(Clone, Copy, Debug, PartialEq, Eq)]
+pub enum TimeFault {
+    /// No memory.
+    Memory,
+
+    /// The timer has no text for this moment or elapsed time.
+    Fault,
+}
+
+impl From<TimeFault> for Refusal {
+    ghost use Rattle.tracing_tree_base.specs.Drawing.Outputs.{RefusesFault};
+
+    ghost from_gives = { RefusesFault };
+
+    fn from(fault: TimeFault) -> Refusal {
+        match fault {
+            TimeFault::Memory => Refusal::Memory,
+            TimeFault::Fault => Refusal::Timer,
+        }
+    }
+}
+
+/// A timer: what it writes at a moment, and after an elapsed time. (`FormatTime` of the Rust crate.)
+pub trait FormatTime {
+    /// The texts that it states, and where it faults.
+    ghost timer: { Self → Timer };
+
+    /// Appends the text of the moment. `Fault` exactly where the timer has none; `Memory` where memory is refused, and only
+    /// where there is a text that isn't empty. After either, `out` is as it was.
+    fn format_time(&self, moment: &Moment, out: &mut String) -> Result<(), TimeFault>
+        ensures stated { AppendsStated ((timer self.now).moment_text moment.now)
+            (string_bytes out.old) (string_bytes out.new) result }
+        ensures memory { AsksForText ((timer self.now).moment_text moment.now) result };
+
+    /// Appends the text of an elapsed time, in nanoseconds, painted with ansi. Errors as of `format_time`.
+    fn style_timestamp(
+        &self,
+        ansi: bool,
+        elapsed_ns: u64,
+        out: &mut String,
+    ) -> Result<(), TimeFault>
+        ensures stated { AppendsStated ((timer self.now).elapsed_text ansi elapsed_ns)
+            (string_bytes out.old) (string_bytes out.new) result }
+        ensures memory { AsksForText ((timer self.now).elapsed_text ansi elapsed_ns) result };
+}
+
+/// Appends nothing.
+impl FormatTime for () {
+    ghost timer = { λ _. no_timer };
+
+    fn format_time(&self, _moment: &Moment, _out: &mut String) -> Result<(), TimeFault> {
+        Ok(())
+    }
+
+    fn style_timestamp(
+        &self,
+        _ansi: bool,
+        _elapsed_ns: u64,
+        _out: &mut String,
+    ) -> Result<(), TimeFault> {
+        Ok(())
+    }
+}
+
+impl<F: FormatTime> FormatTime for &F {
+    ghost timer = { λ f. F.timer f.now };
+
+    fn format_time(&self, moment: &Moment, out: &mut String) -> Result<(), TimeFault> {
+        (**self).format_time(moment, out)
+    }
+
+    fn style_timestamp(
+        &self,
+        ansi: bool,
+        elapsed_ns: u64,
+        out: &mut String,
+    ) -> Result<(), TimeFault> {
+        (**self).style_timestamp(ansi, elapsed_ns, out)
+    }
+}

@@ -1,0 +1,335 @@
+-- Rows that are drawn one after another are drawn together.
+use Rattle.std.proofs.Common.{◌≡◌, ◌≢◌, ◌⊎◌, ◌-◌, suc, take, drop, ℕ, Bool, true, false, if◌then◌else◌, ◌||◌, List, [], ◌∷◌, ◌++◌, None, Some, Option, Result, Ok, Err, is_ok, string_bytes, refl, sym, ap, subst, ◌∙◌, inl, inr, append_assoc, append-nil}
+use Rattle.std.proofs.lemmas.Grind.{flat_map-append}
+use Rattle.std.proofs.lemmas.List.{map-append}
+use Rattle.std.proofs.lemmas.List.Folds.{list_any-append}
+use Rattle.tracing_tree_base.specs.Drawing.Settings.{Settings}
+use Rattle.tracing_tree_base.specs.Drawing.Buffers.{BuffersView}
+use Rattle.tracing_tree_base.specs.Drawing.Picture.{Row, draw, drawn_row, is_too_wide, unnamed_row}
+use Rattle.tracing_tree_base.specs.declared.context.Refusal.{Refusal}
+use Rattle.tracing_tree_base.specs.declared.context.Refusal.TheVariants.{NotHeld, TooWide, TooMany, Memory, Timer, Writer, Failed}
+use Rattle.tracing_tree_core.specs.Registry.Forest.{Forest, IsForest, is_live, if_live, path_of, path_of_any}
+use Rattle.tracing_tree_base.specs.declared.context.Id.{Id}
+use Rattle.tracing_tree_base.specs.declared.context.Context.{Context}
+use Rattle.tracing_tree_core.specs.declared.registry.Event.{Event}
+use Rattle.tracing_tree_base.specs.declared.format.SpanMode.TheVariants.{Event as EventMode}
+use Rattle.tracing_tree_base.specs.Time.Clock.{Timer as Clock}
+use Rattle.tracing_tree_core.proofs.PathLaws.{path_of-none}
+use Rattle.std.specs.Option.{option_or}
+use Rattle.std.specs.Bool.{then_some}
+use Rattle.std.specs.Io.KnownBytes.{Appends}
+use Rattle.std.proofs.KnownBytes.{Keeps-refl}
+use Rattle.tracing_tree_base.specs.Drawing.Writers.{IsCutShort, LeavesCut, SeenWriter}
+use Rattle.tracing_tree_layer.specs.Calls.State.{Turn}
+use Rattle.tracing_tree_layer.specs.Calls.Refused.{draws_too_wide, is_event_too_wide}
+use Rattle.tracing_tree_layer.specs.Rows.Turns.{then_turn, turn_of_row, turn_of_closes, event_depth, event_level, event_parent}
+use Rattle.tracing_tree_layer.specs.Rows.Plan.{PlanView, rows_of_planned, row_of_planned, turn_of_plan}
+use Rattle.tracing_tree_layer.specs.Rows.Drawn.{AddsRow, DrawsRows, Drafts, IsBlank, IsUndrawn, IsWritten, Sends, has_no_id, has_no_row, rows_cause, when_ok}
+use Rattle.tracing_tree_layer.specs.declared.layer.page.Page.{Page}
+use Rattle.tracing_tree_layer.specs.declared.layer.plan.PlannedRow.{PlannedRow}
+
+pub draw-append : (settings : Settings) (first second : List Row) → draw settings (first ++ second) ≡ draw settings first ++ draw settings second
+draw-append settings first second = flat_map-append (drawn_row settings) first second
+
+-- one of the rows is too wide, or one of the others
+pub draws_too_wide-append : (settings : Settings) (first second : List Row) →
+    draws_too_wide settings (first ++ second) ≡ (draws_too_wide settings first || draws_too_wide settings second)
+draws_too_wide-append settings first second = list_any-append (is_too_wide settings) first second
+
+-- no row at all is drawn
+pub draws_none : (settings : Settings) (page : Page) → DrawsRows settings [] false (Ok tt) page page
+draws_none settings page = (refl, refl, sym (append-nil (string_bytes page.text)))
+
+-- ---- what is refused
+
+cause-wide : (settings : Settings) (rows : List Row) → draws_too_wide settings rows ≡ true → (faults : Bool) →
+    rows_cause settings rows faults ≡ Some TooWide
+cause-wide settings rows wide faults = rw wide refl
+
+cause-narrow : (settings : Settings) (rows : List Row) → draws_too_wide settings rows ≡ false → rows_cause settings rows false ≡ None
+cause-narrow settings rows narrow = rw narrow refl
+
+-- rows with no cause against them are narrow
+pub narrow-from_none : (settings : Settings) (rows : List Row) → rows_cause settings rows false ≡ None → draws_too_wide settings rows ≡ false
+narrow-from_none settings rows none =
+    elim (draws_too_wide settings rows) as (λ b. draws_too_wide settings rows ≡ b → b ≡ false) [
+      | true ↦ (λ wide. let e = cause-wide settings rows wide false in cc)
+      | false ↦ (λ narrow. refl)
+    ] refl
+
+wide-from_some : (settings : Settings) (rows : List Row) (refusal : Refusal) → rows_cause settings rows false ≡ Some refusal →
+    draws_too_wide settings rows ≡ true
+wide-from_some settings rows refusal some =
+    elim (draws_too_wide settings rows) as (λ b. draws_too_wide settings rows ≡ b → b ≡ true) [
+      | true ↦ (λ wide. refl)
+      | false ↦ (λ narrow. let e = cause-narrow settings rows narrow in cc)
+    ] refl
+
+-- the cause against the first rows stands against all, whatever the timer says
+pub cause-first : (settings : Settings) (first second : List Row) (faults : Bool) (refusal : Refusal) → rows_cause settings first false ≡ Some refusal →
+    rows_cause settings (first ++ second) faults ≡ Some refusal
+cause-first settings first second faults refusal some =
+    let wide = wide-from_some settings first refusal some in
+    let all : draws_too_wide settings (first ++ second) ≡ true = rw (draws_too_wide-append settings first second, wide) refl in
+    cause-wide settings (first ++ second) all faults ∙ sym (cause-wide settings first wide false) ∙ some
+
+-- where none stands against the first rows, that against the others stands against all
+pub cause-second : (settings : Settings) (first second : List Row) → rows_cause settings first false ≡ None → (faults : Bool) →
+    rows_cause settings (first ++ second) faults ≡ rows_cause settings second faults
+cause-second settings first second none faults =
+    rw (draws_too_wide-append settings first second, narrow-from_none settings first none) refl
+
+row-first : (first second : List Row) → has_no_row first ≡ false → has_no_row (first ++ second) ≡ false
+row-first [] second h = cc
+row-first (row ∷ first) second h = refl
+
+row-second : (first second : List Row) → has_no_row second ≡ false → has_no_row (first ++ second) ≡ false
+row-second [] second h = h
+row-second (row ∷ first) second h = refl
+
+-- ---- one after another
+
+-- a refusal of the first rows is one of all
+pub refuses_first : (settings : Settings) (first second : List Row) (faults : Bool) (refusal : Refusal) (a b : Page) →
+    DrawsRows settings first false (Err refusal) a b → DrawsRows settings (first ++ second) faults (Err refusal) a b
+refuses_first settings first second faults refusal a b (inl cause, last) = (inl (cause-first settings first second faults refusal cause), last)
+refuses_first settings first second faults refusal a b (inr memory, last) = (inr (memory.0, row-first first second memory.1), last)
+
+-- the first rows and then the others
+pub draws_both : (settings : Settings) (first second : List Row) (faults : Bool) (result : Result (Unit {0}) Refusal) (a b c : Page) →
+    DrawsRows settings first false (Ok tt) a b → DrawsRows settings second faults result b c →
+    DrawsRows settings (first ++ second) faults result a c
+draws_both settings first second faults (Ok done) a b c h k = (
+  cause-second settings first second h.0 faults ∙ k.0,
+  k.1 ∙ h.1,
+  k.2 ∙ ap (λ text. text ++ draw settings second) h.2
+      ∙ append_assoc (string_bytes a.text) (draw settings first) (draw settings second)
+      ∙ ap (λ text. string_bytes a.text ++ text) (sym (draw-append settings first second)),
+)
+draws_both settings first second faults (Err refusal) a b c h (inl cause, last) = (
+  inl (cause-second settings first second h.0 faults ∙ cause),
+  last ∙ ap (λ (bufs : BuffersView). bufs.current_span) h.1,
+)
+draws_both settings first second faults (Err refusal) a b c h (inr memory, last) = (
+  inr (memory.0, row-second first second memory.1),
+  last ∙ ap (λ (bufs : BuffersView). bufs.current_span) h.1,
+)
+
+-- ---- single rows
+
+wide-single : (settings : Settings) (row : Row) → draws_too_wide settings (row ∷ []) ≡ is_too_wide settings row
+wide-single settings row = elim (is_too_wide settings row) as (λ b. (b || false) ≡ b) [ true ↦ refl | false ↦ refl ]
+
+-- a row that was added is drawn
+pub draws_added : (settings : Settings) (row : Row) (result : Result (Unit {0}) Refusal) (a b c : Page) →
+    b.bufs ≡ record a.bufs { current_buf = row.block } → string_bytes b.text ≡ string_bytes a.text → IsBlank a.bufs →
+    AddsRow (is_too_wide settings row) (drawn_row settings row) result b c → DrawsRows settings (row ∷ []) false result a c
+draws_added settings row (Ok done) a b c e text blank h = (
+  cause-narrow settings (row ∷ []) (wide-single settings row ∙ h.0),
+  h.1 ∙ ap (λ (bufs : BuffersView). record bufs { current_buf = [] }) e ∙ (λ i. record a.bufs { current_buf = sym blank.block i }),
+  h.2 ∙ ap (λ front. front ++ drawn_row settings row) text ∙ ap (λ rows. string_bytes a.text ++ rows) (sym (append-nil (drawn_row settings row))),
+)
+draws_added settings row (Err TooWide) a b c e text blank h = (
+  inl (cause-wide settings (row ∷ []) (wide-single settings row ∙ h.0) false),
+  ap (λ (bufs : BuffersView). bufs.current_span) (h.1.bufs ∙ e),
+)
+draws_added settings row (Err Memory) a b c e text blank h = (inr (refl, refl), ap (λ (bufs : BuffersView). bufs.current_span) (h.1.bufs ∙ e))
+draws_added settings row (Err (NotHeld i)) a b c e text blank h = absurd h
+draws_added settings row (Err TooMany) a b c e text blank h = absurd h
+draws_added settings row (Err Timer) a b c e text blank h = absurd h
+draws_added settings row (Err Writer) a b c e text blank h = absurd h
+draws_added settings row (Err Failed) a b c e text blank h = absurd h
+
+-- a span that isn't live stands in none
+pub path-if_live : (forest : Forest) → IsForest forest → (i : Id) → path_of_any forest (if_live forest (Some i)) ≡ path_of forest i
+path-if_live forest formed i =
+    elim (is_live forest i) as (λ b. is_live forest i ≡ b → path_of_any forest (if b then Some i else None) ≡ path_of forest i) [
+      | true ↦ (λ e. refl)
+      | false ↦ (λ e. sym (path_of-none forest formed i e))
+    ] refl
+
+-- a row without its span is drawn as the row
+pub draws_like : (settings : Settings) (row : Row) (level : ℕ) (block : List ℕ) (result : Result (Unit {0}) Refusal) (a b c : Page) →
+    b.bufs ≡ record a.bufs { current_buf = block } → string_bytes b.text ≡ string_bytes a.text → IsBlank a.bufs → level ≡ row.level → block ≡ row.block →
+    AddsRow (is_too_wide settings (unnamed_row row.kind level b.bufs.current_buf row.prefix)) (drawn_row settings (unnamed_row row.kind level b.bufs.current_buf row.prefix)) result b c →
+    DrawsRows settings (row ∷ []) false result a c
+draws_like settings row level block result a b c e text blank same_level same_block h =
+    let same : unnamed_row row.kind level b.bufs.current_buf row.prefix ≡ unnamed_row row.kind row.level row.block row.prefix =
+    (λ i. unnamed_row row.kind (same_level i) ((ap (λ (bufs : BuffersView). bufs.current_buf) e ∙ same_block) i) row.prefix) in
+    let P : Row → Type 0 = λ r. AddsRow (is_too_wide settings r) (drawn_row settings r) result b c in
+    draws_added settings row result a b c (e ∙ ap (λ text. record a.bufs { current_buf = text }) same_block) text blank (subst P same h)
+
+-- where one planned row is refused, they all are
+pub planned_refused : (settings : Settings) (context : Context) (forest : Forest) (planned : List PlannedRow) (k : ℕ) (row : PlannedRow) (refusal : Refusal) (a b c : Page) →
+    DrawsRows settings (rows_of_planned settings context forest (take k planned)) false (Ok tt) a b →
+    DrawsRows settings (row_of_planned settings context forest row ∷ []) false (Err refusal) b c →
+    planned ≡ take k planned ++ row ∷ drop (suc k) planned →
+    DrawsRows settings (rows_of_planned settings context forest planned) false (Err refusal) a c
+planned_refused settings context forest planned k row refusal a b c before here split =
+    let rows : List PlannedRow → List Row = rows_of_planned settings context forest in
+    let first : List Row = rows (take k planned) in
+    let one : List Row = row_of_planned settings context forest row ∷ [] in
+    let rest : List Row = rows (drop (suc k) planned) in
+    let both = draws_both settings first one false (Err refusal) a b c before here in
+    let all = refuses_first settings (first ++ one) rest false refusal a c both in
+    let same : rows planned ≡ (first ++ one) ++ rest =
+    ap rows split ∙ map-append (row_of_planned settings context forest) (take k planned) (row ∷ drop (suc k) planned)
+    ∙ sym (append_assoc first one rest) in
+    let P : List Row → Type 0 = λ rs. DrawsRows settings rs false (Err refusal) a c in
+    subst P (sym same) all
+
+-- ---- turns
+
+-- the rows of a turn are drawn, or refused
+abbrev pub IsDrawn : Settings → List Row → Bool → Bool → Result (Unit {0}) Refusal → Page → Page → Type 0
+IsDrawn settings rows faults quiet (Ok done) old new = DrawsRows settings rows faults (Ok done) old new
+IsDrawn settings rows faults quiet (Err refusal) old new =
+    IsUndrawn (rows_cause settings rows faults) quiet refusal × (new.bufs.current_span ≡ old.bufs.current_span)
+
+-- a call that takes memory may want for it
+loud-undrawn : (cause : Option Refusal) (quiet : Bool) (refusal : Refusal) → IsUndrawn cause quiet refusal → IsUndrawn cause false refusal
+loud-undrawn cause quiet refusal (inl h) = inl h
+loud-undrawn cause quiet refusal (inr memory) = inr (memory.0, refl)
+
+-- a turn is drafted where its rows are drawn and its plan comes to it
+pub drafts : (settings : Settings) (context : Context) (forest : Forest) (turn : Turn) (quiet : Bool) (result : Result (Unit {0}) Refusal) (old new : Page) (plan : PlanView) →
+    turn_of_plan settings context forest plan ≡ turn → (has_no_row turn.rows ≡ false → quiet ≡ false) →
+    DrawsRows settings (rows_of_planned settings context forest plan.rows) false result old new →
+    Drafts settings forest turn false quiet result old new plan
+drafts settings context forest turn quiet (Ok done) old new plan same loud h =
+    let P : List Row → Type 0 = λ rows. DrawsRows settings rows false (Ok done) old new in
+    (subst P (ap (λ (t : Turn). t.rows) same) h, ap (λ (t : Turn). t.forest) same, ap (λ (t : Turn). t.last) same)
+drafts settings context forest turn quiet (Err refusal) old new plan same loud h =
+    let P : List Row → Type 0 = λ rows. DrawsRows settings rows false (Err refusal) old new in
+    let k : DrawsRows settings turn.rows false (Err refusal) old new = subst P (ap (λ (t : Turn). t.rows) same) h in
+    (by k.0, k.1)
+  where
+    by : IsUndrawn (rows_cause settings turn.rows false) (has_no_row turn.rows) refusal → IsUndrawn (rows_cause settings turn.rows false) quiet refusal
+    by (inl cause) = inl cause
+    by (inr memory) = inr (memory.0, loud memory.1)
+
+-- closes that draw a row are closes of a span
+pub closes-loud : (settings : Settings) (context : Context) (ids : List Id) (forest : Forest) (last : Option Id) →
+    has_no_row (turn_of_closes settings context ids forest last).rows ≡ false → has_no_id ids ≡ false
+closes-loud settings context [] forest last h = cc
+closes-loud settings context (i ∷ others) forest last h = refl
+
+-- an event's row after the rows of its plan
+pub drafts_event : (settings : Settings) (context : Context) (forest : Forest) (before : Turn) (row : Row) (faults : Bool) (result : Result (Unit {0}) Refusal) (a b c : Page) (plan : PlanView) →
+    turn_of_plan settings context forest plan ≡ before →
+    DrawsRows settings (rows_of_planned settings context forest plan.rows) false (Ok tt) a b → DrawsRows settings (row ∷ []) faults result b c →
+    Drafts settings forest (then_turn before (turn_of_row row)) faults false result a c plan
+drafts_event settings context forest before row faults (Ok done) a b c plan same first second =
+    let P : List Row → Type 0 = λ rows. DrawsRows settings (rows ++ row ∷ []) faults (Ok done) a c in
+    let both = draws_both settings (rows_of_planned settings context forest plan.rows) (row ∷ []) faults (Ok done) a b c first second in
+    (subst P (ap (λ (t : Turn). t.rows) same) both, ap (λ (t : Turn). t.forest) same, ap (λ (t : Turn). t.last) same)
+drafts_event settings context forest before row faults (Err refusal) a b c plan same first second =
+    let P : List Row → Type 0 = λ rows. DrawsRows settings (rows ++ row ∷ []) faults (Err refusal) a c in
+    let both = draws_both settings (rows_of_planned settings context forest plan.rows) (row ∷ []) faults (Err refusal) a b c first second in
+    let all : DrawsRows settings (before.rows ++ row ∷ []) faults (Err refusal) a c = subst P (ap (λ (t : Turn). t.rows) same) both in
+    (loud-undrawn (rows_cause settings (before.rows ++ row ∷ []) faults) (has_no_row (before.rows ++ row ∷ [])) refusal all.0, all.1)
+
+-- the rows of its plan are refused
+pub refuses_event : (settings : Settings) (context : Context) (forest : Forest) (before : Turn) (row : Row) (faults : Bool) (refusal : Refusal) (a b : Page) (plan : PlanView) →
+    turn_of_plan settings context forest plan ≡ before →
+    DrawsRows settings (rows_of_planned settings context forest plan.rows) false (Err refusal) a b →
+    Drafts settings forest (then_turn before (turn_of_row row)) faults false (Err refusal) a b plan
+refuses_event settings context forest before row faults refusal a b plan same first =
+    let P : List Row → Type 0 = λ rows. DrawsRows settings (rows ++ row ∷ []) faults (Err refusal) a b in
+    let refused = refuses_first settings (rows_of_planned settings context forest plan.rows) (row ∷ []) faults refusal a b first in
+    let all : DrawsRows settings (before.rows ++ row ∷ []) faults (Err refusal) a b = subst P (ap (λ (t : Turn). t.rows) same) refused in
+    (loud-undrawn (rows_cause settings (before.rows ++ row ∷ []) faults) (has_no_row (before.rows ++ row ∷ [])) refusal all.0, all.1)
+
+-- an event whose width was tested is not too wide
+pub fits-event : (settings : Settings) (timer : Clock) (forest : Forest) (event : Event) (context : Context) (depth level : ℕ) (tested : Result (Unit {0}) Refusal) →
+    {done : Unit {0}} →
+    depth ≡ event_depth forest event context → level ≡ (if settings.indent_lines then depth else depth - 1) →
+    tested ≡ (if is_too_wide settings (unnamed_row EventMode level [] []) then Err TooWide else Ok tt) → tested ≡ Ok done →
+    is_event_too_wide settings timer forest event context ≡ false
+fits-event settings timer forest event context depth level tested deep at test ok =
+    let same : level ≡ event_level settings (path_of_any forest (event_parent forest event context)) =
+    at ∙ ap (λ d. if settings.indent_lines then d else d - 1) deep in
+    ap (λ l. is_too_wide settings (unnamed_row EventMode l [] [])) (sym same) ∙ by (is_too_wide settings (unnamed_row EventMode level [] [])) (sym ok ∙ test)
+  where
+    by : {done : Unit {0}} → (wide : Bool) → Ok done ≡ (if wide then Err TooWide else Ok tt) → wide ≡ false
+    by true e = absurd cc
+    by false e = refl
+
+-- ---- what is written
+
+-- rows are refused since one is too wide, or since the timer has no text
+cause-kind : (wide faults : Bool) (refusal : Refusal) → option_or (then_some wide TooWide) (then_some faults Timer) ≡ Some refusal →
+    (refusal ≡ TooWide) ⊎ (refusal ≡ Timer)
+cause-kind true faults refusal e = inl cc
+cause-kind false true refusal e = inr cc
+cause-kind false false refusal e = absurd cc
+
+-- rows that are not drawn leave the writer alone
+undrawn : (settings : Settings) (rows : List Row) (faults quiet : Bool) (refusal : Refusal) (writer : SeenWriter) →
+    IsUndrawn (rows_cause settings rows faults) quiet refusal → IsWritten settings rows faults quiet (Err refusal) writer writer
+undrawn settings rows faults quiet refusal writer (inr (memory, some)) =
+    let P : Refusal → Type 0 = λ r. IsWritten settings rows faults quiet (Err r) writer writer in
+    subst P (sym memory) (record { answer = some; written = (Keeps-refl writer.bytes, refl) })
+undrawn settings rows faults quiet refusal writer (inl cause) =
+    let P : Refusal → Type 0 = λ r. IsWritten settings rows faults quiet (Err r) writer writer in
+    elim (cause-kind (draws_too_wide settings rows) faults refusal cause) [
+      | inl e ↦ subst P (sym e) (record { answer = cause ∙ ap (λ r. Some r) e; written = (Keeps-refl writer.bytes, refl) })
+      | inr e ↦ subst P (sym e) (record { answer = cause ∙ ap (λ r. Some r) e; written = (Keeps-refl writer.bytes, refl) })
+    ]
+
+-- what is cut short is something
+pub cut-some : (text front : List ℕ) → IsCutShort text front → text ≢ []
+cut-some text [] cut none = cut.cut (sym cut.whole ∙ none)
+cut-some text (x ∷ front) cut none = let e = sym cut.whole ∙ none in cc
+
+-- rows that were drawn and sent are written, or refused as they may be
+pub written : (settings : Settings) (rows : List Row) (faults quiet : Bool) (drawn sent : Result (Unit {0}) Refusal) (a b c : Page) (old new : SeenWriter) →
+    IsDrawn settings rows faults quiet drawn a b → string_bytes a.text ≡ [] → Sends drawn sent b c old new →
+    IsWritten settings rows faults quiet sent old new
+written settings rows faults quiet (Ok done) (Ok also) a b c old new h none k =
+    let text : string_bytes b.text ≡ draw settings rows = h.2 ∙ ap (λ front. front ++ draw settings rows) none in
+    let P : List ℕ → Type 0 = λ t. Appends old.bytes new.bytes t in
+    record { answer = h.0; written = (subst P text k.0, k.1) }
+written settings rows faults quiet (Ok done) (Err Writer) a b c old new h none k =
+    let text : string_bytes b.text ≡ draw settings rows = h.2 ∙ ap (λ front. front ++ draw settings rows) none in
+    let P : List ℕ → Type 0 = λ t. LeavesCut t old new in
+    let cut = subst P text k.0 in
+    record { answer = (h.0, cut-some (draw settings rows) cut.front cut.cut); written = cut }
+written settings rows faults quiet (Ok done) (Err (NotHeld i)) a b c old new h none k = absurd k
+written settings rows faults quiet (Ok done) (Err TooWide) a b c old new h none k = absurd k
+written settings rows faults quiet (Ok done) (Err TooMany) a b c old new h none k = absurd k
+written settings rows faults quiet (Ok done) (Err Memory) a b c old new h none k = absurd k
+written settings rows faults quiet (Ok done) (Err Timer) a b c old new h none k = absurd k
+written settings rows faults quiet (Ok done) (Err Failed) a b c old new h none k = absurd k
+written settings rows faults quiet (Err refusal) sent a b c old new h none k =
+    let P : Result (Unit {0}) Refusal → Type 0 = λ r. IsWritten settings rows faults quiet r old new in
+    let Q : SeenWriter → Type 0 = λ w. IsWritten settings rows faults quiet (Err refusal) old w in
+    subst P (sym k.0) (subst Q (sym k.1) (undrawn settings rows faults quiet refusal old h.0))
+
+-- ---- a refused turn
+
+-- a turn that is drafted is drawn
+pub drafts-drawn : (settings : Settings) (forest : Forest) (turn : Turn) (faults quiet : Bool) (result : Result (Unit {0}) Refusal) (a b : Page) (plan : PlanView) →
+    Drafts settings forest turn faults quiet result a b plan → IsDrawn settings turn.rows faults quiet result a b
+drafts-drawn settings forest turn faults quiet (Ok done) a b plan h = h.0
+drafts-drawn settings forest turn faults quiet (Err refusal) a b plan h = h
+
+-- a refusal leaves the last span
+pub refused-last : (settings : Settings) (rows : List Row) (faults quiet : Bool) (drawn sent : Result (Unit {0}) Refusal) (a b c : Page) (old new : SeenWriter) (next : Option Id) →
+    IsDrawn settings rows faults quiet drawn a b → Sends drawn sent b c old new → is_ok sent ≡ false →
+    c.bufs.current_span ≡ when_ok sent next a.bufs.current_span
+refused-last settings rows faults quiet (Ok done) (Ok also) a b c old new next h k e = cc
+refused-last settings rows faults quiet (Ok done) (Err Writer) a b c old new next h k e = k.1 ∙ ap (λ (bufs : BuffersView). bufs.current_span) h.1
+refused-last settings rows faults quiet (Ok done) (Err (NotHeld i)) a b c old new next h k e = absurd k
+refused-last settings rows faults quiet (Ok done) (Err TooWide) a b c old new next h k e = absurd k
+refused-last settings rows faults quiet (Ok done) (Err TooMany) a b c old new next h k e = absurd k
+refused-last settings rows faults quiet (Ok done) (Err Memory) a b c old new next h k e = absurd k
+refused-last settings rows faults quiet (Ok done) (Err Timer) a b c old new next h k e = absurd k
+refused-last settings rows faults quiet (Ok done) (Err Failed) a b c old new next h k e = absurd k
+refused-last settings rows faults quiet (Err refusal) sent a b c old new next h k e =
+    k.3 ∙ h.1 ∙ sym (ap (λ (r : Result (Unit {0}) Refusal). when_ok r next a.bufs.current_span) k.0)
+
+-- and the marks
+pub refused-marks : (sent : Result (Unit {0}) Refusal) (next before : Forest) → is_ok sent ≡ false → before ≡ when_ok sent next before
+refused-marks (Ok done) next before e = cc
+refused-marks (Err refusal) next before e = refl

@@ -1,0 +1,16 @@
+pub mod Calls
+pub mod FieldTexts
+pub mod RunLaws
+pub mod PathPairs
+pub mod Marks
+pub mod Plans
+pub mod MarkedCloses
+pub mod DrawnLaws
+pub mod TurnLaws
+pub mod Runs
+pub mod Reading
+pub mod DifferenceLemmas
+pub mod DifferenceRunLaws
+pub mod DifferenceYields
+pub mod DifferingLaws
+pub mod Worked

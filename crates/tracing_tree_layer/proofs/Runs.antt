@@ -1,0 +1,155 @@
+-- Calls that are answered one after another are a run.
+use Rattle.std.proofs.Common.{◌≡◌, false, List, [], ◌∷◌, ◌++◌, Result, Ok, Err, refl, sym, ap, subst, ◌∙◌}
+use Rattle.std.specs.Io.KnownBytes.{Appends, Keeps}
+use Rattle.std.proofs.KnownBytes.{Appends-nil, Appends-trans, Appends-kept}
+use Rattle.tracing_tree_base.specs.Drawing.Settings.{Settings}
+use Rattle.tracing_tree_base.specs.Time.Clock.{Timer}
+use Rattle.tracing_tree_base.specs.Drawing.Picture.{Row, draw}
+use Rattle.tracing_tree_base.specs.declared.context.Refusal.{Refusal}
+use Rattle.tracing_tree_base.specs.declared.context.Refusal.TheVariants as Refused
+use Rattle.tracing_tree_base.specs.declared.context.Refusal.TheVariants.{NotHeld, TooWide, TooMany, Memory, Writer, Failed}
+use Rattle.tracing_tree_layer.specs.Calls.State.{State}
+use Rattle.tracing_tree_base.specs.Drawing.Writers.{SeenWriter}
+use Rattle.tracing_tree_layer.specs.Calls.Seen.{Seen, seen_later}
+use Rattle.tracing_tree_layer.specs.Calls.Step.{turn_of, state_after}
+use Rattle.tracing_tree_layer.specs.Calls.Run.{Run, run, run_by_cause, then_run, accepted_calls, replies_among, state_after_answer, MayAnswer, call_text}
+use Rattle.tracing_tree_layer.specs.Calls.Answered.{IsAnswered, Writes}
+use Rattle.tracing_tree_layer.specs.Calls.Layers.{LayeredView, Changes}
+use Rattle.tracing_tree_layer.specs.Calls.Headline.{AreAnswered, IsRunOf, Runs, run_from}
+use Rattle.tracing_tree_layer.specs.declared.call.Call.{Call}
+use Rattle.tracing_tree_layer.specs.declared.call.Reply.{Reply}
+use Rattle.tracing_tree_layer.proofs.DrawnLaws.{draw-append}
+use Rattle.tracing_tree_layer.proofs.RunLaws.{run-append}
+use Rattle.tracing_tree_layer.proofs.Reading.Ancestors.{reading-laws}
+
+-- ---- one call
+
+-- a layer that has failed stays so
+sound_before : (settings : Settings) (timer : Timer) (state : State) (call : Call) (answer : Result Reply Refusal) →
+    (state_after_answer settings timer state call answer).failed ≡ false → state.failed ≡ false
+sound_before settings timer state call (Ok reply) e = e
+sound_before settings timer state call (Err (NotHeld j)) e = e
+sound_before settings timer state call (Err TooWide) e = e
+sound_before settings timer state call (Err TooMany) e = e
+sound_before settings timer state call (Err Memory) e = e
+sound_before settings timer state call (Err Refused.Timer) e = cc
+sound_before settings timer state call (Err Writer) e = cc
+sound_before settings timer state call (Err Failed) e = e
+
+-- an accepted call is the first of the run
+run-accepted : (settings : Settings) (timer : Timer) (state : State) (call : Call) (reply : Reply) (calls : List Call) →
+    MayAnswer settings timer state call (Ok reply) →
+    let rest = run settings timer (state_after settings timer state call) calls in
+    run settings timer state (call ∷ calls)
+    ≡ record rest { rows = (turn_of settings timer state.forest state.last call).rows ++ rest.rows; replies = reply ∷ rest.replies }
+run-accepted settings timer state call reply calls may =
+    let next : State → Run = λ s. run settings timer s calls in
+    let rest : Run = next (state_after settings timer state call) in
+    let rows : List Row = (turn_of settings timer state.forest state.last call).rows ++ rest.rows in
+    ap (λ cause. then_run (run_by_cause settings timer state call cause) next) may.0
+    ∙ (λ i. record rest { rows = rows; replies = sym may.1 i ∷ rest.replies })
+
+-- a refused call that leaves state and bytes isn't in the run
+runs_refused : (calls : List Call) (replies : List Reply) (old new : Seen) (writer : SeenWriter) → Keeps old.writer.bytes writer.bytes →
+    Runs calls replies (record old { writer = writer }) new → Runs calls replies old new
+runs_refused calls replies old new writer kept h = record {
+  bytes = Appends-trans old.writer.bytes writer.bytes new.writer.bytes [] (draw old.settings (run_from old calls).rows)
+      (Appends-kept old.writer.bytes old.writer.bytes writer.bytes [] (Appends-nil old.writer.bytes) kept) h.bytes;
+  state = h.state;
+  replies = h.replies;
+  continued = h.continued;
+}
+
+-- an answered call before a run that goes on from the state that it leaves
+runs_first : (call : Call) (calls : List Call) (answer : Result Reply Refusal) (answers : List (Result Reply Refusal)) (old new : Seen) (writer : SeenWriter) →
+    let after = state_after_answer old.settings old.timer old.state call answer in
+    MayAnswer old.settings old.timer old.state call answer →
+    Writes (call_text old.settings old.timer old.state call) answer old.writer writer → after.failed ≡ false →
+    Runs (accepted_calls calls answers) (replies_among answers) (record old { state = after; writer = writer }) new →
+    Runs (accepted_calls (call ∷ calls) (answer ∷ answers)) (replies_among (answer ∷ answers)) old new
+runs_first call calls (Ok reply) answers old new writer may wrote sound h =
+    let accepted : List Call = accepted_calls calls answers in
+    let rows : List Row = (turn_of old.settings old.timer old.state.forest old.state.last call).rows in
+    let rest : Run = run old.settings old.timer (state_after old.settings old.timer old.state call) accepted in
+    let e = run-accepted old.settings old.timer old.state call reply accepted may in
+    let text : draw old.settings (run_from old (call ∷ accepted)).rows ≡ draw old.settings rows ++ draw old.settings rest.rows =
+    ap (λ (r : Run). draw old.settings r.rows) e ∙ draw-append old.settings rows rest.rows in
+    record {
+      bytes = subst (Appends old.writer.bytes new.writer.bytes) (sym text)
+          (Appends-trans old.writer.bytes writer.bytes new.writer.bytes (draw old.settings rows) (draw old.settings rest.rows) wrote.0 h.bytes);
+      state = h.state ∙ sym (ap (λ (r : Run). r.state) e);
+      replies = ap (λ replies. reply ∷ replies) h.replies ∙ sym (ap (λ (r : Run). r.replies) e);
+      continued = λ begun earlier. run-append old.settings old.timer begun earlier (call ∷ accepted);
+    }
+runs_first call calls (Err (NotHeld j)) answers old new writer may wrote sound h = runs_refused (accepted_calls calls answers) (replies_among answers) old new writer wrote.0 h
+runs_first call calls (Err TooWide) answers old new writer may wrote sound h = runs_refused (accepted_calls calls answers) (replies_among answers) old new writer wrote.0 h
+runs_first call calls (Err TooMany) answers old new writer may wrote sound h = runs_refused (accepted_calls calls answers) (replies_among answers) old new writer wrote.0 h
+runs_first call calls (Err Memory) answers old new writer may wrote sound h = runs_refused (accepted_calls calls answers) (replies_among answers) old new writer wrote.0 h
+runs_first call calls (Err Refused.Timer) answers old new writer may wrote sound h = cc
+runs_first call calls (Err Writer) answers old new writer may wrote sound h = cc
+runs_first call calls (Err Failed) answers old new writer may wrote sound h = runs_refused (accepted_calls calls answers) (replies_among answers) old new writer wrote.0 h
+
+-- ---- calls one after another
+
+sound_from : (calls : List Call) (answers : List (Result Reply Refusal)) (old new : Seen) → AreAnswered calls answers old new →
+    new.state.failed ≡ false → old.state.failed ≡ false
+sound_from [] [] old new h sound = ap (λ (s : Seen). s.state.failed) (sym h) ∙ sound
+sound_from [] (answer ∷ answers) old new h sound = absurd h
+sound_from (call ∷ calls) [] old new h sound = absurd h
+sound_from (call ∷ calls) (answer ∷ answers) old new (between, h, rest) sound =
+    sound_before old.settings old.timer old.state call answer
+    (ap (λ (s : Seen). s.state.failed) (sym h.left) ∙ sound_from calls answers between new rest sound)
+
+-- they are the run of those that were accepted
+runs : (calls : List Call) (answers : List (Result Reply Refusal)) (old new : Seen) → AreAnswered calls answers old new →
+    new.state.failed ≡ false → Runs (accepted_calls calls answers) (replies_among answers) old new
+runs [] [] old new h sound =
+    let P : Seen → Type 0 = λ s. Runs [] [] old s in
+    subst P (sym h) (record {
+      bytes = Appends-nil old.writer.bytes;
+      state = refl;
+      replies = refl;
+      continued = λ begun earlier. run-append old.settings old.timer begun earlier [];
+    })
+runs [] (answer ∷ answers) old new h sound = absurd h
+runs (call ∷ calls) [] old new h sound = absurd h
+runs (call ∷ calls) (answer ∷ answers) old new (between, h, rest) sound =
+    let after : State = state_after_answer old.settings old.timer old.state call answer in
+    let writer : SeenWriter = (seen_later old after between.writer).writer in
+    let P : SeenWriter → Type 0 = λ w. Writes (call_text old.settings old.timer old.state call) answer old.writer w in
+    let Q : Seen → Type 0 = λ s. Runs (accepted_calls calls answers) (replies_among answers) s new in
+    runs_first call calls answer answers old new writer h.allowed (subst P (ap (λ (s : Seen). s.writer) h.left) h.written)
+    (ap (λ (s : Seen). s.state.failed) (sym h.left) ∙ sound_from calls answers between new rest sound)
+    (subst Q h.left (runs calls answers between new rest sound))
+
+-- a run of calls that were answered
+pub is_run : (calls : List Call) (answers : List (Result Reply Refusal)) (old new : Seen) → AreAnswered calls answers old new →
+    IsRunOf calls answers old new
+is_run calls answers old new h = record {
+  runs = runs calls answers old new h;
+  reads = λ sound first earlier begun. reading-laws old.settings old.timer first (earlier ++ accepted_calls calls answers);
+  answered = h;
+}
+
+-- one more answered call
+pub answered_more : (calls : List Call) (answers : List (Result Reply Refusal)) (call : Call) (answer : Result Reply Refusal) (old between new : Seen) →
+    AreAnswered calls answers old between → IsAnswered call answer between new →
+    AreAnswered (calls ++ call ∷ []) (answers ++ answer ∷ []) old new
+answered_more [] [] call answer old between new h k =
+    let P : Seen → Type 0 = λ s. IsAnswered call answer s new in
+    (new, subst P h k, refl)
+answered_more [] (other ∷ answers) call answer old between new h k = absurd h
+answered_more (other ∷ calls) [] call answer old between new h k = absurd h
+answered_more (one ∷ calls) (other ∷ answers) call answer old between new (next, h, rest) k =
+    (next, h, answered_more calls answers call answer next between new rest k)
+
+-- ---- changes
+
+module _ {W FT : Type 0} (see : LayeredView W FT → Seen) where
+  -- one change and then another
+  pub change_then : {First Second Both : Seen → Seen → Type 0} → ((a b c : Seen) → First a b → Second b c → Both a c) →
+      (old between new : LayeredView W FT) → Changes see First old between → Changes see Second between new → Changes see Both old new
+  change_then join old between new h k = record {
+    changed = join (see old) (see between) (see new) h.changed k.changed;
+    fixed = k.fixed ∙ (λ i. record (h.fixed i) { writer = new.layer.writer; last = new.layer.last; failed = new.layer.failed });
+  }

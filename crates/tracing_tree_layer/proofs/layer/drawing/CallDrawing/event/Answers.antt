@@ -1,0 +1,52 @@
+use Rattle.std.proofs.Common.{Bool, ap, sym, subst, ◌∙◌}
+use Rattle.std.proofs.lemmas.Result.{err_from_is_err_and}
+use Rattle.tracing_tree_layer.specs.Rows.Turns.{current_of, event_row, then_turn, turn_of_row, turn_before_event}
+use Rattle.tracing_tree_layer.specs.Calls.Refused.{timer_faults_at}
+use Rattle.tracing_tree_layer.specs.Rows.Drawn.{Drafts}
+use Rattle.tracing_tree_layer.specs.Rows.Plan.{empty_plan, plan_before_event, turn_of_plan}
+use Rattle.tracing_tree_layer.specs.declared.layer.page.Page.{Page}
+use Rattle.tracing_tree_layer.proofs.DrawnLaws.{drafts_event, refuses_event, fits-event}
+use Rattle.tracing_tree_layer.proofs.Plans.{turn-event}
+use Rattle.tracing_tree_layer.proofs.layer.drawing.CallDrawing.event.Goals as goal
+
+pub returns : goal.returns
+returns g c =
+    let self = c.args.self.now in
+    let settings = self.config.now in
+    let context = self.context.now in
+    let forest = g.S.LookupSpan.forest self.spans.now in
+    let timer = g.FT.FormatTime.timer c.args.timer.now in
+    let last = c.args.page.now.bufs.current_span in
+    let current = current_of forest context in
+    let begun = c.begin.ensures ∙ ap (λ (page : Page). empty_plan page.bufs.current_span) c.page.view_is in
+    let planned = c.in_ok-event.ensures ∙ ap (plan_before_event settings forest current) begun in
+    let same = ap (turn_of_plan settings context forest) planned ∙ turn-event settings context forest current last in
+    let row = event_row settings timer forest c.args.event.now context in
+    let faults = timer_faults_at settings timer forest context in
+    let before = turn_before_event settings context forest last current in
+    let Q : Bool → Type 0 = λ quiet. Drafts settings forest (then_turn before (turn_of_row row)) faults quiet c.event_row.result c.args.page.now c.event_row.new.page c.event.new.plan in
+    subst Q (sym (fits-event settings timer forest c.args.event.now context c.args.depth _ c.check_width.result c.requires.depth c.event_level-level.ensures c.check_width.ensures c.in_ok-check_width.was))
+    (drafts_event settings context forest before row faults c.event_row.result c.args.page.now c.rows-2.new.page c.event_row.new.page c.event.new.plan
+    same (rw c.rows.ensures at c.in_ok-rows.ensures) c.event_row.ensures)
+
+pub returns-in_err-rows : goal.returns-in_err-rows
+returns-in_err-rows g c =
+    let self = c.args.self.now in
+    let settings = self.config.now in
+    let context = self.context.now in
+    let forest = g.S.LookupSpan.forest self.spans.now in
+    let timer = g.FT.FormatTime.timer c.args.timer.now in
+    let last = c.args.page.now.bufs.current_span in
+    let current = current_of forest context in
+    let begun = c.begin.ensures ∙ ap (λ (page : Page). empty_plan page.bufs.current_span) c.page.view_is in
+    let planned = c.in_ok-event.ensures ∙ ap (plan_before_event settings forest current) begun in
+    let same = ap (turn_of_plan settings context forest) planned ∙ turn-event settings context forest current last in
+    let p = err_from_is_err_and c.from_residual-in_err-rows.result c.from_residual-in_err-rows.ensures.1 in
+    let row = event_row settings timer forest c.args.event.now context in
+    let faults = timer_faults_at settings timer forest context in
+    let before = turn_before_event settings context forest last current in
+    let Q : Bool → Type 0 = λ quiet. Drafts settings forest (then_turn before (turn_of_row row)) faults quiet c.from_residual-in_err-rows.result c.args.page.now c.rows-2.new.page c.event.new.plan in
+    subst Q (sym (fits-event settings timer forest c.args.event.now context c.args.depth _ c.check_width.result c.requires.depth c.event_level-level.ensures c.check_width.ensures c.in_ok-check_width.was))
+    (rw (p.1, p.2) (refuses_event settings context forest before row faults _
+    c.args.page.now c.rows-2.new.page c.event.new.plan
+    same (rw c.rows.ensures at c.in_err-rows.ensures)))

@@ -1,0 +1,26 @@
+-- What a registry with a layer holds between calls.
+use Rattle.std.specs.Prelude.{Bool, false, Option, None, List, []}
+use Rattle.tracing_tree_core.specs.Registry.Forest.{Forest, empty_forest}
+use Rattle.tracing_tree_base.specs.Drawing.Picture.{Row}
+use Rattle.tracing_tree_base.specs.declared.context.Id.{Id}
+
+-- the live spans with their printed marks, the last span (the one that opened last, or the parent of the one that closed last),
+-- and whether the layer has failed
+pub record State : Type 0 where
+  pub forest : Forest
+  pub last : Option Id
+  pub failed : Bool
+
+-- no span is live, there is no last span, and nothing has failed
+abbrev pub opening_state : Id → State
+opening_state first = record { forest = empty_forest first; last = None; failed = false }
+
+-- what a call draws, and the printed marks and the last span after it
+pub record Turn : Type 0 where
+  pub rows : List Row
+  pub forest : Forest
+  pub last : Option Id
+
+-- no row, and nothing changes
+abbrev pub quiet_turn : Forest → Option Id → Turn
+quiet_turn forest last = record { rows = []; forest = forest; last = last }

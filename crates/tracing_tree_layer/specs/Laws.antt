@@ -1,0 +1,2 @@
+-- What a reader may conclude from the rows of a run.
+pub mod Reading

@@ -1,0 +1,5 @@
+pub mod Calls
+pub mod Rows
+pub mod Laws
+pub mod Planned
+pub mod Differences

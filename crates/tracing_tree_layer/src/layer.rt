@@ -1,0 +1,295 @@
+//! The layer: what it draws of each call.
+
+mod bare;
+mod block;
+mod builders;
+mod drawing;
+mod page;
+mod path;
+mod plan;
+
+ghost use Rattle.std.specs.Prelude.{◌≡◌, ◌<◌, false, None};
+ghost use Rattle.tracing_tree_base.specs.Drawing.Settings.{default_settings};
+ghost use Rattle.tracing_tree_core.specs.Registry.Forest.{mark_all};
+ghost use Rattle.tracing_tree_layer.specs.Rows.Turns.{event_depth, turn_of_new, turn_of_event, turn_of_closes};
+ghost use Rattle.tracing_tree_layer.specs.Calls.Refused.{is_event_too_wide, timer_faults_at};
+ghost use Rattle.tracing_tree_layer.specs.Calls.Layers.{is_fresh, IsFlushed};
+ghost use Rattle.tracing_tree_base.specs.Drawing.Writers.{seen_writer};
+ghost use Rattle.tracing_tree_layer.specs.Rows.Drawn.{failed_by, has_no_id, DoesTurn, IsBlank, IsReady, Sends};
+
+use drawing::CallDrawing;
+use page::Page;
+use plan::Plan;
+use std::alloc::Global;
+use std::marker::Model;
+use std::mem;
+use tracing_tree_core::format::{Buffers, Config, Context, Id, Output, Refusal};
+use tracing_tree_core::registry::{Event, LookupSpan};
+use tracing_tree_core::time::FormatTime;
+
+/// Draws spans and events as a tree into a writer. (`HierarchicalLayer` of the Rust crate.)
+///
+/// The text of a call is built whole and then written. Once the timer or the writer has faulted the
+/// layer has failed, and refuses every further call.
+#[derive(Drop)]
+pub struct HierarchicalLayer<W: Output, FT: FormatTime> {
+    page: Page,
+    plan: Plan,
+    config: Config,
+    writer: W,
+    timer: FT,
+    failed: bool,
+}
+
+impl<W: Output, FT: FormatTime> Model for HierarchicalLayer<W, FT> {
+    ghost use Rattle.std.specs.Prelude.{◌≡◌, false};
+    ghost use Rattle.tracing_tree_layer.specs.Calls.Layers.{LayerView};
+    ghost use Rattle.tracing_tree_layer.specs.Rows.Drawn.{IsClear};
+
+    ghost Value = { LayerView W FT };
+
+    ghost view = { λ l. record {
+      settings = l.config;
+      writer = l.writer;
+      timer = l.timer;
+      last = l.page.bufs.current_span;
+      failed = l.failed;
+    } };
+
+    // A layer that has not failed has written all that it built, and its writer has never refused a
+    // write.
+    ghost invariant = { λ l. l.failed ≡ false → IsClear l.page × (W.fault_count l.writer ≡ 0) };
+}
+
+impl<W: Output> HierarchicalLayer<W, ()> {
+    /// Makes a layer with the default settings but for the amount (columns a level) and ansi,
+    /// without a timer. Takes no memory. The caller must ensure that the writer has no faults.
+    pub fn new(
+        alloc: Global,
+        indent_amount: usize,
+        ansi: bool,
+        writer: W,
+    ) -> HierarchicalLayer<W, ()>
+        requires { W.fault_count writer ≡ 0 }
+        ensures { result ≡ record {
+          settings = record default_settings { indent_amount = indent_amount; ansi = ansi };
+          writer = writer;
+          timer = tt;
+          last = None;
+          failed = false;
+        } }
+    {
+        HierarchicalLayer::with_config(alloc, Config::new(indent_amount, ansi), writer)
+    }
+
+    /// Makes a layer with these settings, without a timer. Takes no memory. The caller must ensure
+    /// that the writer has no faults.
+    pub fn with_config(alloc: Global, config: Config, writer: W) -> HierarchicalLayer<W, ()>
+        requires { W.fault_count writer ≡ 0 }
+        ensures { result ≡ record {
+          settings = config;
+          writer = writer;
+          timer = tt;
+          last = None;
+          failed = false;
+        } }
+    {
+        HierarchicalLayer {
+            page: Page::new(alloc),
+            plan: Plan::new(alloc),
+            config,
+            writer,
+            timer: (),
+            failed: false,
+        }
+    }
+}
+
+impl<W: Output, FT: FormatTime> HierarchicalLayer<W, FT> {
+    /// Returns the settings.
+    pub fn config(&self) -> &Config
+        ensures { result.now ≡ self.now.settings }
+    {
+        &self.config
+    }
+
+    /// Returns the writer.
+    pub fn writer(&self) -> &W
+        ensures { result.now ≡ self.now.writer }
+    {
+        &self.writer
+    }
+
+    /// Returns the last span: the one that opened last, or the parent of the one that closed last,
+    /// if it has one. It may be gone.
+    pub fn last_span(&self) -> Option<Id>
+        ensures { result ≡ self.now.last }
+    {
+        self.page.bufs.current_span
+    }
+
+    /// Returns whether a call was refused for the timer or the writer. The writer of a layer that
+    /// has not failed has no faults.
+    pub fn failed(&self) -> bool
+        ensures failed { result ≡ self.now.failed }
+        ensures calm { result ≡ false → W.fault_count self.now.writer ≡ 0 }
+    {
+        self.failed
+    }
+
+    /// Returns whether the layer has no last span and has not failed, as one that was just made.
+    pub fn is_fresh(&self) -> bool
+        ensures { result ≡ is_fresh self.now }
+    {
+        !self.failed && self.page.bufs.current_span.is_none()
+    }
+
+    /// Returns the writer alone, with all that was written.
+    pub fn into_writer(self) -> W
+    where
+        FT: Drop,
+        ensures { result ≡ self.writer }
+    {
+        self.writer
+    }
+
+    // Has the writer pass on what it holds back.
+    pub(crate) fn flush(&mut self)
+        ensures { IsFlushed W.Output self.old self.new }
+    {
+        self.writer.flush();
+    }
+
+    // Draws a span that was made, which is live.
+    pub(crate) fn write_new_span<S: LookupSpan>(
+        &mut self,
+        id: Id,
+        spans: &mut S,
+        context: &Context,
+    ) -> Result<(), Refusal>
+        requires { self.old.failed ≡ false }
+        ensures { let old = self.old in
+            let forest = S.forest spans.old in
+            let turn = turn_of_new old.settings context.now forest old.last id in
+            DoesTurn (seen_writer W.Output) turn false false result old self.new
+            forest (S.forest spans.new) }
+    {
+        let drawn = CallDrawing {
+            config: &self.config,
+            spans: &*spans,
+            context,
+        }
+        .new_span(&mut self.page, &mut self.plan, id);
+        let sent = send(drawn, &mut self.page, &mut self.writer, &mut self.failed);
+        if sent.is_ok() {
+            commit(&self.plan, &mut self.page.bufs, spans);
+        }
+        sent
+    }
+
+    // Draws an event so many spans deep.
+    pub(crate) fn write_event<S: LookupSpan>(
+        &mut self,
+        event: &Event,
+        depth: usize,
+        spans: &mut S,
+        context: &Context,
+    ) -> Result<(), Refusal>
+        requires sound { self.old.failed ≡ false }
+        requires depth { depth ≡ event_depth (S.forest spans.old) event.now context.now }
+        ensures { let old = self.old in
+            let forest = S.forest spans.old in
+            let timer = FT.timer old.timer in
+            let turn = turn_of_event old.settings timer context.now forest old.last event.now in
+            let faults = timer_faults_at old.settings timer forest context.now in
+            let wide = is_event_too_wide old.settings timer forest event.now context.now in
+            DoesTurn (seen_writer W.Output) turn faults wide result old self.new
+            forest (S.forest spans.new) }
+    {
+        let drawn = CallDrawing {
+            config: &self.config,
+            spans: &*spans,
+            context,
+        }
+        .event(&mut self.page, &mut self.plan, &self.timer, event, depth);
+        let sent = send(drawn, &mut self.page, &mut self.writer, &mut self.failed);
+        if sent.is_ok() {
+            commit(&self.plan, &mut self.page.bufs, spans);
+        }
+        sent
+    }
+
+    // Draws spans that close one after another. Where none closes, no memory is taken.
+    pub(crate) fn write_closes<S: LookupSpan>(
+        &mut self,
+        ids: &[Id],
+        spans: &mut S,
+        context: &Context,
+    ) -> Result<(), Refusal>
+        requires { self.old.failed ≡ false }
+        ensures { let old = self.old in
+            let forest = S.forest spans.old in
+            let turn = turn_of_closes old.settings context.now ids.now forest old.last in
+            DoesTurn (seen_writer W.Output) turn false (has_no_id ids.now) result old self.new
+            forest (S.forest spans.new) }
+    {
+        let drawn = CallDrawing {
+            config: &self.config,
+            spans: &*spans,
+            context,
+        }
+        .closes(&mut self.page, &mut self.plan, ids);
+        let sent = send(drawn, &mut self.page, &mut self.writer, &mut self.failed);
+        if sent.is_ok() {
+            commit(&self.plan, &mut self.page.bufs, spans);
+        }
+        sent
+    }
+}
+
+// Does what is left of a plan once its rows are written: marks, and the last span. Takes no memory.
+fn commit<S: LookupSpan>(plan: &Plan, bufs: &mut Buffers, spans: &mut S)
+    ensures bufs { bufs.new ≡ record bufs.old { current_span = plan.now.last } }
+    ensures forest { S.forest spans.new ≡ mark_all plan.now.fresh (S.forest spans.old) }
+{
+    for id in plan.fresh() {
+        spans.set_written(*id);
+    }
+    bufs.current_span = plan.last();
+}
+
+// Writes what was drawn, once and whole, or gives it up. Only a fault of the writer leaves a text
+// on the page.
+fn send<W: Output>(
+    drawn: Result<(), Refusal>,
+    page: &mut Page,
+    writer: &mut W,
+    failed: &mut bool,
+) -> Result<(), Refusal>
+    requires room { W.fault_count writer.old < u64.MAX }
+    requires ready { IsReady drawn page.old }
+    ensures sends { Sends drawn result page.old page.new
+        (seen_writer W.Output writer.old) (seen_writer W.Output writer.new) }
+    ensures failed { failed.new ≡ failed_by result }
+{
+    let sent = match drawn {
+        Ok(()) => write_text(page, writer),
+        Err(refusal) => {
+            page.clear();
+            Err(refusal)
+        }
+    };
+    *failed = matches!(sent, Err(Refusal::Timer | Refusal::Writer));
+    sent
+}
+
+fn write_text<W: Output>(page: &mut Page, writer: &mut W) -> Result<(), Refusal>
+    requires room { W.fault_count writer.old < u64.MAX }
+    requires ready { IsBlank page.old.bufs }
+    ensures { Sends (Ok tt) result page.old page.new
+        (seen_writer W.Output writer.old) (seen_writer W.Output writer.new) }
+{
+    mem::swap(&mut page.bufs.current_buf, &mut page.text);
+    let written = page.bufs.flush_current_buf(writer);
+    written.map_err(|_| Refusal::Writer)
+}

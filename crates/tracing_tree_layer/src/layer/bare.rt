@@ -1,0 +1,131 @@
+//! Calls on a layer alone, over live spans that something else keeps.
+
+ghost use Rattle.std.specs.Prelude.{◌≡◌, IfOk, length};
+ghost use Rattle.tracing_tree_core.specs.Registry.Forest.{unless_live, if_live, path_of_any};
+ghost use Rattle.tracing_tree_layer.specs.Calls.Layers.{seen, Changes};
+ghost use Rattle.tracing_tree_layer.specs.Calls.Bare.{on_new_span, on_record, on_event, on_close, IsBareAnswered, IsChecked};
+
+use super::HierarchicalLayer;
+use std::alloc::{AllocError, Global};
+use tracing_tree_core::format::{Context, Id, Output, Refusal};
+use tracing_tree_core::registry::{Event, LookupSpan, Record};
+use tracing_tree_core::time::FormatTime;
+
+/// A layer can be called without a [`Layered`](crate::Layered), over any [`LookupSpan`]. The caller
+/// then makes and removes the spans. Each call is refused with `Failed` after one was refused for
+/// the timer or the writer. After every other refusal the spans, their marks and the last span are
+/// as before, and nothing was written; after `Writer` a beginning of the call's text may be out.
+impl<W: Output, FT: FormatTime> HierarchicalLayer<W, FT> {
+    /// Draws a span that was just made. (`on_new_span` of the Rust crate.)
+    ///
+    /// `NotHeld` of a span that isn't live; `TooWide`, `Memory`, `Writer` and `Failed` as
+    /// [`Layered::call`](crate::Layered::call) has them.
+    pub fn on_new_span<S: LookupSpan>(
+        &mut self,
+        id: Id,
+        spans: &mut S,
+        context: &Context,
+    ) -> Result<(), Refusal>
+        ensures { Changes (seen FT.FormatTime W.Output)
+            (IsBareAnswered (on_new_span id context.now) result)
+            (record { forest = S.forest spans.old; layer = self.old })
+            (record { forest = S.forest spans.new; layer = self.new }) }
+    {
+        self.check(id, spans)?;
+        self.write_new_span(id, spans, context)
+    }
+
+    /// Puts the fields at the end of the span's, and draws nothing. A span that isn't live is
+    /// accepted, and nothing happens. (`on_record` of the Rust crate.)
+    ///
+    /// `Memory` where memory is refused; `Failed` after a fault.
+    pub fn on_record<S: LookupSpan>(
+        &mut self,
+        id: Id,
+        values: &Record,
+        spans: &mut S,
+    ) -> Result<(), Refusal>
+        ensures { Changes (seen FT.FormatTime W.Output)
+            (IsBareAnswered (on_record id values.now) result)
+            (record { forest = S.forest spans.old; layer = self.old })
+            (record { forest = S.forest spans.new; layer = self.new }) }
+    {
+        if self.failed {
+            return Err(Refusal::Failed);
+        }
+        if spans.span(id).is_none() {
+            return Ok(());
+        }
+        spans.record(id, values.fields.clone()?)?;
+        Ok(())
+    }
+
+    /// Draws an event. (`on_event` of the Rust crate.)
+    ///
+    /// `TooWide`, `Timer`, `Memory`, `Writer` and `Failed` as
+    /// [`Layered::call`](crate::Layered::call) has them.
+    pub fn on_event<S: LookupSpan>(
+        &mut self,
+        event: &Event,
+        spans: &mut S,
+        context: &Context,
+    ) -> Result<(), Refusal>
+        ensures { Changes (seen FT.FormatTime W.Output)
+            (IsBareAnswered (on_event event.now context.now) result)
+            (record { forest = S.forest spans.old; layer = self.old })
+            (record { forest = S.forest spans.new; layer = self.new }) }
+    {
+        if self.failed {
+            return Err(Refusal::Failed);
+        }
+        let parent = event.parent.named(context.current);
+        let depth = depth(*self.page.text.allocator(), spans, parent)?;
+        self.write_event(event, depth, spans, context)
+    }
+
+    /// Draws the close of this one span, which stays live: the caller removes it afterwards.
+    /// (`on_close` of the Rust crate.)
+    ///
+    /// `NotHeld` of a span that isn't live; `TooWide`, `Memory`, `Writer` and `Failed` as
+    /// [`Layered::call`](crate::Layered::call) has them.
+    pub fn on_close<S: LookupSpan>(
+        &mut self,
+        id: Id,
+        spans: &mut S,
+        context: &Context,
+    ) -> Result<(), Refusal>
+        ensures { Changes (seen FT.FormatTime W.Output)
+            (IsBareAnswered (on_close id context.now) result)
+            (record { forest = S.forest spans.old; layer = self.old })
+            (record { forest = S.forest spans.new; layer = self.new }) }
+    {
+        self.check(id, spans)?;
+        self.write_closes(&[id], spans, context)
+    }
+
+    // Whether the layer may draw, and the span is live.
+    fn check<S: LookupSpan>(&self, id: Id, spans: &S) -> Result<(), Refusal>
+        ensures { IsChecked self.now.failed (unless_live (S.forest spans.now) id) result }
+    {
+        if self.failed {
+            return Err(Refusal::Failed);
+        }
+        spans.span(id).ok_or(Refusal::NotHeld(id))?;
+        Ok(())
+    }
+}
+
+// How many spans lead down to this one; none where it isn't there or isn't live. Memory is taken
+// only for a path that isn't kept.
+fn depth<S: LookupSpan>(alloc: Global, spans: &S, id: Option<Id>) -> Result<usize, AllocError>
+    ensures { let forest = S.forest spans.now in
+        IfOk result (λ depth. depth ≡ length (path_of_any forest (if_live forest id))) }
+{
+    let Some(id) = id else {
+        return Ok(0);
+    };
+    match spans.kept_path(id) {
+        Some(path) => Ok(path.len()),
+        None => Ok(spans.path(alloc, id)?.len()),
+    }
+}

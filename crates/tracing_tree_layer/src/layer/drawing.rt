@@ -1,0 +1,273 @@
+//! The rows of a call, planned and then drawn one after another.
+
+ghost use Rattle.std.specs.Prelude.{◌≡◌, ◌++◌, ◌∷◌, ◌-◌, [], false, if◌then◌else◌, OnOk, IfOk, IfErr, is_none, length, string_bytes};
+ghost use Rattle.tracing_tree_core.specs.Registry.Forest.{if_live, path_of_any};
+ghost use Rattle.tracing_tree_layer.specs.Rows.Block.{moment_part, elapsed_part, event_block};
+ghost use Rattle.tracing_tree_layer.specs.Rows.Turns.{block_of, event_row, event_depth, event_level, event_parent, time_in_current, turn_of_new, turn_of_event, turn_of_closes};
+ghost use Rattle.tracing_tree_layer.specs.Rows.Plan.{row_of_planned, rows_of_planned};
+ghost use Rattle.tracing_tree_layer.specs.Calls.Refused.{is_event_too_wide, timer_faults_at, lacks_elapsed};
+ghost use Rattle.tracing_tree_layer.specs.Rows.Drawn.{DrawsRows, Drafts, IsBlank, IsUntimed, has_no_id};
+
+use super::block::{push_event_tail, push_span_block};
+use super::page::Page;
+use super::plan::{Plan, PlannedRow, Planner};
+use std::alloc::{AllocError, Global};
+use tracing_tree_core::format::{Buffers, Config, Context, Id, Refusal, SpanMode};
+use tracing_tree_core::registry::{Event, LookupSpan};
+use tracing_tree_core::time::FormatTime;
+
+// A call that is being drawn: the settings, the live spans, and what was handed in with it.
+#[derive(Drop)]
+pub(super) struct CallDrawing<'a, S: LookupSpan> {
+    pub(super) config: &'a Config,
+    pub(super) spans: &'a S,
+    pub(super) context: &'a Context,
+}
+
+impl<S: LookupSpan> CallDrawing<'_, S> {
+    // A new span.
+    pub(super) fn new_span(&self, page: &mut Page, plan: &mut Plan, id: Id) -> Result<(), Refusal>
+        requires { IsBlank page.old.bufs }
+        ensures { let settings = self.now.config.now in
+            let forest = S.forest self.now.spans.now in
+            let turn = turn_of_new settings self.now.context.now forest page.old.bufs.current_span
+            id in
+            Drafts settings forest turn false false result page.old page.new plan.new }
+    {
+        plan.begin(page.bufs.current_span);
+        let planner = Planner {
+            config: self.config,
+            spans: self.spans,
+        };
+        planner.new_span(plan, id)?;
+        self.rows(page, plan.rows())
+    }
+
+    // Spans that close one after another.
+    pub(super) fn closes(&self, page: &mut Page, plan: &mut Plan, ids: &[Id]) -> Result<(), Refusal>
+        requires { IsBlank page.old.bufs }
+        ensures { let settings = self.now.config.now in
+            let forest = S.forest self.now.spans.now in
+            let last = page.old.bufs.current_span in
+            let turn = turn_of_closes settings self.now.context.now ids.now forest last in
+            Drafts settings forest turn false (has_no_id ids.now) result page.old page.new
+            plan.new }
+    {
+        plan.begin(page.bufs.current_span);
+        let planner = Planner {
+            config: self.config,
+            spans: self.spans,
+        };
+        planner.closes(plan, ids)?;
+        self.rows(page, plan.rows())
+    }
+
+    // An event so many spans deep, after the rows of the spans that it stands in, where they are to
+    // be shown. Its own width is tested before any memory is taken.
+    pub(super) fn event<FT: FormatTime>(
+        &self,
+        page: &mut Page,
+        plan: &mut Plan,
+        timer: &FT,
+        event: &Event,
+        depth: usize,
+    ) -> Result<(), Refusal>
+        requires blank { IsBlank page.old.bufs }
+        requires depth { depth ≡ event_depth (S.forest self.now.spans.now) event.now
+            self.now.context.now }
+        ensures { let settings = self.now.config.now in
+            let context = self.now.context.now in
+            let forest = S.forest self.now.spans.now in
+            let timer = FT.timer timer.now in
+            let last = page.old.bufs.current_span in
+            let turn = turn_of_event settings timer context forest last event.now in
+            let faults = timer_faults_at settings timer forest context in
+            let wide = is_event_too_wide settings timer forest event.now context in
+            Drafts settings forest turn faults wide result page.old page.new plan.new }
+    {
+        let level = self.event_level(depth);
+        self.config.check_width(SpanMode::Event, level)?;
+        plan.begin(page.bufs.current_span);
+        let planner = Planner {
+            config: self.config,
+            spans: self.spans,
+        };
+        planner.event(plan, self.context)?;
+        self.rows(page, plan.rows())?;
+        self.event_row(page, timer, event, level)
+    }
+
+    // Planned rows, one after another.
+    fn rows(&self, page: &mut Page, rows: &[PlannedRow]) -> Result<(), Refusal>
+        requires { IsBlank page.old.bufs }
+        ensures { let settings = self.now.config.now in
+            let forest = S.forest self.now.spans.now in
+            let rows = rows_of_planned settings self.now.context.now forest rows.now in
+            DrawsRows settings rows false result page.old page.new }
+    {
+        for row in rows {
+            self.row(page, *row)?;
+        }
+        Ok(())
+    }
+
+    // A planned row.
+    fn row(&self, page: &mut Page, row: PlannedRow) -> Result<(), Refusal>
+        requires { IsBlank page.old.bufs }
+        ensures { let settings = self.now.config.now in
+            let forest = S.forest self.now.spans.now in
+            let row = row_of_planned settings self.now.context.now forest row in
+            DrawsRows settings (row ∷ []) false result page.old page.new }
+    {
+        self.block(&mut page.bufs, row.mode, row.id)?;
+        page.add_row(row.level, self.config, row.mode, self.context)
+    }
+
+    // The block of a span's row.
+    fn block(&self, bufs: &mut Buffers, mode: SpanMode, id: Id) -> Result<(), AllocError>
+        ensures ok { let forest = S.forest self.now.spans.now in
+            let block = block_of self.now.config.now forest mode id in
+            let block = bufs.old.current_buf ++ block in
+            OnOk result (bufs.new ≡ record bufs.old { current_buf = block }) }
+        ensures last { bufs.new.current_span ≡ bufs.old.current_span }
+    {
+        match self.spans.span(id) {
+            Some(span) => push_span_block(&mut bufs.current_buf, self.config, mode, &span),
+            None => Ok(()),
+        }
+    }
+
+    // The row of an event at this level, which isn't too wide.
+    fn event_row<FT: FormatTime>(
+        &self,
+        page: &mut Page,
+        timer: &FT,
+        event: &Event,
+        level: usize,
+    ) -> Result<(), Refusal>
+        requires blank { IsBlank page.old.bufs }
+        requires level { let forest = S.forest self.now.spans.now in
+            let parent = event_parent forest event.now self.now.context.now in
+            level ≡ event_level self.now.config.now (path_of_any forest parent) }
+        requires fits { is_event_too_wide self.now.config.now (FT.timer timer.now)
+            (S.forest self.now.spans.now) event.now self.now.context.now ≡ false }
+        ensures { let settings = self.now.config.now in
+            let context = self.now.context.now in
+            let forest = S.forest self.now.spans.now in
+            let timer = FT.timer timer.now in
+            let row = event_row settings timer forest event.now context in
+            let faults = timer_faults_at settings timer forest context in
+            DrawsRows settings (row ∷ []) faults result page.old page.new }
+    {
+        self.event_block(&mut page.bufs, timer, event)?;
+        page.add_row(level, self.config, SpanMode::Event, self.context)
+    }
+
+    // An event stands one level below its parent, but without lines at the same level.
+    fn event_level(&self, depth: usize) -> usize
+        ensures { let indent_lines = self.now.config.now.indent_lines in
+            result ≡ (if indent_lines then depth else depth - 1) }
+    {
+        if self.config.indent_lines() {
+            depth
+        } else {
+            depth.saturating_sub(1)
+        }
+    }
+
+    // The block of an event's row.
+    fn event_block<FT: FormatTime>(
+        &self,
+        bufs: &mut Buffers,
+        timer: &FT,
+        event: &Event,
+    ) -> Result<(), Refusal>
+        ensures ok { let settings = self.now.config.now in
+            let context = self.now.context.now in
+            let since = time_in_current (S.forest self.now.spans.now) context in
+            let block = event_block settings (FT.timer timer.now) context.moment since event.now in
+            let block = bufs.old.current_buf ++ block in
+            OnOk result (bufs.new ≡ record bufs.old { current_buf = block }) }
+        ensures has { let forest = S.forest self.now.spans.now in
+            let timer = FT.timer timer.now in
+            let faults = timer_faults_at self.now.config.now timer forest self.now.context.now in
+            OnOk result (faults ≡ false) }
+        ensures refusal { let forest = S.forest self.now.spans.now in
+            let timer = FT.timer timer.now in
+            let faults = timer_faults_at self.now.config.now timer forest self.now.context.now in
+            IfErr result (IsUntimed faults) }
+        ensures last { bufs.new.current_span ≡ bufs.old.current_span }
+    {
+        self.push_event(&mut bufs.current_buf, timer, event)
+    }
+
+    // Appends the timer's texts, level, target and fields.
+    fn push_event<FT: FormatTime>(
+        &self,
+        out: &mut String,
+        timer: &FT,
+        event: &Event,
+    ) -> Result<(), Refusal>
+        ensures ok { let settings = self.now.config.now in
+            let context = self.now.context.now in
+            let since = time_in_current (S.forest self.now.spans.now) context in
+            let block = event_block settings (FT.timer timer.now) context.moment since event.now in
+            OnOk result (string_bytes out.new ≡ string_bytes out.old ++ block) }
+        ensures has { let forest = S.forest self.now.spans.now in
+            let timer = FT.timer timer.now in
+            let faults = timer_faults_at self.now.config.now timer forest self.now.context.now in
+            OnOk result (faults ≡ false) }
+        ensures refusal { let forest = S.forest self.now.spans.now in
+            let timer = FT.timer timer.now in
+            let faults = timer_faults_at self.now.config.now timer forest self.now.context.now in
+            IfErr result (IsUntimed faults) }
+    {
+        self.moment(out, timer)?;
+        self.elapsed(out, timer)?;
+        push_event_tail(out, self.config, event)?;
+        Ok(())
+    }
+
+    // The timer's text of the moment, and a space if it has one.
+    fn moment<FT: FormatTime>(&self, out: &mut String, timer: &FT) -> Result<(), Refusal>
+        ensures ok { let text = moment_part (FT.timer timer.now) self.now.context.now.moment in
+            OnOk result (string_bytes out.new ≡ string_bytes out.old ++ text) }
+        ensures has { let moment = self.now.context.now.moment in
+            OnOk result (is_none ((FT.timer timer.now).moment_text moment) ≡ false) }
+        ensures refusal { let moment = self.now.context.now.moment in
+            IfErr result (IsUntimed (is_none ((FT.timer timer.now).moment_text moment))) }
+    {
+        let before = out.len();
+        timer.format_time(&self.context.moment, out)?;
+        if out.len() > before {
+            out.push_str(" ")?;
+        }
+        Ok(())
+    }
+
+    // The timer's text of the time since the current span was made, if that is live, and a space.
+    fn elapsed<FT: FormatTime>(&self, out: &mut String, timer: &FT) -> Result<(), Refusal>
+        ensures ok { let forest = S.forest self.now.spans.now in
+            let since = time_in_current forest self.now.context.now in
+            let text = elapsed_part self.now.config.now (FT.timer timer.now) since in
+            OnOk result (string_bytes out.new ≡ string_bytes out.old ++ text) }
+        ensures has { let forest = S.forest self.now.spans.now in
+            let since = time_in_current forest self.now.context.now in
+            OnOk result (lacks_elapsed self.now.config.now (FT.timer timer.now) since ≡ false) }
+        ensures refusal { let context = self.now.context.now in
+            let since = time_in_current (S.forest self.now.spans.now) context in
+            IfErr result
+            (IsUntimed (lacks_elapsed self.now.config.now (FT.timer timer.now) since)) }
+    {
+        let Some(current) = self.context.current else {
+            return Ok(());
+        };
+        let Some(data) = self.spans.data(current) else {
+            return Ok(());
+        };
+        let elapsed = self.context.moment.mono.saturating_sub(data.start);
+        timer.style_timestamp(self.config.ansi(), elapsed, out)?;
+        out.push_str(" ")?;
+        Ok(())
+    }
+}

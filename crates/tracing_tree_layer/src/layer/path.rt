@@ -1,0 +1,30 @@
+//! Paths of spans, lent or walked.
+
+ghost use Rattle.std.specs.Prelude.{◌≡◌, length};
+ghost use Rattle.tracing_tree_layer.specs.Rows.Plan.{ids_of};
+
+use tracing_tree_core::format::Id;
+
+// The ids on a path, root first: as they are kept with the span, or as they were found by walking up.
+#[derive(Drop)]
+pub(super) enum Path<'a> {
+    Kept(&'a [Id]),
+    Walked(Vec<Id>),
+}
+
+impl Path<'_> {
+    pub(super) fn as_slice(&self) -> &[Id]
+        ensures { result.now ≡ ids_of self.now }
+    {
+        match self {
+            Path::Kept(ids) => ids,
+            Path::Walked(ids) => ids.as_slice(),
+        }
+    }
+
+    pub(super) fn len(&self) -> usize
+        ensures { result ≡ length (ids_of self.now) }
+    {
+        self.as_slice().len()
+    }
+}

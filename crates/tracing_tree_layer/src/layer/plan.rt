@@ -1,0 +1,330 @@
+//! What a call is going to do, before any of it is done: its rows about spans, the spans that become
+//! printed, and the last span afterwards.
+
+ghost use Rattle.std.specs.Prelude.{◌≡◌, ◌≢◌, ◌≤◌, ◌++◌, ◌∷◌, [], Some, None, OnOk, OnErr, IfOk, drop, length};
+ghost use Rattle.std.specs.List.{common_prefix_len, list_any};
+ghost use Rattle.tracing_tree_base.specs.Drawing.Settings.{retraces};
+ghost use Rattle.tracing_tree_core.specs.Registry.Ids.{same_id};
+ghost use Rattle.tracing_tree_core.specs.Registry.Paths.{PartOnce};
+ghost use Rattle.tracing_tree_core.specs.Registry.Forest.{IsForest, is_printed, path_of_any};
+ghost use Rattle.tracing_tree_layer.specs.Rows.CloseRetrace.{retraces_before_close};
+ghost use Rattle.tracing_tree_layer.specs.Rows.Turns.{current_of};
+ghost use Rattle.tracing_tree_layer.specs.Rows.Plan.{ids_of, empty_plan, with_rows, marked_by, planned_row, planned_parent, planned_fresh, planned_fresh_rows, retraced_plan, closed_plan, plan_of_new, plan_before_event, plan_of_close, plan_of_closes};
+
+use super::path::Path;
+use std::alloc::{AllocError, Global};
+use std::marker::Model;
+use tracing_tree_core::format::{Config, Context, Id, SpanMode};
+use tracing_tree_core::registry::{LookupSpan, common};
+
+// A row about a live span, which is to be drawn.
+#[derive(Clone, Copy)]
+pub(super) struct PlannedRow {
+    pub(super) mode: SpanMode,
+    pub(super) id: Id,
+    pub(super) level: usize,
+}
+
+// The rows about spans, the spans that become printed, and the last span afterwards. The layer
+// keeps one for all its calls, so that its lists grow once.
+#[derive(Drop)]
+pub(super) struct Plan {
+    rows: Vec<PlannedRow>,
+    fresh: Vec<Id>,
+    last: Option<Id>,
+}
+
+impl Model for Plan {
+    ghost use Rattle.tracing_tree_layer.specs.Rows.Plan.{PlanView};
+
+    ghost Value = { PlanView };
+
+    ghost view = { λ p. record { rows = p.rows.items; fresh = p.fresh.items; last = p.last } };
+}
+
+impl Plan {
+    pub(super) fn new(alloc: Global) -> Plan
+        ensures { result ≡ empty_plan None }
+    {
+        Plan {
+            rows: Vec::new(alloc),
+            fresh: Vec::new(alloc),
+            last: None,
+        }
+    }
+
+    // Forgets the call before, and keeps its room.
+    pub(super) fn begin(&mut self, last: Option<Id>)
+        ensures { self.new ≡ empty_plan last }
+    {
+        self.rows.clear();
+        self.fresh.clear();
+        self.last = last;
+    }
+
+    pub(super) fn rows(&self) -> &[PlannedRow]
+        ensures { result.now ≡ self.now.rows }
+    {
+        self.rows.as_slice()
+    }
+
+    pub(super) fn fresh(&self) -> &[Id]
+        ensures { result.now ≡ self.now.fresh }
+    {
+        self.fresh.as_slice()
+    }
+
+    pub(super) fn last(&self) -> Option<Id>
+        ensures { result ≡ self.now.last }
+    {
+        self.last
+    }
+
+    fn allocator(&self) -> Global {
+        *self.rows.allocator()
+    }
+
+    fn push_row(&mut self, row: PlannedRow) -> Result<(), AllocError>
+        ensures { OnOk result (self.new ≡ with_rows (row ∷ []) self.old) }
+    {
+        self.rows.push(row)?;
+        Ok(())
+    }
+
+    // The spans become printed.
+    fn print(&mut self, ids: &[Id]) -> Result<(), AllocError>
+        ensures { OnOk result (self.new ≡ record self.old { fresh = self.old.fresh ++ ids.now }) }
+    {
+        self.fresh.extend_from_slice(ids)
+    }
+
+    // The span is the last one from now on.
+    fn reach(&mut self, id: Id)
+        ensures { self.new ≡ record self.old { last = Some id } }
+    {
+        self.last = Some(id);
+    }
+}
+
+// Plans calls by the settings and the live spans. After an error the plan is good for nothing but
+// `begin`.
+#[derive(Drop)]
+pub(super) struct Planner<'a, S: LookupSpan> {
+    pub(super) config: &'a Config,
+    pub(super) spans: &'a S,
+}
+
+impl<S: LookupSpan> Planner<'_, S> {
+    // A new span, which becomes printed at once unless spans are deferred.
+    pub(super) fn new_span(&self, plan: &mut Plan, id: Id) -> Result<(), AllocError>
+        ensures { let forest = S.forest self.now.spans.now in
+            OnOk result (plan.new ≡ plan_of_new self.now.config.now forest id plan.old) }
+    {
+        if self.config.deferred_spans() {
+            return Ok(());
+        }
+        plan.print(&[id])?;
+        if self.config.span_retrace() {
+            return self.retrace_to(plan, id);
+        }
+        let verbose = self.config.verbose_entry();
+        self.parent(plan, verbose, SpanMode::PreOpen, id)?;
+        self.row(plan, SpanMode::Open { verbose }, id)?;
+        plan.reach(id);
+        Ok(())
+    }
+
+    // What comes before an event's row: its current span is retraced to, if it is live.
+    pub(super) fn event(&self, plan: &mut Plan, context: &Context) -> Result<(), AllocError>
+        ensures { let forest = S.forest self.now.spans.now in
+            let current = current_of forest context.now in
+            OnOk result (plan.new ≡ plan_before_event self.now.config.now forest current plan.old) }
+    {
+        let Some(current) = context.current else {
+            return Ok(());
+        };
+        if self.spans.span(current).is_some() && self.retraces() {
+            return self.retrace_to(plan, current);
+        }
+        Ok(())
+    }
+
+    // Spans that close one after another.
+    pub(super) fn closes(&self, plan: &mut Plan, ids: &[Id]) -> Result<(), AllocError>
+        ensures ok { let forest = S.forest self.now.spans.now in
+            OnOk result (plan.new ≡ plan_of_closes self.now.config.now forest ids.now plan.old) }
+        ensures some { OnErr result (ids.now ≢ []) }
+    {
+        for id in ids {
+            self.close(plan, *id)?;
+        }
+        Ok(())
+    }
+
+    // A span that closes: nothing if it was deferred and never printed.
+    fn close(&self, plan: &mut Plan, id: Id) -> Result<(), AllocError>
+        ensures { let forest = S.forest self.now.spans.now in
+            OnOk result (plan.new ≡ plan_of_close self.now.config.now forest id plan.old) }
+    {
+        if self.config.deferred_spans() && !self.is_printed(plan, id) {
+            return Ok(());
+        }
+        if self.retraces_before_close(plan, id)? {
+            self.retrace_to(plan, id)?;
+        }
+        self.close_rows(plan, id)
+    }
+
+    // The rows of a close, after which the parent is the last span.
+    fn close_rows(&self, plan: &mut Plan, id: Id) -> Result<(), AllocError>
+        ensures { let forest = S.forest self.now.spans.now in
+            OnOk result (plan.new ≡ closed_plan self.now.config.now forest id plan.old) }
+    {
+        let verbose = self.config.verbose_exit();
+        self.row(plan, SpanMode::Close { verbose }, id)?;
+        self.parent(plan, verbose, SpanMode::PostClose, id)?;
+        if let Some(parent) = self.spans.parent(id) {
+            plan.reach(parent);
+        }
+        Ok(())
+    }
+
+    // Whether a close retraces first: the span is printed, and its parent isn't on the path of the
+    // last span.
+    fn retraces_before_close(&self, plan: &Plan, id: Id) -> Result<bool, AllocError>
+        ensures { let marked = marked_by plan.now (S.forest self.now.spans.now) in
+            let last = plan.now.last in
+            IfOk result (λ retraces.
+            retraces ≡ retraces_before_close self.now.config.now marked last id) }
+    {
+        if !self.config.close_retrace() || !self.retraces() || !self.is_printed(plan, id) {
+            return Ok(false);
+        }
+        let Some(parent) = self.spans.parent(id) else {
+            return Ok(false);
+        };
+        let path = self.path(plan.allocator(), plan.last())?;
+        Ok(!contains(path.as_slice(), parent))
+    }
+
+    // Spans are shown again at all.
+    fn retraces(&self) -> bool
+        ensures { result ≡ retraces self.now.config.now }
+    {
+        self.config.span_retrace() || self.config.deferred_spans()
+    }
+
+    // Shows the spans on the path to this one that the last path lacks. They become printed, and
+    // the span is the last one.
+    fn retrace_to(&self, plan: &mut Plan, id: Id) -> Result<(), AllocError>
+        ensures { let forest = S.forest self.now.spans.now in
+            OnOk result (plan.new ≡ retraced_plan self.now.config.now forest id plan.old) }
+    {
+        let old = self.path(plan.allocator(), plan.last())?;
+        let new = self.path(plan.allocator(), Some(id))?;
+        let fresh = beyond(old.as_slice(), new.as_slice());
+        self.fresh_rows(plan, fresh)?;
+        plan.print(fresh)?;
+        plan.reach(id);
+        Ok(())
+    }
+
+    // The rows of fresh spans. The parent of the first is shown before it, if entries are verbose.
+    fn fresh_rows(&self, plan: &mut Plan, ids: &[Id]) -> Result<(), AllocError>
+        ensures { let forest = S.forest self.now.spans.now in
+            let marked = marked_by plan.old forest in
+            let rows = planned_fresh_rows self.now.config.now marked forest ids.now in
+            OnOk result (plan.new ≡ with_rows rows plan.old) }
+    {
+        let Some((first, others)) = ids.split_first() else {
+            return Ok(());
+        };
+        let verbose = self.config.verbose_entry();
+        self.parent(plan, verbose, SpanMode::PreOpen, *first)?;
+        let shown = verbose && self.spans.parent(*first).is_some();
+        self.fresh_row(plan, shown, *first)?;
+        for id in others {
+            self.fresh_row(plan, false, *id)?;
+        }
+        Ok(())
+    }
+
+    // The row of a fresh span: a span that was printed before is retraced, and another opens.
+    fn fresh_row(&self, plan: &mut Plan, verbose: bool, id: Id) -> Result<(), AllocError>
+        ensures { let forest = S.forest self.now.spans.now in
+            let row = planned_fresh (marked_by plan.old forest) forest verbose id in
+            OnOk result (plan.new ≡ with_rows (row ∷ []) plan.old) }
+    {
+        let mode = if self.is_printed(plan, id) {
+            SpanMode::Retrace { verbose }
+        } else {
+            SpanMode::Open { verbose }
+        };
+        self.row(plan, mode, id)
+    }
+
+    // The parent of a span, if it is to be shown and there is one.
+    fn parent(&self, plan: &mut Plan, shown: bool, mode: SpanMode, id: Id) -> Result<(), AllocError>
+        ensures { let rows = planned_parent shown (S.forest self.now.spans.now) mode id in
+            OnOk result (plan.new ≡ with_rows rows plan.old) }
+    {
+        if !shown {
+            return Ok(());
+        }
+        match self.spans.parent(id) {
+            Some(parent) => self.row(plan, mode, parent),
+            None => Ok(()),
+        }
+    }
+
+    // A row about a span.
+    fn row(&self, plan: &mut Plan, mode: SpanMode, id: Id) -> Result<(), AllocError>
+        ensures { let row = planned_row (S.forest self.now.spans.now) mode id in
+            OnOk result (plan.new ≡ with_rows (row ∷ []) plan.old) }
+    {
+        let path = self.path(plan.allocator(), Some(id))?;
+        let level = path.len().saturating_sub(1);
+        plan.push_row(PlannedRow { mode, id, level })
+    }
+
+    // Whether the span is printed already, or becomes printed by what is planned so far.
+    fn is_printed(&self, plan: &Plan, id: Id) -> bool
+        ensures { result ≡ is_printed (marked_by plan.now (S.forest self.now.spans.now)) id }
+    {
+        match self.spans.data(id) {
+            Some(data) => data.written || contains(plan.fresh(), id),
+            None => false,
+        }
+    }
+
+    // The path of a span; empty where there is none.
+    fn path(&self, alloc: Global, id: Option<Id>) -> Result<Path<'_>, AllocError>
+        ensures path { let forest = S.forest self.now.spans.now in
+            IfOk result (λ path. ids_of path ≡ path_of_any forest id) }
+        ensures formed { id ≢ None → IsForest (S.forest self.now.spans.now) }
+    {
+        let Some(id) = id else {
+            return Ok(Path::Walked(Vec::new(alloc)));
+        };
+        match self.spans.kept_path(id) {
+            Some(ids) => Ok(Path::Kept(ids)),
+            None => Ok(Path::Walked(self.spans.path(alloc, id)?)),
+        }
+    }
+}
+
+// Whether the id is among these.
+fn contains(ids: &[Id], id: Id) -> bool
+    ensures { result ≡ list_any (same_id id) ids.now }
+{
+    ids.iter().any(|other| id == *other)
+}
+
+#[tactic(auto, using(crate::proofs::Plans::common_within))]
+// What the new path has beyond its common beginning with the old one.
+fn beyond<'a>(old: &[Id], new: &'a [Id]) -> &'a [Id]
+    requires { PartOnce old.now new.now }
+    ensures { result.now ≡ drop (common_prefix_len same_id old.now new.now) new.now }
+{
+    &new[common(old, new).length..]
+}

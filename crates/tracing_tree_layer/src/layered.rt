@@ -1,0 +1,204 @@
+//! A registry with a layer, which take each call whole, or refuse it and say why.
+
+ghost use Rattle.std.specs.Prelude.{◌≡◌, ◌≢◌, ◌<◌, [], false, None, OnErr, IfOk, length};
+ghost use Rattle.tracing_tree_core.specs.Registry.Ids.{id_of};
+ghost use Rattle.tracing_tree_core.specs.Registry.Forest.{empty_forest, if_live, path_of_any};
+ghost use Rattle.tracing_tree_layer.specs.Calls.Layers.{seen, Changes};
+ghost use Rattle.tracing_tree_layer.specs.Calls.Layers.{Flushes};
+ghost use Rattle.tracing_tree_layer.specs.Calls.Answered.{IsAnswered};
+ghost use Rattle.tracing_tree_layer.specs.Calls.Headline.{IsRunOf};
+
+use crate::call::{Call, Reply};
+use crate::layer::HierarchicalLayer;
+use std::alloc::{AllocError, Global};
+use std::marker::Model;
+use tracing_tree_core::field::Fields;
+use tracing_tree_core::format::{Context, Id, Output, Refusal};
+use tracing_tree_core::registry::{Attributes, Event, LookupSpan, Record, Registry};
+use tracing_tree_core::time::FormatTime;
+
+/// A registry with a layer. An accepted call changes both and writes its text. A refused one leaves the spans, their marks and the
+/// last span as they were; after `Timer` and `Writer` the layer has failed besides, and after `Writer` a beginning of the text may
+/// be out.
+#[derive(Drop)]
+pub struct Layered<W: Output, FT: FormatTime> {
+    registry: Registry,
+    layer: HierarchicalLayer<W, FT>,
+    // What a close removes. It is kept so that its room is taken once.
+    closing: Vec<Id>,
+}
+
+impl<W: Output, FT: FormatTime> Model for Layered<W, FT> {
+    ghost use Rattle.tracing_tree_layer.specs.Calls.Layers.{LayeredView};
+
+    ghost Value = { LayeredView W FT };
+
+    ghost view = { λ l. record { forest = l.registry; layer = l.layer } };
+}
+
+impl<W: Output, FT: FormatTime> Layered<W, FT> {
+    /// No spans, and this layer. The first id is 1. The caller must ensure that the layer is fresh: it has no last span and hasn't
+    /// failed.
+    pub fn new(alloc: Global, layer: HierarchicalLayer<W, FT>) -> Layered<W, FT>
+        requires last { layer.last ≡ None }
+        requires sound { layer.failed ≡ false }
+        ensures { result ≡ record { forest = empty_forest (id_of 1); layer = layer } }
+    {
+        Layered::starting_at(alloc, 1, layer)
+    }
+
+    /// No spans, and this layer. The first id is this. The caller must ensure that the layer is fresh, as for `new`.
+    pub fn starting_at(alloc: Global, first: u64, layer: HierarchicalLayer<W, FT>) -> Layered<W, FT>
+        requires last { layer.last ≡ None }
+        requires sound { layer.failed ≡ false }
+        ensures { result ≡ record { forest = empty_forest (id_of first); layer = layer } }
+    {
+        Layered {
+            registry: Registry::starting_at(alloc, first),
+            layer,
+            closing: Vec::new(alloc),
+        }
+    }
+
+    /// The writer, with all that was written.
+    pub fn writer(&self) -> &W
+        ensures { result.now ≡ self.now.layer.writer }
+    {
+        self.layer.writer()
+    }
+
+    /// The live spans.
+    pub fn registry(&self) -> &Registry
+        ensures { result.now ≡ self.now.forest }
+    {
+        &self.registry
+    }
+
+    /// The layer.
+    pub fn layer(&self) -> &HierarchicalLayer<W, FT>
+        ensures { result.now ≡ self.now.layer }
+    {
+        &self.layer
+    }
+
+    /// The registry and the layer by themselves.
+    pub fn into_parts(self) -> (Registry, HierarchicalLayer<W, FT>)
+        ensures registry { result.0 ≡ self.forest }
+        ensures layer { result.1 ≡ self.layer }
+    {
+        (self.registry, self.layer)
+    }
+
+    /// Has the writer pass on what it holds back (`Output::flush`). Nothing else changes.
+    pub fn flush(&mut self)
+        ensures { Changes (seen FT.FormatTime W.Output) Flushes self.old self.new }
+    {
+        self.layer.flush();
+    }
+
+    /// Makes a call: the registry's part of it, the layer's rows, and the reply.
+    ///
+    /// `Failed` after an earlier call was refused for the timer or the writer; `NotHeld` of a parent, a span to be cloned or a
+    /// handle to be closed that isn't there; `TooMany` where no id or no further handle is left; `TooWide` where a row's level used times
+    /// the amount passes `usize`; `Timer` and `Writer` for their faults; `Memory` where memory is refused.
+    pub fn call(&mut self, call: Call) -> Result<Reply, Refusal>
+        ensures { Changes (seen FT.FormatTime W.Output) (IsAnswered call result) self.old self.new }
+    {
+        if self.layer.failed() {
+            return Err(Refusal::Failed);
+        }
+        match call {
+            Call::New(attributes, context) => self.new_span(attributes, &context),
+            Call::Clone(id) => self.clone_span(id),
+            Call::Record(id, Record { fields }) => self.record(id, fields),
+            Call::Event(event, context) => self.event(&event, &context),
+            Call::Close(id, context) => self.close(id, &context),
+        }
+    }
+
+    /// Makes calls one after another, and returns the answer to each, in order. Room for the answers is taken first: on
+    /// `AllocError` nothing has changed. No calls need no room.
+    pub fn run(
+        &mut self,
+        alloc: Global,
+        calls: Vec<Call>,
+    ) -> Result<Vec<Result<Reply, Refusal>>, AllocError>
+        ensures run { IfOk result (λ answers. Changes (seen FT.FormatTime W.Output)
+            (IsRunOf calls.items answers.items) self.old self.new) }
+        ensures err { OnErr result (self.new ≡ self.old) }
+        ensures room { OnErr result (calls.items ≢ []) }
+    {
+        let mut answers = Vec::with_capacity(alloc, calls.len())?;
+        for call in calls {
+            let answer = self.call(call);
+            answers.push_reserved(answer);
+        }
+        Ok(answers)
+    }
+
+    // A refusal of the layer takes the new span and its id back.
+    fn new_span(&mut self, attributes: Attributes, context: &Context) -> Result<Reply, Refusal>
+        requires { self.old.layer.failed ≡ false }
+        ensures { Changes (seen FT.FormatTime W.Output)
+            (IsAnswered (Call.New attributes context.now) result) self.old self.new }
+    {
+        let id = self.registry.new_span(attributes, context)?;
+        if let Err(refusal) = self.layer.write_new_span(id, &mut self.registry, context) {
+            self.registry.take_back(id);
+            return Err(refusal);
+        }
+        Ok(Reply::Span(id))
+    }
+
+    // The rows of all that closes are written before anything is removed.
+    fn close(&mut self, id: Id, context: &Context) -> Result<Reply, Refusal>
+        requires { self.old.layer.failed ≡ false }
+        ensures { Changes (seen FT.FormatTime W.Output)
+            (IsAnswered (Call.Close id context.now) result) self.old self.new }
+    {
+        self.registry.closing_into(id, &mut self.closing)?;
+        let ids = self.closing.as_slice();
+        self.layer.write_closes(ids, &mut self.registry, context)?;
+        Ok(Reply::Closed(self.registry.try_close(id)?))
+    }
+
+    // Nothing is drawn.
+    fn clone_span(&mut self, id: Id) -> Result<Reply, Refusal>
+        requires { self.old.layer.failed ≡ false }
+        ensures { Changes (seen FT.FormatTime W.Output)
+            (IsAnswered (Call.Clone id) result) self.old self.new }
+    {
+        Ok(Reply::Cloned(self.registry.clone_span(id)?))
+    }
+
+    // Nothing is drawn.
+    fn record(&mut self, id: Id, fields: Fields) -> Result<Reply, Refusal>
+        requires { self.old.layer.failed ≡ false }
+        ensures { Changes (seen FT.FormatTime W.Output)
+            (IsAnswered (Call.Record id (record { fields = fields })) result) self.old self.new }
+    {
+        self.registry.record(id, fields)?;
+        Ok(Reply::Done)
+    }
+
+    // Nothing changes but the text.
+    fn event(&mut self, event: &Event, context: &Context) -> Result<Reply, Refusal>
+        requires { self.old.layer.failed ≡ false }
+        ensures { Changes (seen FT.FormatTime W.Output)
+            (IsAnswered (Call.Event event.now context.now) result) self.old self.new }
+    {
+        let depth = depth(&self.registry, event.parent.named(context.current));
+        let spans = &mut self.registry;
+        self.layer.write_event(event, depth, spans, context)?;
+        Ok(Reply::Done)
+    }
+}
+
+// How many spans lead down to this one; none where it isn't there or isn't live. The registry keeps
+// all paths, so no memory is taken.
+fn depth(registry: &Registry, id: Option<Id>) -> usize
+    ensures { result ≡ length (path_of_any registry.now (if_live registry.now id)) }
+{
+    let path = id.and_then(|id| registry.kept_path(id));
+    path.map_or(0, |path| path.len())
+}
