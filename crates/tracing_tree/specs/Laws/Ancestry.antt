@@ -11,8 +11,8 @@ use Rattle.tracing_tree_layer.specs.declared.call.Call.{Call}
 use Rattle.tracing_tree_rows.specs.declared.paths.EventPath.{EventPath}
 
 module _ {settings : Settings} {timer : Timer} {first : Id} {calls : List Call} where
-  -- Among the paths is the event's, with an entry for each span on the way to the span that it lies in: the place of a row that
-  -- opens that very span.
+  -- Among the paths is the event's, with an entry for each span on the way to the span that it lies
+  -- in: the place of a row that opens that very span.
   pub record FindsAncestors (e : EventInRun settings timer first calls) (i : Id)
       (paths : List EventPath) : Type 0 where
     pub path : EventPath
@@ -25,8 +25,8 @@ module _ {settings : Settings} {timer : Timer} {first : Id} {calls : List Call} 
         (λ row. IsTrue (opens_at level row)
         × (row.span ≡ slice_get (path_of (forest_at e) i) level)))
 
--- Whatever run that began empty the text is the readable drawing of: where the law on ancestors holds of it, the ancestors of
--- each event in its current span are found.
+-- Whatever run that began empty the text is the readable drawing of: where the law on ancestors
+-- holds of it, the ancestors of each event in its current span are found.
 abbrev pub FindsInRuns : ℕ → List ℕ → List EventPath → Type 0
 FindsInRuns amount text paths =
     (settings : Settings) (timer : Timer) (first : Id) (calls : List Call) →

@@ -13,7 +13,8 @@ use Rattle.tracing_tree.specs.declared.lines.read.Part.TheVariants.{Line, Input,
 abbrev pub HasNoLineEnd : List ℕ → Type 0
 HasNoLineEnd bytes = All (λ byte. (byte == 10) ≡ false) bytes
 
--- a part of a line, and then this end of it, were taken, and the part was put at the end of what was read before
+-- a part of a line, and then this end of it, were taken, and the part was put at the end of what
+-- was read before
 pub record TakesPart (end : List ℕ) (known left : Option (List ℕ)) (old new : List ℕ) : Type 0 where
   pub part : List ℕ
   pub within : HasNoLineEnd part
@@ -45,7 +46,8 @@ abbrev pub HasNoLine : Option (List ℕ) → Type 0
 HasNoLine None = ⊤
 HasNoLine (Some input) = input_lines input ≡ []
 
--- what reading a line took: the first line, or nothing where there is none; it fails for a cause from outside alone
+-- what reading a line took: the first line, or nothing where there is none; it fails for a cause
+-- from outside alone
 abbrev pub ReadsNext : Option (List ℕ) → Option (List ℕ) → List ℕ → Result Bool LineCause → Type 0
 ReadsNext known left line (Ok true) = TakesLine known left line
 ReadsNext known left line (Ok false) = HasNoLine known
@@ -61,8 +63,8 @@ abbrev pub TakesRest : Option (List ℕ) → Option (List ℕ) → List ℕ → 
 TakesRest None left line = ⊤
 TakesRest (Some input) left line = HasNoLineEnd line × (input ≡ line) × (left ≡ Some [])
 
--- what reading up to a line end took: a line with its line end, or without one what is left; it fails for a cause from outside
--- alone
+-- what reading up to a line end took: a line with its line end, or without one what is left; it
+-- fails for a cause from outside alone
 abbrev pub ReadsEnded : Option (List ℕ) → Option (List ℕ) → List ℕ → Result Bool LineCause → Type 0
 ReadsEnded known left line (Ok true) = TakesEnded known left line
 ReadsEnded known left line (Ok false) = TakesRest known left line

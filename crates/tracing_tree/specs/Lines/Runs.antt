@@ -28,7 +28,8 @@ LacksSettings input =
     (settings : Settings) (timer : TimerChoice) (others : List (List ℕ))
     → ¬ (BeginsWith input settings timer others)
 
--- in this state a line may end the run for this cause; nothing is said of causes that come from outside
+-- in this state a line may end the run for this cause; nothing is said of causes that come from
+-- outside
 abbrev pub EndsRun : Settings → Timer → State → List ℕ → LineCause → Type 0
 EndsRun settings timer state line NoSettings = ⊥
 EndsRun settings timer state line NotACall = SpellsNothing line
@@ -53,8 +54,8 @@ IsFaultAfter settings timer state others judged fault =
     → IsSomeAnd (slice_get others judged)
     (λ line. EndsRun settings timer state line fault.cause))
 
--- Line 1 may end the run for this cause: for the settings only where none begin the input. No call stands there, so none is
--- to blame.
+-- Line 1 may end the run for this cause: for the settings only where none begin the input. No call
+-- stands there, so none is to blame.
 abbrev pub EndsAtFirst : List ℕ → LineCause → Type 0
 EndsAtFirst input NoSettings = LacksSettings input
 EndsAtFirst input NotACall = ⊥
@@ -69,7 +70,8 @@ pub record StopsAtFirst (input : List ℕ) (accepted : ℕ) (fault : Option Line
   pub blamed : fault ≡ Some (record { line = 1; cause = cause })
   pub none : accepted ≡ 0
 
--- Lines are counted up to this number. The line that has it isn't judged: a run that comes so far ends there by `Read`.
+-- Lines are counted up to this number. The line that has it isn't judged: a run that comes so far
+-- ends there by `Read`.
 abbrev pub last_number : ℕ
 last_number = 2 ^ 64 - 1
 
@@ -83,8 +85,9 @@ IsCounted judged fault =
 abbrev pub lines_run : Settings → TimerChoice → List Call → Run
 lines_run settings timer calls = run settings (chosen_timer timer) (opening_state (id_of 1)) calls
 
--- A run over lines, of which the first spells settings: the calls that these lines spell are accepted, the others are
--- skipped, and the next line is to blame. Where there is none, it is the line that was being read.
+-- A run over lines, of which the first spells settings: the calls that these lines spell are
+-- accepted, the others are skipped, and the next line is to blame. Where there is none, it is the
+-- line that was being read.
 pub record RunsLines (input : List ℕ) (accepted : ℕ) (fault : Option LineFault) : Type 0 where
   pub settings : Settings
   pub timer : TimerChoice
@@ -107,8 +110,8 @@ module _ {input : List ℕ} {accepted : ℕ} {fault : Option LineFault} where
   abbrev pub lines_text : RunsLines input accepted fault → List ℕ
   lines_text r = draw r.settings (lines_run r.settings r.timer r.calls).rows
 
--- After the text of the accepted calls nothing is written, but after a fault of the writer a beginning of the text of the
--- call that this line spells, and nothing where writes are whole.
+-- After the text of the accepted calls nothing is written, but after a fault of the writer a
+-- beginning of the text of the call that this line spells, and nothing where writes are whole.
 abbrev pub IsLeftAfter : Bool → Settings → Timer → State → List ℕ → LineCause → List ℕ → Type 0
 IsLeftAfter whole settings timer state line (Refused Writer) front =
     (call : Call) × SpellsCall line call × IsCutShort (call_text settings timer state call) front
@@ -133,8 +136,8 @@ pub record WritesLines {input : List ℕ} {accepted : ℕ} {fault : Option LineF
       (slice_get r.others r.judged) fault front
   pub appends : Appends old.bytes new.bytes (lines_text r ++ front)
 
--- the count of the writer's faults, by the cause that ended the run: it rose by one where the writer is to blame, and stayed
--- elsewhere
+-- the count of the writer's faults, by the cause that ended the run: it rose by one where the
+-- writer is to blame, and stayed elsewhere
 abbrev pub CountsCause : LineCause → ℕ → ℕ → Type 0
 CountsCause (Refused Writer) old_faults new_faults = new_faults ≡ old_faults + 1
 CountsCause cause old_faults new_faults = new_faults ≡ old_faults

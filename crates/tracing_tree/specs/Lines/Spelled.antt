@@ -29,7 +29,8 @@ o >>= next = option_and_then next o
 
 -- ---- lines
 
--- a text is the lines that line ends end, and what stands after the last line end, unless that is empty
+-- a text is the lines that line ends end, and what stands after the last line end, unless that is
+-- empty
 abbrev pub without_empty_last : List (List ℕ) → List (List ℕ)
 without_empty_last [] = []
 without_empty_last (line ∷ []) = if length line == 0 then [] else line ∷ []
@@ -64,7 +65,8 @@ unless_null (object ms) = Some (object ms)
 abbrev pub value_at : List ℕ → Data → Option Data
 value_at key value = option_and_then unless_null (get key value)
 
--- the value of a key as it is read, or else this one where the key is absent; `None` is a value that can't be read
+-- the value of a key as it is read, or else this one where the key is absent; `None` is a value
+-- that can't be read
 abbrev pub read_or : {A : Type 0} → Option A → (Data → Option A) → List ℕ → Data → Option A
 read_or absent reader key value = option_map_or reader (value_at key value) absent
 

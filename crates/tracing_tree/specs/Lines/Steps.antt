@@ -52,8 +52,9 @@ JudgesLine known left (Err Read) old new = new ≡ old
 JudgesLine known left (Err Memory) old new = new ≡ old
 JudgesLine known left (Err (Refused refusal)) old new = MakesCall known left (Err refusal) old new
 
--- A run over lines: the calls that these lines spell are accepted, the others are skipped, and the next line is to blame. What
--- is written is the drawing of the run of these calls, and what the fault leaves.
+-- A run over lines: the calls that these lines spell are accepted, the others are skipped, and the
+-- next line is to blame. What is written is the drawing of the run of these calls, and what the
+-- fault leaves.
 pub record RunsOver (lines : List (List ℕ)) (accepted : ℕ) (fault : Option LineFault)
     (old new : Seen) : Type 0 where
   pub judged : ℕ
@@ -72,7 +73,8 @@ pub record RunsOver (lines : List (List ℕ)) (accepted : ℕ) (fault : Option L
   pub appends : Appends old.writer.bytes new.writer.bytes
       (draw old.settings (run_from old calls).rows ++ front)
 
--- the same over what is left of the input, where that is known, and the count of the writer's faults
+-- the same over what is left of the input, where that is known, and the count of the writer's
+-- faults
 pub record EndsLines (known : Option (List ℕ)) (accepted : ℕ) (fault : Option LineFault)
     (old new : Seen) : Type 0 where
   pub ran : IfSome known (λ input. RunsOver (input_lines input) accepted fault old new)

@@ -88,7 +88,8 @@ all_but_last rows = take (length rows - 1) rows
 
 -- ---- an input
 
--- so many lines of the input, at least, have a line end, and they are the drawing of these rows and of no others
+-- so many lines of the input, at least, have a line end, and they are the drawing of these rows and
+-- of no others
 pub record BeginsWithRows (amount : ℕ) (input : List ℕ) (count : ℕ)
     (rows : List TextRow) : Type 0 where
   pub ended : count < length (parts_of input)
@@ -102,29 +103,32 @@ IsNoText input line = IsSomeAnd (slice_get (parts_of input) (line - 1)) (λ byte
 abbrev pub IsNotARow : ℕ → List ℕ → ℕ → Type 0
 IsNotARow amount input line = IsFirstBadLine amount input line ⊎ IsNoText input line
 
--- a beginning of the rows' JSON was written, with the lines of all rows but the last, and maybe some of the last's
+-- a beginning of the rows' JSON was written, with the lines of all rows but the last, and maybe
+-- some of the last's
 pub record WritesBeginning (rows : List TextRow) (old new : Option (List ℕ)) : Type 0 where
   pub some : 0 < length rows
   pub count : ℕ
   pub others : length (json_lines (all_but_last rows)) ≤ count
   pub appends : Appends old new (take count (json_lines rows))
 
--- What was written for the rows of the lines before the one at which the reading ended: all lines of JSON, all but the last
--- row's for want of memory, and a beginning where a write failed.
+-- What was written for the rows of the lines before the one at which the reading ended: all lines
+-- of JSON, all but the last row's for want of memory, and a beginning where a write failed.
 abbrev pub LeavesWritten : RowCause → List TextRow → Option (List ℕ) → Option (List ℕ) → Type 0
 LeavesWritten NotARow rows old new = Appends old new (json_lines rows)
 LeavesWritten Read rows old new = Appends old new (json_lines rows)
 LeavesWritten Memory rows old new = Appends old new (json_lines (all_but_last rows))
 LeavesWritten Writer rows old new = WritesBeginning rows old new
 
--- what a cause tells of the line at which the reading ended; nothing, of causes that come from outside
+-- what a cause tells of the line at which the reading ended; nothing, of causes that come from
+-- outside
 abbrev pub TellsLine : ℕ → List ℕ → ℕ → RowCause → Type 0
 TellsLine amount input line NotARow = IsNotARow amount input line
 TellsLine amount input line Read = ⊤
 TellsLine amount input line Memory = ⊤
 TellsLine amount input line Writer = ⊤
 
--- the reading ended at a line: those before it are the drawing of rows, of which so much was written
+-- the reading ended at a line: those before it are the drawing of rows, of which so much was
+-- written
 pub record EndsAtLine (amount : ℕ) (input : List ℕ) (fault : RowFault)
     (old new : Option (List ℕ)) : Type 0 where
   pub rows : List TextRow
@@ -145,8 +149,8 @@ abbrev pub WritesRows : ℕ → List ℕ → Result (Unit {0}) RowFault → Opti
 WritesRows amount input (Ok done) old new = WritesAll amount input old new
 WritesRows amount input (Err fault) old new = EndsAtLine amount input fault old new
 
--- the same of the drawing of readable rows: what is written are the lines of these rows, and each line of it that is UTF-8 is
--- one of a row
+-- the same of the drawing of readable rows: what is written are the lines of these rows, and each
+-- line of it that is UTF-8 is one of a row
 abbrev pub WritesDrawing : ℕ → List ℕ → Result (Unit {0}) RowFault → Option (List ℕ)
     → Option (List ℕ) → Type 0
 WritesDrawing amount input (Ok done) old new =

@@ -41,7 +41,8 @@ WritesNext start rows row (Err Writer) json now =
     (count : ℕ)
     × Appends start now (json_lines rows ++ take count (json_line rows (length rows) row))
 
--- So many lines of the input were read, and this is left. The lines of all rows but the last were written.
+-- So many lines of the input were read, and this is left. The lines of all rows but the last were
+-- written.
 pub record SoFar (amount : ℕ) (input : List ℕ) (start : Option (List ℕ)) (count : ℕ)
     (rest : List ℕ) (read : RowsRead) (now : Option (List ℕ)) : Type 0 where
   pub two : 2 ≤ amount

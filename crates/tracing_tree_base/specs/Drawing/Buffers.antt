@@ -15,7 +15,8 @@ abbrev pub emptied_when_ok : {E : Type 0} → Result (Unit {0}) E → BuffersVie
 emptied_when_ok (Ok done) buffers = record buffers { current_buf = [] }
 emptied_when_ok (Err fault) buffers = buffers
 
--- The block becomes this text. A row that is too wide is refused for that; a refusal changes nothing.
+-- The block becomes this text. A row that is too wide is refused for that; a refusal changes
+-- nothing.
 abbrev pub IndentsRow : Bool → List ℕ → Result (Unit {0}) Refusal → BuffersView → BuffersView
     → Type 0
 IndentsRow too_wide text (Ok done) old new =

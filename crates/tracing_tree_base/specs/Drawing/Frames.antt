@@ -20,7 +20,8 @@ abbrev pub corner_pieces : List ℕ → List ℕ → ℕ → ℕ → List ℕ
 corner_pieces left right from to =
     frame_pieces from left (encode_utf8 horizontal) (to - from - 1) right
 
--- the corners of a span's row, which stand half an amount further right if it is verbose; an amount of 1 leaves two spaces then
+-- the corners of a span's row, which stand half an amount further right if it is verbose; an amount
+-- of 1 leaves two spaces then
 abbrev pub span_pieces : List ℕ → List ℕ → Bool → ℕ → ℕ → List ℕ
 span_pieces left right false amount before = corner_pieces left right before (before + amount)
 span_pieces left right true amount before =

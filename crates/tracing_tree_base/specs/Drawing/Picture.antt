@@ -7,7 +7,8 @@ use Rattle.tracing_tree_base.specs.declared.context.Id.{Id}
 use Rattle.tracing_tree_base.specs.declared.format.SpanMode.{SpanMode}
 use Rattle.tracing_tree_base.specs.declared.format.SpanMode.TheVariants.{PreOpen, Open, Close, Retrace, PostClose, Event}
 
--- a row: its kind, the span that it shows, its level, its block of text, and what each line begins with
+-- a row: its kind, the span that it shows, its level, its block of text, and what each line begins
+-- with
 pub record Row : Type 0 where
   pub kind : SpanMode
   pub span : Option Id
@@ -25,7 +26,8 @@ unnamed_row kind level block prefix =
 abbrev pub has_line_end : List ℕ → Bool
 has_line_end text = list_any (λ byte. byte == 10) text
 
--- the texts between line ends; `PartsLaws` proves that this is the one list that satisfies `AreParts`
+-- the texts between line ends; `PartsLaws` proves that this is the one list that satisfies
+-- `AreParts`
 abbrev pub parts_of : List ℕ → List (List ℕ)
 parts_of block = slice_split (λ byte. byte == 10) block
 
@@ -35,8 +37,9 @@ pub record AreParts (block : List ℕ) (parts : List (List ℕ)) : Type 0 where
   pub some : 0 < length parts
   pub without_line_ends : IsTrue (list_all (λ part. not (has_line_end part)) parts)
 
--- The lines of a row: those of its block, which gets a line end first where rows are drawn with lines. `lines` takes
--- the parts, leaves out the last if it is empty, and takes one carriage return from the end of each other.
+-- The lines of a row: those of its block, which gets a line end first where rows are drawn with
+-- lines. `lines` takes the parts, leaves out the last if it is empty, and takes one carriage return
+-- from the end of each other.
 abbrev pub row_lines : Bool → List ℕ → List (List ℕ)
 row_lines indent_lines block = lines (if indent_lines then block ++ 10 ∷ [] else block)
 
@@ -74,7 +77,8 @@ corner_up_left = 0x2518
 abbrev pub branch : ℕ
 branch = 0x251C
 
--- what stands between the prefix and the text of a line: how many columns, and which character stands in each
+-- what stands between the prefix and the text of a line: how many columns, and which character
+-- stands in each
 pub record Frame : Type 0 where
   pub width : ℕ
   pub glyph : ℕ → ℕ
@@ -115,7 +119,8 @@ continued from amount = record {
   glyph = λ column. if column == from then vertical else space;
 }
 
--- a verbose row's corners stand half an amount further right; an amount of 1 leaves no room for them
+-- a verbose row's corners stand half an amount further right; an amount of 1 leaves no room for
+-- them
 abbrev pub verbose_corners : ℕ → ℕ → ℕ → ℕ → Frame
 verbose_corners left right amount before =
     if nat_le 2 amount then corners left right (before + amount / 2) (before + amount) else blank

@@ -21,8 +21,8 @@ pub record IsExtended (old new : List ℕ) : Type 0 where
 
 -- ---- styles
 
--- what stands for a style in its escape sequence; `styled` leaves a text in the plain style as it is, so the code of `Plain`
--- is in no text
+-- what stands for a style in its escape sequence; `styled` leaves a text in the plain style as it
+-- is, so the code of `Plain` is in no text
 abbrev pub style_code : Style → List ℕ
 style_code Plain = codes "0"
 style_code Dimmed = codes "2"

@@ -4,7 +4,8 @@ use Rattle.std.specs.Io.KnownBytes.{Appends}
 use Rattle.tracing_tree_base.specs.declared.format.output.Output.{Ghosts as Output}
 use Rattle.tracing_tree_base.specs.declared.format.output.OutputFault.{OutputFault}
 
--- a writer: its bytes, if they are known, how many writes it has refused, and whether it takes texts whole
+-- a writer: its bytes, if they are known, how many writes it has refused, and whether it takes
+-- texts whole
 pub record SeenWriter : Type 0 where
   pub bytes : Option (List ℕ)
   pub faults : ℕ
@@ -24,7 +25,8 @@ pub record IsCutShort (text front : List ℕ) : Type 0 where
   pub whole : text ≡ front ++ rest
   pub cut : rest ≢ []
 
--- a fault of the writer: its count rose by one, and what was written is cut short, or nothing where writes are whole
+-- a fault of the writer: its count rose by one, and what was written is cut short, or nothing where
+-- writes are whole
 pub record LeavesCut (text : List ℕ) (old new : SeenWriter) : Type 0 where
   pub rose : new.faults ≡ old.faults + 1
   pub front : List ℕ
@@ -32,7 +34,8 @@ pub record LeavesCut (text : List ℕ) (old new : SeenWriter) : Type 0 where
   pub appends : Appends old.bytes new.bytes front
   pub nothing : IsTrue old.whole → front ≡ []
 
--- All of a text is written, or what is written is cut short. Where writes are whole a fault writes nothing.
+-- All of a text is written, or what is written is cut short. Where writes are whole a fault writes
+-- nothing.
 abbrev pub WritesWhole : List ℕ → Result (Unit {0}) OutputFault → SeenWriter → SeenWriter → Type 0
 WritesWhole text (Ok done) old new = Appends old.bytes new.bytes text × (new.faults ≡ old.faults)
 WritesWhole text (Err fault) old new = LeavesCut text old new

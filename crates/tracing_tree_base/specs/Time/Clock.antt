@@ -17,7 +17,8 @@ use Rattle.tracing_tree_base.specs.declared.time.uptime.Uptime.{Uptime}
 use Rattle.tracing_tree_base.specs.declared.time.clocks.Clock.{Clock}
 use Rattle.tracing_tree_base.specs.declared.time.clocks.Clock.TheVariants as Which
 
--- a timer: what it writes at a moment, and after an elapsed time with colours or without; `None` says that it faults
+-- a timer: what it writes at a moment, and after an elapsed time with colours or without; `None`
+-- says that it faults
 pub record Timer : Type 0 where
   pub moment_text : Moment → Option (List ℕ)
   pub elapsed_text : Bool → ℕ → Option (List ℕ)
@@ -41,8 +42,8 @@ is_nearest_count unit n count =
     nat_lt (2 * distance n (count * unit)) unit
     || ((2 * distance n (count * unit) == unit) && is_even count)
 
--- the count of a unit that is nearest to n: what fits into n, or one more. `CountLaws` proves that `is_nearest_count` holds of
--- it, and of no other count, where the unit is above 0.
+-- the count of a unit that is nearest to n: what fits into n, or one more. `CountLaws` proves that
+-- `is_nearest_count` holds of it, and of no other count, where the unit is above 0.
 abbrev pub nearest_count : ℕ → ℕ → ℕ
 nearest_count unit n = if is_nearest_count unit n (n / unit) then n / unit else n / unit + 1
 
@@ -119,8 +120,8 @@ month_on year day =
 abbrev pub days_before : ℤ → ℤ → ℕ
 days_before year day = unsigned_abs (day -ℤ days_from_civil year 1 1)
 
--- What is shown on a day of a year, so many nanoseconds after midnight. `CivilLaws` proves `IsCivilOn` of it on each day that
--- the calendar has, in that day's year, and of nothing else.
+-- What is shown on a day of a year, so many nanoseconds after midnight. `CivilLaws` proves
+-- `IsCivilOn` of it on each day that the calendar has, in that day's year, and of nothing else.
 abbrev pub civil_in : ℤ → ℤ → ℕ → Civil
 civil_in year day nanos = record {
   year = year;
@@ -132,7 +133,8 @@ civil_in year day nanos = record {
   nanosecond = nanos % 1_000_000_000;
 }
 
--- the day number of so many nanoseconds after the start of 1970, and the nanoseconds after that day's midnight
+-- the day number of so many nanoseconds after the start of 1970, and the nanoseconds after that
+-- day's midnight
 abbrev pub day_at : ℤ → ℤ
 day_at nanos = int_div_euclid nanos (pos 86_400_000_000_000)
 

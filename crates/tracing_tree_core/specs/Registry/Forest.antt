@@ -76,7 +76,8 @@ children_of forest i = filter (is_child_of i) forest.spans
 
 -- ---- paths
 
--- the path of a span among these, the newest first: the path of its parent among the older ones, and the span
+-- the path of a span among these, the newest first: the path of its parent among the older ones,
+-- and the span
 abbrev pub path_among : List Span → Id → List Id
 path_among [] i = []
 path_among (span ∷ older) i =
@@ -217,14 +218,16 @@ abbrev pub FirstStays : Forest → Option Id → List Id → Type 0
 FirstStays forest before [] = ⊤
 FirstStays forest before (i ∷ more) = goes_after forest before i ≡ false
 
--- a beginning of a list of ids in which each goes after the one before it, and no longer beginning is so
+-- a beginning of a list of ids in which each goes after the one before it, and no longer beginning
+-- is so
 pub record IsLongestGoing (forest : Forest) (ids going : List Id) : Type 0 where
   pub rest : List Id
   pub whole : ids ≡ going ++ rest
   pub each : IsTrue (list_all (λ step. goes_after forest step.0 step.1) (with_previous going))
   pub longest : FirstStays forest (last_or None going) rest
 
--- of a span, its parent, and so on upward, the longest beginning in which each goes after the one before it
+-- of a span, its parent, and so on upward, the longest beginning in which each goes after the one
+-- before it
 abbrev pub going_up : Forest → Id → List Id
 going_up forest i =
     map (λ step. step.1)
@@ -235,8 +238,8 @@ going_up forest i =
 abbrev pub closing_of : Forest → Id → List Id
 closing_of forest i = going_up (take_handle i forest) i
 
--- what leaves the forest when one handle of a span is taken away: of the way from the span up to its root, the longest
--- beginning that goes
+-- what leaves the forest when one handle of a span is taken away: of the way from the span up to
+-- its root, the longest beginning that goes
 unfoldable pub IsClosing : Forest → Id → List Id → Type 0
 IsClosing forest i ids =
     (path : List Id) × IsPath forest i path

@@ -41,7 +41,8 @@ abbrev pub lacks_others : List Span → Option Id → Id → Bool
 lacks_others spans before i =
     list_all (λ child. option_map_or (same_id child.id) before false) (children_of (alone spans) i)
 
--- of these ids the longest beginning in which each goes after the one before it, and the first after this one
+-- of these ids the longest beginning in which each goes after the one before it, and the first
+-- after this one
 abbrev pub going_after : Forest → Option Id → List Id → List Id
 going_after forest before ids =
     map (λ step. step.1)
@@ -67,7 +68,8 @@ IsNewSpan attributes context (Err Memory) old new =
     (missing_parent old attributes context ≡ None) × (old.next ≢ None) × (new ≡ old)
 IsNewSpan attributes context (Err refusal) old new = ⊥
 
--- a clone adds one handle; a span that isn't live and a count that is full are refused, and change nothing then
+-- a clone adds one handle; a span that isn't live and a count that is full are refused, and change
+-- nothing then
 abbrev pub IsCloned : Id → Result Id Refusal → Forest → Forest → Type 0
 IsCloned i (Ok j) old new =
     (unless_live old i ≡ None) × (has_all_handles old i ≡ false) × (j ≡ i)
@@ -77,7 +79,8 @@ IsCloned i (Err TooMany) old new =
     (unless_live old i ≡ None) × (has_all_handles old i ≡ true) × (new ≡ old)
 IsCloned i (Err refusal) old new = ⊥
 
--- a close takes one handle and what closes with it; it is refused exactly where no handle is left, and changes nothing then
+-- a close takes one handle and what closes with it; it is refused exactly where no handle is left,
+-- and changes nothing then
 abbrev pub IsClosed : Id → Result Bool Refusal → Forest → Forest → Type 0
 IsClosed i (Ok went) old new =
     (unless_handle old i ≡ None) × (went ≡ not (length (closing_of old i) == 0))

@@ -24,7 +24,8 @@ pub data BareCall : Type 0 where
   on_event : Event → Context → BareCall
   on_close : Id → Context → BareCall
 
--- the rows of an accepted call, and the printed marks and the last span after it; a close is that of its one span
+-- the rows of an accepted call, and the printed marks and the last span after it; a close is that
+-- of its one span
 abbrev pub bare_turn_of : Settings → Timer → Forest → Option Id → BareCall → Turn
 bare_turn_of settings timer forest last (on_new_span i context) =
     turn_of_new settings context forest last i
@@ -34,7 +35,8 @@ bare_turn_of settings timer forest last (on_event event context) =
 bare_turn_of settings timer forest last (on_close i context) =
     turn_of_close settings context forest last i
 
--- what else an accepted call changes in the forest: a record of an id that isn't live changes nothing
+-- what else an accepted call changes in the forest: a record of an id that isn't live changes
+-- nothing
 abbrev pub bare_changed_forest : BareCall → Forest → Forest
 bare_changed_forest (on_new_span i context) forest = forest
 bare_changed_forest (on_record i record') forest = add_fields record'.fields i forest
@@ -73,7 +75,8 @@ bare_timer_faults settings timer forest (on_event event context) =
     timer_faults_at settings timer forest context
 bare_timer_faults settings timer forest (on_close i context) = false
 
--- why a call is refused, want of memory and faults of the writer aside; no id and no handle is counted here
+-- why a call is refused, want of memory and faults of the writer aside; no id and no handle is
+-- counted here
 abbrev pub bare_cause_of : Settings → Timer → State → BareCall → Option Refusal
 bare_cause_of settings timer state call = first_cause (record {
   failed = state.failed;

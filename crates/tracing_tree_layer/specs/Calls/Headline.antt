@@ -16,8 +16,8 @@ use Rattle.tracing_tree_layer.specs.declared.call.Reply.{Reply}
 abbrev pub run_from : Seen → List Call → Run
 run_from seen calls = run seen.settings seen.timer seen.state calls
 
--- Bytes, state and replies are those of the run of these calls. Runs compose: after any earlier run it is the rest of the run
--- of the joined calls.
+-- Bytes, state and replies are those of the run of these calls. Runs compose: after any earlier run
+-- it is the rest of the run of the joined calls.
 pub record Runs (calls : List Call) (given : List Reply) (old new : Seen) : Type 0 where
   pub bytes : Appends old.writer.bytes new.writer.bytes
       (draw old.settings (run_from old calls).rows)
@@ -36,8 +36,8 @@ AreAnswered (call ∷ calls) [] old new = ⊥
 AreAnswered (call ∷ calls) (answer ∷ answers) old new =
     (between : Seen) × IsAnswered call answer old between × AreAnswered calls answers between new
 
--- Where these calls are made in the state to which a run comes that began empty, the reading laws hold
--- of the joined calls: the rows above an event open its ancestors.
+-- Where these calls are made in the state to which a run comes that began empty, the reading laws
+-- hold of the joined calls: the rows above an event open its ancestors.
 abbrev pub Reads : Seen → List Call → Type 0
 Reads old calls =
     (first : Id) (earlier : List Call) →
@@ -45,7 +45,8 @@ Reads old calls =
     ReadingLaws old.settings old.timer first (earlier ++ calls)
 
 -- While neither timer nor writer has failed, bytes, state and replies are those of the run of the
--- accepted calls, and its rows keep the reading laws. Whatever happens, each call is answered in order.
+-- accepted calls, and its rows keep the reading laws. Whatever happens, each call is answered in
+-- order.
 pub record IsRunOf (calls : List Call) (answers : List (Result Reply Refusal))
     (old new : Seen) : Type 0 where
   pub runs : new.state.failed ≡ false

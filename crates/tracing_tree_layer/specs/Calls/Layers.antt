@@ -21,7 +21,8 @@ pub record LayerView (W FT : Type 0) : Type 0 where
 abbrev pub is_fresh : {W FT : Type 0} → LayerView W FT → Bool
 is_fresh layer = not layer.failed && is_none layer.last
 
--- a layer's writer passed on what it held back; its known bytes, its count of faults and all else stay
+-- a layer's writer passed on what it held back; its known bytes, its count of faults and all else
+-- stay
 pub record IsFlushed {W FT : Type 0} (output : Output W) (old new : LayerView W FT) : Type 0 where
   pub kept : Keeps (output.contents old.writer) (output.contents new.writer)
   pub calm : output.fault_count new.writer ≡ output.fault_count old.writer
@@ -54,7 +55,8 @@ module _ {W FT : Type 0} where
         ≡ record old.layer
         { writer = new.layer.writer; last = new.layer.last; failed = new.layer.failed }
 
--- what is seen of it where its writer passed on what it held back: its known bytes, its count of faults and all else stay.
+-- what is seen of it where its writer passed on what it held back: its known bytes, its count of
+-- faults and all else stay.
 pub record Flushes (old new : Seen) : Type 0 where
   pub kept : Keeps old.writer.bytes new.writer.bytes
   pub same : new ≡ record old { writer = record old.writer { bytes = new.writer.bytes } }

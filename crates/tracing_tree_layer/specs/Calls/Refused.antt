@@ -18,7 +18,8 @@ use Rattle.tracing_tree_layer.specs.Calls.Step.{turn_of}
 use Rattle.tracing_tree_layer.specs.declared.call.Call.{Call}
 use Rattle.tracing_tree_layer.specs.declared.call.Call.TheVariants.{New, Clone, Record, Event, Close}
 
--- the id that a call needs and that is not held: a parent, a span to be cloned, or one with no handle left to close
+-- the id that a call needs and that is not held: a parent, a span to be cloned, or one with no
+-- handle left to close
 abbrev pub id_not_held : Forest → Call → Option Id
 id_not_held forest (New attributes context) =
     any_unless_live forest (named_parent attributes.parent context.current)

@@ -20,7 +20,8 @@ pub record Run : Type 0 where
 abbrev pub no_call : State → Run
 no_call state = record { state = state; rows = []; replies = [] }
 
--- the state after a refusal: only a fault of the timer or of the writer changes it, and the layer has failed then
+-- the state after a refusal: only a fault of the timer or of the writer changes it, and the layer
+-- has failed then
 abbrev pub after_refusal : State → Refusal → State
 after_refusal state TimerFault = record state { failed = true }
 after_refusal state Writer = record state { failed = true }
@@ -88,8 +89,8 @@ abbrev pub call_text : Settings → Timer → State → Call → List ℕ
 call_text settings timer state call =
     draw settings (turn_of settings timer state.forest state.last call).rows
 
--- a refusal is for the first cause, or for want of memory where the call takes some; that for the writer comes only where
--- there is no cause and a text to be written
+-- a refusal is for the first cause, or for want of memory where the call takes some; that for the
+-- writer comes only where there is no cause and a text to be written
 abbrev pub IsRefusedFor : Option Refusal → Bool → List ℕ → Refusal → Type 0
 IsRefusedFor cause without_memory text Memory = without_memory ≡ false
 IsRefusedFor cause without_memory text Writer = (cause ≡ None) × (text ≢ [])

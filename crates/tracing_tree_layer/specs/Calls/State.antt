@@ -4,8 +4,8 @@ use Rattle.tracing_tree_core.specs.Registry.Forest.{Forest, empty_forest}
 use Rattle.tracing_tree_base.specs.Drawing.Picture.{Row}
 use Rattle.tracing_tree_base.specs.declared.context.Id.{Id}
 
--- the live spans with their printed marks, the last span (the one that opened last, or the parent of the one that closed last),
--- and whether the layer has failed
+-- the live spans with their printed marks, the last span (the one that opened last, or the parent
+-- of the one that closed last), and whether the layer has failed
 pub record State : Type 0 where
   pub forest : Forest
   pub last : Option Id

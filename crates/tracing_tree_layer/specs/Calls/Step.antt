@@ -14,7 +14,8 @@ use Rattle.tracing_tree_layer.specs.declared.call.Call.TheVariants.{New, Clone, 
 use Rattle.tracing_tree_layer.specs.declared.call.Reply.{Reply}
 use Rattle.tracing_tree_layer.specs.declared.call.Reply.TheVariants.{Span, Cloned, Done, Closed}
 
--- the id that a new span gets (where there is none, the call is refused, and nothing depends on this)
+-- the id that a new span gets (where there is none, the call is refused, and nothing depends on
+-- this)
 abbrev pub new_id : Forest → Id
 new_id forest = unwrap_or forest.next (id_of 0)
 
@@ -42,7 +43,8 @@ turn_of settings timer forest last (Event event context) =
 turn_of settings timer forest last (Close i context) =
     turn_of_closes settings context (closing_of forest i) forest last
 
--- what else an accepted call changes in the forest, once its marks are made; the first forest is the one before the call
+-- what else an accepted call changes in the forest, once its marks are made; the first forest is
+-- the one before the call
 abbrev pub changed_forest : Forest → Call → Forest → Forest
 changed_forest before (New attributes context) forest = forest
 changed_forest before (Clone i) forest = add_handle i forest

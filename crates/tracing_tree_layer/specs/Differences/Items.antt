@@ -27,8 +27,8 @@ abbrev pub AgreeDownward : List Id → List Id → Type 0
 AgreeDownward old new =
     (low high : ℕ) → low < high → IsTrue (same_at old new high) → IsTrue (same_at old new low)
 
--- The same of each two paths of a forest, where the first is of a span that may be missing. `PathPairs` proves this and the
--- next of each well-formed forest.
+-- The same of each two paths of a forest, where the first is of a span that may be missing.
+-- `PathPairs` proves this and the next of each well-formed forest.
 abbrev pub PathsAgreeDownward : Forest → Type 0
 PathsAgreeDownward forest =
     (last : Option Id) (i : Id) → AgreeDownward (path_of_any forest last) (path_of forest i)

@@ -114,8 +114,8 @@ rows_of settings timer first calls = (run settings timer (opening_state first) c
 
 -- ---- laws
 
--- Before an event in its current span, the last open or retrace row of each level up to that span's is of the span that
--- its path has at that level.
+-- Before an event in its current span, the last open or retrace row of each level up to that span's
+-- is of the span that its path has at that level.
 abbrev pub ReadingLaw : Settings → Timer → Id → List Call → Type 0
 ReadingLaw settings timer first calls =
     (e : EventInRun settings timer first calls) (i : Id) → IsInCurrent e i → (level : ℕ) →
@@ -130,8 +130,8 @@ OpenedBefore settings timer first calls =
     current_of (forest_at e) e.context ≡ Some current → Contains (path_of (forest_at e) current) i →
     IsTrue (list_any (opens_span i) (take (place_of e) (rows_of settings timer first calls)))
 
--- For an event in its current span the drawing shows, at each level, the place of a row that opens the span which the
--- path has at that level.
+-- For an event in its current span the drawing shows, at each level, the place of a row that opens
+-- the span which the path has at that level.
 abbrev pub AncestorsLaw : Settings → Timer → Id → List Call → Type 0
 AncestorsLaw settings timer first calls =
     (e : EventInRun settings timer first calls) (i : Id) → IsInCurrent e i → (level : ℕ) →

@@ -30,8 +30,8 @@ abbrev pub IsTrueHistory : Settings → Timer → Id → List Entry → Type 0
 IsTrueHistory settings timer first history =
     (replay settings timer first history).replies ≡ replies_in history
 
--- What is kept beside a history: the state, `failed` aside, and each reply are those of the replay, and the output is the
--- drawing of its rows.
+-- What is kept beside a history: the state, `failed` aside, and each reply are those of the replay,
+-- and the output is the drawing of its rows.
 pub record IsReplayed (settings : Settings) (timer : Timer) (first : Id) (history : List Entry)
     (state : State)
     (written : List ℕ) : Type 0 where
@@ -77,7 +77,8 @@ pub record IsLateIn (slips : Slips) (place : ℕ) : Type 0 where
   pub not_smaller : IsSomeAnd (slice_get slips sooner) (λ slip. place ≤ slip.place)
   pub late : IsSomeAnd (slice_get slips later) (λ slip. slip.place ≡ place)
 
--- what is wrong at a place: not one receipt, but none or several; a receipt past the end or of another call; or one out of order
+-- what is wrong at a place: not one receipt, but none or several; a receipt past the end or of
+-- another call; or one out of order
 abbrev pub IsStrange : List Entry → List Slips → ℕ → Type 0
 IsStrange history passes place =
     ((place < length history) × ¬ (slips_at passes place ≡ 1))
@@ -89,6 +90,7 @@ IsFirstStrange history passes place =
     IsStrange history passes place
     × ((other : ℕ) → other < place → ¬ (IsStrange history passes other))
 
--- nothing is wrong anywhere: each receipt's call stands once, with its reply, and in the order of its pass
+-- nothing is wrong anywhere: each receipt's call stands once, with its reply, and in the order of
+-- its pass
 abbrev pub IsOneHistory : List Entry → List Slips → Type 0
 IsOneHistory history passes = (place : ℕ) → ¬ (IsStrange history passes place)

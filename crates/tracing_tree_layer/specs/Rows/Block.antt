@@ -54,7 +54,8 @@ abbrev pub spaced : List ℕ → List ℕ
 spaced [] = []
 spaced (first ∷ rest) = (first ∷ rest) ++ codes " "
 
--- The timer's text of the moment. An event at which the timer faults is refused, so nothing depends on its text here.
+-- The timer's text of the moment. An event at which the timer faults is refused, so nothing depends
+-- on its text here.
 abbrev pub moment_part : Timer → Moment → List ℕ
 moment_part timer moment = spaced (unwrap_or (timer.moment_text moment) [])
 

@@ -67,7 +67,8 @@ DrawsRows settings rows faults (Err refusal) old new =
     IsUndrawn (rows_cause settings rows faults) (has_no_row rows) refusal
     × (new.bufs.current_span ≡ old.bufs.current_span)
 
--- The rows of a turn are drawn, and the plan has its marks and its last span; or the turn is refused.
+-- The rows of a turn are drawn, and the plan has its marks and its last span; or the turn is
+-- refused.
 abbrev pub Drafts : Settings → Forest → Turn → Bool → Bool → Result (Unit {0}) Refusal → Page → Page
     → PlanView → Type 0
 Drafts settings forest turn faults quiet (Ok done) old new plan =
@@ -105,8 +106,8 @@ pub record IsClear (page : Page) : Type 0 where
   pub bufs : IsBlank page.bufs
   pub text : string_bytes page.text ≡ []
 
--- What was drawn is written once, whole, or given up. Only what was drawn whole is written, and only
--- a fault of the writer leaves a text on the page.
+-- What was drawn is written once, whole, or given up. Only what was drawn whole is written, and
+-- only a fault of the writer leaves a text on the page.
 abbrev pub Sends : Result (Unit {0}) Refusal → Result (Unit {0}) Refusal → Page → Page → SeenWriter
     → SeenWriter → Type 0
 Sends (Ok done) (Ok sent) old new before after =

@@ -122,7 +122,8 @@ turn_of_new settings context forest last i =
 abbrev pub turn_of_row : Row → Forest → Option Id → Turn
 turn_of_row row forest last = record { rows = row ∷ []; forest = forest; last = last }
 
--- what comes before an event's row: its current span is retraced, if it is live and the settings say so
+-- what comes before an event's row: its current span is retraced, if it is live and the settings
+-- say so
 abbrev pub turn_before_event : Settings → Context → Forest → Option Id → Option Id → Turn
 turn_before_event settings context forest last None = quiet_turn forest last
 turn_before_event settings context forest last (Some current) =
@@ -143,7 +144,8 @@ close_turn settings context i forest last = record {
   last = option_or (parent_of forest i) last;
 }
 
--- the close of one span, on the forest before the call: nothing if the span was deferred and never printed
+-- the close of one span, on the forest before the call: nothing if the span was deferred and never
+-- printed
 abbrev pub turn_of_close : Settings → Context → Forest → Option Id → Id → Turn
 turn_of_close settings context forest last i =
     if settings.deferred_spans && not (is_printed forest i) then quiet_turn forest last

@@ -33,8 +33,8 @@ one_line_row shape level text = record { shape = shape; level = level; lines = t
 abbrev pub read_root : Shape → ℕ → List ℕ → Option TextRow
 read_root shape spaces text = if spaces == 0 then Some (one_line_row shape 0 text) else None
 
--- After the first of two corners: the count of `─` up to the second tells a row of a span from one of a parent, and half an
--- amount more of spaces tells a verbose one.
+-- After the first of two corners: the count of `─` up to the second tells a row of a span from one
+-- of a parent, and half an amount more of spaces tells a verbose one.
 abbrev pub read_corners : ℕ → Shape → Shape → Shape → ℕ → ℕ → List ℕ → Option TextRow
 read_corners corner plain parent verbose amount spaces text =
     if spaces % amount == 0

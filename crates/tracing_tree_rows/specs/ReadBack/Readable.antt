@@ -9,7 +9,8 @@ use Rattle.tracing_tree_rows.specs.declared.read.ReadFault.{ReadFault}
 use Rattle.tracing_tree_rows.specs.declared.read.ReadFault.TheVariants.{Memory}
 use Rattle.tracing_tree_rows.specs.ReadBack.RowText.{TextRow, shape_of, is_bare_text, is_one_line}
 
--- at level 0 a drawing shows neither where an open, close or event row of several lines ends, nor that a text is an event's
+-- at level 0 a drawing shows neither where an open, close or event row of several lines ends, nor
+-- that a text is an event's
 abbrev pub is_plain_at_edge : SpanMode → List (List ℕ) → Bool
 is_plain_at_edge PreOpen lines = true
 is_plain_at_edge (Open verbose) lines = is_one_line lines

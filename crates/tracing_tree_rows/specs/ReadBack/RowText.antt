@@ -155,7 +155,8 @@ IsUnreadable amount text = (rows : List TextRow) → ¬ (IsReading amount text r
 abbrev pub ended : List (List ℕ) → List ℕ
 ended lines = flat_map (λ line. line ++ 10 ∷ []) lines
 
--- the first lines of a text, each with its line end; all of it if there are no more, though its last line may lack one
+-- the first lines of a text, each with its line end; all of it if there are no more, though its
+-- last line may lack one
 abbrev pub first_lines : ℕ → List ℕ → List ℕ
 first_lines n text =
     if nat_lt n (length (parts_of text)) then ended (take n (parts_of text)) else text
