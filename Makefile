@@ -27,10 +27,11 @@ laws: build
 	@python3 scripts/reading_law.py bin/tracing_tree
 
 # The whole gate: what must not compile, every proof from nothing, the must-fail edits and the tests, and runs of the programs as
-# `rt ci` has just proved and built them.
+# `rt ci` has just proved and built them. RT_JOBS has it use every processor: it reckons the check of an edit with the memory of a
+# whole check, some 5 GB, and would let processors idle, but such a check takes about 1 GB.
 test:
 	@misuse/run.sh
-	@rt ci
+	@RT_JOBS=$$(nproc) rt ci
 	@scripts/program.sh crates/tracing_tree_cli/out/tracing_tree_cli crates/tracing_tree_read/out/tracing_tree_read
 
 # Times the library by its own calls, the program on inputs that are made here, and the reading of drawings. It asserts nothing.
