@@ -28,11 +28,13 @@ laws: build
 
 # The whole gate: what must not compile, every proof from nothing, the must-fail edits and the tests, and runs of the programs as
 # `rt ci` has just proved and built them. RT_JOBS has it use every processor: it reckons the check of an edit with the memory of a
-# whole check, some 5 GB, and would let processors idle, but such a check takes about 1 GB.
+# whole check, some 5 GB, and would let processors idle, but such a check takes about 1 GB. The last line is that of `rt ci`.
 test:
 	@misuse/run.sh
-	@RT_JOBS=$$(nproc) rt ci
+	@mkdir -p bin
+	@bash -o pipefail -c 'RT_JOBS=$$(nproc) rt ci | tee bin/ci.log'
 	@scripts/program.sh crates/tracing_tree_cli/out/tracing_tree_cli crates/tracing_tree_read/out/tracing_tree_read
+	@tail -n 1 bin/ci.log
 
 # Times the library by its own calls, the program on inputs that are made here, and the reading of drawings. It asserts nothing.
 bench: build
