@@ -1,4 +1,5 @@
 pub mod Drawing
 pub mod Text
+pub mod Field
 pub mod Equal
 pub mod Time

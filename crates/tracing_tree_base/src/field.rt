@@ -7,6 +7,7 @@ ghost use Rattle.tracing_tree_base.specs.Drawing.Texts.{rendered_field, whole_fi
 use crate::text::Text;
 use std::alloc::{AllocError, Global};
 use std::marker::Model;
+use std::{mem, slice};
 
 /// A field: its name, and the text of its value.
 #[derive(Clone, Debug, Drop, PartialEq, Eq)]
@@ -99,19 +100,34 @@ fn push_code(out: &mut String, byte: u8) -> Result<(), AllocError>
     out.push_str("}")
 }
 
+// A list of more than one field begins with room for so many.
+const ROOM: usize = 4;
+
 /// A list of fields in order, which contracts see as that list. Equal names stay side by side.
+///
+/// One field alone lies in the value itself, so that it lies in the record of its span. No contract speaks of the place where
+/// fields lie.
 #[derive(Debug, Drop)]
 pub struct Fields {
-    items: Vec<Field>,
+    alloc: Global,
+    kept: Kept,
+}
+
+// Where fields lie.
+#[derive(Debug, Drop)]
+enum Kept {
+    One(Field),
+    Many(Vec<Field>),
 }
 
 impl Model for Fields {
     ghost use Rattle.std.specs.Prelude.{List};
+    ghost use Rattle.tracing_tree_base.specs.Field.{kept_fields};
     ghost use Rattle.tracing_tree_base.specs.declared.field.Field.{Field};
 
     ghost Value = { List Field };
 
-    ghost view = { λ f. f.items.items };
+    ghost view = { λ f. kept_fields f.kept };
 }
 
 impl Fields {
@@ -120,7 +136,8 @@ impl Fields {
         ensures { result ≡ [] }
     {
         Fields {
-            items: Vec::new(alloc),
+            alloc,
+            kept: Kept::Many(Vec::new(alloc)),
         }
     }
 
@@ -128,7 +145,10 @@ impl Fields {
     pub fn as_slice(&self) -> &[Field]
         ensures { result.now ≡ self.now }
     {
-        self.items.as_slice()
+        match &self.kept {
+            Kept::One(field) => slice::from_ref(field),
+            Kept::Many(items) => items.as_slice(),
+        }
     }
 
     /// Puts the fields at the end. `AllocError` where memory is refused; the list is then as it was, and the fields are gone.
@@ -136,8 +156,37 @@ impl Fields {
         ensures ok { OnOk result (self.new ≡ self.old ++ fields) }
         ensures err { OnErr result (self.new ≡ self.old) }
     {
-        let Fields { mut items } = fields;
-        self.items.append(&mut items)
+        let mut items = self.take_list()?;
+        let appended = fields.move_to(&mut items);
+        self.kept = Kept::Many(items);
+        appended
+    }
+
+    // The fields in a list of their own. Nothing has changed where memory is refused.
+    fn take_list(&mut self) -> Result<Vec<Field>, AllocError>
+        ensures ok { IfOk result (λ list. list.items ≡ self.old) }
+        ensures err { OnErr result (self.new ≡ self.old) }
+    {
+        if let Kept::Many(items) = &mut self.kept {
+            return Ok(mem::replace(items, Vec::new(self.alloc)));
+        }
+        let mut list = Vec::with_capacity(self.alloc, ROOM)?;
+        if let Kept::One(field) = mem::replace(&mut self.kept, Kept::Many(Vec::new(self.alloc))) {
+            list.push_reserved(field);
+        }
+        Ok(list)
+    }
+
+    // Puts the fields at the end of the list, which is as it was where memory is refused.
+    fn move_to(self, list: &mut Vec<Field>) -> Result<(), AllocError>
+        ensures ok { OnOk result (list.new.items ≡ list.old.items ++ self) }
+        ensures err { OnErr result (list.new.items ≡ list.old.items) }
+    {
+        let Fields { alloc: _, kept } = self;
+        match kept {
+            Kept::One(field) => Ok(list.push(field)?),
+            Kept::Many(mut items) => list.append(&mut items),
+        }
     }
 }
 
@@ -147,20 +196,14 @@ impl From<Vec<Field>> for Fields {
 
     ghost from_gives = { λ items fields. fields ≡ items.items };
 
-    fn from(items: Vec<Field>) -> Fields {
-        Fields { items }
-    }
-}
-
-/// Takes no memory.
-impl From<Fields> for Vec<Field> {
-    ghost use Rattle.std.specs.Prelude.{◌≡◌};
-
-    ghost from_gives = { λ fields items. items.items ≡ fields };
-
-    fn from(fields: Fields) -> Vec<Field> {
-        let Fields { items } = fields;
-        items
+    fn from(mut items: Vec<Field>) -> Fields {
+        let alloc = *items.allocator();
+        let lone = if items.len() == 1 { items.pop() } else { None };
+        let kept = match lone {
+            Some(field) => Kept::One(field),
+            None => Kept::Many(items),
+        };
+        Fields { alloc, kept }
     }
 }
 
@@ -168,8 +211,13 @@ impl Clone for Fields {
     ghost is_clone = { λ source copy. copy ≡ source };
 
     fn clone(&self) -> Result<Fields, AllocError> {
+        let kept = match &self.kept {
+            Kept::One(field) => Kept::One(field.clone()?),
+            Kept::Many(items) => Kept::Many(items.clone()?),
+        };
         Ok(Fields {
-            items: self.items.clone()?,
+            alloc: self.alloc,
+            kept,
         })
     }
 }
@@ -182,7 +230,7 @@ impl PartialEq for Fields {
     ghost laws = { fields_eq_partial };
 
     fn eq(&self, other: &Fields) -> bool {
-        self.items == other.items
+        self.as_slice() == other.as_slice()
     }
 }
 

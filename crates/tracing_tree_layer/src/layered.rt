@@ -105,6 +105,8 @@ impl<W: Output, FT: FormatTime> Layered<W, FT> {
         ensures { Changes (seen FT.FormatTime W.Output) (IsAnswered call result) self.old self.new }
     {
         if self.layer.failed() {
+            // As one value, so that the proof needn't follow each of its parts.
+            drop(call);
             return Err(Refusal::Failed);
         }
         match call {

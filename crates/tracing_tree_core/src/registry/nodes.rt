@@ -5,7 +5,7 @@ ghost use Rattle.std.specs.Fn.{FnOnceReturnsAtMut};
 ghost use Rattle.std.specs.Option.{option_map_or};
 ghost use Rattle.tracing_tree_core.specs.Registry.Spans.{KeptSpan, handle_more, handle_less, child_more, child_less, kept_printed, fields_more};
 ghost use Rattle.tracing_tree_core.specs.Registry.Kept.{kept_at, change_kept, leave_out, AreBelow};
-ghost use Rattle.tracing_tree_core.specs.Registry.Slots.{slot_has, slot_ids, present, ends_in_gap, AreRising};
+ghost use Rattle.tracing_tree_core.specs.Registry.Slots.{slot_has, slot_ids, present, ends_in_gap, AreRising, IsLaidOut};
 
 use super::node::Node;
 use super::slot::Slot;
@@ -15,8 +15,9 @@ use std::mem;
 use tracing_tree_base::context::Id;
 use tracing_tree_base::field::Fields;
 
-// The live spans. A span that goes leaves a gap, so that nothing moves. Gaps at the end go at once, and all gaps once they are
-// more than half of the list. The records lie in the list itself: a pointer to each would be one more block of memory to free.
+// The live spans. A span that goes leaves a gap, so that nothing moves. Gaps at the end go at once, and the others where the list
+// would have to grow although more than half of it are gaps. The records lie in the list itself: a pointer to each would be one
+// more block of memory to free.
 #[derive(Drop)]
 pub(crate) struct Nodes {
     slots: Vec<Slot>,
@@ -64,6 +65,7 @@ impl Nodes {
         ensures few { OnOk result (length self.new < 2 ^ 63) }
         ensures err { OnErr result (self.new ≡ self.old) }
     {
+        make_room(&mut self.slots, self.live);
         self.slots.push(Slot::Live(node))?;
         self.live += 1;
         Ok(())
@@ -78,7 +80,7 @@ impl Nodes {
         match mem::replace(&mut self.slots[at], Slot::Gone(id)) {
             Slot::Live(node) => {
                 self.live -= 1;
-                tidy(&mut self.slots, self.live);
+                trim(&mut self.slots);
                 Some(node)
             }
             Slot::Gone(_) => None,
@@ -237,9 +239,20 @@ fn share(places: usize, ids: u64, all: u64) -> usize {
     scaled.checked_div(all).unwrap_or(0) as usize
 }
 
-// Closes the gaps at the end, and all gaps where they are more than half of the list. Each is closed once, so that a removal
-// costs no more for it on the whole.
-fn tidy(slots: &mut Vec<Slot>, live: usize)
+// Closes all gaps of a full list where they are more than half of it. The list then has room for as many spans as it had gaps, so
+// that closing them costs little on the whole.
+fn make_room(slots: &mut Vec<Slot>, live: usize)
+    requires { IsLaidOut slots.old.items live }
+    ensures spans { present slots.new.items ≡ present slots.old.items }
+    ensures laid { IsLaidOut slots.new.items live }
+{
+    if slots.len() == slots.capacity() && live < slots.len() / 2 {
+        slots.retain(|slot| !slot.is_gone());
+    }
+}
+
+// Closes the gaps at the end.
+fn trim(slots: &mut Vec<Slot>)
     requires { AreRising (slot_ids slots.old.items) }
     ensures spans { present slots.new.items ≡ present slots.old.items }
     ensures rising { AreRising (slot_ids slots.new.items) }
@@ -247,9 +260,6 @@ fn tidy(slots: &mut Vec<Slot>, live: usize)
 {
     while ends_in_gap(slots.as_slice()) {
         slots.truncate(slots.len() - 1);
-    }
-    if live < slots.len() / 2 {
-        slots.retain(|slot| !slot.is_gone());
     }
 }
 

@@ -21,8 +21,8 @@ overflow_sub-self c =
     let fewer = gone-counts c.self.inside.slots.items c.args.id _ c.self.inside.live c.in-Live.node c.self.invariant here in
     omega (arith, fewer)
 
-pub tidy-requires : goal.tidy-requires
-tidy-requires c =
+pub trim-requires : goal.trim-requires
+trim-requires c =
     let there = at-place _ c.self.inside.slots.items c.args.id _ _ c.as_slice.ensures.value c.in_ok-at.ensures c.index_mut.ensures.value in
     rw c.replace.ensures.after (gone-rising _ _ _ _ _ c.self.invariant there)
 
@@ -32,8 +32,8 @@ invariant_of-self c =
     let there = at-place _ slots c.args.id _ _ c.as_slice.ensures.value c.in_ok-at.ensures c.index_mut.ensures.value in
     let here = rw (sym c.in-Live.ensures.value) at there in
     let fewer = gone-counts slots c.args.id _ c.self.inside.live c.in-Live.node c.self.invariant here in
-    let same = ap (λ (xs : List KeptSpan). length xs) (c.tidy.ensures.spans ∙ ap (λ s. present (set slots c.in_ok-at.at s)) c.replace.ensures.after) in
-    record { rising = c.tidy.ensures.rising; ends = c.tidy.ensures.ends; counted = omega (arith, same, fewer) }
+    let same = ap (λ (xs : List KeptSpan). length xs) (c.trim.ensures.spans ∙ ap (λ s. present (set slots c.in_ok-at.at s)) c.replace.ensures.after) in
+    record { rising = c.trim.ensures.rising; ends = c.trim.ensures.ends; counted = omega (arith, same, fewer) }
 
 pub returns-in-Live-clause-value : goal.returns-in-Live-clause-value
 returns-in-Live-clause-value c =
@@ -46,7 +46,7 @@ returns-in-Live-clause-rest c =
     let slots = c.self.inside.slots.items in
     let there = at-place _ slots c.args.id _ _ c.as_slice.ensures.value c.in_ok-at.ensures c.index_mut.ensures.value in
     let here = rw (sym c.in-Live.ensures.value) at there in
-    c.tidy.ensures.spans ∙ ap (λ s. present (set slots c.in_ok-at.at s)) c.replace.ensures.after
+    c.trim.ensures.spans ∙ ap (λ s. present (set slots c.in_ok-at.at s)) c.replace.ensures.after
     ∙ gone-leaves slots c.args.self.now c.args.id _ _ c.in-Live.node c.self.invariant c.self.view_is here
 
 -- a gap

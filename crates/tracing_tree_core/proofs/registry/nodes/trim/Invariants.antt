@@ -1,6 +1,6 @@
 use Rattle.std.proofs.Common.{◌≡◌, length}
 use Rattle.tracing_tree_core.specs.Registry.Slots.{present, slot_ids, AreRising}
-use Rattle.tracing_tree_core.proofs.registry.nodes.tidy.Given as goal
+use Rattle.tracing_tree_core.proofs.registry.nodes.trim.Given as goal
 
 -- the same spans, in the order of their ids
 abbrev pub invariant-loop-slots : goal.invariant-loop-slots
