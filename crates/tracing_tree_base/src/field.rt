@@ -156,6 +156,9 @@ impl Fields {
         ensures ok { OnOk result (self.new ≡ self.old ++ fields) }
         ensures err { OnErr result (self.new ≡ self.old) }
     {
+        if fields.as_slice().is_empty() {
+            return Ok(());
+        }
         let mut items = self.take_list()?;
         let appended = fields.move_to(&mut items);
         self.kept = Kept::Many(items);
