@@ -85,7 +85,7 @@ abbrev pub opened_with : Settings × TimerChoice → SeenWriter → Seen
 opened_with asked writer = record {
   settings = asked.0;
   timer = chosen_timer asked.1;
-  state = opening_state (id_of 1);
+  state = opening_state (Some (id_of 1));
   writer = writer;
 }
 

@@ -64,11 +64,11 @@ closed i = Close (id_of i) outside
 
 -- what a run writes from the start, without a timer
 abbrev pub written : Settings → List Call → List ℕ
-written settings calls = text_of settings no_timer (opening_state (id_of 1)) calls
+written settings calls = text_of settings no_timer (opening_state (Some (id_of 1))) calls
 
 -- the state after a run from the start
 abbrev pub left_by : Settings → List Call → State
-left_by settings calls = (run settings no_timer (opening_state (id_of 1)) calls).state
+left_by settings calls = (run settings no_timer (opening_state (Some (id_of 1))) calls).state
 
 -- what the last calls write after the first ones
 abbrev pub written_after : Settings → List Call → List Call → List ℕ

@@ -1,5 +1,5 @@
 -- Calls that are answered one after another are a run.
-use Rattle.std.proofs.Common.{◌≡◌, false, List, [], ◌∷◌, ◌++◌, Result, Ok, Err, refl, sym, ap, subst, ◌∙◌}
+use Rattle.std.proofs.Common.{◌≡◌, false, List, [], ◌∷◌, ◌++◌, Result, Ok, Err, IfOk, refl, sym, ap, subst, ◌∙◌, append-nil}
 use Rattle.std.specs.Io.KnownBytes.{Appends, Keeps}
 use Rattle.std.proofs.KnownBytes.{Appends-nil, Appends-trans, Appends-kept}
 use Rattle.tracing_tree_base.specs.Drawing.Settings.{Settings}
@@ -15,7 +15,7 @@ use Rattle.tracing_tree_layer.specs.Calls.Step.{turn_of, state_after}
 use Rattle.tracing_tree_layer.specs.Calls.Run.{Run, run, run_by_cause, then_run, accepted_calls, replies_among, state_after_answer, MayAnswer, call_text}
 use Rattle.tracing_tree_layer.specs.Calls.Answered.{IsAnswered, Writes}
 use Rattle.tracing_tree_layer.specs.Calls.Layers.{LayeredView, Changes}
-use Rattle.tracing_tree_layer.specs.Calls.Headline.{AreAnswered, IsRunOf, Runs, run_from}
+use Rattle.tracing_tree_layer.specs.Calls.Headline.{AreAnswered, Continues, IsRunOf, Runs, rows_drawn, run_from}
 use Rattle.tracing_tree_layer.specs.declared.call.Call.{Call}
 use Rattle.tracing_tree_layer.specs.declared.call.Reply.{Reply}
 use Rattle.tracing_tree_layer.proofs.DrawnLaws.{draw-append}
@@ -48,6 +48,54 @@ run-accepted settings timer state call reply calls may =
     let rows : List Row = (turn_of settings timer state.forest state.last call).rows ++ rest.rows in
     ap (λ cause. then_run (run_by_cause settings timer state call cause) next) may.0
     ∙ (λ i. record rest { rows = rows; replies = sym may.1 i ∷ rest.replies })
+
+-- an accepted call is the last of a run that led to the state before it
+pub run_more : (settings : Settings) (timer : Timer) (begun : State) (calls : List Call) (call : Call) (reply : Reply) →
+    let before = run settings timer begun calls in
+    MayAnswer settings timer before.state call (Ok reply) →
+    run settings timer begun (calls ++ call ∷ [])
+    ≡ record {
+      state = state_after settings timer before.state call;
+      rows = before.rows ++ (turn_of settings timer before.state.forest before.state.last call).rows;
+      replies = before.replies ++ reply ∷ [];
+    }
+run_more settings timer begun calls call reply may =
+    let before : Run = run settings timer begun calls in
+    let next : State → Run = λ s. run settings timer s [] in
+    let rows : List Row = (turn_of settings timer before.state.forest before.state.last call).rows in
+    run-append settings timer begun calls (call ∷ [])
+    ∙ ap (λ cause. then_run before (λ s. then_run (run_by_cause settings timer before.state call cause) next)) may.0
+    ∙ (λ i. record {
+      state = state_after settings timer before.state call;
+      rows = before.rows ++ append-nil rows i;
+      replies = before.replies ++ sym may.1 i ∷ [];
+    })
+
+-- so it makes any such run longer
+continues : (call : Call) (reply : Reply) (old new : Seen) → IsAnswered call (Ok reply) old new → Continues call reply old new
+continues call reply old new h = record { joined = joined; text = h.written.0 }
+  where
+    joined : (begun : State) (earlier : List Call) → old.state ≡ (run old.settings old.timer begun earlier).state →
+        run old.settings old.timer begun (earlier ++ call ∷ [])
+        ≡ record {
+          state = new.state;
+          rows = (run old.settings old.timer begun earlier).rows ++ rows_drawn old call;
+          replies = (run old.settings old.timer begun earlier).replies ++ reply ∷ [];
+        }
+    joined begun earlier led =
+        let before : Run = run old.settings old.timer begun earlier in
+        let May : State → Type 0 = λ s. MayAnswer old.settings old.timer s call (Ok reply) in
+        let drawn : State → List Row = λ s. before.rows ++ (turn_of old.settings old.timer s.forest s.last call).rows in
+        let from : State → Run = λ s. record { state = state_after old.settings old.timer s call; rows = drawn s; replies = before.replies ++ reply ∷ [] } in
+        let to : State → Run = λ s. record { state = s; rows = drawn old.state; replies = before.replies ++ reply ∷ [] } in
+        run_more old.settings old.timer begun earlier call reply (subst May led h.allowed)
+        ∙ ap from (sym led)
+        ∙ ap to (sym (ap (λ (s : Seen). s.state) h.left))
+
+pub continued : (call : Call) (answer : Result Reply Refusal) (old new : Seen) → IsAnswered call answer old new →
+    IfOk answer (λ reply. Continues call reply old new)
+continued call (Ok reply) old new h = continues call reply old new h
+continued call (Err refusal) old new h = tt
 
 -- a refused call that leaves state and bytes isn't in the run
 runs_refused : (calls : List Call) (replies : List Reply) (old new : Seen) (writer : SeenWriter) → Keeps old.writer.bytes writer.bytes →
@@ -127,7 +175,7 @@ pub is_run : (calls : List Call) (answers : List (Result Reply Refusal)) (old ne
     IsRunOf calls answers old new
 is_run calls answers old new h = record {
   runs = runs calls answers old new h;
-  reads = λ sound first earlier begun. reading-laws old.settings old.timer first (earlier ++ accepted_calls calls answers);
+  reads = λ first earlier begun. reading-laws old.settings old.timer first (earlier ++ accepted_calls calls answers);
   answered = h;
 }
 

@@ -1,5 +1,4 @@
 pub mod Calls
 pub mod Rows
 pub mod Laws
-pub mod Planned
 pub mod Differences

@@ -1,5 +1,8 @@
 //! Calls and their replies.
 
+ghost use Rattle.std.specs.Prelude.{◌≡◌, IfOk};
+
+use std::alloc::AllocError;
 use tracing_tree_core::format::{Context, Id};
 use tracing_tree_core::registry::{Attributes, Event, Record};
 
@@ -20,6 +23,58 @@ pub enum Call {
 
     /// Takes a handle of a span away.
     Close(Id, Context),
+}
+
+impl Call {
+    /// Returns a copy of the call.
+    pub fn copied(&self) -> Result<Call, AllocError>
+        ensures { IfOk result (λ copy. copy ≡ self.now) }
+    {
+        Ok(match self {
+            Call::New(attributes, context) => Call::New(
+                Attributes {
+                    name: attributes.name.clone()?,
+                    target: attributes.target.clone()?,
+                    parent: attributes.parent,
+                    fields: attributes.fields.clone()?,
+                },
+                copied_context(context)?,
+            ),
+            Call::Clone(id) => Call::Clone(*id),
+            Call::Record(id, record) => Call::Record(
+                *id,
+                Record {
+                    fields: record.fields.clone()?,
+                },
+            ),
+            Call::Event(event, context) => Call::Event(
+                Event {
+                    level: event.level,
+                    target: event.target.clone()?,
+                    parent: event.parent,
+                    fields: event.fields.clone()?,
+                },
+                copied_context(context)?,
+            ),
+            Call::Close(id, context) => Call::Close(*id, copied_context(context)?),
+        })
+    }
+}
+
+// A copy of what is handed in with a call.
+fn copied_context(context: &Context) -> Result<Context, AllocError>
+    ensures { IfOk result (λ copy. copy ≡ context.now) }
+{
+    let thread_name = match &context.thread_name {
+        Some(name) => Some(name.clone()?),
+        None => None,
+    };
+    Ok(Context {
+        current: context.current,
+        thread_id: context.thread_id,
+        thread_name,
+        moment: context.moment,
+    })
 }
 
 /// The answer to an accepted call.

@@ -8,15 +8,17 @@ mod page;
 mod path;
 mod plan;
 
-ghost use Rattle.std.specs.Prelude.{◌≡◌, ◌<◌, false, None};
+ghost use Rattle.std.specs.Prelude.{◌≡◌, ◌<◌, false, None, IfSome};
 ghost use Rattle.tracing_tree_base.specs.Drawing.Settings.{default_settings};
 ghost use Rattle.tracing_tree_core.specs.Registry.Forest.{mark_all};
+ghost use Rattle.tracing_tree_layer.specs.Rows.Block.{event_tail};
 ghost use Rattle.tracing_tree_layer.specs.Rows.Turns.{event_depth, turn_of_new, turn_of_event, turn_of_closes};
 ghost use Rattle.tracing_tree_layer.specs.Calls.Refused.{is_event_too_wide, timer_faults_at};
 ghost use Rattle.tracing_tree_layer.specs.Calls.Layers.{is_fresh, IsFlushed};
 ghost use Rattle.tracing_tree_base.specs.Drawing.Writers.{seen_writer};
 ghost use Rattle.tracing_tree_layer.specs.Rows.Drawn.{failed_by, has_no_id, DoesTurn, IsBlank, IsReady, Sends};
 
+pub use block::push_event_tail;
 use drawing::CallDrawing;
 use page::Page;
 use plan::Plan;
@@ -153,6 +155,26 @@ impl<W: Output, FT: FormatTime> HierarchicalLayer<W, FT> {
         self.writer
     }
 
+    /// Returns the settings, and the writer with all that was written.
+    pub fn into_parts(self) -> (Config, W)
+    where
+        FT: Drop,
+        ensures settings { result.0 ≡ self.settings }
+        ensures writer { result.1 ≡ self.writer }
+    {
+        (self.config, self.writer)
+    }
+
+    /// Writes to this writer from now on, and returns the one before. The caller must ensure that the
+    /// writer has no faults.
+    pub fn replace_writer(&mut self, writer: W) -> W
+        requires { W.fault_count writer ≡ 0 }
+        ensures before { result ≡ self.old.writer }
+        ensures layer { self.new ≡ record self.old { writer = writer } }
+    {
+        mem::replace(&mut self.writer, writer)
+    }
+
     // Has the writer pass on what it holds back.
     pub(crate) fn flush(&mut self)
         ensures { IsFlushed W.Output self.old self.new }
@@ -187,16 +209,18 @@ impl<W: Output, FT: FormatTime> HierarchicalLayer<W, FT> {
         sent
     }
 
-    // Draws an event so many spans deep.
+    // Draws an event so many spans deep. A tail that was drawn before is used.
     pub(crate) fn write_event<S: LookupSpan>(
         &mut self,
         event: &Event,
+        tail: Option<&str>,
         depth: usize,
         spans: &mut S,
         context: &Context,
     ) -> Result<(), Refusal>
         requires sound { self.old.failed ≡ false }
         requires depth { depth ≡ event_depth (S.forest spans.old) event.now context.now }
+        requires tail { IfSome tail (λ t. t.now ≡ event_tail self.old.settings event.now) }
         ensures { let old = self.old in
             let forest = S.forest spans.old in
             let timer = FT.timer old.timer in
@@ -211,7 +235,14 @@ impl<W: Output, FT: FormatTime> HierarchicalLayer<W, FT> {
             spans: &*spans,
             context,
         }
-        .event(&mut self.page, &mut self.plan, &self.timer, event, depth);
+        .event(
+            &mut self.page,
+            &mut self.plan,
+            &self.timer,
+            event,
+            tail,
+            depth,
+        );
         let sent = send(drawn, &mut self.page, &mut self.writer, &mut self.failed);
         if sent.is_ok() {
             commit(&self.plan, &mut self.page.bufs, spans);

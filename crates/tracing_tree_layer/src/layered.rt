@@ -1,12 +1,13 @@
 //! A registry with a layer, which take each call whole, or refuse it and say why.
 
-ghost use Rattle.std.specs.Prelude.{◌≡◌, ◌≢◌, ◌<◌, [], false, None, OnErr, IfOk, length};
+ghost use Rattle.std.specs.Prelude.{◌≡◌, ◌≢◌, ◌<◌, [], false, None, OnErr, IfOk, IfSome, length};
 ghost use Rattle.tracing_tree_core.specs.Registry.Ids.{id_of};
 ghost use Rattle.tracing_tree_core.specs.Registry.Forest.{empty_forest, if_live, path_of_any};
 ghost use Rattle.tracing_tree_layer.specs.Calls.Layers.{seen, Changes};
 ghost use Rattle.tracing_tree_layer.specs.Calls.Layers.{Flushes};
 ghost use Rattle.tracing_tree_layer.specs.Calls.Answered.{IsAnswered};
-ghost use Rattle.tracing_tree_layer.specs.Calls.Headline.{IsRunOf};
+ghost use Rattle.tracing_tree_layer.specs.Calls.Headline.{Continues, IsRunOf};
+ghost use Rattle.tracing_tree_layer.specs.Rows.Block.{event_tail};
 
 use crate::call::{Call, Reply};
 use crate::layer::HierarchicalLayer;
@@ -89,6 +90,17 @@ impl<W: Output, FT: FormatTime> Layered<W, FT> {
         (self.registry, self.layer)
     }
 
+    /// Writes to this writer from now on, and returns the one before. The caller must ensure that the writer has no faults.
+    pub fn replace_writer(&mut self, writer: W) -> W
+        requires { W.fault_count writer ≡ 0 }
+        ensures before { result ≡ self.old.layer.writer }
+        ensures layer { self.new ≡ record self.old {
+          layer = record self.old.layer { writer = writer };
+        } }
+    {
+        self.layer.replace_writer(writer)
+    }
+
     /// Has the writer pass on what it holds back (`Output::flush`). Nothing else changes.
     pub fn flush(&mut self)
         ensures { Changes (seen FT.FormatTime W.Output) Flushes self.old self.new }
@@ -102,6 +114,15 @@ impl<W: Output, FT: FormatTime> Layered<W, FT> {
     /// handle to be closed that isn't there; `TooMany` where no id or no further handle is left; `TooWide` where a row's level used times
     /// the amount passes `usize`; `Timer` and `Writer` for their faults; `Memory` where memory is refused.
     pub fn call(&mut self, call: Call) -> Result<Reply, Refusal>
+        ensures answered { Changes (seen FT.FormatTime W.Output) (IsAnswered call result)
+            self.old self.new }
+        ensures run { IfOk result (λ reply. Continues call reply
+            (seen FT.FormatTime W.Output self.old) (seen FT.FormatTime W.Output self.new)) }
+    {
+        self.answer(call)
+    }
+
+    fn answer(&mut self, call: Call) -> Result<Reply, Refusal>
         ensures { Changes (seen FT.FormatTime W.Output) (IsAnswered call result) self.old self.new }
     {
         if self.layer.failed() {
@@ -113,8 +134,28 @@ impl<W: Output, FT: FormatTime> Layered<W, FT> {
             Call::New(attributes, context) => self.new_span(attributes, &context),
             Call::Clone(id) => self.clone_span(id),
             Call::Record(id, Record { fields }) => self.record(id, fields),
-            Call::Event(event, context) => self.event(&event, &context),
+            Call::Event(event, context) => self.event(&event, &context, None),
             Call::Close(id, context) => self.close(id, &context),
+        }
+    }
+
+    /// Makes the call of an event that stays the caller's, as `call` does. Level, target and fields may be drawn before by
+    /// `push_event_tail`, with ansi and targets as they are here: the caller must ensure that such a tail is theirs.
+    pub fn call_event(
+        &mut self,
+        event: &Event,
+        context: &Context,
+        tail: Option<&str>,
+    ) -> Result<Reply, Refusal>
+        requires { IfSome tail (λ t. t.now ≡ event_tail self.old.layer.settings event.now) }
+        ensures { Changes (seen FT.FormatTime W.Output)
+            (IsAnswered (Call.Event event.now context.now) result) self.old self.new }
+    {
+        let failed = self.layer.failed();
+        if failed {
+            Err(Refusal::Failed)
+        } else {
+            self.event(event, context, tail)
         }
     }
 
@@ -183,15 +224,21 @@ impl<W: Output, FT: FormatTime> Layered<W, FT> {
         Ok(Reply::Done)
     }
 
-    // Nothing changes but the text.
-    fn event(&mut self, event: &Event, context: &Context) -> Result<Reply, Refusal>
-        requires { self.old.layer.failed ≡ false }
+    // The spans stay. Retracing may mark them as printed and change the last span.
+    fn event(
+        &mut self,
+        event: &Event,
+        context: &Context,
+        tail: Option<&str>,
+    ) -> Result<Reply, Refusal>
+        requires sound { self.old.layer.failed ≡ false }
+        requires tail { IfSome tail (λ t. t.now ≡ event_tail self.old.layer.settings event.now) }
         ensures { Changes (seen FT.FormatTime W.Output)
             (IsAnswered (Call.Event event.now context.now) result) self.old self.new }
     {
         let depth = depth(&self.registry, event.parent.named(context.current));
         let spans = &mut self.registry;
-        self.layer.write_event(event, depth, spans, context)?;
+        self.layer.write_event(event, tail, depth, spans, context)?;
         Ok(Reply::Done)
     }
 }

@@ -26,7 +26,7 @@ pub fn fields(left: &Field, right: &Field) -> bool
     left == right
 }
 
-#[tactic(auto, using(crate::proofs::Equality::fields_decide))]
+#[tactic(auto, using(tracing_tree_layer::proofs::Equality::fields_decide))]
 pub fn field_lists(left: &Fields, right: &Fields) -> bool
     ensures { Decides result (left.now ≡ right.now) }
 {
@@ -87,7 +87,7 @@ pub fn attributes(left: &Attributes, right: &Attributes) -> bool
     left == right
 }
 
-#[tactic(auto, using(crate::proofs::Equality::fields_decide))]
+#[tactic(auto, using(tracing_tree_layer::proofs::Equality::fields_decide))]
 pub fn records(left: &Record, right: &Record) -> bool
     ensures { Decides result (left.now ≡ right.now) }
 {

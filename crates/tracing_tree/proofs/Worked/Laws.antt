@@ -18,7 +18,7 @@ abbrev pub retraced : Settings
 retraced = record lined { span_retrace = true }
 
 -- the event behind a close off the last path
-abbrev pub event_off_path : EventInRun retraced no_timer (id_of 1) close_off_path
+abbrev pub event_off_path : EventInRun retraced no_timer (Some (id_of 1)) close_off_path
 event_off_path = record {
   before = made (codes "a") outside ∷ made (codes "b") (inside 1) ∷ made (codes "c") outside ∷ closed 2 ∷ [];
   event = record { level = Info; target = []; parent = Current; fields = message (codes "x") ∷ [] };
@@ -29,9 +29,9 @@ event_off_path = record {
 }
 
 -- its root is not the last one opened, so the law fails
-pub fails_off_path : ReadingLaw retraced no_timer (id_of 1) close_off_path → ⊥
+pub fails_off_path : ReadingLaw retraced no_timer (Some (id_of 1)) close_off_path → ⊥
 fails_off_path law =
-    let root : latest (rows_of retraced no_timer (id_of 1) close_off_path) 4 0 ≡ Some (id_of 1) = law event_off_path (id_of 1) (refl, refl) 0 (omega arith) in
+    let root : latest (rows_of retraced no_timer (Some (id_of 1)) close_off_path) 4 0 ≡ Some (id_of 1) = law event_off_path (id_of 1) (refl, refl) 0 (omega arith) in
     let number : (id_of 3).0 ≡ (id_of 1).0 = ap (λ (o : Option Id). (unwrap_or o (id_of 0)).0) (sym stranger_above ∙ root) in
     omega arith
 
@@ -39,10 +39,10 @@ fails_off_path law =
 abbrev pub close_on_path : List Call
 close_on_path = made (codes "a") outside ∷ made (codes "b") (inside 1) ∷ made (codes "c") outside ∷ informed (codes "x") (inside 2) ∷ closed 2 ∷ informed (codes "y") (inside 1) ∷ []
 
-pub is_on_path : run_is_on_path retraced no_timer (opening_state (id_of 1)) close_on_path ≡ true
+pub is_on_path : run_is_on_path retraced no_timer (opening_state (Some (id_of 1))) close_on_path ≡ true
 is_on_path = refl
 
-abbrev pub event_on_path : EventInRun retraced no_timer (id_of 1) close_on_path
+abbrev pub event_on_path : EventInRun retraced no_timer (Some (id_of 1)) close_on_path
 event_on_path = record {
   before = made (codes "a") outside ∷ made (codes "b") (inside 1) ∷ made (codes "c") outside ∷ informed (codes "x") (inside 2) ∷ closed 2 ∷ [];
   event = record { level = Info; target = []; parent = Current; fields = message (codes "y") ∷ [] };
@@ -53,5 +53,5 @@ event_on_path = record {
 }
 
 -- and the law says that the event's root was opened last
-pub holds_on_path : latest (rows_of retraced no_timer (id_of 1) close_on_path) 7 0 ≡ Some (id_of 1)
-holds_on_path = reading-law retraced no_timer (id_of 1) close_on_path refl refl event_on_path (id_of 1) (refl, refl) 0 (omega arith)
+pub holds_on_path : latest (rows_of retraced no_timer (Some (id_of 1)) close_on_path) 7 0 ≡ Some (id_of 1)
+holds_on_path = reading-law retraced no_timer (Some (id_of 1)) close_on_path refl refl event_on_path (id_of 1) (refl, refl) 0 (omega arith)

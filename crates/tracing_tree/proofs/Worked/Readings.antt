@@ -32,12 +32,12 @@ unfolding encode_utf8
 five_rows_text = refl
 
 -- a run's rows are read back as these
-pub five_rows_of_run : text_rows (run lined no_timer (opening_state (id_of 1))
+pub five_rows_of_run : text_rows (run lined no_timer (opening_state (Some (id_of 1)))
     (made (codes "a") outside ∷ made (codes "b") (inside 1) ∷ warned (codes "x") (inside 2) ∷ closed 2 ∷ closed 1 ∷ [])).rows ≡ five_rows
 five_rows_of_run = refl
 
 -- and its drawing is readable
-pub five_rows_readable : IsReadable lined (run lined no_timer (opening_state (id_of 1))
+pub five_rows_readable : IsReadable lined (run lined no_timer (opening_state (Some (id_of 1)))
     (made (codes "a") outside ∷ made (codes "b") (inside 1) ∷ warned (codes "x") (inside 2) ∷ closed 2 ∷ closed 1 ∷ [])).rows
 unfolding encode_utf8
 five_rows_readable = refl
@@ -140,11 +140,11 @@ pub place_past_all : place_at (Some 3 ∷ None ∷ []) 2 ≡ None
 place_past_all = refl
 
 -- the premise on closes fails where a close leaves the last path
-pub leaves_the_path : run_is_on_path (record lined { span_retrace = true }) no_timer (opening_state (id_of 1))
+pub leaves_the_path : run_is_on_path (record lined { span_retrace = true }) no_timer (opening_state (Some (id_of 1)))
     (made (codes "a") outside ∷ made (codes "b") (inside 1) ∷ made (codes "c") outside ∷ closed 2 ∷ []) ≡ false
 leaves_the_path = refl
 
-pub stays_on_the_path : run_is_on_path (record lined { span_retrace = true }) no_timer (opening_state (id_of 1))
+pub stays_on_the_path : run_is_on_path (record lined { span_retrace = true }) no_timer (opening_state (Some (id_of 1)))
     (made (codes "a") outside ∷ made (codes "b") (inside 1) ∷ informed (codes "x") (inside 2) ∷ closed 2 ∷ closed 1 ∷ []) ≡ true
 stays_on_the_path = refl
 
@@ -152,8 +152,8 @@ stays_on_the_path = refl
 abbrev pub close_off_path : List Call
 close_off_path = made (codes "a") outside ∷ made (codes "b") (inside 1) ∷ made (codes "c") outside ∷ closed 2 ∷ informed (codes "x") (inside 1) ∷ []
 
-pub stranger_above : latest (rows_of (record lined { span_retrace = true }) no_timer (id_of 1) close_off_path) 4 0 ≡ Some (id_of 3)
+pub stranger_above : latest (rows_of (record lined { span_retrace = true }) no_timer (Some (id_of 1)) close_off_path) 4 0 ≡ Some (id_of 3)
 stranger_above = refl
 
-pub root_above : latest (rows_of (record lined { span_retrace = true; close_retrace = true }) no_timer (id_of 1) close_off_path) 6 0 ≡ Some (id_of 1)
+pub root_above : latest (rows_of (record lined { span_retrace = true; close_retrace = true }) no_timer (Some (id_of 1)) close_off_path) 6 0 ≡ Some (id_of 1)
 root_above = refl

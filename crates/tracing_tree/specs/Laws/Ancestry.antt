@@ -1,5 +1,5 @@
 -- What is found in the text of a run's drawing.
-use Rattle.std.specs.Prelude.{◌≡◌, ◌<◌, ℕ, List, length, slice_get, Contains, IsSomeAnd, IsTrue}
+use Rattle.std.specs.Prelude.{◌≡◌, ◌<◌, ℕ, List, length, slice_get, Contains, IsSomeAnd, IsTrue, Option}
 use Rattle.tracing_tree_base.specs.Drawing.Settings.{Settings}
 use Rattle.tracing_tree_base.specs.Time.Clock.{Timer}
 use Rattle.tracing_tree_core.specs.Registry.Forest.{path_of}
@@ -10,7 +10,7 @@ use Rattle.tracing_tree_layer.specs.Laws.Reading.{AncestorsLaw, EventInRun, IsIn
 use Rattle.tracing_tree_layer.specs.declared.call.Call.{Call}
 use Rattle.tracing_tree_rows.specs.declared.paths.EventPath.{EventPath}
 
-module _ {settings : Settings} {timer : Timer} {first : Id} {calls : List Call} where
+module _ {settings : Settings} {timer : Timer} {first : Option Id} {calls : List Call} where
   -- Among the paths is the event's, with an entry for each span on the way to the span that it lies
   -- in: the place of a row that opens that very span.
   pub record FindsAncestors (e : EventInRun settings timer first calls) (i : Id)
@@ -29,7 +29,7 @@ module _ {settings : Settings} {timer : Timer} {first : Id} {calls : List Call} 
 -- holds of it, the ancestors of each event in its current span are found.
 abbrev pub FindsInRuns : ℕ → List ℕ → List EventPath → Type 0
 FindsInRuns amount text paths =
-    (settings : Settings) (timer : Timer) (first : Id) (calls : List Call) →
+    (settings : Settings) (timer : Timer) (first : Option Id) (calls : List Call) →
     IsDrawing amount text settings (rows_of settings timer first calls) →
     AncestorsLaw settings timer first calls →
     (e : EventInRun settings timer first calls) (i : Id) → IsInCurrent e i →

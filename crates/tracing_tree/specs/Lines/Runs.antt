@@ -83,7 +83,8 @@ IsCounted judged fault =
 
 -- the run of the calls that lines spell, under the settings of the first line
 abbrev pub lines_run : Settings → TimerChoice → List Call → Run
-lines_run settings timer calls = run settings (chosen_timer timer) (opening_state (id_of 1)) calls
+lines_run settings timer calls = run settings (chosen_timer timer)
+    (opening_state (Some (id_of 1))) calls
 
 -- A run over lines, of which the first spells settings: the calls that these lines spell are
 -- accepted, the others are skipped, and the next line is to blame. Where there is none, it is the

@@ -1,5 +1,6 @@
 -- What outputs and timers do with text.
-use Rattle.std.specs.Prelude.{◌≡◌, ◌≢◌, ℕ, ◌+◌, ◌<◌, ◌≤◌, Bool, IsTrue, List, [], ◌++◌, length, Option, None, Result, Ok, Err, MatchResult, IsSomeAnd, ⊤}
+use Rattle.std.specs.Prelude.{◌≡◌, ◌≢◌, ℕ, ◌+◌, ◌<◌, ◌≤◌, Bool, true, false, IsTrue, List, [], ◌++◌, length, Option, None, Result, Ok, Err, MatchResult, IsSomeAnd, ⊤}
+use Rattle.std.specs.Io.KnownBytes.{Appends}
 use Rattle.tracing_tree_base.specs.declared.format.output.OutputFault.{OutputFault}
 use Rattle.tracing_tree_base.specs.declared.context.Refusal.{Refusal}
 use Rattle.tracing_tree_base.specs.declared.context.Refusal.TheVariants as Refused
@@ -15,6 +16,11 @@ pub record TakesSome (whole : Bool) (piece : List ℕ) (taken : ℕ) : Type 0 wh
 -- a write leaves the count of faults, and a refused one raises it by one
 abbrev pub CountsFault : ℕ → ℕ → Result ℕ OutputFault → Type 0
 CountsFault old new result = MatchResult result (λ taken. new ≡ old) (λ fault. new ≡ old + 1)
+
+-- an output keeps a text, which is then empty where it was; or nothing has changed
+abbrev pub KeepsText : Bool → List ℕ → List ℕ → Option (List ℕ) → Option (List ℕ) → Type 0
+KeepsText true text left old new = Appends old new text × (left ≡ [])
+KeepsText false text left old new = (new ≡ old) × (left ≡ text)
 
 -- a timer appended what it states, or left the text: at a fault of its value, or for want of memory
 abbrev pub AppendsStated : Option (List ℕ) → List ℕ → List ℕ → Result (Unit {0}) TimeFault → Type 0

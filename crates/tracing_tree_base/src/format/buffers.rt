@@ -50,14 +50,17 @@ impl Buffers {
         }
     }
 
-    /// Writes `current_buf` whole and empties it. On a fault the buffers stay; what was written is then a beginning that isn't
-    /// the whole, and nothing where the output's writes are whole.
+    /// Has the output keep `current_buf`, or else writes it whole and empties it. On a fault the buffers stay; what was written is
+    /// then a beginning that isn't the whole, and nothing where the output's writes are whole.
     pub fn flush_current_buf<O: Output>(&mut self, out: &mut O) -> Result<(), OutputFault>
         requires { O.fault_count out.old < u64.MAX }
         ensures written { WritesWhole self.old.current_buf result
             (seen_writer O.Output out.old) (seen_writer O.Output out.new) }
         ensures buffers { self.new ≡ emptied_when_ok result self.old }
     {
+        if out.keep(&mut self.current_buf) {
+            return Ok(());
+        }
         write_whole(self.current_buf.as_bytes(), out)?;
         self.current_buf.clear();
         Ok(())

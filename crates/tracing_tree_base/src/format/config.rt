@@ -286,7 +286,7 @@ impl Config {
         self.verbose_exit
     }
 
-    /// Whether the spans above an event are shown again after a change of span.
+    /// Whether the spans above an event or a new span are shown again where the last span is another.
     pub fn span_retrace(&self) -> bool
         ensures { result ≡ self.now.span_retrace }
     {
@@ -300,7 +300,7 @@ impl Config {
         self.bracketed_fields
     }
 
-    /// Whether a span is shown only once an event happens in it.
+    /// Whether a span is shown only once an event happens in it or below it.
     pub fn deferred_spans(&self) -> bool
         ensures { result ≡ self.now.deferred_spans }
     {

@@ -1,4 +1,4 @@
-//! The drawing of rows: what docs/FORMATS.md, "RowDrawing", says of frames, lines and wrap marks.
+//! The drawing of rows: what docs/FORMATS.md, "Drawing", says of frames, lines and wrap marks.
 
 ghost use Rattle.std.specs.List.{repeat};
 ghost use Rattle.std.specs.Prelude.{◌≡◌, ◌+◌, ◌*◌, ◌^◌, ◌<◌, ◌++◌, ◌∷◌, [], true, false, Err, OnOk, OnErr, IfErr, string_bytes, encode_utf8, if◌then◌else◌};

@@ -1,8 +1,8 @@
 //! Outputs, which take bytes and count the writes that they refuse.
 
-ghost use Rattle.std.specs.Prelude.{◌≡◌, ℕ, ◌+◌, ◌-◌, ◌<◌, ◌≤◌, List, [], Bool, false, Option, Some, IfOk, IfSome, IfNone, length, take};
+ghost use Rattle.std.specs.Prelude.{◌≡◌, ℕ, ◌+◌, ◌-◌, ◌<◌, ◌≤◌, List, [], Bool, false, Option, Some, IfOk, IfSome, IfNone, length, take, string_bytes};
 ghost use Rattle.std.specs.Io.KnownBytes.{Appends, Keeps, WriteAppends};
-ghost use Rattle.tracing_tree_base.specs.Drawing.Outputs.{TakesSome, CountsFault};
+ghost use Rattle.tracing_tree_base.specs.Drawing.Outputs.{TakesSome, CountsFault, KeepsText};
 
 use std::alloc::Global;
 use std::io::{ErrorKind, Write};
@@ -44,6 +44,17 @@ pub trait Output {
         ensures contents { Keeps (contents self.old) (contents self.new) }
         ensures count { fault_count self.new ≡ fault_count self.old }
     {}
+
+    /// Keeps a text as it is, where that can be done without a copy, and leaves an empty one in its place. Returns whether the
+    /// text was kept; else nothing has changed, and it is to be written.
+    fn keep(&mut self, text: &mut String) -> bool
+        ensures kept { KeepsText result (string_bytes text.old) (string_bytes text.new)
+            (contents self.old) (contents self.new) }
+        ensures count { fault_count self.new ≡ fault_count self.old }
+    {
+        let _ = text;
+        false
+    }
 }
 
 /// An output in memory. Each write is taken whole; a growth that is refused is its fault.

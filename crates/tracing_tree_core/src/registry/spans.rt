@@ -56,6 +56,13 @@ impl Registry {
         }
     }
 
+    /// Returns the id that the next new span gets; none after `u64::MAX` was given out.
+    pub fn next_id(&self) -> Option<Id>
+        ensures { result ≡ self.now.next }
+    {
+        self.next
+    }
+
     /// Makes a span with one handle, not printed yet, which starts at the context's moment, and returns its id.
     ///
     /// `NotHeld` of a parent that isn't live, `TooMany` after `u64::MAX` was given out, `Memory`. On a refusal the registry is

@@ -88,13 +88,13 @@ within-some [] level lt e = omega arith
 within-some (i ∷ ids) zero lt e = cc
 within-some (i ∷ ids) (suc level) lt e = within-some ids level (omega arith) e
 
-pub ancestors-law : (settings : Settings) (timer : Timer) (first : Id) (calls : List Call) → ReadingLaw settings timer first calls → AncestorsLaw settings timer first calls
+pub ancestors-law : (settings : Settings) (timer : Timer) (first : Option Id) (calls : List Call) → ReadingLaw settings timer first calls → AncestorsLaw settings timer first calls
 ancestors-law settings timer first calls reading e i within level lt =
     shown-above (rows_of settings timer first calls) (place_of e) level (slice_get (path_of (forest_at e) i) level) (reading e i within level lt)
     (within-some (path_of (forest_at e) i) level lt)
 
 -- the three laws, for all settings, timers, first ids and calls
-pub reading-laws : (settings : Settings) (timer : Timer) (first : Id) (calls : List Call) → ReadingLaws settings timer first calls
+pub reading-laws : (settings : Settings) (timer : Timer) (first : Option Id) (calls : List Call) → ReadingLaws settings timer first calls
 reading-laws settings timer first calls = record {
   reading = reading-law settings timer first calls;
   opened = opened-before settings timer first calls;

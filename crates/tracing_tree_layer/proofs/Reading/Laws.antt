@@ -1,5 +1,5 @@
 -- The reading laws of runs that began empty.
-use Rattle.std.proofs.Common.{◌≡◌, ◌+◌, Bool, true, false, ◌||◌, List, [], ◌∷◌, ◌++◌, length, take, slice_get, Some, None, refl, sym, ap, ◌∙◌, subst, append_assoc, length-append, arith, take_at, if◌then◌else◌}
+use Rattle.std.proofs.Common.{◌≡◌, ◌+◌, Bool, true, false, ◌||◌, List, [], ◌∷◌, ◌++◌, length, take, slice_get, Some, None, refl, sym, ap, ◌∙◌, subst, append_assoc, length-append, arith, take_at, if◌then◌else◌, Option}
 use Rattle.std.specs.List.{list_any}
 use Rattle.std.proofs.lemmas.Bool.{or_cases}
 use Rattle.tracing_tree_base.specs.Drawing.Settings.{Settings, retraces}
@@ -23,7 +23,7 @@ use Rattle.tracing_tree_layer.proofs.Reading.Turns.{current-live}
 use Rattle.tracing_tree_layer.proofs.Reading.Closes.{IsOnOrRetraced}
 use Rattle.tracing_tree_layer.proofs.Reading.Runs.{IsKeptState, kept-run, latest-run, on_path-front, kept-opening, latest-opening}
 
-module _ {settings : Settings} {timer : Timer} {first : Id} {calls : List Call} where
+module _ {settings : Settings} {timer : Timer} {first : Option Id} {calls : List Call} where
   -- the run before the event
   abbrev run_before : EventInRun settings timer first calls → Run
   run_before e = run settings timer (opening_state first) e.before
@@ -102,7 +102,7 @@ module _ {settings : Settings} {timer : Timer} {first : Id} {calls : List Call} 
       ++ (if b then retrace_to settings e.context (forest_at e) (run_before e).state.last i else quiet_turn (forest_at e) (run_before e).state.last).rows) on
 
 -- before an event in its current span each level up to that span's was opened last by the span of its path
-pub reading-law : (settings : Settings) (timer : Timer) (first : Id) (calls : List Call) → retraces settings ≡ true →
+pub reading-law : (settings : Settings) (timer : Timer) (first : Option Id) (calls : List Call) → retraces settings ≡ true →
     (settings.close_retrace || run_is_on_path settings timer (opening_state first) calls) ≡ true → ReadingLaw settings timer first calls
 reading-law settings timer first calls on premise e i within level lt =
     let state : State = (run settings timer (opening_state first) e.before).state in
@@ -113,7 +113,7 @@ reading-law settings timer first calls on premise e i within level lt =
     ∙ ap (seen None level) (take-before e ∙ retraced-rows e i within.0 on)
     ∙ latest-fresh settings e.context state.forest kept.followed.formed state.last rows i l level lt
 
-pub opened-before : (settings : Settings) (timer : Timer) (first : Id) (calls : List Call) → OpenedBefore settings timer first calls
+pub opened-before : (settings : Settings) (timer : Timer) (first : Option Id) (calls : List Call) → OpenedBefore settings timer first calls
 opened-before settings timer first calls e current i at contains =
     let here = contains-any (path_of (forest_at e) current) i contains in
     subst (λ xs. list_any (opens_span i) xs ≡ true) (sym (take-before e)) (by (retraces settings) refl here)

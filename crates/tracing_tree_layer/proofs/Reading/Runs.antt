@@ -1,5 +1,6 @@
 -- What a run that began empty keeps, call by call.
 use Rattle.std.proofs.Common.{◌≡◌, ◌+◌, Bool, true, false, ◌||◌, ◌&&◌, List, [], ◌∷◌, ◌++◌, Option, Some, None, is_some, is_none, unwrap_or, refl, sym, subst, inl, inr, append_assoc, arith}
+use Rattle.std.specs.Option.{option_map_or}
 use Rattle.std.proofs.lemmas.Bool.{and_parts}
 use Rattle.tracing_tree_base.specs.Drawing.Settings.{Settings, retraces}
 use Rattle.tracing_tree_core.specs.Registry.Ids.{id_of}
@@ -206,10 +207,15 @@ on_path-front settings timer state (call ∷ calls) second (inr h) =
 
 -- ---- the beginning
 
-pub kept-opening : (settings : Settings) (first : Id) → IsKeptState settings (opening_state first) []
+-- no span is at or above the first id
+below-opening : (first : Option Id) → option_map_or (λ (x : Id). true) first true ≡ true
+below-opening None = refl
+below-opening (Some x) = refl
+
+pub kept-opening : (settings : Settings) (first : Option Id) → IsKeptState settings (opening_state first) []
 kept-opening settings first = record {
   followed = record {
-    formed = record { grown = tt; below_next = refl };
+    formed = record { grown = tt; below_next = below-opening first };
     given = refl;
     shown = λ i h. no_both (sym h);
     reached = λ j k. no_both (sym k);
@@ -217,5 +223,5 @@ kept-opening settings first = record {
   all_shown = λ eager i live. no_both (sym live);
 }
 
-pub latest-opening : (first : Id) → IsLatest (opening_state first).forest (opening_state first).last []
+pub latest-opening : (first : Option Id) → IsLatest (opening_state first).forest (opening_state first).last []
 latest-opening first level lt = absurd (omega arith)

@@ -1,6 +1,5 @@
--- Worked examples of bare calls on a layer, of what a book keeps, and of receipts out of order.
+-- Worked examples of bare calls on a layer.
 use Rattle.std.specs.Prelude.{◌≡◌, ℕ, List, [], ◌∷◌, ◌++◌, Some, None, true, false, refl, codes, encode_utf8_all}
-use Rattle.std.proofs.Common.{arith}
 use Rattle.std.specs.Char.{encode_utf8}
 use Rattle.tracing_tree_core.specs.Registry.Ids.{id_of}
 use Rattle.tracing_tree_base.specs.Drawing.Texts.{rendered_field}
@@ -10,9 +9,7 @@ use Rattle.tracing_tree_base.specs.declared.context.Refusal.TheVariants.{NotHeld
 use Rattle.tracing_tree_core.specs.declared.registry.Parent.TheVariants.{Root}
 use Rattle.tracing_tree_layer.specs.Calls.State.{State}
 use Rattle.tracing_tree_layer.specs.Calls.Bare.{BareCall, on_new_span, on_record, on_close, bare_text, bare_state_after, bare_cause_of}
-use Rattle.tracing_tree_layer.specs.Planned.History.{Entry, IsReplayed, Slip, IsLateIn}
-use Rattle.tracing_tree_layer.specs.declared.call.Reply.TheVariants.{Span, Closed}
-use Rattle.tracing_tree_layer.proofs.Calls.{lined, outside, made, closed, left_by}
+use Rattle.tracing_tree_layer.proofs.Calls.{lined, outside}
 
 -- the root `a` in a registry, about which the layer has not been told
 abbrev pub untold : State
@@ -53,21 +50,3 @@ nothing_recorded = refl
 -- on a layer that has failed each call is refused
 pub failed_before : bare_cause_of lined no_timer (record untold { failed = true }) (on_record (id_of 9) (record { fields = [] })) ≡ Some Failed
 failed_before = refl
-
--- ---- histories
-
--- a root that was made and closed
-abbrev pub short_history : List Entry
-short_history = (made (codes "a") outside, Span (id_of 1)) ∷ (closed 1, Closed true) ∷ []
-
-pub short_replay : IsReplayed lined no_timer (id_of 1) short_history (left_by lined (made (codes "a") outside ∷ closed 1 ∷ []))
-    (encode_utf8_all (codes "┐a \n┘\n"))
-unfolding encode_utf8
-short_replay = record { forest = refl; last = refl; replies = refl; output = refl }
-
--- the receipt for place 0 stands behind that for place 1
-abbrev pub slip_at : ℕ → Slip
-slip_at place = record { place = place; entry = (closed 1, Closed true) }
-
-pub late_slip : IsLateIn (slip_at 1 ∷ slip_at 0 ∷ []) 0
-late_slip = record { sooner = 0; later = 1; order = omega arith; not_smaller = omega arith; late = refl }

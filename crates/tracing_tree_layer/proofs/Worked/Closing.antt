@@ -71,7 +71,7 @@ unfolding encode_utf8
 recorded_twice = refl
 
 -- calls on an empty layer
-pub nothing_held : answers_of lined no_timer (opening_state (id_of 1))
+pub nothing_held : answers_of lined no_timer (opening_state (Some (id_of 1)))
     (closed 7 ∷ made (codes "a") (inside 7) ∷ informed (codes "x") (inside 7) ∷ Record (id_of 9) (record { fields = [] }) ∷ [])
     ≡ Err (NotHeld (id_of 7)) ∷ Err (NotHeld (id_of 7)) ∷ Ok Done ∷ Ok Done ∷ []
 nothing_held = refl

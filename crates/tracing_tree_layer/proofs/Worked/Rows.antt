@@ -104,7 +104,7 @@ unfolding encode_utf8
 close_off_the_path = refl
 
 -- after the greatest id there is no other
-pub last_id : answers_of lined no_timer (opening_state (id_of 18_446_744_073_709_551_615)) two_roots
+pub last_id : answers_of lined no_timer (opening_state (Some (id_of 18_446_744_073_709_551_615))) two_roots
     ≡ Ok (Span (id_of 18_446_744_073_709_551_615)) ∷ Err TooMany ∷ []
 last_id = refl
 
@@ -178,13 +178,13 @@ unfolding digits
 early_uptime = refl
 
 -- both texts of a timer
-pub timed_event : text_of lined (uptime_timer false 0) (opening_state (id_of 1))
+pub timed_event : text_of lined (uptime_timer false 0) (opening_state (Some (id_of 1)))
     (made (codes "a") (at_mono 1_000_000_000 outside) ∷ informed (codes "x") (at_mono 3_000_042_000 (inside 1)) ∷ [])
     ≡ encode_utf8_all (codes "┐a \n├─   3.000042s   2s  INFO x\n")
 unfolding encode_utf8 digits
 timed_event = refl
 
-pub timed_event_with_decimals : text_of lined (uptime_timer true 0) (opening_state (id_of 1))
+pub timed_event_with_decimals : text_of lined (uptime_timer true 0) (opening_state (Some (id_of 1)))
     (made (codes "a") (at_mono 1_000_000_000 outside) ∷ informed (codes "x") (at_mono 3_000_042_000 (inside 1)) ∷ [])
     ≡ encode_utf8_all (codes "┐a \n├─   3.000042s  2.00s  INFO x\n")
 unfolding encode_utf8 digits

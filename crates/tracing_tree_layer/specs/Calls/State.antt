@@ -1,6 +1,6 @@
 -- What a registry with a layer holds between calls.
 use Rattle.std.specs.Prelude.{Bool, false, Option, None, List, []}
-use Rattle.tracing_tree_core.specs.Registry.Forest.{Forest, empty_forest}
+use Rattle.tracing_tree_core.specs.Registry.Forest.{Forest}
 use Rattle.tracing_tree_base.specs.Drawing.Picture.{Row}
 use Rattle.tracing_tree_base.specs.declared.context.Id.{Id}
 
@@ -11,9 +11,13 @@ pub record State : Type 0 where
   pub last : Option Id
   pub failed : Bool
 
--- no span is live, there is no last span, and nothing has failed
-abbrev pub opening_state : Id → State
-opening_state first = record { forest = empty_forest first; last = None; failed = false }
+-- no span is live, there is no last span, and nothing has failed; the first id, if any is left
+abbrev pub opening_state : Option Id → State
+opening_state first = record {
+  forest = record { spans = []; next = first };
+  last = None;
+  failed = false;
+}
 
 -- what a call draws, and the printed marks and the last span after it
 pub record Turn : Type 0 where

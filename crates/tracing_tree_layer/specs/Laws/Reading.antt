@@ -82,7 +82,7 @@ run_is_on_path settings timer state (call ∷ calls) =
 -- ---- events of a run
 
 -- After the calls before it an event is accepted. Its row is the last that these calls and it draw.
-pub record EventInRun (settings : Settings) (timer : Timer) (first : Id)
+pub record EventInRun (settings : Settings) (timer : Timer) (first : Option Id)
     (calls : List Call) : Type 0 where
   pub before : List Call
   pub event : Event
@@ -92,7 +92,7 @@ pub record EventInRun (settings : Settings) (timer : Timer) (first : Id)
   pub no_cause : cause_of settings timer (run settings timer (opening_state first) before).state
       (A.Event event context) ≡ None
 
-module _ {settings : Settings} {timer : Timer} {first : Id} {calls : List Call} where
+module _ {settings : Settings} {timer : Timer} {first : Option Id} {calls : List Call} where
   -- the forest at the event
   abbrev pub forest_at : EventInRun settings timer first calls → Forest
   forest_at e = (run settings timer (opening_state first) e.before).state.forest
@@ -109,14 +109,14 @@ module _ {settings : Settings} {timer : Timer} {first : Id} {calls : List Call} 
       × (event_parent (forest_at e) e.event e.context ≡ Some i)
 
 -- the rows of a run that began empty
-abbrev pub rows_of : Settings → Timer → Id → List Call → List Row
+abbrev pub rows_of : Settings → Timer → Option Id → List Call → List Row
 rows_of settings timer first calls = (run settings timer (opening_state first) calls).rows
 
 -- ---- laws
 
 -- Before an event in its current span, the last open or retrace row of each level up to that span's
 -- is of the span that its path has at that level.
-abbrev pub ReadingLaw : Settings → Timer → Id → List Call → Type 0
+abbrev pub ReadingLaw : Settings → Timer → Option Id → List Call → Type 0
 ReadingLaw settings timer first calls =
     (e : EventInRun settings timer first calls) (i : Id) → IsInCurrent e i → (level : ℕ) →
     level < length (path_of (forest_at e) i) →
@@ -124,7 +124,7 @@ ReadingLaw settings timer first calls =
     ≡ slice_get (path_of (forest_at e) i) level
 
 -- Before an event there is an open or retrace row of each span on its current span's path.
-abbrev pub OpenedBefore : Settings → Timer → Id → List Call → Type 0
+abbrev pub OpenedBefore : Settings → Timer → Option Id → List Call → Type 0
 OpenedBefore settings timer first calls =
     (e : EventInRun settings timer first calls) (current : Id) (i : Id) →
     current_of (forest_at e) e.context ≡ Some current → Contains (path_of (forest_at e) current) i →
@@ -132,7 +132,7 @@ OpenedBefore settings timer first calls =
 
 -- For an event in its current span the drawing shows, at each level, the place of a row that opens
 -- the span which the path has at that level.
-abbrev pub AncestorsLaw : Settings → Timer → Id → List Call → Type 0
+abbrev pub AncestorsLaw : Settings → Timer → Option Id → List Call → Type 0
 AncestorsLaw settings timer first calls =
     (e : EventInRun settings timer first calls) (i : Id) → IsInCurrent e i → (level : ℕ) →
     level < length (path_of (forest_at e) i) →
@@ -141,7 +141,7 @@ AncestorsLaw settings timer first calls =
     (λ row. IsTrue (opens_at level row) × (row.span ≡ slice_get (path_of (forest_at e) i) level)))
 
 -- the three laws of every run that began empty, each under its premises
-pub record ReadingLaws (settings : Settings) (timer : Timer) (first : Id)
+pub record ReadingLaws (settings : Settings) (timer : Timer) (first : Option Id)
     (calls : List Call) : Type 0 where
   pub reading : IsTrue (retraces settings) →
       IsTrue (settings.close_retrace || run_is_on_path settings timer (opening_state first) calls) →

@@ -1,5 +1,4 @@
--- The last stage: a close off the last path may retrace first. Until `close_retrace` is built it is
--- always off, and nothing here counts.
+-- A close off the last path retraces first, where `close_retrace` is on.
 use Rattle.std.specs.Prelude.{Bool, false, not, ◌&&◌, Option}
 use Rattle.std.specs.Option.{option_map_or}
 use Rattle.std.specs.List.{list_any}

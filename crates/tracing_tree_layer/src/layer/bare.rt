@@ -80,7 +80,7 @@ impl<W: Output, FT: FormatTime> HierarchicalLayer<W, FT> {
         }
         let parent = event.parent.named(context.current);
         let depth = depth(*self.page.text.allocator(), spans, parent)?;
-        self.write_event(event, depth, spans, context)
+        self.write_event(event, None, depth, spans, context)
     }
 
     /// Draws the close of this one span, which stays live: the caller removes it afterwards.

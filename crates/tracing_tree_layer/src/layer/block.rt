@@ -95,13 +95,9 @@ pub(super) fn push_span_block(
     push_span_text(out, config, span)
 }
 
-// Appends level, target and fields of an event, as they stand after the timer's texts. After an
-// error a beginning may stand in `out`.
-pub(super) fn push_event_tail(
-    out: &mut String,
-    config: &Config,
-    event: &Event,
-) -> Result<(), AllocError>
+/// Appends level, target and fields of an event, as they stand after the timer's texts. After an
+/// error a beginning may stand in `out`.
+pub fn push_event_tail(out: &mut String, config: &Config, event: &Event) -> Result<(), AllocError>
     ensures { OnOk result
         (string_bytes out.new ≡ string_bytes out.old ++ event_tail config.now event.now) }
 {

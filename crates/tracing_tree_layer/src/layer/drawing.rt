@@ -1,8 +1,8 @@
 //! The rows of a call, planned and then drawn one after another.
 
-ghost use Rattle.std.specs.Prelude.{◌≡◌, ◌++◌, ◌∷◌, ◌-◌, [], false, if◌then◌else◌, OnOk, IfOk, IfErr, is_none, length, string_bytes};
+ghost use Rattle.std.specs.Prelude.{◌≡◌, ◌++◌, ◌∷◌, ◌-◌, [], false, if◌then◌else◌, OnOk, IfOk, IfErr, IfSome, is_none, length, string_bytes};
 ghost use Rattle.tracing_tree_core.specs.Registry.Forest.{if_live, path_of_any};
-ghost use Rattle.tracing_tree_layer.specs.Rows.Block.{moment_part, elapsed_part, event_block};
+ghost use Rattle.tracing_tree_layer.specs.Rows.Block.{moment_part, elapsed_part, event_block, event_tail};
 ghost use Rattle.tracing_tree_layer.specs.Rows.Turns.{block_of, event_row, event_depth, event_level, event_parent, time_in_current, turn_of_new, turn_of_event, turn_of_closes};
 ghost use Rattle.tracing_tree_layer.specs.Rows.Plan.{row_of_planned, rows_of_planned};
 ghost use Rattle.tracing_tree_layer.specs.Calls.Refused.{is_event_too_wide, timer_faults_at, lacks_elapsed};
@@ -63,16 +63,19 @@ impl<S: LookupSpan> CallDrawing<'_, S> {
     }
 
     // An event so many spans deep, after the rows of the spans that it stands in, where they are to
-    // be shown. Its own width is tested before any memory is taken.
+    // be shown. Its own width is tested before any memory is taken. A tail that was drawn before is
+    // used.
     pub(super) fn event<FT: FormatTime>(
         &self,
         page: &mut Page,
         plan: &mut Plan,
         timer: &FT,
         event: &Event,
+        tail: Option<&str>,
         depth: usize,
     ) -> Result<(), Refusal>
         requires blank { IsBlank page.old.bufs }
+        requires tail { IfSome tail (λ t. t.now ≡ event_tail self.now.config.now event.now) }
         requires depth { depth ≡ event_depth (S.forest self.now.spans.now) event.now
             self.now.context.now }
         ensures { let settings = self.now.config.now in
@@ -94,7 +97,7 @@ impl<S: LookupSpan> CallDrawing<'_, S> {
         };
         planner.event(plan, self.context)?;
         self.rows(page, plan.rows())?;
-        self.event_row(page, timer, event, level)
+        self.event_row(page, timer, event, tail, level)
     }
 
     // Planned rows, one after another.
@@ -143,9 +146,11 @@ impl<S: LookupSpan> CallDrawing<'_, S> {
         page: &mut Page,
         timer: &FT,
         event: &Event,
+        tail: Option<&str>,
         level: usize,
     ) -> Result<(), Refusal>
         requires blank { IsBlank page.old.bufs }
+        requires tail { IfSome tail (λ t. t.now ≡ event_tail self.now.config.now event.now) }
         requires level { let forest = S.forest self.now.spans.now in
             let parent = event_parent forest event.now self.now.context.now in
             level ≡ event_level self.now.config.now (path_of_any forest parent) }
@@ -159,7 +164,7 @@ impl<S: LookupSpan> CallDrawing<'_, S> {
             let faults = timer_faults_at settings timer forest context in
             DrawsRows settings (row ∷ []) faults result page.old page.new }
     {
-        self.event_block(&mut page.bufs, timer, event)?;
+        self.event_block(&mut page.bufs, timer, event, tail)?;
         page.add_row(level, self.config, SpanMode::Event, self.context)
     }
 
@@ -181,7 +186,9 @@ impl<S: LookupSpan> CallDrawing<'_, S> {
         bufs: &mut Buffers,
         timer: &FT,
         event: &Event,
+        tail: Option<&str>,
     ) -> Result<(), Refusal>
+        requires { IfSome tail (λ t. t.now ≡ event_tail self.now.config.now event.now) }
         ensures ok { let settings = self.now.config.now in
             let context = self.now.context.now in
             let since = time_in_current (S.forest self.now.spans.now) context in
@@ -198,7 +205,7 @@ impl<S: LookupSpan> CallDrawing<'_, S> {
             IfErr result (IsUntimed faults) }
         ensures last { bufs.new.current_span ≡ bufs.old.current_span }
     {
-        self.push_event(&mut bufs.current_buf, timer, event)
+        self.push_event(&mut bufs.current_buf, timer, event, tail)
     }
 
     // Appends the timer's texts, level, target and fields.
@@ -207,7 +214,9 @@ impl<S: LookupSpan> CallDrawing<'_, S> {
         out: &mut String,
         timer: &FT,
         event: &Event,
+        tail: Option<&str>,
     ) -> Result<(), Refusal>
+        requires { IfSome tail (λ t. t.now ≡ event_tail self.now.config.now event.now) }
         ensures ok { let settings = self.now.config.now in
             let context = self.now.context.now in
             let since = time_in_current (S.forest self.now.spans.now) context in
@@ -224,7 +233,10 @@ impl<S: LookupSpan> CallDrawing<'_, S> {
     {
         self.moment(out, timer)?;
         self.elapsed(out, timer)?;
-        push_event_tail(out, self.config, event)?;
+        match tail {
+            Some(tail) => out.push_str(tail)?,
+            None => push_event_tail(out, self.config, event)?,
+        }
         Ok(())
     }
 

@@ -17,7 +17,7 @@ returns-in_err-write_event g c =
     let turn = turn_of_event settings timer context before.registry before.layer.last event in
     let faults = timer_faults_at settings timer before.registry context in
     let wide = is_event_too_wide settings timer before.registry event context in
-    let sound : before.layer.failed ≡ false = ap (λ l. l.layer.failed) c.self.view_is ∙ c.requires in
+    let sound : before.layer.failed ≡ false = ap (λ l. l.layer.failed) c.self.view_is ∙ c.requires.sound in
     let old = seen g.FT.FormatTime g.W.Output (record { forest = before.registry; layer = before.layer }) in
     let p = err_from_is_err_and c.from_residual.result c.from_residual.ensures.1 in
     rw (p.1, p.2, ← c.self.view_is)

@@ -27,7 +27,7 @@ loop-call-preserved g c =
       done ++ c.in-Some.call ∷ [],
       split ∙ ap (λ rest. done ++ rest) s.0 ∙ sym (append_assoc done (c.in-Some.call ∷ []) (into_iter_items c.next.new.self)),
       rw pushed.items (change_then (seen g.FT.FormatTime g.W.Output) (answered_more done c.loop-call.answers.items c.in-Some.call c.call-answer.result)
-          c.args.self.now c.loop-call.self c.call-answer.new.self change c.call-answer.ensures),
+          c.args.self.now c.loop-call.self c.call-answer.new.self change c.call-answer.ensures.answered),
       omega (arith, s.1, length_is, ap length s.0),
       omega (arith, s.1, room, pushed.len, pushed.capacity),
     )

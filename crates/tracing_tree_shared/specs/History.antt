@@ -1,5 +1,5 @@
 -- Histories of calls, and the receipts that threads hold for them.
-use Rattle.std.specs.Prelude.{◌≡◌, ℕ, ◌<◌, ◌≤◌, ◌==◌, ◌⊎◌, List, length, map, flat_map, count_by, slice_get, Some, Any, IsSomeAnd}
+use Rattle.std.specs.Prelude.{◌≡◌, ℕ, ◌<◌, ◌≤◌, ◌==◌, ◌⊎◌, false, List, length, map, flat_map, count_by, slice_get, Option, Some, Any, IsSomeAnd}
 use Rattle.tracing_tree_base.specs.Drawing.Settings.{Settings}
 use Rattle.tracing_tree_base.specs.Time.Clock.{Timer}
 use Rattle.tracing_tree_base.specs.Drawing.Picture.{draw}
@@ -22,23 +22,23 @@ abbrev pub replies_in : List Entry → List Reply
 replies_in history = map (λ entry. entry.1) history
 
 -- the run of the kept calls from the start
-abbrev pub replay : Settings → Timer → Id → List Entry → Run
+abbrev pub replay : Settings → Timer → Option Id → List Entry → Run
 replay settings timer first history = run settings timer (opening_state first) (calls_in history)
 
 -- each kept reply is what its call answers in the replay
-abbrev pub IsTrueHistory : Settings → Timer → Id → List Entry → Type 0
+abbrev pub IsTrueHistory : Settings → Timer → Option Id → List Entry → Type 0
 IsTrueHistory settings timer first history =
     (replay settings timer first history).replies ≡ replies_in history
 
--- What is kept beside a history: the state, `failed` aside, and each reply are those of the replay,
--- and the output is the drawing of its rows.
-pub record IsReplayed (settings : Settings) (timer : Timer) (first : Id) (history : List Entry)
-    (state : State)
-    (written : List ℕ) : Type 0 where
+-- What is kept beside a history: the state, `failed` aside, and each reply are those of the replay, in which nothing fails, and the
+-- bytes are the drawing of its rows.
+pub record IsKept (settings : Settings) (timer : Timer) (first : Option Id) (history : List Entry)
+    (state : State) (bytes : Option (List ℕ)) : Type 0 where
   pub forest : state.forest ≡ (replay settings timer first history).state.forest
   pub last : state.last ≡ (replay settings timer first history).state.last
+  pub sound : (replay settings timer first history).state.failed ≡ false
   pub replies : IsTrueHistory settings timer first history
-  pub output : written ≡ draw settings (replay settings timer first history).rows
+  pub output : bytes ≡ Some (draw settings (replay settings timer first history).rows)
 
 -- ---- receipts
 

@@ -1,0 +1,4 @@
+pub mod Lists
+pub mod Receipts
+pub mod Replays
+pub mod Worked

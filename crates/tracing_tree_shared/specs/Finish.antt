@@ -1,0 +1,93 @@
+-- What taking all passes back answers, and how the first wrong place is found.
+use Rattle.std.specs.Prelude.{◌≡◌, ◌<◌, ◌≤◌, ◌&&◌, ◌||◌, ℕ, min, max, Bool, false, not, nat_le, if◌then◌else◌, List, [], ◌∷◌, ◌++◌, length, slice_get, slice_index_or, sum_by, Option, Some, None, Result, Ok, Err}
+use Rattle.std.specs.Option.{option_map_or}
+use Rattle.tracing_tree_base.specs.Drawing.Settings.{Settings}
+use Rattle.tracing_tree_base.specs.Drawing.Outputs.{TapeView}
+use Rattle.tracing_tree_base.specs.Time.Clock.{Timer}
+use Rattle.tracing_tree_base.specs.declared.context.Id.{Id}
+use Rattle.tracing_tree_layer.specs.Calls.State.{State}
+use Rattle.tracing_tree_layer.specs.Laws.Reading.{ReadingLaws}
+use Rattle.tracing_tree_layer.specs.contracts.call.CallPartialEq.TheImpl.{ghosts as call}
+use Rattle.tracing_tree_layer.specs.contracts.call.ReplyPartialEq.TheImpl.{ghosts as reply}
+use Rattle.tracing_tree_shared.specs.History.{Entry, Slip, Slips, IsKept, IsFirstStrange, IsOneHistory, calls_in}
+use Rattle.tracing_tree_shared.specs.Kept.{BookView}
+use Rattle.tracing_tree_shared.specs.declared.finish.Finished.{Finished}
+use Rattle.tracing_tree_shared.specs.declared.finish.FinishFault.{FinishFault}
+use Rattle.tracing_tree_shared.specs.declared.finish.FinishFault.TheVariants.{MissingPass, Stranger}
+
+-- ---- what is found
+
+-- A history with its drawing under these settings: with some timer, from some first id, each reply is that of the replay, the text is
+-- the drawing of its rows, and the rows keep the reading laws.
+pub record IsReplay (settings : Settings) (history : List Entry) (written : List ℕ) : Type 0 where
+  pub timer : Timer
+  pub first : Option Id
+  pub state : State
+  pub kept : IsKept settings timer first history state (Some written)
+  pub reads : ReadingLaws settings timer first (calls_in history)
+
+-- all passes were there, and their receipts are the history
+pub record IsFinished (passes : List Slips) (finished : Finished) : Type 0 where
+  pub one : IsOneHistory finished.history.items passes
+  pub counted : length finished.history.items ≡ sum_by length passes
+  pub accepted : finished.accepted ≡ sum_by length passes
+  pub replay : IsReplay finished.config finished.history.items finished.output.bytes
+
+-- all passes were there, but this is the first place that is wrong
+pub record IsStranger {FT : Type 0} (passes : List Slips) (place : ℕ)
+    (book : BookView TapeView FT) : Type 0 where
+  pub first : IsFirstStrange book.history passes place
+  pub counted : length book.history ≡ sum_by length passes
+
+-- what taking passes back answers, where so many were opened
+abbrev pub IsFinishAnswer : {FT : Type 0} → ℕ → List Slips → Result Finished (FinishFault FT)
+    → Type 0
+IsFinishAnswer opened passes (Ok finished) = (opened ≤ length passes) × IsFinished passes finished
+IsFinishAnswer opened passes (Err MissingPass) = length passes < opened
+IsFinishAnswer opened passes (Err (Stranger place book)) =
+    (opened ≤ length passes) × IsStranger passes place book
+
+-- ---- how it is found
+
+-- the history has the receipt's call and reply at its place
+abbrev pub keeps_slip : List Entry → Slip → Bool
+keeps_slip history slip =
+    option_map_or (λ entry. call.eq entry.0 slip.entry.0 && reply.eq entry.1 slip.entry.1)
+    (slice_get history slip.place) false
+
+-- a place is not above the greatest so far
+abbrev pub is_late : Option ℕ → ℕ → Bool
+is_late None place = false
+is_late (Some greatest) place = nat_le place greatest
+
+-- the greatest place so far
+abbrev pub greater : Option ℕ → ℕ → Option ℕ
+greater None place = Some place
+greater (Some greatest) place = Some (max greatest place)
+
+-- the least place so far
+abbrev pub lesser : Option ℕ → ℕ → Option ℕ
+lesser None place = Some place
+lesser (Some least) place = Some (min least place)
+
+-- another's receipt, or one out of order
+abbrev pub is_misplaced : List Entry → Option ℕ → Slip → Bool
+is_misplaced history greatest slip = is_late greatest slip.place || not (keeps_slip history slip)
+
+-- the places of such receipts
+abbrev pub misplaced : List Entry → Option ℕ → Slips → List ℕ
+misplaced history greatest [] = []
+misplaced history greatest (slip ∷ slips) =
+    (if is_misplaced history greatest slip then slip.place ∷ [] else [])
+    ++ misplaced history (greater greatest slip.place) slips
+
+-- the least of these places, and of one that was found before
+abbrev pub least : Option ℕ → List ℕ → Option ℕ
+least found [] = found
+least found (place ∷ places) = least (lesser found place) places
+
+-- Receipts rise up to a place: of two the later is for a greater place, unless it is for one above.
+abbrev pub RisesUpTo : ℕ → Slips → Type 0
+RisesUpTo place slips =
+    (i j : ℕ) (d : Slip) → i < j → j < length slips → (slice_index_or slips j d).place ≤ place →
+    (slice_index_or slips i d).place < (slice_index_or slips j d).place

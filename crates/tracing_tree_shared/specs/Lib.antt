@@ -1,0 +1,5 @@
+pub mod History
+pub mod Kept
+pub mod Drafts
+pub mod Finish
+pub mod Streamed

@@ -1,0 +1,140 @@
+//! Calls on their way, drawn as far as they can be before the layer is held.
+
+ghost use Rattle.std.specs.Prelude.{◌≡◌, IfOk, IfSome, false, option_map};
+ghost use Rattle.tracing_tree_layer.specs.Calls.Layers.{seen};
+ghost use Rattle.tracing_tree_shared.specs.Drafts.{IsTailOf, tail_under, tail_text};
+ghost use Rattle.tracing_tree_shared.specs.Kept.{IsAnsweredOrLacks};
+
+use std::alloc::{AllocError, Global};
+use std::marker::Model;
+use tracing_tree_core::format::{Config, Output, Refusal};
+use tracing_tree_core::time::FormatTime;
+use tracing_tree_layer::Layered;
+use tracing_tree_layer::call::{Call, Reply};
+use tracing_tree_layer::layer::push_event_tail;
+
+// Level, target and fields of an event, and the two settings under which they were drawn.
+#[derive(Debug, Drop)]
+struct Tail {
+    ansi: bool,
+    targets: bool,
+    text: String,
+}
+
+impl Model for Tail {
+    ghost use Rattle.std.specs.Prelude.{string_bytes};
+    ghost use Rattle.tracing_tree_shared.specs.Drafts.{TailView};
+
+    ghost Value = { TailView };
+
+    ghost view = { λ t. record { ansi = t.ansi; targets = t.targets; text = string_bytes t.text } };
+}
+
+/// A call on its way. Of an event, level, target and fields are drawn already: its tail.
+#[derive(Debug, Drop)]
+pub struct Draft {
+    call: Call,
+    tail: Option<Tail>,
+}
+
+impl Model for Draft {
+    ghost use Rattle.tracing_tree_shared.specs.Drafts.{DraftView, KeepsTail};
+
+    ghost Value = { DraftView };
+
+    ghost view = { λ d. record { call = d.call; tail = d.tail } };
+
+    ghost invariant = { λ d. KeepsTail d.call d.tail };
+}
+
+impl Draft {
+    /// A draft of this call. Under these settings an event's tail is drawn.
+    pub fn new(alloc: Global, config: &Config, call: Call) -> Result<Draft, AllocError>
+        ensures call { IfOk result (λ draft. draft.call ≡ call) }
+        ensures tail { IfOk result (λ draft. draft.tail
+            ≡ tail_under config.now.ansi config.now.targets call) }
+    {
+        let tail = drawn_tail(alloc, config, &call)?;
+        Ok(Draft { call, tail })
+    }
+
+    /// The call.
+    pub fn call(&self) -> &Call
+        ensures { result.now ≡ self.now.call }
+    {
+        &self.call
+    }
+
+    /// The tail of an event; none of another call.
+    pub fn tail(&self) -> Option<&str>
+        ensures { option_map (λ text. text.now) result ≡ tail_text self.now.tail }
+    {
+        match &self.tail {
+            Some(tail) => Some(tail.text.as_str()),
+            None => None,
+        }
+    }
+
+    // The tail, where it is as these settings have it.
+    pub(crate) fn tail_under(&self, config: &Config) -> Option<&str>
+        ensures { IfSome result (λ text. IsTailOf config.now self.now.call text.now) }
+    {
+        match &self.tail {
+            Some(tail) if tail.ansi == config.ansi() && tail.targets == config.targets() => {
+                Some(tail.text.as_str())
+            }
+            _ => None,
+        }
+    }
+
+    // Makes the call, which stays the draft's.
+    pub(crate) fn tell<W: Output, FT: FormatTime>(
+        &self,
+        layered: &mut Layered<W, FT>,
+    ) -> Result<Reply, Refusal>
+        requires { layered.old.layer.failed ≡ false }
+        ensures { IsAnsweredOrLacks self.now.call result
+            (seen FT.FormatTime W.Output layered.old) (seen FT.FormatTime W.Output layered.new) }
+    {
+        let tail = self.tail_under(layered.layer().config());
+        match &self.call {
+            Call::Event(event, context) => layered.call_event(event, context, tail),
+            call => {
+                let Ok(told) = call.copied() else {
+                    return Err(Refusal::Memory);
+                };
+                layered.call(told)
+            }
+        }
+    }
+
+    // The call alone.
+    pub(crate) fn into_call(self) -> Call
+        ensures { result ≡ self.call }
+    {
+        self.call
+    }
+}
+
+// The tail of an event.
+fn drawn_tail(alloc: Global, config: &Config, call: &Call) -> Result<Option<Tail>, AllocError>
+    ensures { IfOk result (λ tail. tail ≡ tail_under config.now.ansi config.now.targets call.now) }
+{
+    let Call::Event(event, _) = call else {
+        return Ok(None);
+    };
+    let mut text = String::new(alloc);
+    push_event_tail(&mut text, config, event)?;
+    Ok(Some(Tail {
+        ansi: config.ansi(),
+        targets: config.targets(),
+        text,
+    }))
+}
+
+/// A refused draft comes back, with the cause.
+#[derive(Debug, Drop)]
+pub struct Refused {
+    pub draft: Draft,
+    pub cause: Refusal,
+}

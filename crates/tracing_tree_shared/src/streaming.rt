@@ -1,0 +1,159 @@
+//! A layer for several threads that keeps no history.
+
+ghost use Rattle.std.specs.Prelude.{◌≡◌, IfOk, IfErr};
+ghost use Rattle.tracing_tree_layer.specs.Calls.Layers.{seen, Changes};
+ghost use Rattle.tracing_tree_layer.specs.Calls.Layers.{Flushes};
+ghost use Rattle.tracing_tree_shared.specs.Drafts.{tail_under};
+ghost use Rattle.tracing_tree_shared.specs.Streamed.{IsStreamed};
+
+use crate::draft::{Draft, Refused};
+use std::alloc::Global;
+use std::marker::Model;
+use std::sync::{Mutex, Wait};
+use tracing_tree_core::format::{Config, Output, Refusal};
+use tracing_tree_core::time::FormatTime;
+use tracing_tree_layer::Layered;
+use tracing_tree_layer::call::{Call, Reply};
+
+/// The answer to an accepted call: how many were accepted before it, and its reply.
+#[derive(Clone, Copy, Debug, PartialEq, Eq)]
+pub struct Numbered {
+    pub number: u64,
+    pub reply: Reply,
+}
+
+/// A registry with a layer, which counts the calls that it accepts. It keeps nothing else of them.
+#[derive(Drop)]
+pub struct Counted<W: Output, FT: FormatTime> {
+    layered: Layered<W, FT>,
+    accepted: u64,
+}
+
+impl<W: Output, FT: FormatTime> Model for Counted<W, FT> {
+    ghost use Rattle.tracing_tree_shared.specs.Streamed.{CountedView};
+
+    ghost Value = { CountedView W FT };
+
+    ghost view = { λ c. record { layered = c.layered; accepted = c.accepted } };
+}
+
+impl<W: Output, FT: FormatTime> Counted<W, FT> {
+    /// No call was accepted yet. The layer may hold spans.
+    pub fn new(layered: Layered<W, FT>) -> Counted<W, FT>
+        ensures { result ≡ record { layered = layered; accepted = 0 } }
+    {
+        Counted {
+            layered,
+            accepted: 0,
+        }
+    }
+
+    /// How many calls were accepted. The count ends at `u64::MAX`.
+    pub fn accepted(&self) -> u64
+        ensures { result ≡ self.now.accepted }
+    {
+        self.accepted
+    }
+
+    /// Makes the draft's call as `Layered::call` does; other calls than an event's are copied first. An accepted call gets the next
+    /// number.
+    pub fn apply(&mut self, draft: Draft) -> Result<Numbered, Refused>
+        ensures applied { IsStreamed FT.FormatTime W.Output draft.call result self.old self.new }
+        ensures draft { IfErr result (λ e. e.draft ≡ draft) }
+    {
+        if self.layered.layer().failed() {
+            return Err(Refused {
+                draft,
+                cause: Refusal::Failed,
+            });
+        }
+        match draft.tell(&mut self.layered) {
+            Ok(reply) => {
+                let number = self.accepted;
+                self.accepted = number.saturating_add(1);
+                Ok(Numbered { number, reply })
+            }
+            Err(cause) => Err(Refused { draft, cause }),
+        }
+    }
+
+    /// Has the writer pass on what it holds back (`Output::flush`). Nothing else changes.
+    pub fn flush(&mut self)
+        ensures layered { Changes
+            (seen FT.FormatTime W.Output) Flushes self.old.layered self.new.layered }
+        ensures accepted { self.new.accepted ≡ self.old.accepted }
+    {
+        self.layered.flush();
+    }
+
+    /// The registry with its layer.
+    pub fn into_layered(self) -> Layered<W, FT>
+        ensures { result ≡ self.layered }
+    {
+        self.layered
+    }
+}
+
+/// A layer for several threads over any writer, for services that run for months: it keeps no history and has no passes, and takes
+/// memory for the live spans alone. Contracts see the two settings under which it drafts events.
+///
+/// Under its lock each call is `Counted::apply`. So its text is the drawing of the accepted calls in the order of their numbers; no
+/// contract of `submit` says so, since nothing is known of what stands behind a lock.
+#[derive(Drop)]
+pub struct StreamingLayer<W: Output, FT: FormatTime> {
+    lock: Mutex<Counted<W, FT>>,
+    // Of these settings a draft needs ansi and targets alone, which are the layer's.
+    config: Config,
+}
+
+impl<W: Output, FT: FormatTime> Model for StreamingLayer<W, FT> {
+    ghost use Rattle.tracing_tree_shared.specs.Streamed.{StreamingView};
+
+    ghost Value = { StreamingView };
+
+    ghost view = { λ s. record { ansi = s.config.ansi; targets = s.config.targets } };
+}
+
+impl<W: Output, FT: FormatTime> StreamingLayer<W, FT> {
+    /// Shares this layer. Takes no memory.
+    pub fn new(layered: Layered<W, FT>) -> StreamingLayer<W, FT>
+        ensures { result ≡ record {
+          ansi = layered.layer.settings.ansi;
+          targets = layered.layer.settings.targets;
+        } }
+    {
+        let settings = layered.layer().config();
+        let config = Config::new(2, settings.ansi()).with_targets(settings.targets());
+        StreamingLayer {
+            lock: Mutex::new(Counted::new(layered)),
+            config,
+        }
+    }
+
+    /// A draft of this call. Takes no lock and waits for nobody: an event's level, target and fields are drawn here.
+    pub fn draft(&self, alloc: Global, call: Call) -> Result<Draft, Refusal>
+        ensures call { IfOk result (λ draft. draft.call ≡ call) }
+        ensures tail { IfOk result (λ draft. draft.tail
+            ≡ tail_under self.now.ansi self.now.targets call) }
+        ensures memory { IfErr result (λ refusal. refusal ≡ Refusal.Memory) }
+    {
+        Draft::new(alloc, &self.config, call).map_err(|_| Refusal::Memory)
+    }
+
+    /// Makes a call under the lock, for which it may wait. On a refusal the draft comes back.
+    pub fn submit<R: Wait>(&self, rt: &R, draft: Draft) -> Result<Numbered, Refused>
+        ensures { IfErr result (λ e. e.draft ≡ draft) }
+    {
+        self.lock.lock(rt).apply(draft)
+    }
+
+    /// Has the writer pass on what it holds back. May wait for the lock.
+    pub fn flush<R: Wait>(&self, rt: &R) {
+        self.lock.lock(rt).flush();
+    }
+
+    /// The registry with its layer, and the count of the accepted calls, once no other thread has it.
+    pub fn into_counted(self) -> Counted<W, FT> {
+        self.lock.into_inner()
+    }
+}

@@ -1,0 +1,231 @@
+//! Refusals: the draft comes back, and the history and the text stay.
+
+ghost use Rattle.std.specs.Prelude.{◌≡◌};
+
+use crate::opened::{lined, timed, wide};
+use std::alloc::{AllocError, Global};
+use std::marker::Brand;
+use std::sync::Wait;
+use std::sync::ledger::{Blank, Ledger};
+use std::test::*;
+use tracing_tree_core::format::{Config, Context, Refusal};
+use tracing_tree_core::style::Level;
+use tracing_tree_core::time::{FormatTime, Moment, TimeFault};
+use tracing_tree_for_tests::{closed, made, told};
+use tracing_tree_layer::call::Call;
+use tracing_tree_shared::{Book, Draft, Finished, Pass, SharedLayer};
+
+// Shows nothing, and faults at one moment.
+#[derive(Drop)]
+struct StopAt {
+    moment: u64,
+}
+
+impl FormatTime for StopAt {
+    ghost use Rattle.std.specs.Prelude.{◌==◌, [], None, Some, if◌then◌else◌};
+
+    ghost timer = { λ stop. record {
+      moment_text = λ moment. if moment.mono == stop.moment then None else Some [];
+      elapsed_text = λ ansi nanos. Some [];
+    } };
+
+    fn format_time(&self, moment: &Moment, _out: &mut String) -> Result<(), TimeFault> {
+        if moment.mono == self.moment {
+            return Err(TimeFault::Fault);
+        }
+        Ok(())
+    }
+
+    fn style_timestamp(
+        &self,
+        _ansi: bool,
+        _elapsed_ns: u64,
+        _out: &mut String,
+    ) -> Result<(), TimeFault> {
+        Ok(())
+    }
+}
+
+// An event outside every span, at this moment.
+fn event_at(alloc: Global, mono: u64) -> Result<Call, AllocError> {
+    let call = told(alloc, Level::Info, "x", None)?;
+    Ok(match call {
+        Call::Event(event, context) => {
+            let moment = Moment {
+                mono,
+                ..context.moment
+            };
+            Call::Event(event, Context { moment, ..context })
+        }
+        other => other,
+    })
+}
+
+// What was answered to events at these moments, and how many calls were accepted in the end.
+fn stopped_with<L: Ledger, R: Wait>(
+    rt: &R,
+    alloc: Global,
+    blank: Blank,
+) -> Result<Option<(Vec<Option<Refusal>>, usize)>, AllocError>
+    requires name { blank.name ≡ L.name }
+    requires parts { blank.parts ≡ L.parts }
+    requires two { L.parts ≡ 2 }
+{
+    let layered = timed(alloc, StopAt { moment: 2 });
+    let (layer, mut passes) = SharedLayer::<StopAt, L>::open(alloc, blank, layered, 1)?;
+    let mut pass = passes.pop().unwrap();
+    let mut answers = Vec::new(alloc);
+    for mono in 1..=3u64 {
+        let Ok(draft) = layer.draft(alloc, event_at(alloc, mono)?) else {
+            return Ok(None);
+        };
+        let answer = match layer.submit(rt, &mut pass, draft) {
+            Ok(_) => None,
+            Err(refused) => Some(refused.cause),
+        };
+        answers.push(answer)?;
+    }
+    passes.push(pass)?;
+    Ok(
+        layer
+            .finish(passes)
+            .ok()
+            .map(|finished| (answers, finished.accepted)),
+    )
+}
+
+#[test]
+fn a_timers_fault_is_the_last_but_failed(rt: HostRuntime) -> Result<(), Fail> {
+    let ended = stopped_with::<Brand, HostRuntime>(&rt, rt.alloc(), Blank::new(2))?;
+    let (answers, accepted) = ended.expect(&rt, "one history");
+    assert_eq!(rt;
+        answers.as_slice(),
+        [None, Some(Refusal::Timer), Some(Refusal::Failed)].as_slice()
+    );
+    assert_eq!(rt; accepted, 1);
+    Ok(())
+}
+
+#[test]
+fn a_refused_draft_comes_back(rt: HostRuntime) -> Result<(), Fail> {
+    let alloc = rt.alloc();
+    let mut book = Book::new(alloc, lined(alloc));
+    let draft = Draft::new(alloc, &Config::new(2, false), closed(7))?;
+    let Err(refused) = book.apply(draft) else {
+        return Err(Fail::from("accepted"));
+    };
+    assert_eq!(rt;
+        refused.cause,
+        Refusal::NotHeld(tracing_tree_core::format::Id(7))
+    );
+    assert_eq!(rt; *refused.draft.call(), closed(7));
+    assert_eq!(rt; book.history().len(), 0);
+    assert_eq!(rt; book.output().bytes(), "".as_bytes());
+    Ok(())
+}
+
+#[test]
+fn a_draft_that_memory_was_refused_to_is_applied_again(rt: HostRuntime) -> Result<(), Fail> {
+    let alloc = rt.alloc();
+    let config = Config::new(2, false);
+    let mut book = Book::new(alloc, wide(alloc));
+    let root = Draft::new(alloc, &config, made(alloc, "a", None)?)?;
+    assert!(rt; book.apply(root).is_ok());
+    let event = told(alloc, Level::Info, "x", Some(1))?;
+    let Err(refused) = book.apply(Draft::new(alloc, &config, event)?) else {
+        return Err(Fail::from("accepted"));
+    };
+    assert_eq!(rt; refused.cause, Refusal::Memory);
+    assert_eq!(rt; book.history().len(), 1);
+    assert_eq!(rt; book.output().bytes(), "┐a \n".as_bytes());
+    let close = Draft::new(alloc, &config, closed(1))?;
+    assert!(rt; book.apply(close).is_ok());
+    assert!(rt; book.apply(refused.draft).is_ok());
+    assert_eq!(rt; book.output().bytes(), "┐a \n┘\nINFO x\n".as_bytes());
+    Ok(())
+}
+
+// Submits a draft, once more where memory was refused. Nothing changes where it was.
+fn submitted<L: Ledger, R: Wait>(
+    rt: &R,
+    layer: &SharedLayer<(), L>,
+    pass: &mut Pass<L>,
+    draft: Draft,
+) -> bool {
+    let before = pass.receipts().len();
+    match layer.submit(rt, pass, draft) {
+        Ok(_) => true,
+        Err(refused) => {
+            refused.cause == Refusal::Memory
+                && pass.receipts().len() == before
+                && layer.submit(rt, pass, refused.draft).is_ok()
+        }
+    }
+}
+
+// A draft of a root or of an event, once more where memory was refused.
+fn drafted<L: Ledger>(alloc: Global, layer: &SharedLayer<(), L>, is_event: bool) -> Option<Draft> {
+    for _ in 0..2 {
+        let call = if is_event {
+            told(alloc, Level::Info, "x", Some(1))
+        } else {
+            made(alloc, "a", None)
+        };
+        if let Ok(call) = call
+            && let Ok(draft) = layer.draft(alloc, call)
+        {
+            return Some(draft);
+        }
+    }
+    None
+}
+
+// A root and twenty events in it. Returns whether all were accepted.
+fn grow<L: Ledger, R: Wait>(
+    rt: &R,
+    alloc: Global,
+    layer: &SharedLayer<(), L>,
+    pass: &mut Pass<L>,
+) -> bool {
+    for number in 0..21u64 {
+        let Some(draft) = drafted(alloc, layer, number > 0) else {
+            return false;
+        };
+        if !submitted(rt, layer, pass, draft) {
+            return false;
+        }
+    }
+    true
+}
+
+fn grown_with<L: Ledger, R: Wait>(
+    rt: &R,
+    alloc: Global,
+    blank: Blank,
+) -> Result<Option<Finished>, AllocError>
+    requires name { blank.name ≡ L.name }
+    requires parts { blank.parts ≡ L.parts }
+    requires two { L.parts ≡ 2 }
+{
+    let (layer, mut passes) = SharedLayer::<(), L>::open(alloc, blank, lined(alloc), 1)?;
+    for pass in passes.iter_mut() {
+        if !grow(rt, alloc, &layer, pass) {
+            return Ok(None);
+        }
+    }
+    Ok(layer.finish(passes).ok())
+}
+
+// Also run with each request for memory refused in turn (`rt try --test --fail-alloc`).
+#[test]
+fn memory_that_is_refused_once_loses_nothing(rt: HostRuntime) -> Result<(), Fail> {
+    let alloc = rt.alloc();
+    let Ok(grown) = grown_with::<Brand, HostRuntime>(&rt, alloc, Blank::new(2)) else {
+        return Ok(());
+    };
+    let grown = grown.expect(&rt, "one history");
+    assert_eq!(rt; grown.accepted, 21);
+    let events = "├─ INFO x\n".repeat(alloc, 20)?;
+    assert!(rt; grown.output.bytes().ends_with(events.as_bytes()));
+    Ok(())
+}
