@@ -1,0 +1,52 @@
+//! What the workers share.
+
+use std::alloc::{AllocError, Global};
+use std::collections::VecDeque;
+
+// How many orders there are, and how many pieces are in stock.
+const ORDERS: u64 = 12;
+
+const STOCK: u64 = 40;
+
+// The order that asks for more pieces than there ever were.
+const LARGE: u64 = 7;
+
+/// So many pieces are to be packed.
+#[derive(Clone, Copy)]
+pub struct Order {
+    pub id: u64,
+    pub pieces: u64,
+}
+
+/// The orders that nobody took yet, and the pieces that are left.
+#[derive(Drop)]
+pub struct Warehouse {
+    queue: VecDeque<Order>,
+    stock: u64,
+}
+
+impl Warehouse {
+    /// All orders wait.
+    pub fn open(alloc: Global) -> Result<Warehouse, AllocError> {
+        let mut queue = VecDeque::new(alloc);
+        for id in 1..=ORDERS {
+            let pieces = if id == LARGE { STOCK + 1 } else { id % 3 + 1 };
+            queue.push_back(Order { id, pieces })?;
+        }
+        Ok(Warehouse {
+            queue,
+            stock: STOCK,
+        })
+    }
+
+    /// The order that has waited longest, which then no other worker gets.
+    pub fn next_order(&mut self) -> Option<Order> {
+        self.queue.pop_front()
+    }
+
+    /// Takes so many pieces, and returns how many are left. Without enough of them the stock stays.
+    pub fn take(&mut self, pieces: u64) -> Option<u64> {
+        self.stock = self.stock.checked_sub(pieces)?;
+        Some(self.stock)
+    }
+}
