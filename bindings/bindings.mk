@@ -1,0 +1,17 @@
+# The library for C, C++ and Rust. Needs `rt` and a C compiler; its tests use more where it is there.
+.PHONY: bindings bindings-test install
+
+# Where `make install` puts the library.
+PREFIX ?= /usr/local
+
+# Proves the library, and leaves it in bin/: libtracing_tree.a and libtracing_tree.so.
+bindings:
+	@CC='$(CC)' bindings/build.sh
+
+# The last line is 'bindings: N passed, M failed'.
+bindings-test: bindings
+	@CC='$(CC)' CXX='$(CXX)' bindings/test.sh
+
+# Installs the library, its header and its pkg-config file.
+install: bindings
+	@bindings/install.sh '$(DESTDIR)' '$(PREFIX)'

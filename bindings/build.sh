@@ -1,0 +1,36 @@
+#!/bin/sh
+# Proves the library for C, and leaves it in bin/:
+# - libtracing_tree.a, with the kit's heap inside, so that it links by itself,
+# - libtracing_tree.so.1, and libtracing_tree.so for the linker.
+# usage: build.sh [ARCHIVE]     with an archive that was proved and built before, as the gate does, nothing is proved again
+#
+# There is no build without the proof: where a source doesn't compile or isn't proved, the errors go to standard error, nothing is
+# left in bin/, and the status is 1.
+set -eu
+cd "$(dirname "$0")/.."
+mkdir -p bin
+proved=crates/tracing_tree_c/out/libtracing_tree_c.a
+rm -f bin/libtracing_tree.*
+if [ -n "${1:-}" ]; then
+    proved=$1
+else
+    rm -f "$proved"
+    if ! (cd crates/tracing_tree_c && rt lib) > bin/bindings.log 2>&1; then
+        cat bin/bindings.log >&2
+        exit 1
+    fi
+fi
+objects=$(mktemp -d)
+trap 'rm -rf "$objects"' EXIT
+top=$(pwd)
+heap=$(dirname "$(rt doc)")/c/liblibc_c.a
+mkdir "$objects/tree" "$objects/heap"
+(cd "$objects/tree" && ar x "$top/$proved")
+(cd "$objects/heap" && ar x "$heap")
+ar crsD bin/libtracing_tree.a "$objects"/*/*.o
+cat > "$objects/exports.map" <<'MAP'
+{ global: tt_*; local: *; };
+MAP
+"${CC:-cc}" -shared -nostartfiles -Wl,-soname,libtracing_tree.so.1 -Wl,--version-script="$objects/exports.map" -Wl,-z,defs \
+    -o bin/libtracing_tree.so.1 "$objects"/*/*.o -lc
+ln -sf libtracing_tree.so.1 bin/libtracing_tree.so

@@ -1,0 +1,335 @@
+/* Calls the library as no proof speaks of it: from a C program, with what callers get wrong, and with each allocation refused in
+ * turn. Prints what fails, and at the end how many checks passed and failed. Linked with --wrap=malloc and --wrap=realloc. */
+#include "tracing_tree.h"
+#include <stdio.h>
+#include <stdlib.h>
+
+/* ---- memory that is refused */
+
+static long asked, refused_at;
+static bool counting;
+
+void *__real_malloc(size_t size);
+void *__real_realloc(void *old, size_t size);
+void *__wrap_malloc(size_t size);
+void *__wrap_realloc(void *old, size_t size);
+
+static bool is_refused(void) { return counting && ++asked == refused_at; }
+
+void *__wrap_malloc(size_t size) { return is_refused() ? NULL : __real_malloc(size); }
+
+void *__wrap_realloc(void *old, size_t size) { return is_refused() ? NULL : __real_realloc(old, size); }
+
+/* ---- checks */
+
+static int passed, failed;
+
+static void check(bool holds, const char *what, long at) {
+  if (holds) {
+    passed++;
+    return;
+  }
+  failed++;
+  printf("c: FAILED: %s (%ld)\n", what, at);
+}
+
+/* ---- a script of calls */
+
+enum kind { OPEN, NEW, EVENT, RECORD, CLONE, CLOSE };
+
+typedef struct step {
+  enum kind kind;
+  const char *name;
+  uint64_t id;      /* the current span of a new span and an event, else the span that is meant */
+  uint32_t level;
+  const char *value;
+} step;
+
+static const step script[] = {
+    {OPEN, "", 0, 0, ""},
+    {NEW, "a server with a name of its own", 0, 0, "0123456789 0123456789"},
+    {EVENT, "first", 1, TT_INFO, "a message of more than sixteen bytes\nin two lines"},
+    {NEW, "conn", 1, 0, "short"},
+    {CLONE, "", 2, 0, ""},
+    {RECORD, "later", 2, 0, "a value that has to be kept somewhere"},
+    {RECORD, "later again", 2, 0, "x"},
+    {NEW, "deep", 2, 0, "y"},
+    {NEW, "deeper", 3, 0, "y"},
+    {NEW, "deeper still", 4, 0, "y"},
+    {NEW, "as deep as a short path", 5, 0, "y"},
+    {NEW, "deeper than a short path", 6, 0, "y"},
+    {EVENT, "second", 7, TT_WARN, "z"},
+    {CLOSE, "", 7, 0, ""},
+    {CLOSE, "", 6, 0, ""},
+    {CLOSE, "", 2, 0, ""},
+    {CLOSE, "", 5, 0, ""},
+    {EVENT, "third", 1, TT_ERROR, "w"},
+    {CLOSE, "", 4, 0, ""},
+    {CLOSE, "", 3, 0, ""},
+    {CLOSE, "", 2, 0, ""},
+    {CLOSE, "", 1, 0, ""},
+};
+
+enum { STEPS = sizeof script / sizeof script[0], ROOM = 4096 };
+
+/* What a step gave. */
+typedef struct given {
+  uint32_t status;
+  uint64_t id;
+  bool went;
+  size_t length;
+  uint8_t text[ROOM];
+} given;
+
+static tt_context context(uint64_t current) {
+  tt_context made = {current, 7, tt_str("a thread with a long name"), 0, 0, true};
+  return made;
+}
+
+static uint32_t call(tt_tree *tree, const step *s, given *out) {
+  tt_field fields[2] = {{tt_str("message"), tt_str(s->value)}, {tt_str(s->name), tt_str("1")}};
+  tt_context here = context(s->id);
+  tt_settings settings = tt_default_settings();
+  tt_attributes attributes = {tt_str(s->name), tt_str("a target of more than sixteen bytes"), 0, TT_CURRENT};
+  tt_event_ref event = {tt_str("t"), 0, TT_CURRENT, s->level};
+  settings.indent_lines = settings.span_retrace = settings.close_retrace = settings.verbose_exit = true;
+  settings.targets = settings.thread_names = true;
+  switch (s->kind) {
+  case OPEN: return tt_new(tree, &settings);
+  case NEW: return tt_new_span(tree, &attributes, fields, 2, &here, &out->id);
+  case EVENT: return tt_event(tree, &event, fields, 2, &here);
+  case RECORD: return tt_record(tree, s->id, fields, 2);
+  case CLONE: return tt_clone_span(tree, s->id);
+  case CLOSE: return tt_close(tree, s->id, &here, &out->went);
+  }
+  return 99;
+}
+
+static void take(tt_tree *tree, const step *s, given *out) {
+  memset(out, 0, sizeof *out);
+  counting = true;
+  out->status = call(tree, s, out);
+  counting = false;
+  out->length = tt_text(tree, out->text, ROOM);
+}
+
+static bool same(const given *a, const given *b) {
+  return a->status == b->status && a->id == b->id && a->went == b->went && a->length == b->length &&
+         memcmp(a->text, b->text, ROOM) == 0;
+}
+
+/* Runs the script with one allocation refused. The refused call draws nothing and, made again, gives what it gives with ample memory.
+ * Returns whether an allocation was refused. */
+static bool run(given *ample, long at) {
+  static given now;
+  tt_tree tree = TT_NO_TREE;
+  int refusals = 0;
+  asked = 0;
+  refused_at = at;
+  for (int i = 0; i < STEPS; i++) {
+    given *out = at == 0 ? &ample[i] : &now;
+    take(&tree, &script[i], out);
+    if (at == 0) {
+      check(out->status == TT_OK, "a call with ample memory", i);
+    } else if (out->status == TT_NO_MEMORY) {
+      refusals++;
+      check(out->length == 0 && out->id == 0 && !out->went, "a call that was refused memory gives nothing", at);
+      take(&tree, &script[i], out);
+    }
+    check(same(out, &ample[i]), "a call gives what it gives with ample memory", at * 100 + i);
+  }
+  if (at != 0 && asked >= at) check(refusals == 1, "a refused allocation refuses its call", at);
+  tt_free(&tree);
+  return asked >= at;
+}
+
+static void refusals(void) {
+  given *ample = __real_malloc(sizeof(given) * STEPS);
+  long at = 0;
+  while (run(ample, at)) at++;
+  check(at > 20, "the script asks for memory", at);
+  free(ample);
+}
+
+/* ---- what callers get wrong */
+
+static const tt_context NOWHERE = {0, 1, {(const uint8_t *)"", 0}, 0, 0, false};
+static const uint8_t BAD[] = {'a', 0xff};
+
+static void settings_that_are_none(void) {
+  tt_tree tree = TT_NO_TREE, none = TT_NO_TREE;
+  for (int i = 0; i < 8; i++) {
+    tt_settings settings = tt_default_settings();
+    settings.timer = i < 4 ? TT_TIMER_NONE : TT_TIMER_LOCAL;
+    switch (i) {
+    case 0: settings.size -= 8; break;
+    case 1: settings.size += 8; break;
+    case 2: settings.wraparound = 0; break;
+    case 3: settings.timer = 4; break;
+    case 4: settings.offset = 93600; break;
+    case 5: settings.offset = -93600; break;
+    case 6: settings.offset = INT32_MIN; break;
+    default: settings.size = 0;
+    }
+    check(tt_new(&tree, &settings) == TT_SETTINGS, "settings that are none", i);
+    check(!tree.there && tree.inside == none.inside, "no tree is made of settings that are none", i);
+  }
+  for (int i = 0; i < 2; i++) {
+    tt_settings settings = tt_default_settings();
+    settings.timer = TT_TIMER_LOCAL;
+    settings.offset = i == 0 ? 93599 : -93599;
+    check(tt_new(&tree, &settings) == TT_OK, "the farthest offset", i);
+    check(tt_new(&tree, &settings) == TT_THERE, "a tree that is there", i);
+    settings.size = 0;
+    check(tt_new(&tree, &settings) == TT_THERE, "a tree that is there, and settings that are none", i);
+    tt_free(&tree);
+  }
+}
+
+/* A tree with lines in which the span 1 is open. */
+static tt_tree started(void) {
+  tt_tree tree = TT_NO_TREE;
+  tt_settings settings = tt_default_settings();
+  tt_attributes a = {tt_str("a"), tt_str(""), 0, TT_ROOT};
+  uint64_t id = 0;
+  settings.indent_lines = true;
+  check(tt_new(&tree, &settings) == TT_OK, "a tree", 0);
+  check(tt_new_span(&tree, &a, TT_NO_FIELDS, 0, &NOWHERE, &id) == TT_OK && id == 1, "the first span", 0);
+  return tree;
+}
+
+/* The text of the last call is this one. */
+static bool drew(tt_tree *tree, const char *text) {
+  uint8_t room[256];
+  size_t length = tt_text(tree, room, sizeof room);
+  return length == strlen(text) && memcmp(room, text, length) == 0;
+}
+
+static void nothing_drawn(tt_tree *tree, uint32_t status, uint32_t wanted, const char *what, long at) {
+  check(status == wanted, what, at);
+  check(drew(tree, ""), "a refused call draws nothing", at);
+}
+
+static void texts_that_are_none(void) {
+  tt_text_ref bad = tt_bytes(BAD, 2);
+  tt_tree tree = started();
+  for (int i = 0; i < 12; i++) {
+    tt_attributes attributes = {i == 0 ? bad : tt_str("b"), i == 1 ? bad : tt_str(""), 0, i == 2 ? 3 : TT_ROOT};
+    tt_field fields[2] = {{tt_str("n"), tt_str("v")}, {i == 3 ? bad : tt_str("n"), i == 4 ? bad : tt_str("v")}};
+    uint32_t level = i == 8 ? 5 : i == 9 ? UINT32_MAX : TT_INFO;
+    tt_event_ref event = {i == 6 ? bad : tt_str(""), 0, i == 7 ? UINT32_MAX : TT_ROOT, level};
+    tt_context here = {0, 1, bad, 0, 0, i == 5 || i == 10 || i == 11};
+    uint64_t id = 77;
+    bool went = true;
+    if (i < 6) {
+      nothing_drawn(&tree, tt_new_span(&tree, &attributes, fields, 2, &here, &id), TT_UNREAD, "a new span that can't be read", i);
+      check(id == 77, "no id is handed out", i);
+    } else if (i < 11) {
+      nothing_drawn(&tree, tt_event(&tree, &event, fields, 2, &here), TT_UNREAD, "an event that can't be read", i);
+    } else {
+      nothing_drawn(&tree, tt_close(&tree, 1, &here, &went), TT_UNREAD, "a close that can't be read", i);
+      check(went, "nothing is said of the span", i);
+    }
+    if (i == 3 || i == 4) {
+      nothing_drawn(&tree, tt_event(&tree, &event, fields, 2, &NOWHERE), TT_UNREAD, "an event's field that can't be read", i);
+      nothing_drawn(&tree, tt_record(&tree, 1, fields, 2), TT_UNREAD, "a later field that can't be read", i);
+    }
+  }
+  {
+    tt_context unnamed = {1, 1, bad, 0, 0, false};
+    tt_event_ref event = {tt_str(""), 0, TT_CURRENT, TT_INFO};
+    tt_field message = {tt_str("message"), tt_str("x")};
+    check(tt_event(&tree, &event, &message, 1, &unnamed) == TT_OK && drew(&tree, "├─ INFO x\n"), "a name that isn't read", 0);
+  }
+  tt_free(&tree);
+}
+
+static void texts_of_nothing(void) {
+  tt_tree tree = started();
+  tt_attributes empty = {tt_bytes(NULL, 0), tt_bytes(NULL, 5), 0, TT_CURRENT};
+  tt_field field = {tt_str(NULL), tt_str(NULL)};
+  tt_context here = {1, 1, tt_str(NULL), 0, 0, true};
+  uint64_t id = 0;
+  check(tt_new_span(&tree, &empty, &field, 1, &here, &id) == TT_OK, "texts of nothing", 0);
+  check(id == 2 && drew(&tree, "└─┐ =\n"), "texts of nothing are drawn", 0);
+  tt_free(&tree);
+}
+
+static void spans_that_are_none(void) {
+  static const uint64_t ids[] = {0, 2, 99, UINT64_MAX};
+  tt_tree tree = started();
+  for (int i = 0; i < 4; i++) {
+    tt_attributes child = {tt_str("b"), tt_str(""), ids[i], TT_OF};
+    tt_event_ref event = {tt_str(""), ids[i], TT_OF, TT_INFO};
+    tt_context here = {ids[i], 1, tt_str(""), 0, 0, false};
+    uint64_t id = 77;
+    bool went = true;
+    nothing_drawn(&tree, tt_new_span(&tree, &child, TT_NO_FIELDS, 0, &NOWHERE, &id), TT_NOT_HELD, "a parent that isn't", i);
+    check(tt_event(&tree, &event, TT_NO_FIELDS, 0, &here) == TT_OK && drew(&tree, "INFO\n"), "an event in no span", i);
+    nothing_drawn(&tree, tt_clone_span(&tree, ids[i]), TT_NOT_HELD, "a clone of no span", i);
+    nothing_drawn(&tree, tt_close(&tree, ids[i], &here, &went), TT_NOT_HELD, "a close of no span", i);
+    nothing_drawn(&tree, tt_record(&tree, ids[i], TT_NO_FIELDS, 0), TT_OK, "a record on no span", i);
+    check(id == 77 && went, "nothing is handed out", i);
+  }
+  tt_free(&tree);
+}
+
+/* Each call on a tree that isn't. */
+static void all_missing(tt_tree *tree, long at) {
+  tt_attributes attributes = {tt_str("b"), tt_str(""), 0, TT_ROOT};
+  tt_event_ref event = {tt_bytes(BAD, 2), 0, TT_ROOT, TT_INFO};
+  uint8_t room[2] = {1, 2};
+  uint64_t id = 77;
+  bool went = true;
+  check(tt_new_span(tree, &attributes, TT_NO_FIELDS, 0, &NOWHERE, &id) == TT_MISSING && id == 77, "a span of no tree", at);
+  check(tt_event(tree, &event, TT_NO_FIELDS, 0, &NOWHERE) == TT_MISSING, "an event of no tree", at);
+  check(tt_record(tree, 1, TT_NO_FIELDS, 0) == TT_MISSING, "a record of no tree", at);
+  check(tt_clone_span(tree, 1) == TT_MISSING, "a clone of no tree", at);
+  check(tt_close(tree, 1, &NOWHERE, &went) == TT_MISSING && went, "a close of no tree", at);
+  check(tt_text(tree, room, 2) == 0 && room[0] == 1 && room[1] == 2, "the text of no tree", at);
+  tt_free(tree);
+}
+
+static void trees_that_are_none(void) {
+  tt_tree tree;
+  memset(&tree, 0, sizeof tree);
+  all_missing(&tree, 0);
+  tree = started();
+  tt_free(&tree);
+  all_missing(&tree, 1);
+  tree = started();
+  check(drew(&tree, "┐a \n"), "a tree where one was freed", 0);
+  tt_free(&tree);
+}
+
+/* ---- the text and its room */
+
+static void rooms(void) {
+  static const char text[] = "┐a \n";
+  enum { LENGTH = sizeof text - 1 };
+  tt_tree tree = started();
+  uint8_t room[LENGTH + 2];
+  for (size_t size = 0; size <= LENGTH + 1; size++) {
+    memset(room, 0x5a, sizeof room);
+    check(tt_text(&tree, room, size) == LENGTH, "the length of a text", (long)size);
+    for (size_t i = 0; i < sizeof room; i++) {
+      uint8_t wanted = size >= LENGTH && i < LENGTH ? (uint8_t)text[i] : 0x5a;
+      if (room[i] != wanted) check(false, "a room holds the whole text, or nothing of it", (long)size);
+    }
+  }
+  check(tt_clone_span(&tree, 1) == TT_OK && drew(&tree, ""), "a call that draws nothing has no text", 0);
+  tt_free(&tree);
+}
+
+int main(void) {
+  check(tt_version() == TT_VERSION, "the version", 0);
+  refusals();
+  settings_that_are_none();
+  texts_that_are_none();
+  texts_of_nothing();
+  spans_that_are_none();
+  trees_that_are_none();
+  rooms();
+  printf("%d %d\n", passed, failed);
+  return 0;
+}

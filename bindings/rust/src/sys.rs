@@ -1,0 +1,247 @@
+//! The library's functions, as `tracing_tree.h` has them. All that is unsafe stands in this file.
+
+#[path = "layout.rs"]
+mod layout;
+
+use std::marker::PhantomData;
+
+/// A text.
+#[repr(C)]
+#[derive(Clone, Copy)]
+pub struct Text<'a> {
+    at: *const u8,
+    len: usize,
+    of: PhantomData<&'a str>,
+}
+
+impl Default for Text<'_> {
+    fn default() -> Self {
+        "".into()
+    }
+}
+
+impl<'a> From<&'a str> for Text<'a> {
+    fn from(text: &'a str) -> Text<'a> {
+        Text { at: text.as_ptr(), len: text.len(), of: PhantomData }
+    }
+}
+
+/// A field.
+#[repr(C)]
+#[derive(Clone, Copy, Default)]
+pub struct Field<'a> {
+    pub name: Text<'a>,
+    pub value: Text<'a>,
+}
+
+/// Settings; the names are those of the header.
+#[repr(C)]
+#[derive(Clone, Copy, Debug)]
+pub struct Settings {
+    pub size: u64,
+    pub indent_amount: u64,
+    pub wraparound: u64,
+    pub epoch: u64,
+    pub timer: u32,
+    pub offset: i32,
+    pub higher_precision: bool,
+    pub ansi: bool,
+    pub indent_lines: bool,
+    pub targets: bool,
+    pub thread_ids: bool,
+    pub thread_names: bool,
+    pub verbose_entry: bool,
+    pub verbose_exit: bool,
+    pub span_retrace: bool,
+    pub deferred_spans: bool,
+    pub close_retrace: bool,
+    pub span_modes: bool,
+    pub bracketed_fields: bool,
+}
+
+impl Default for Settings {
+    /// Two columns for each level, no wraparound, no timer, all else off.
+    fn default() -> Self {
+        Settings {
+            size: std::mem::size_of::<Settings>() as u64,
+            indent_amount: 2,
+            wraparound: u64::MAX,
+            epoch: 0,
+            timer: 0,
+            offset: 0,
+            higher_precision: false,
+            ansi: false,
+            indent_lines: false,
+            targets: false,
+            thread_ids: false,
+            thread_names: false,
+            verbose_entry: false,
+            verbose_exit: false,
+            span_retrace: false,
+            deferred_spans: false,
+            close_retrace: false,
+            span_modes: false,
+            bracketed_fields: false,
+        }
+    }
+}
+
+/// Kinds of parents: none, the current span, or the span that is named.
+pub const ROOT: u32 = 0;
+pub const CURRENT: u32 = 1;
+pub const OF: u32 = 2;
+
+/// What goes with a call.
+#[repr(C)]
+#[derive(Clone, Copy)]
+pub struct Context<'a> {
+    pub current: u64,
+    pub thread_id: u64,
+    pub thread_name: Text<'a>,
+    pub mono: u64,
+    pub wall: i64,
+    pub has_thread_name: bool,
+}
+
+/// What a new span is made of.
+#[repr(C)]
+#[derive(Clone, Copy)]
+pub struct Attributes<'a> {
+    pub name: Text<'a>,
+    pub target: Text<'a>,
+    pub parent: u64,
+    pub parent_kind: u32,
+}
+
+/// An event.
+#[repr(C)]
+#[derive(Clone, Copy)]
+pub struct Event<'a> {
+    pub target: Text<'a>,
+    pub parent: u64,
+    pub parent_kind: u32,
+    pub level: u32,
+}
+
+#[repr(C)]
+struct RawTree {
+    inside: *mut u8,
+    there: bool,
+}
+
+extern "C" {
+    fn tt_version() -> u32;
+    fn tt_new(tree: *mut RawTree, settings: *const Settings) -> u32;
+    fn tt_free(tree: *mut RawTree);
+    fn tt_new_span(
+        tree: *mut RawTree,
+        attributes: *const Attributes<'_>,
+        fields: *const Field<'_>,
+        count: usize,
+        context: *const Context<'_>,
+        id: *mut u64,
+    ) -> u32;
+    fn tt_record(tree: *mut RawTree, id: u64, fields: *const Field<'_>, count: usize) -> u32;
+    fn tt_event(
+        tree: *mut RawTree,
+        event: *const Event<'_>,
+        fields: *const Field<'_>,
+        count: usize,
+        context: *const Context<'_>,
+    ) -> u32;
+    fn tt_close(tree: *mut RawTree, id: u64, context: *const Context<'_>, went: *mut bool) -> u32;
+    fn tt_text(tree: *mut RawTree, room: *mut u8, size: usize) -> usize;
+}
+
+/// Why a call was refused: a status of the header.
+#[derive(Clone, Copy, Debug, PartialEq, Eq)]
+pub struct Refused(pub u32);
+
+fn answered(status: u32) -> Result<(), Refused> {
+    if status == 0 {
+        Ok(())
+    } else {
+        Err(Refused(status))
+    }
+}
+
+/// A tree.
+pub struct Tree {
+    raw: RawTree,
+}
+
+// SAFETY: the tree is plain memory of its own, and `&mut` gives it to one call at a time.
+unsafe impl Send for Tree {}
+
+impl Tree {
+    /// A tree with these settings.
+    pub fn new(settings: &Settings) -> Result<Tree, Refused> {
+        let mut raw = RawTree { inside: std::ptr::null_mut(), there: false };
+        // SAFETY: the tree is missing, and the settings are whole.
+        answered(unsafe { tt_new(&mut raw, settings) })?;
+        Ok(Tree { raw })
+    }
+
+    /// Makes a span.
+    pub fn new_span(
+        &mut self,
+        attributes: &Attributes<'_>,
+        fields: &[Field<'_>],
+        context: &Context<'_>,
+    ) -> Result<u64, Refused> {
+        let mut id = 0;
+        // SAFETY: each reference is whole for the call, and a slice's address is never null.
+        answered(unsafe {
+            tt_new_span(&mut self.raw, attributes, fields.as_ptr(), fields.len(), context, &mut id)
+        })?;
+        Ok(id)
+    }
+
+    /// Puts fields at the end of a span's.
+    pub fn record(&mut self, id: u64, fields: &[Field<'_>]) -> Result<(), Refused> {
+        // SAFETY: as for a new span.
+        answered(unsafe { tt_record(&mut self.raw, id, fields.as_ptr(), fields.len()) })
+    }
+
+    /// Tells of an event.
+    pub fn event(&mut self, event: &Event<'_>, fields: &[Field<'_>], context: &Context<'_>) -> Result<(), Refused> {
+        // SAFETY: as for a new span.
+        answered(unsafe { tt_event(&mut self.raw, event, fields.as_ptr(), fields.len(), context) })
+    }
+
+    /// Takes a handle of a span away.
+    pub fn close(&mut self, id: u64, context: &Context<'_>) -> Result<bool, Refused> {
+        let mut went = false;
+        // SAFETY: as for a new span.
+        answered(unsafe { tt_close(&mut self.raw, id, context, &mut went) })?;
+        Ok(went)
+    }
+
+    /// The text of the last call, in a buffer that is used again.
+    pub fn text<'a>(&mut self, room: &'a mut Vec<u8>) -> &'a [u8] {
+        if room.is_empty() {
+            room.resize(1024, 0);
+        }
+        // SAFETY: the room has as many bytes as are said.
+        let mut length = unsafe { tt_text(&mut self.raw, room.as_mut_ptr(), room.len()) };
+        if length > room.len() {
+            room.resize(length, 0);
+            // SAFETY: as before.
+            length = unsafe { tt_text(&mut self.raw, room.as_mut_ptr(), room.len()) };
+        }
+        &room[..length]
+    }
+}
+
+impl Drop for Tree {
+    fn drop(&mut self) {
+        // SAFETY: the tree is no one else's.
+        unsafe { tt_free(&mut self.raw) }
+    }
+}
+
+/// The version of the library.
+pub fn version() -> u32 {
+    // SAFETY: it asks nothing.
+    unsafe { tt_version() }
+}

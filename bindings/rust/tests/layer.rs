@@ -1,0 +1,272 @@
+//! What a service sees of the layer: the drawing, threads, and what goes wrong in the middle of a call.
+
+use std::fmt;
+use std::io::{self, Write};
+use std::panic::{catch_unwind, AssertUnwindSafe};
+use std::sync::{Arc, Mutex};
+use std::thread;
+use tracing::{info, info_span, warn};
+use tracing_subscriber::prelude::*;
+use tracing_subscriber::Registry;
+use tracing_tree_proved::{time, HierarchicalLayer};
+
+/// A writer into memory, which all its copies share.
+#[derive(Clone, Default)]
+struct Sink(Arc<Mutex<Vec<u8>>>);
+
+impl Sink {
+    fn text(&self) -> String {
+        String::from_utf8(self.0.lock().unwrap().clone()).unwrap()
+    }
+}
+
+impl Write for Sink {
+    fn write(&mut self, bytes: &[u8]) -> io::Result<usize> {
+        self.0.lock().unwrap().write(bytes)
+    }
+
+    fn flush(&mut self) -> io::Result<()> {
+        Ok(())
+    }
+}
+
+fn plain() -> HierarchicalLayer {
+    HierarchicalLayer::new(2).with_ansi(false).with_indent_lines(true)
+}
+
+/// What is drawn while `then` runs.
+fn drawn(layer: HierarchicalLayer, then: impl FnOnce()) -> String {
+    let sink = Sink::default();
+    let writer = sink.clone();
+    let subscriber = Registry::default().with(layer.with_writer(move || writer.clone()));
+    tracing::subscriber::with_default(subscriber, then);
+    sink.text()
+}
+
+/// The example of the C header's server.
+#[test]
+fn the_server() {
+    let text = drawn(plain(), || {
+        let server = info_span!("server", host = "localhost", port = 8080).entered();
+        info!("starting");
+        info_span!("conn", peer = "82.9.9.9").in_scope(|| warn!(ms = 271, "slow answer:\nwaiting for the disk"));
+        drop(server);
+    });
+    assert_eq!(text, include_str!("../../c/server.out"));
+}
+
+#[test]
+fn builders() {
+    let layer = plain()
+        .with_targets(false)
+        .with_thread_ids(false)
+        .with_thread_names(false)
+        .with_verbose_entry(false)
+        .with_verbose_exit(false)
+        .with_span_retrace(true)
+        .with_close_retrace(true)
+        .with_deferred_spans(false)
+        .with_span_modes(true)
+        .with_bracketed_fields(true)
+        .with_indent_amount(3)
+        .with_wraparound(0)
+        .with_wraparound(5);
+    let text = drawn(layer, || {
+        let a = info_span!("a", x = 1);
+        let b = a.in_scope(|| info_span!("b"));
+        let c = info_span!("c");
+        a.in_scope(|| info!("in a"));
+        drop((b, c, a));
+    });
+    let opened = "┐retrace: a{x=1}\n└──┐retrace: b{}\n┐retrace: c{}\n┐retrace: a{x=1}\n├── INFO in a\n";
+    assert_eq!(text, format!("{opened}┌──┘close: \n┘close: \n┘close: \n"));
+}
+
+#[test]
+fn timers() {
+    let local = time::LocalDateTime::with_offset(3600).unwrap();
+    assert!(time::LocalDateTime::with_offset(93_600).is_none());
+    let sink = Sink::default();
+    let (first, second, third) = (sink.clone(), sink.clone(), sink.clone());
+    let uptime = plain().with_timer(time::Uptime::default()).with_writer(move || first.clone());
+    let utc = plain().with_writer(move || second.clone()).with_timer(time::UtcDateTime { higher_precision: true });
+    let local = plain().with_timer(local).with_writer(move || third.clone());
+    tracing::subscriber::with_default(Registry::default().with(uptime).with(utc).with(local), || info!("x"));
+    let text = sink.text();
+    let lines: Vec<_> = text.lines().collect();
+    assert!(lines[0].starts_with("   0.0") && lines[0].ends_with("s INFO x"), "{text}");
+    assert!(lines[1].starts_with("20") && lines[1].ends_with(" INFO x") && !lines[1].contains('+'), "{text}");
+    assert!(lines[2].ends_with(" +01:00:00 INFO x"), "{text}");
+}
+
+struct Panics;
+
+impl fmt::Debug for Panics {
+    fn fmt(&self, _: &mut fmt::Formatter<'_>) -> fmt::Result {
+        panic!("in a field")
+    }
+}
+
+#[test]
+fn a_panic_in_a_field() {
+    let text = drawn(plain(), || {
+        let span = info_span!("a").entered();
+        assert!(catch_unwind(|| info!(x = ?Panics, "lost")).is_err());
+        assert!(catch_unwind(|| info_span!(parent: None, "lost", x = ?Panics)).is_err());
+        info!("next");
+        drop(span);
+    });
+    assert_eq!(text, "┐a \n├─ INFO next\n┘\n");
+}
+
+/// Logs, and lets go of a span, while it is formatted.
+struct Logs(Mutex<Option<tracing::Span>>);
+
+impl fmt::Debug for Logs {
+    fn fmt(&self, f: &mut fmt::Formatter<'_>) -> fmt::Result {
+        info!("inside");
+        drop(self.0.lock().unwrap().take());
+        f.write_str("x")
+    }
+}
+
+#[test]
+fn a_field_that_logs() {
+    let text = drawn(plain(), || {
+        let a = info_span!("a");
+        let b = info_span!("b");
+        info!(by = ?Logs(Mutex::new(Some(b))), "outside");
+        info!("next");
+        drop(a);
+    });
+    assert_eq!(text, "┐a \n┐b \nINFO outside, by=x\n┘\nINFO next\n┘\n");
+}
+
+/// Logs through its own layer.
+#[derive(Clone)]
+struct Echo(Sink);
+
+impl Write for Echo {
+    fn write(&mut self, bytes: &[u8]) -> io::Result<usize> {
+        info!("written");
+        self.0.write(bytes)
+    }
+
+    fn flush(&mut self) -> io::Result<()> {
+        Ok(())
+    }
+}
+
+#[test]
+fn a_writer_that_logs() {
+    let sink = Sink::default();
+    let echo = Echo(sink.clone());
+    let subscriber = Registry::default().with(plain().with_writer(move || echo.clone()));
+    tracing::subscriber::with_default(subscriber, || info!("x"));
+    assert_eq!(sink.text(), "INFO x\n");
+}
+
+#[test]
+fn a_writer_that_fails_and_panics() {
+    struct Fails(Arc<Mutex<u32>>, Sink);
+    impl Write for Fails {
+        fn write(&mut self, bytes: &[u8]) -> io::Result<usize> {
+            let mut count = self.0.lock().unwrap();
+            *count += 1;
+            match *count {
+                2 => Err(io::Error::other("full")),
+                3 => {
+                    drop(count);
+                    panic!("in a writer")
+                }
+                _ => self.1.write(bytes),
+            }
+        }
+
+        fn flush(&mut self) -> io::Result<()> {
+            Ok(())
+        }
+    }
+    let sink = Sink::default();
+    let (count, writer) = (Arc::new(Mutex::new(0)), sink.clone());
+    let layer = plain().with_writer(move || Fails(count.clone(), writer.clone()));
+    tracing::subscriber::with_default(Registry::default().with(layer), || {
+        let a = info_span!("a").entered();
+        info!("lost");
+        assert!(catch_unwind(AssertUnwindSafe(|| info!("lost too"))).is_err());
+        info!("kept");
+        drop(a);
+    });
+    assert_eq!(sink.text(), "┐a \n├─ INFO kept\n┘\n");
+}
+
+#[test]
+fn a_span_that_closes_on_another_thread() {
+    let sink = Sink::default();
+    let writer = sink.clone();
+    let dispatch = tracing::Dispatch::new(Registry::default().with(plain().with_writer(move || writer.clone())));
+    tracing::dispatcher::with_default(&dispatch, || {
+        let a = info_span!("a");
+        let b = a.in_scope(|| info_span!("b"));
+        let there = dispatch.clone();
+        thread::spawn(move || tracing::dispatcher::with_default(&there, || drop(b))).join().unwrap();
+        drop(a);
+    });
+    assert_eq!(sink.text(), "┐a \n└─┐b \n┌─┘\n┘\n");
+}
+
+#[test]
+fn a_layer_that_goes_before_its_spans() {
+    let sink = Sink::default();
+    let writer = sink.clone();
+    let subscriber = Registry::default().with(plain().with_writer(move || writer.clone()));
+    let span = tracing::subscriber::with_default(subscriber, || info_span!("a"));
+    drop(span);
+    assert_eq!(sink.text(), "┐a \n┘\n");
+}
+
+#[test]
+fn two_layers() {
+    let (first, second) = (Sink::default(), Sink::default());
+    let (one, other) = (first.clone(), second.clone());
+    let lined = plain().with_writer(move || one.clone());
+    let labelled = plain().with_span_modes(true).with_writer(move || other.clone());
+    tracing::subscriber::with_default(Registry::default().with(lined).with(labelled), || {
+        let a = info_span!("a").entered();
+        info_span!("b").in_scope(|| info!("in b"));
+        drop(a);
+    });
+    assert_eq!(first.text(), "┐a \n└─┐b \n  ├─ INFO in b\n┌─┘\n┘\n");
+    assert_eq!(second.text(), "┐open: a \n└─┐open: b \n  ├─ INFO in b\n┌─┘close: \n┘close: \n");
+}
+
+/// Four threads on one layer: the lines of each are those of a thread that is alone.
+#[test]
+fn threads() {
+    fn work() {
+        for round in 0..200 {
+            let _a = info_span!("a", round).entered();
+            info!(round, "in a");
+            info_span!("b").in_scope(|| warn!("first line\nsecond line"));
+        }
+    }
+    let layer = || plain().with_thread_names(true);
+    let alone = thread::Builder::new().name("t0".into()).spawn(move || drawn(layer(), work)).unwrap().join().unwrap();
+    assert_eq!(alone.lines().count(), 200 * 7);
+    let sink = Sink::default();
+    let writer = sink.clone();
+    let dispatch = tracing::Dispatch::new(Registry::default().with(layer().with_writer(move || writer.clone())));
+    thread::scope(|scope| {
+        for number in 0..4 {
+            let dispatch = dispatch.clone();
+            let named = thread::Builder::new().name(format!("t{number}"));
+            named.spawn_scoped(scope, move || tracing::dispatcher::with_default(&dispatch, work)).unwrap();
+        }
+    });
+    let text = sink.text();
+    for number in 0..4 {
+        let name = format!("t{number}");
+        let own: String = text.lines().filter(|line| line.starts_with(&name)).map(|line| format!("{line}\n")).collect();
+        assert_eq!(own, alone.replace("t0", &name));
+    }
+}

@@ -1,0 +1,131 @@
+#!/bin/bash
+# Tests what build.sh has left in bin/, from C, C++, Python and Rust. Where a tool isn't there, it says in one line what it leaves
+# out. The last line is 'bindings: N passed, M failed', and the status is 1 where something failed.
+set -u
+cd "$(dirname "$0")/.."
+top=$(pwd)
+room=$(mktemp -d)
+trap 'rm -rf "$room"' EXIT
+cc=${CC:-cc}
+cxx=${CXX:-c++}
+strict="-Wall -Wextra -Wpedantic -Werror"
+library=bin/libtracing_tree.a
+example=bindings/c/server.c
+passed=0
+failed=0
+
+has() { command -v "$1" > /dev/null; }
+
+left_out() { echo "bindings: left out: $*"; }
+
+# Runs a command that must succeed: step NAME COMMAND..
+step() {
+    local name=$1
+    shift
+    if "$@" > "$room/log" 2>&1; then
+        passed=$((passed + 1))
+    else
+        failed=$((failed + 1))
+        echo "bindings: FAILED: $name"
+        tail -n 20 "$room/log"
+    fi
+}
+
+# Runs a command that must fail, for a reason that the text names: refuses NAME TEXT COMMAND..
+refuses() {
+    local name=$1 text=$2
+    shift 2
+    step "$name" bash -c 'text=$1; shift; ! "$@" > "$0" 2>&1 && grep -q "$text" "$0"' "$room/told" "$text" "$@"
+}
+
+# Runs a command whose last line is how many checks passed and failed: counts NAME COMMAND..
+counts() {
+    local name=$1 good bad
+    shift
+    if "$@" > "$room/log" 2>&1 && read -r good bad < <(tail -n 1 "$room/log") && [ "$((good + bad))" -gt 0 ]; then
+        head -n -1 "$room/log"
+        passed=$((passed + good))
+        failed=$((failed + bad))
+    else
+        failed=$((failed + 1))
+        echo "bindings: FAILED: $name"
+        tail -n 20 "$room/log"
+    fi
+}
+
+# Compares what a command prints with a file: prints FILE COMMAND..
+prints() {
+    local file=$1
+    shift
+    "$@" > "$room/printed" && cmp "$room/printed" "$file"
+}
+
+# ---- layouts
+python3 bindings/layouts.py crates/tracing_tree_c/src c > "$room/layout.c"
+step "layouts of the header" $cc -std=c11 $strict -Ibindings/c -fsyntax-only "$room/layout.c"
+step "layouts of the Rust crate" prints bindings/rust/src/layout.rs python3 bindings/layouts.py crates/tracing_tree_c/src rust
+mkdir "$room/changed"
+for field in 'bool ansi;=uint64_t ansi;' 'uint64_t epoch;=uint32_t epoch;' 'int64_t wall;=int32_t wall;' 'uint32_t level;='; do
+    sed "s/${field%%=*}/${field#*=}/" bindings/c/tracing_tree.h > "$room/changed/tracing_tree.h"
+    refuses "a header with '${field#*=}' for '${field%%=*}'" 'static assertion\|no member' \
+        $cc -std=c11 -I"$room/changed" -fsyntax-only "$room/layout.c"
+done
+
+# ---- the header, the example and the tests in C
+step "the header as C++17" $cxx -std=c++17 $strict -x c++ -include bindings/c/tracing_tree.h -fsyntax-only /dev/null
+step "the example" $cc -std=c99 -O1 -g $strict -Ibindings/c $example $library -o "$room/server"
+step "what the example draws" prints bindings/c/server.out "$room/server"
+step "the example as C++17" $cxx -std=c++17 -O1 $strict -Ibindings/c -x c++ $example -x none $library -o "$room/server_cxx"
+step "what the example draws as C++17" prints bindings/c/server.out "$room/server_cxx"
+step "the tests" $cc -std=c99 -O1 -g $strict -Ibindings/c -Wl,--wrap=malloc,--wrap=realloc bindings/c/test.c $library \
+    -o "$room/test"
+counts "the tests in C" "$room/test"
+step "the example with sanitizers" $cc -std=c99 -g -fsanitize=address,undefined -fno-sanitize-recover=all -Ibindings/c \
+    $example $library -o "$room/server_sanitized"
+step "what the example draws with sanitizers" prints bindings/c/server.out "$room/server_sanitized"
+if has valgrind; then
+    for program in server test; do
+        step "$program under valgrind" valgrind -q --leak-check=full --errors-for-leak-kinds=all --error-exitcode=1 "$room/$program"
+    done
+else
+    left_out "runs under valgrind, which isn't there"
+fi
+
+# ---- what is installed
+step "install" bindings/install.sh "" "$room/prefix"
+if has pkg-config; then
+    export PKG_CONFIG_PATH="$room/prefix/lib/pkgconfig"
+    step "link by pkg-config" $cc -std=c99 $example $(pkg-config --cflags --libs tracing_tree) -o "$room/shared"
+    step "link by pkg-config, static" \
+        $cc -std=c99 -static $example $(pkg-config --static --cflags --libs tracing_tree) -o "$room/static"
+    step "what the shared object draws" prints bindings/c/server.out env LD_LIBRARY_PATH="$room/prefix/lib" "$room/shared"
+    step "what the static program draws" prints bindings/c/server.out "$room/static"
+else
+    left_out "linking by pkg-config, which isn't there"
+fi
+
+# ---- the worked cases of the program, through the shared object
+counts "the worked cases" python3 bindings/python/cases.py bin/libtracing_tree.so.1 crates/tracing_tree_cases/data
+
+# ---- the Rust crate
+crates=/usr/share/cargo/registry
+if ! has cargo; then
+    left_out "the Rust crate, since cargo isn't there"
+elif ! compgen -G "$crates/tracing-0.1*" > /dev/null || ! compgen -G "$crates/tracing-subscriber-0.3*" > /dev/null; then
+    left_out "the Rust crate, since Debian's librust-tracing-dev and librust-tracing-subscriber-dev aren't there"
+else
+    export TRACING_TREE_LIB="$top/bin"
+    cd bindings/rust
+    step "build of the Rust crate" cargo build --offline --quiet
+    if cargo test --offline --quiet > "$room/log" 2>&1; then
+        for good in $(sed -n 's/^test result: ok. \([0-9]*\) passed.*/\1/p' "$room/log"); do passed=$((passed + good)); done
+    else
+        failed=$((failed + 1))
+        echo "bindings: FAILED: tests of the Rust crate"
+        tail -n 40 "$room/log"
+    fi
+    cd "$top"
+fi
+
+echo "bindings: $passed passed, $failed failed"
+[ "$failed" = 0 ]

@@ -1,0 +1,92 @@
+-- What the functions that C calls answer and leave.
+use Rattle.std.specs.Prelude.{◌<◌, ◌≤◌, ◌++◌, List, drop, length, ◌≡◌, ◌≢◌, ℕ, Bool, None, Some, Ok, Err}
+use Rattle.tracing_tree_base.specs.declared.context.Refusal.{Refusal}
+use Rattle.tracing_tree_base.specs.declared.context.Refusal.TheVariants.{NotHeld, TooWide, TooMany, Memory, Timer as TimerFault, Writer, Failed}
+use Rattle.tracing_tree_base.specs.Time.Clock.{Timer}
+use Rattle.tracing_tree_layer.specs.declared.call.Call.{Call}
+use Rattle.tracing_tree_layer.specs.declared.call.Reply.TheVariants.{Span, Closed}
+use Rattle.tracing_tree_c.specs.Owned.{Kept}
+use Rattle.tracing_tree_c.specs.Trees.{Makes, seen_tree}
+use Rattle.tracing_tree_c.specs.Settings.{CanOpen, opened, timer_of}
+use Rattle.tracing_tree_c.specs.declared.foreign.Unreadable.TheVariants as Fault
+use Rattle.tracing_tree_c.specs.declared.settings.SettingsRef.{SettingsRef}
+use Rattle.tracing_tree_c.specs.declared.tree.Opening.{Opening}
+use Rattle.tracing_tree_c.specs.declared.tree.Opening.TheVariants.{Opened, There, Unknown, Starved}
+use Rattle.tracing_tree_c.specs.declared.tree.Outcome.{Outcome}
+use Rattle.tracing_tree_c.specs.declared.tree.Outcome.TheVariants.{Missing, NotRead, Answered}
+
+-- the number of each outcome
+abbrev pub refusal_status : Refusal → ℕ
+refusal_status (NotHeld id) = 1
+refusal_status TooWide = 2
+refusal_status TooMany = 3
+refusal_status Memory = 4
+refusal_status TimerFault = 5
+refusal_status Writer = 6
+refusal_status Failed = 7
+
+abbrev pub status_of : Outcome → ℕ
+status_of Missing = 8
+status_of (NotRead Fault.Unread) = 9
+status_of (NotRead Fault.Starved) = 4
+status_of (Answered (Ok reply)) = 0
+status_of (Answered (Err refusal)) = refusal_status refusal
+
+-- the id of a new span, in place of what stood there
+abbrev pub id_after : Outcome → ℕ → ℕ
+id_after (Answered (Ok (Span id))) before = id.0
+id_after outcome before = before
+
+-- whether a span went, in place of what stood there
+abbrev pub went_after : Outcome → Bool → Bool
+went_after (Answered (Ok (Closed went))) before = went
+went_after outcome before = before
+
+-- what a call answers and leaves
+abbrev pub Answers : Type 0 → Type 0 → (Call → Type 0) → ℕ → Kept → Kept → Type 0
+Answers CanRead IsSmall IsThis status old new =
+    (outcome : Outcome) × (status ≡ status_of outcome)
+    × Makes CanRead IsSmall IsThis outcome old new
+
+-- the same, with the number that it hands out
+abbrev pub AnswersWith : {A : Type 0} → (Outcome → A → A) → Type 0 → Type 0 → (Call → Type 0)
+    → ℕ → A → A → Kept → Kept → Type 0
+AnswersWith after CanRead IsSmall IsThis status before later old new =
+    (outcome : Outcome) × (status ≡ status_of outcome) × (later ≡ after outcome before)
+    × Makes CanRead IsSmall IsThis outcome old new
+
+abbrev pub IsOpened : SettingsRef → Kept → Type 0
+IsOpened given None = ⊥
+IsOpened given (Some new) =
+    (timer : Timer) × (timer_of given ≡ Some timer) × (seen_tree new ≡ opened given timer)
+
+abbrev pub opening_status : Opening → ℕ
+opening_status Opened = 0
+opening_status There = 10
+opening_status Unknown = 11
+opening_status Starved = 4
+
+-- A tree is made; or nothing has changed, since one is there already, or what is asked for is no
+-- settings, or memory is refused.
+abbrev pub Opens : SettingsRef → Opening → Kept → Kept → Type 0
+Opens given Opened old new = (old ≡ None) × CanOpen given × IsOpened given new
+Opens given There old new = (old ≢ None) × (new ≡ old)
+Opens given Unknown old new = (old ≡ None) × (CanOpen given → ⊥) × (new ≡ None)
+Opens given Starved old new = (old ≡ None) × CanOpen given × (new ≡ None)
+
+abbrev pub AnswersOpening : SettingsRef → ℕ → Kept → Kept → Type 0
+AnswersOpening given status old new =
+    (opening : Opening) × (status ≡ opening_status opening) × Opens given opening old new
+
+-- A text stands in front of what else the room had, if there is room for all of it; else the room
+-- stays.
+pub record IsCopied (text : List ℕ) (count : ℕ) (before after : List ℕ) : Type 0 where
+  pub counted : count ≡ length text
+  pub fits : length text ≤ length before → after ≡ text ++ drop (length text) before
+  pub lacks : length before < length text → after ≡ before
+
+-- the text of the last call is copied; the tree stays
+abbrev pub Copies : ℕ → List ℕ → List ℕ → Kept → Kept → Type 0
+Copies count before after None new = (count ≡ 0) × (after ≡ before) × (new ≡ None)
+Copies count before after (Some old) new =
+    IsCopied old.layered.layer.writer.bytes count before after × (new ≡ Some old)

@@ -1,0 +1,158 @@
+-- What C hands over, as contracts see it.
+use Rattle.std.specs.Prelude.{◌≡◌, ℕ, ◌≤◌, List, [], length, map, Option, None, Some, Result, Ok, Err, IsTrue, IsUtf8, if◌then◌else◌, ◌==◌, IsSome}
+use Rattle.std.specs.List.{AllByRecursion}
+use Rattle.tracing_tree_core.specs.Registry.Ids.{id_of}
+use Rattle.tracing_tree_base.specs.declared.context.Id.{Id}
+use Rattle.tracing_tree_base.specs.declared.field.Field.{Field}
+use Rattle.tracing_tree_base.specs.declared.style.Level.{Level}
+use Rattle.tracing_tree_base.specs.declared.style.Level.TheVariants.{Trace, Debug, Info, Warn, Error}
+use Rattle.tracing_tree_core.specs.declared.registry.Parent.{Parent}
+use Rattle.tracing_tree_core.specs.declared.registry.Parent.TheVariants.{Root, Current, Of}
+use Rattle.tracing_tree_base.specs.declared.context.Context.{Context}
+use Rattle.tracing_tree_layer.specs.declared.call.Call.{Call}
+use Rattle.tracing_tree_layer.specs.declared.call.Call.TheVariants.{New, Event, Record, Close}
+use Rattle.tracing_tree_c.specs.declared.foreign.AttributesRef.{AttributesRef}
+use Rattle.tracing_tree_c.specs.declared.foreign.ContextRef.{ContextRef}
+use Rattle.tracing_tree_c.specs.declared.foreign.EventRef.{EventRef}
+use Rattle.tracing_tree_c.specs.declared.foreign.FieldRef.{FieldRef}
+use Rattle.tracing_tree_c.specs.declared.foreign.Unreadable.{Unreadable}
+use Rattle.tracing_tree_c.specs.declared.foreign.Unreadable.TheVariants.{Unread, Starved}
+
+-- Something was read: it is what was handed over, which can be read; or it can't be; or memory was
+-- refused before that was known, which what is small never asks for.
+abbrev pub Reads : {A : Type 0} → Type 0 → Type 0 → (A → Type 0) → Result A Unreadable → Type 0
+Reads CanRead IsSmall IsThis (Ok a) = CanRead × IsThis a
+Reads CanRead IsSmall IsThis (Err Unread) = CanRead → ⊥
+Reads CanRead IsSmall IsThis (Err Starved) = IsSmall → ⊥
+
+-- a text that is kept without memory
+abbrev pub IsSmallText : List ℕ → Type 0
+IsSmallText bytes = length bytes ≤ 16
+
+-- ---- fields
+
+abbrev pub CanReadField : FieldRef → Type 0
+CanReadField field = IsUtf8 field.name.now × IsUtf8 field.value.now
+
+abbrev pub IsSmallField : FieldRef → Type 0
+IsSmallField field = IsSmallText field.name.now × IsSmallText field.value.now
+
+abbrev pub field_of : FieldRef → Field
+field_of field = record { name = field.name.now; value = field.value.now }
+
+abbrev pub CanReadFields : List FieldRef → Type 0
+CanReadFields fields = AllByRecursion CanReadField fields
+
+abbrev pub HasNoFields : List FieldRef → Type 0
+HasNoFields fields = fields ≡ []
+
+abbrev pub fields_of : List FieldRef → List Field
+fields_of fields = map field_of fields
+
+-- ---- kinds
+
+abbrev pub level_of : ℕ → Option Level
+level_of number =
+    if number == 0 then Some Trace
+    else if number == 1 then Some Debug
+    else if number == 2 then Some Info
+    else if number == 3 then Some Warn
+    else if number == 4 then Some Error
+    else None
+
+abbrev pub parent_of : ℕ → ℕ → Option Parent
+parent_of kind id =
+    if kind == 0 then Some Root
+    else if kind == 1 then Some Current
+    else if kind == 2 then Some (Of (id_of id))
+    else None
+
+-- ids begin at 1, so that 0 names no span
+abbrev pub current_of : ℕ → Option Id
+current_of id = if id == 0 then None else Some (id_of id)
+
+-- ---- contexts
+
+abbrev pub thread_name_of : ContextRef → Option (List ℕ)
+thread_name_of context =
+    if context.has_thread_name then Some context.thread_name.now else None
+
+abbrev pub CanReadContext : ContextRef → Type 0
+CanReadContext context = IsTrue context.has_thread_name → IsUtf8 context.thread_name.now
+
+abbrev pub IsSmallContext : ContextRef → Type 0
+IsSmallContext context = IsTrue context.has_thread_name → IsSmallText context.thread_name.now
+
+pub record IsContextOf (given : ContextRef) (context : Context) : Type 0 where
+  pub current : context.current ≡ current_of given.current
+  pub thread_id : context.thread_id ≡ given.thread_id
+  pub thread_name : context.thread_name ≡ thread_name_of given
+  pub mono : context.moment.mono ≡ given.mono
+  pub wall : context.moment.wall.nanosecond ≡ given.wall
+
+-- ---- calls
+
+pub record CanReadNew (given : AttributesRef) (fields : List FieldRef)
+    (when : ContextRef) : Type 0 where
+  pub parent : IsSome (parent_of given.parent_kind given.parent)
+  pub name : IsUtf8 given.name.now
+  pub target : IsUtf8 given.target.now
+  pub fields_too : CanReadFields fields
+  pub context : CanReadContext when
+
+pub record IsSmallNew (given : AttributesRef) (fields : List FieldRef)
+    (when : ContextRef) : Type 0 where
+  pub name : IsSmallText given.name.now
+  pub target : IsSmallText given.target.now
+  pub no_fields : HasNoFields fields
+  pub context : IsSmallContext when
+
+pub record IsNewOf (given : AttributesRef) (fields : List FieldRef) (when : ContextRef)
+    (call : Call) : Type 0 where
+  pub parent : Parent
+  pub context : Context
+  pub is_parent : parent_of given.parent_kind given.parent ≡ Some parent
+  pub is_context : IsContextOf when context
+  pub is_call : call ≡ New (record {
+    name = given.name.now;
+    target = given.target.now;
+    parent = parent;
+    fields = fields_of fields;
+  }) context
+
+pub record CanReadEvent (given : EventRef) (fields : List FieldRef)
+    (when : ContextRef) : Type 0 where
+  pub level : IsSome (level_of given.level)
+  pub parent : IsSome (parent_of given.parent_kind given.parent)
+  pub target : IsUtf8 given.target.now
+  pub fields_too : CanReadFields fields
+  pub context : CanReadContext when
+
+pub record IsSmallEvent (given : EventRef) (fields : List FieldRef)
+    (when : ContextRef) : Type 0 where
+  pub target : IsSmallText given.target.now
+  pub no_fields : HasNoFields fields
+  pub context : IsSmallContext when
+
+pub record IsEventOf (given : EventRef) (fields : List FieldRef) (when : ContextRef)
+    (call : Call) : Type 0 where
+  pub level : Level
+  pub parent : Parent
+  pub context : Context
+  pub is_level : level_of given.level ≡ Some level
+  pub is_parent : parent_of given.parent_kind given.parent ≡ Some parent
+  pub is_context : IsContextOf when context
+  pub is_call : call ≡ Event (record {
+    level = level;
+    target = given.target.now;
+    parent = parent;
+    fields = fields_of fields;
+  }) context
+
+abbrev pub IsRecordOf : ℕ → List FieldRef → Call → Type 0
+IsRecordOf id fields call = call ≡ Record (id_of id) (record { fields = fields_of fields })
+
+pub record IsCloseOf (id : ℕ) (when : ContextRef) (call : Call) : Type 0 where
+  pub context : Context
+  pub is_context : IsContextOf when context
+  pub is_call : call ≡ Close (id_of id) context

@@ -1,0 +1,5 @@
+pub mod Exports
+pub mod Foreign
+pub mod Owned
+pub mod Settings
+pub mod Trees

@@ -1,0 +1,148 @@
+//! The functions that C calls. Each answers a status: 0 where it was done, and else why not.
+
+ghost use Rattle.std.specs.Prelude.{◌≡◌, ◌<◌, ◌≤◌, ◌++◌, ⊤, None, drop, length};
+ghost use Rattle.tracing_tree_core.specs.Registry.Ids.{id_of};
+ghost use Rattle.tracing_tree_layer.specs.declared.call.Call.TheVariants.{Clone};
+ghost use Rattle.tracing_tree_c.specs.Foreign.{CanReadFields, CanReadContext, CanReadNew, CanReadEvent, IsSmallContext, IsSmallNew, IsSmallEvent, HasNoFields, IsNewOf, IsEventOf, IsRecordOf, IsCloseOf};
+ghost use Rattle.tracing_tree_c.specs.Exports.{Answers, AnswersOpening, AnswersWith, Copies, id_after, went_after};
+
+use crate::foreign::{
+    AttributesRef, ContextRef, EventRef, FieldRef, close_in, event_in, new_in, record_in,
+};
+use crate::settings::SettingsRef;
+use crate::tree::Tree;
+use std::alloc::Global;
+use tracing_tree_core::format::Id;
+use tracing_tree_layer::call::Call;
+
+// The version of these functions and structs.
+const VERSION: u32 = 1;
+
+/// The version of these functions and structs.
+#[unsafe(no_mangle)]
+pub extern "C" fn tt_version() -> u32
+    ensures { result ≡ 1 }
+{
+    VERSION
+}
+
+/// Makes a tree where there is none.
+#[unsafe(no_mangle)]
+pub extern "C" fn tt_new(alloc: Global, tree: &mut Tree, settings: &SettingsRef) -> u32
+    ensures { AnswersOpening settings.now result tree.old.inner.kept tree.new.inner.kept }
+{
+    tree.open(alloc, settings).status()
+}
+
+/// Makes a span, and hands out its id.
+#[unsafe(no_mangle)]
+pub extern "C" fn tt_new_span(
+    alloc: Global,
+    tree: &mut Tree,
+    attributes: &AttributesRef,
+    fields: &[FieldRef],
+    context: &ContextRef,
+    id: &mut u64,
+) -> u32
+    ensures { AnswersWith id_after (CanReadNew attributes.now fields.now context.now)
+        (IsSmallNew attributes.now fields.now context.now)
+        (IsNewOf attributes.now fields.now context.now) result id.old id.new
+        tree.old.inner.kept tree.new.inner.kept }
+{
+    let read = new_in(alloc, attributes, fields, context);
+    let outcome = tree.perform(alloc, read);
+    *id = outcome.id_or(*id);
+    outcome.status()
+}
+
+/// Tells of an event.
+#[unsafe(no_mangle)]
+pub extern "C" fn tt_event(
+    alloc: Global,
+    tree: &mut Tree,
+    event: &EventRef,
+    fields: &[FieldRef],
+    context: &ContextRef,
+) -> u32
+    ensures { Answers (CanReadEvent event.now fields.now context.now)
+        (IsSmallEvent event.now fields.now context.now)
+        (IsEventOf event.now fields.now context.now) result
+        tree.old.inner.kept tree.new.inner.kept }
+{
+    let read = event_in(alloc, event, fields, context);
+    tree.perform(alloc, read).status()
+}
+
+/// Puts fields at the end of a span's.
+#[unsafe(no_mangle)]
+pub extern "C" fn tt_record(alloc: Global, tree: &mut Tree, id: u64, fields: &[FieldRef]) -> u32
+    ensures { Answers (CanReadFields fields.now) (HasNoFields fields.now)
+        (IsRecordOf id fields.now) result
+        tree.old.inner.kept tree.new.inner.kept }
+{
+    let read = record_in(alloc, id, fields);
+    tree.perform(alloc, read).status()
+}
+
+/// Adds a handle to a span.
+#[unsafe(no_mangle)]
+pub extern "C" fn tt_clone_span(alloc: Global, tree: &mut Tree, id: u64) -> u32
+    ensures { Answers ⊤ ⊤ (λ call. call ≡ Clone (id_of id)) result
+        tree.old.inner.kept tree.new.inner.kept }
+{
+    tree.perform(alloc, Ok(Call::Clone(Id(id)))).status()
+}
+
+/// Takes a handle of a span away, and says whether the span went.
+#[unsafe(no_mangle)]
+pub extern "C" fn tt_close(
+    alloc: Global,
+    tree: &mut Tree,
+    id: u64,
+    context: &ContextRef,
+    went: &mut bool,
+) -> u32
+    ensures { AnswersWith went_after (CanReadContext context.now) (IsSmallContext context.now)
+        (IsCloseOf id context.now) result
+        went.old went.new tree.old.inner.kept tree.new.inner.kept }
+{
+    let read = close_in(alloc, id, context);
+    let outcome = tree.perform(alloc, read);
+    *went = outcome.went_or(*went);
+    outcome.status()
+}
+
+/// Frees a tree. Where there is none, nothing happens.
+#[unsafe(no_mangle)]
+pub extern "C" fn tt_free(alloc: Global, tree: &mut Tree)
+    ensures { tree.new.inner.kept ≡ None }
+{
+    drop(tree.lift(alloc));
+}
+
+/// Copies the text of the last call, if there is room for all of it, and says how long it is; 0 where there is no tree.
+#[unsafe(no_mangle)]
+pub extern "C" fn tt_text(alloc: Global, tree: &mut Tree, room: &mut [u8]) -> usize
+    ensures { Copies result room.old room.new tree.old.inner.kept tree.new.inner.kept }
+{
+    let Some(drawing) = tree.lift(alloc) else {
+        return 0;
+    };
+    let length = copy(drawing.text(), room);
+    tree.lower(drawing);
+    length
+}
+
+// Copies a text where there is room for all of it, and says how long it is.
+fn copy(text: &[u8], room: &mut [u8]) -> usize
+    ensures length { result ≡ length text.now }
+    ensures fits { length text.now ≤ length room.old
+        → room.new ≡ text.now ++ drop (length text.now) room.old }
+    ensures lacks { length room.old < length text.now → room.new ≡ room.old }
+{
+    let length = text.len();
+    if length <= room.len() {
+        room[..length].copy_from_slice(text);
+    }
+    length
+}

@@ -1,0 +1,261 @@
+//! What C hands over, and how it is read.
+
+ghost use Rattle.std.specs.Prelude.{◌≡◌, IsUtf8};
+ghost use Rattle.tracing_tree_c.specs.Foreign.{Reads, CanReadField, CanReadFields, CanReadContext, CanReadNew, CanReadEvent, IsSmallText, IsSmallField, IsSmallContext, IsSmallNew, IsSmallEvent, HasNoFields, IsContextOf, IsNewOf, IsEventOf, IsRecordOf, IsCloseOf, field_of, fields_of, level_of, parent_of, current_of, thread_name_of};
+
+use jiff::Timestamp;
+use std::alloc::{AllocError, AllocFailed, Global};
+use tracing_tree_core::field::{Field, Fields};
+use tracing_tree_core::format::{Context, Id};
+use tracing_tree_core::registry::{Attributes, Event, Parent, Record};
+use tracing_tree_core::style::Level;
+use tracing_tree_core::text::Text;
+use tracing_tree_core::time::Moment;
+use tracing_tree_layer::call::Call;
+
+/// Why what C handed over was not read.
+#[derive(Clone, Copy, Debug, PartialEq, Eq)]
+pub enum Unreadable {
+    /// A text isn't UTF-8, or a kind or a level is unknown.
+    Unread,
+
+    /// Memory was refused.
+    Starved,
+}
+
+impl From<AllocError> for Unreadable {
+    ghost use Rattle.tracing_tree_c.specs.declared.foreign.Unreadable.TheVariants.{Starved};
+
+    ghost from_gives = { λ _ fault. fault ≡ Starved };
+
+    fn from(_error: AllocError) -> Unreadable {
+        Unreadable::Starved
+    }
+}
+
+impl<T: Drop> From<AllocFailed<T>> for Unreadable {
+    ghost use Rattle.tracing_tree_c.specs.declared.foreign.Unreadable.TheVariants.{Starved};
+
+    ghost from_gives = { λ _ fault. fault ≡ Starved };
+
+    fn from(_error: AllocFailed<T>) -> Unreadable {
+        Unreadable::Starved
+    }
+}
+
+/// A field: its name, and the text of its value.
+#[repr(C)]
+#[derive(Clone, Copy)]
+pub struct FieldRef<'a> {
+    pub name: &'a [u8],
+    pub value: &'a [u8],
+}
+
+/// What goes with a call.
+#[repr(C)]
+#[derive(Clone, Copy)]
+pub struct ContextRef<'a> {
+    /// The current span, or 0.
+    pub current: u64,
+
+    /// The number of the thread.
+    pub thread_id: u64,
+
+    /// The name of the thread, where `has_thread_name` says that it has one.
+    pub thread_name: &'a [u8],
+
+    /// Nanoseconds on a clock that only goes forward.
+    pub mono: u64,
+
+    /// Nanoseconds since 1970.
+    pub wall: i64,
+
+    pub has_thread_name: bool,
+}
+
+/// What a new span is made of.
+#[repr(C)]
+#[derive(Clone, Copy)]
+pub struct AttributesRef<'a> {
+    pub name: &'a [u8],
+    pub target: &'a [u8],
+
+    /// The parent's id, where `parent_kind` is 2.
+    pub parent: u64,
+
+    /// 0: none, 1: the current span, 2: `parent`.
+    pub parent_kind: u32,
+}
+
+/// An event.
+#[repr(C)]
+#[derive(Clone, Copy)]
+pub struct EventRef<'a> {
+    pub target: &'a [u8],
+
+    /// The parent's id, where `parent_kind` is 2.
+    pub parent: u64,
+
+    /// 0: none, 1: the current span, 2: `parent`.
+    pub parent_kind: u32,
+
+    /// 0: trace, 1: debug, 2: info, 3: warn, 4: error.
+    pub level: u32,
+}
+
+// A text. `Unread` exactly where it isn't UTF-8.
+fn text_in(alloc: Global, bytes: &[u8]) -> Result<Text, Unreadable>
+    ensures { Reads (IsUtf8 bytes.now) (IsSmallText bytes.now) (λ text. text ≡ bytes.now) result }
+{
+    match str::from_utf8(bytes) {
+        Ok(text) => Ok(Text::from_str(alloc, text)?),
+        Err(_) => Err(Unreadable::Unread),
+    }
+}
+
+fn field_in(alloc: Global, given: &FieldRef) -> Result<Field, Unreadable>
+    ensures { Reads (CanReadField given.now) (IsSmallField given.now)
+        (λ field. field ≡ field_of given.now) result }
+{
+    let name = text_in(alloc, given.name)?;
+    let value = text_in(alloc, given.value)?;
+    Ok(Field { name, value })
+}
+
+fn fields_in(alloc: Global, given: &[FieldRef]) -> Result<Fields, Unreadable>
+    ensures { Reads (CanReadFields given.now) (HasNoFields given.now)
+        (λ fields. fields ≡ fields_of given.now) result }
+{
+    let mut fields = Vec::with_capacity(alloc, given.len())?;
+    for field in given {
+        match field_in(alloc, field) {
+            Ok(read) => fields.push_reserved(read),
+            Err(fault) => return Err(fault),
+        }
+    }
+    Ok(Fields::from(fields))
+}
+
+fn level_in(number: u32) -> Option<Level>
+    ensures { result ≡ level_of number }
+{
+    match number {
+        0 => Some(Level::Trace),
+        1 => Some(Level::Debug),
+        2 => Some(Level::Info),
+        3 => Some(Level::Warn),
+        4 => Some(Level::Error),
+        _ => None,
+    }
+}
+
+fn parent_in(kind: u32, id: u64) -> Option<Parent>
+    ensures { result ≡ parent_of kind id }
+{
+    match kind {
+        0 => Some(Parent::Root),
+        1 => Some(Parent::Current),
+        2 => Some(Parent::Of(Id(id))),
+        _ => None,
+    }
+}
+
+fn current_in(id: u64) -> Option<Id>
+    ensures { result ≡ current_of id }
+{
+    if id == 0 { None } else { Some(Id(id)) }
+}
+
+fn thread_name_in(alloc: Global, given: &ContextRef) -> Result<Option<Text>, Unreadable>
+    ensures { Reads (CanReadContext given.now) (IsSmallContext given.now)
+        (λ name. name ≡ thread_name_of given.now) result }
+{
+    if !given.has_thread_name {
+        return Ok(None);
+    }
+    Ok(Some(text_in(alloc, given.thread_name)?))
+}
+
+fn context_in(alloc: Global, given: &ContextRef) -> Result<Context, Unreadable>
+    ensures { Reads (CanReadContext given.now) (IsSmallContext given.now)
+        (IsContextOf given.now) result }
+{
+    let thread_name = thread_name_in(alloc, given)?;
+    let wall = Timestamp::from_nanosecond(i128::from(given.wall)).unwrap();
+    Ok(Context {
+        current: current_in(given.current),
+        thread_id: given.thread_id,
+        thread_name,
+        moment: Moment {
+            mono: given.mono,
+            wall,
+        },
+    })
+}
+
+// A new span.
+pub(crate) fn new_in(
+    alloc: Global,
+    given: &AttributesRef,
+    fields: &[FieldRef],
+    when: &ContextRef,
+) -> Result<Call, Unreadable>
+    ensures { Reads (CanReadNew given.now fields.now when.now)
+        (IsSmallNew given.now fields.now when.now)
+        (IsNewOf given.now fields.now when.now) result }
+{
+    let parent = parent_in(given.parent_kind, given.parent).ok_or(Unreadable::Unread)?;
+    let name = text_in(alloc, given.name)?;
+    let target = text_in(alloc, given.target)?;
+    let fields = fields_in(alloc, fields)?;
+    let context = context_in(alloc, when)?;
+    let attributes = Attributes {
+        name,
+        target,
+        parent,
+        fields,
+    };
+    Ok(Call::New(attributes, context))
+}
+
+// An event.
+pub(crate) fn event_in(
+    alloc: Global,
+    given: &EventRef,
+    fields: &[FieldRef],
+    when: &ContextRef,
+) -> Result<Call, Unreadable>
+    ensures { Reads (CanReadEvent given.now fields.now when.now)
+        (IsSmallEvent given.now fields.now when.now)
+        (IsEventOf given.now fields.now when.now) result }
+{
+    let level = level_in(given.level).ok_or(Unreadable::Unread)?;
+    let parent = parent_in(given.parent_kind, given.parent).ok_or(Unreadable::Unread)?;
+    let target = text_in(alloc, given.target)?;
+    let fields = fields_in(alloc, fields)?;
+    let context = context_in(alloc, when)?;
+    let event = Event {
+        level,
+        target,
+        parent,
+        fields,
+    };
+    Ok(Call::Event(event, context))
+}
+
+// Fields that come later.
+pub(crate) fn record_in(alloc: Global, id: u64, fields: &[FieldRef]) -> Result<Call, Unreadable>
+    ensures { Reads (CanReadFields fields.now) (HasNoFields fields.now)
+        (IsRecordOf id fields.now) result }
+{
+    let fields = fields_in(alloc, fields)?;
+    Ok(Call::Record(Id(id), Record { fields }))
+}
+
+// A handle that goes.
+pub(crate) fn close_in(alloc: Global, id: u64, when: &ContextRef) -> Result<Call, Unreadable>
+    ensures { Reads (CanReadContext when.now) (IsSmallContext when.now)
+        (IsCloseOf id when.now) result }
+{
+    Ok(Call::Close(Id(id), context_in(alloc, when)?))
+}

@@ -1,0 +1,249 @@
+//! The tree that a handle holds.
+
+ghost use Rattle.std.specs.Prelude.{◌≡◌, ◌<◌, Some, None, option_map};
+ghost use Rattle.std.specs.Option.{is_some};
+ghost use Rattle.tracing_tree_c.specs.Exports.{Opens, id_after, opening_status, refusal_status, status_of, went_after};
+ghost use Rattle.tracing_tree_c.specs.Trees.{IsCalled, IsLifted, Performs, blank, seen_tree};
+ghost use Rattle.tracing_tree_c.specs.Settings.{opened};
+ghost use Rattle.tracing_tree_base.specs.Time.Clock.{clock_timer};
+
+use crate::foreign::Unreadable;
+use crate::handle::Handle;
+use crate::lent::Lent;
+use crate::raw::RawBox;
+use crate::settings::{SIZE, SettingsRef};
+use std::alloc::Global;
+use std::mem;
+use tracing_tree_core::format::Refusal;
+use tracing_tree_core::time::Clock;
+use tracing_tree_layer::call::{Call, Reply};
+use tracing_tree_layer::layer::HierarchicalLayer;
+use tracing_tree_layer::layered::Layered;
+
+/// A registry with a layer that keeps the text of the last call.
+#[derive(Drop)]
+pub struct Drawing {
+    pub layered: Layered<Lent, Clock<'static>>,
+}
+
+impl Drawing {
+    // The text of the last call.
+    pub(crate) fn text(&self) -> &[u8]
+        ensures { result.now ≡ self.now.layered.layer.writer.bytes }
+    {
+        self.layered.writer().bytes()
+    }
+
+    // Lets the text of the last call go, and keeps its room.
+    fn clear(&mut self, alloc: Global)
+        ensures { self.new ≡ blank self.old }
+    {
+        let before = self.layered.replace_writer(Lent::new(alloc));
+        drop(self.layered.replace_writer(before.emptied()));
+    }
+
+    // Makes a call. The text of the call before is gone then.
+    fn call(&mut self, alloc: Global, call: Call) -> Result<Reply, Refusal>
+        ensures { IsCalled call result self.old self.new }
+    {
+        self.clear(alloc);
+        self.layered.call(call)
+    }
+}
+
+/// What C holds: a tree, or none. All its bytes are 0 where there is none.
+#[repr(C)]
+#[derive(Drop)]
+pub struct Tree {
+    inner: Handle,
+    there: bool,
+    ghost tied: { there ≡ is_some inner.kept },
+}
+
+/// What became of a call.
+#[derive(Clone, Copy, Debug, PartialEq, Eq)]
+pub enum Outcome {
+    /// There is no tree.
+    Missing,
+
+    /// What C handed over was not read.
+    NotRead(Unreadable),
+
+    /// The call was answered.
+    Answered(Result<Reply, Refusal>),
+}
+
+impl Outcome {
+    /// The number of an outcome; 0 where a call was accepted.
+    pub fn status(self) -> u32
+        ensures { result ≡ status_of self }
+    {
+        match self {
+            Outcome::Missing => 8,
+            Outcome::NotRead(Unreadable::Unread) => 9,
+            Outcome::NotRead(Unreadable::Starved) => 4,
+            Outcome::Answered(Ok(_)) => 0,
+            Outcome::Answered(Err(refusal)) => refusal_status(refusal),
+        }
+    }
+}
+
+fn refusal_status(refusal: Refusal) -> u32
+    ensures { result ≡ refusal_status refusal }
+{
+    match refusal {
+        Refusal::NotHeld(_) => 1,
+        Refusal::TooWide => 2,
+        Refusal::TooMany => 3,
+        Refusal::Memory => 4,
+        Refusal::Timer => 5,
+        Refusal::Writer => 6,
+        Refusal::Failed => 7,
+    }
+}
+
+impl Outcome {
+    // The id of a new span, or what stood there.
+    pub(crate) fn id_or(self, before: u64) -> u64
+        ensures { result ≡ id_after self before }
+    {
+        match self {
+            Outcome::Answered(Ok(Reply::Span(id))) => id.0,
+            _ => before,
+        }
+    }
+
+    // Whether a span went, or what stood there.
+    pub(crate) fn went_or(self, before: bool) -> bool
+        ensures { result ≡ went_after self before }
+    {
+        match self {
+            Outcome::Answered(Ok(Reply::Closed(went))) => went,
+            _ => before,
+        }
+    }
+}
+
+/// What became of settings.
+#[derive(Clone, Copy, Debug, PartialEq, Eq)]
+pub enum Opening {
+    /// A tree was made.
+    Opened,
+
+    /// There is one already.
+    There,
+
+    /// There are no such settings.
+    Unknown,
+
+    /// Memory was refused.
+    Starved,
+}
+
+impl Opening {
+    /// Its number; 0 where a tree was made.
+    pub fn status(self) -> u32
+        ensures { result ≡ opening_status self }
+    {
+        match self {
+            Opening::Opened => 0,
+            Opening::There => 10,
+            Opening::Unknown => 11,
+            Opening::Starved => 4,
+        }
+    }
+}
+
+// A tree without spans.
+fn fresh(alloc: Global, settings: &SettingsRef, clock: Clock<'static>) -> Drawing
+    requires { 0 < settings.now.wraparound }
+    ensures { seen_tree result ≡ opened settings.now (clock_timer clock.entry) }
+{
+    let layer = HierarchicalLayer::with_config(alloc, settings.config(), Lent::new(alloc));
+    Drawing {
+        layered: Layered::new(alloc, layer.with_timer(clock)),
+    }
+}
+
+impl Tree {
+    // Whether a tree is there.
+    fn is_there(&mut self, alloc: Global) -> bool
+        ensures there { result ≡ is_some self.old.inner.kept }
+        ensures same { self.new.inner.kept ≡ self.old.inner.kept }
+    {
+        match self.lift(alloc) {
+            Some(drawing) => {
+                self.lower(drawing);
+                true
+            }
+            None => false,
+        }
+    }
+
+    // Makes a tree where there is none.
+    pub(crate) fn open(&mut self, alloc: Global, settings: &SettingsRef) -> Opening
+        ensures { Opens settings.now result self.old.inner.kept self.new.inner.kept }
+    {
+        if self.is_there(alloc) {
+            return Opening::There;
+        }
+        if settings.size != SIZE || settings.wraparound == 0 {
+            return Opening::Unknown;
+        }
+        let Some(clock) = settings.clock() else {
+            return Opening::Unknown;
+        };
+        match Box::new(alloc, fresh(alloc, settings, clock)) {
+            Ok(drawing) => {
+                self.lower(drawing);
+                Opening::Opened
+            }
+            Err(_) => Opening::Starved,
+        }
+    }
+
+    // Takes the tree out.
+    pub(crate) fn lift(&mut self, alloc: Global) -> Option<Box<Drawing>>
+        ensures lifted { IsLifted (option_map (λ box. box.value) result) self.old.inner.kept }
+        ensures gone { self.new.inner.kept ≡ None }
+    {
+        let none = Tree {
+            inner: Handle::empty(),
+            there: false,
+        };
+        let Tree { inner, there } = mem::replace(self, none);
+        if there {
+            Some(inner.into_raw(alloc).into_box())
+        } else {
+            None
+        }
+    }
+
+    // Puts a tree in.
+    pub(crate) fn lower(&mut self, drawing: Box<Drawing>)
+        ensures { self.new.inner.kept ≡ Some drawing.value }
+    {
+        *self = Tree {
+            inner: Handle::of(RawBox::of(drawing)),
+            there: true,
+        };
+    }
+
+    // Makes a call if it was read. The text of the call before is gone then.
+    pub(crate) fn perform(&mut self, alloc: Global, read: Result<Call, Unreadable>) -> Outcome
+        ensures { Performs read result self.old.inner.kept self.new.inner.kept }
+    {
+        let Some(mut lifted) = self.lift(alloc) else {
+            return Outcome::Missing;
+        };
+        let outcome = match read {
+            Ok(call) => Outcome::Answered(lifted.call(alloc, call)),
+            Err(fault) => {
+                lifted.clear(alloc);
+                Outcome::NotRead(fault)
+            }
+        };
+        self.lower(lifted);
+        outcome
+    }
+}
