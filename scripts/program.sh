@@ -3,8 +3,22 @@
 # full or gone; then the one that reads. It prints how many runs ended as they must, names each other run, and ends with status 1 if
 # there is one.
 #
-# usage: program.sh DRAWING_PROGRAM READING_PROGRAM
+# usage: program.sh [--checked] DRAWING_PROGRAM READING_PROGRAM
+#
+# --checked says that the programs were compiled with checks of memory. They reserve terabytes of addresses, so the run with little
+# memory is left out, and they are a hundred times as slow, so long inputs are shorter.
 set -u
+is_checked=
+long_lines=50000
+large_bytes=10000000
+large_parts=1000000
+if [ "$1" = --checked ]; then
+    is_checked=1
+    long_lines=20000
+    large_bytes=1000000
+    large_parts=100000
+    shift
+fi
 program=$(realpath "$1")
 reader=$(realpath "$2")
 top=$(cd "$(dirname "$0")/.." && pwd)
@@ -17,7 +31,7 @@ right=0
 
 # Runs the program on the standard input, output and error of this call, and keeps its status.
 run() {
-    timeout 60 "$program" "$@"
+    timeout 120 "$program" "$@"
     status=$?
 }
 
@@ -74,8 +88,8 @@ make_files() {
       echo '{"call":"new","name":"a"}'
       head -c 100000000 /dev/zero | tr '\0' ' '; } > "$room/wide.in"
     { echo '{"indent_lines":true}'
-      yes '{"call":"event","level":"INFO","fields":[["message","x"]]}' | head -n 50000; } > "$room/long.in"
-    yes 'INFO x' | head -n 50000 > "$room/long"
+      yes '{"call":"event","level":"INFO","fields":[["message","x"]]}' | head -n "$long_lines"; } > "$room/long.in"
+    yes 'INFO x' | head -n "$long_lines" > "$room/long"
     head -n 1 "$room/long" > "$room/first"
 }
 
@@ -127,18 +141,19 @@ run_live() {
     count "while its input waits" "$room/opened" "$room/none" 0
 }
 
-# A first line padded with a million spaces, a name of ten million bytes, and a value of a million parts under a key that no call has.
+# A first line padded with spaces, a long name, and a value of many parts under a key that no call has.
 run_large() {
-    { printf '{"indent_lines":'; head -c 1000000 /dev/zero | tr '\0' ' '; echo 'true}'
-      printf '{"call":"new","name":"'; head -c 10000000 /dev/zero | tr '\0' n; echo '"}'
-      printf '{"call":"close","id":1,"x":['; yes 1, | head -n 1000000 | tr -d '\n'; echo '1]}'; } > "$room/large.in"
-    { printf '┐'; head -c 10000000 /dev/zero | tr '\0' n; printf ' \n┘\n'; } > "$room/large"
+    { printf '{"indent_lines":'; head -c "$large_parts" /dev/zero | tr '\0' ' '; echo 'true}'
+      printf '{"call":"new","name":"'; head -c "$large_bytes" /dev/zero | tr '\0' n; echo '"}'
+      printf '{"call":"close","id":1,"x":['; yes 1, | head -n "$large_parts" | tr -d '\n'; echo '1]}'; } > "$room/large.in"
+    { printf '┐'; head -c "$large_bytes" /dev/zero | tr '\0' n; printf ' \n┘\n'; } > "$room/large"
     run < "$room/large.in" > "$room/out" 2> "$room/err"
     count "on long lines" "$room/large" "$room/none" 0
 }
 
 # A line that is longer than the memory that the program may take.
 run_memory() {
+    [ -z "$is_checked" ] || return 0
     status=$(ulimit -v 50000; run < "$room/wide.in" > "$room/out" 2> "$room/err"; echo "$status")
     count "with little memory" "$room/opened" "$room/memory" 1
 }

@@ -1,0 +1,222 @@
+#!/usr/bin/env python3
+"""Prints what a claim rests on: claim.py [--count] NAME | claim.py --check
+
+NAME is a function, as `read_rows`, a method, as `Layered::run`, or a definition of specs/, as `IsRunOf`. Printed are the function's
+contract and then each definition that it rests on, once: those that it names first, then those that these name, and so on, grouped by
+file under the file's first comment. After them come the types of the code and the words of the toolchain's library, with the modules
+that have them, and last 'N lines, M definitions' (comments and blank lines not counted), which --count prints alone. --check compares the counts in docs/PROVED.md with what is counted now."""
+import argparse, collections, difflib, glob, os, re, sys
+
+TOP = os.path.dirname(os.path.dirname(os.path.abspath(__file__)))
+TRY = ("Layered::run", "Layered::call", "run_lines", "read_rows", "Registry::new_span")
+WORD = r"[A-Za-z_][\w'-]*"
+ITEM = re.compile(rf"(?m)^(?:(?:abbrev|pub|record|data|unfoldable|opaque)\s+)*(?P<name>{WORD})\b[^\n]*?(?::|where|\()")
+IMPORT = re.compile(r"(?m)^\s*(?:ghost |pub )*use (?P<module>[\w.]+?)\.(?:\{(?P<names>[^}]*)\}|(?P<one>[\w◌≡]+))[ \t]*;?[ \t]*$", re.S)
+
+# A definition: its name, its file, its text with the comment above it, and what its file imports.
+Definition = collections.namedtuple("Definition", "name file text imports")
+# A function of the code: its name, its file, its signature with its contract, and what its file imports.
+Function = collections.namedtuple("Function", "name file text imports")
+
+
+def read(path):
+    with open(path, encoding="utf-8") as file:
+        return file.read()
+
+
+def without_comments(text):
+    return re.sub(r"(?m)--.*$|//.*$", "", text)
+
+
+def imports_of(text):
+    """Returns the module and the name there of each name that a file imports."""
+    found = {}
+    for use in IMPORT.finditer(text):
+        for it in (use["names"] or use["one"]).split(","):
+            name, _, other = it.strip().partition(" as ")
+            if name:
+                found[(other or name).strip()] = use["module"], name.strip()
+    return found
+
+
+def items_of(path):
+    """Returns the definitions of a file of specs/. One begins at the left edge, below its comment, and ends before the next one's."""
+    text = read(path)
+    imports = imports_of(text)
+    blocks, found = re.split(r"\n\s*\n", text), {}
+    for block in blocks:
+        if re.match(r"(--[^\n]*\n)*(pub )?(use|mod)\b", block):
+            continue
+        code = without_comments(block)
+        heads = [it for it in re.finditer(rf"(?m)^(?:abbrev|pub|record|data|unfoldable|opaque)\b[^\n]*", code)]
+        if not heads:
+            continue
+        words = [it for it in re.findall(WORD, heads[0][0]) if it not in ("abbrev", "pub", "record", "data", "unfoldable", "opaque")]
+        if words:
+            found[words[0]] = Definition(words[0], path, block.strip("\n"), imports)
+    return found
+
+
+def module_of(path):
+    """Returns the module that a file of specs/ is."""
+    crate, _, inside = os.path.relpath(path, f"{TOP}/crates").partition("/specs/")
+    return f"Rattle.{crate}.specs.{inside.removesuffix('.antt').replace('/', '.')}"
+
+
+def all_definitions():
+    return {module_of(it): items_of(it) for it in sorted(glob.glob(f"{TOP}/crates/*/specs/**/*.antt", recursive=True))}
+
+
+def closing(text, at):
+    depth = 0
+    for brace in re.compile(r"[{}]").finditer(text, at):
+        depth += 1 if brace[0] == "{" else -1
+        if not depth:
+            return brace.end()
+    return len(text)
+
+
+def functions_of(path):
+    """Returns the public functions of a source file, each with its comment, its signature and its clauses."""
+    text = read(path)
+    imports, found = imports_of(text), []
+    bare = re.sub(r'//[^\n]*|"(?:\\.|[^"\\])*"', lambda it: re.sub(r"[^\n]", " ", it[0]), text)
+    impls = [(it.start(), closing(bare, it.end() - 1), it["head"]) for it in re.finditer(r"(?m)^(?:impl|pub trait)\b(?P<head>[^{]*)\{", bare)]
+    for fn in re.finditer(r"(?m)^[ \t]*(?:pub(?:\(\w+\))? )?(?:const )?fn (?P<name>\w+)", bare):
+        at = fn.end()
+        while True:
+            stop = re.compile(r"[;{]").search(bare, at)
+            if not stop or stop[0] == ";":
+                break
+            line = bare[bare.rfind("\n", 0, stop.start()) + 1 : stop.start()].strip()
+            if not re.match(r"(requires|ensures|decreases|ghost|where)\b", line):
+                break
+            at = closing(bare, stop.start())
+        end = stop.start() if stop else at
+        head = next((it for start, last, it in impls if start <= fn.start() < last), "")
+        head = re.sub(r"^\s*<[^>]*(?:<[^>]*>[^>]*)*>", "", head)
+        kind = re.match(r"\s*(?:[\w:]+(?:<[^>]*>)?\s+for\s+)?&?(\w+)", head)
+        name = f"{kind[1]}::{fn['name']}" if kind else fn["name"]
+        above = re.search(r"(?:^[ \t]*(?:///|//|#\[)[^\n]*\n)*\Z", text[: fn.start()], re.M)
+        found.append(Function(name, path, text[above.start() : end].rstrip("\n "), imports))
+    return found
+
+
+def all_functions():
+    found = collections.defaultdict(list)
+    for path in sorted(glob.glob(f"{TOP}/crates/*/src/**/*.rt", recursive=True)):
+        if "_tests/" not in path and "_bench/" not in path:
+            for it in functions_of(path):
+                found[it.name].append(it)
+    return found
+
+
+def named_in(text, imports, own, definitions):
+    """Returns what a text names, in its order: definitions, and other words with their modules, those of the toolchain's library and the
+    types of the code."""
+    ours, words = [], {}
+    code = re.sub(r"(?m)^\s*(?:ghost )?use [^\n]*(?:\n[ \t}][^\n]*)*", "", without_comments(text))
+    used = re.findall(WORD, code)
+    for word in dict.fromkeys(used):
+        if word in own:
+            ours.append(own[word])
+        elif word in imports:
+            module, name = imports[word]
+            if name in definitions.get(module, {}):
+                ours.append(definitions[module][name])
+            else:
+                words[name] = module
+    for word, (module, name) in imports.items():
+        if "◌" in word and all(part in code for part in word.split("◌") if part):
+            words[name] = module
+    return ours, words
+
+
+def rests_on(start, definitions):
+    """Returns the definitions on which a text rests, those that it names first, and the other words with their modules."""
+    found, words, row = {}, {}, [start]
+    while row:
+        following = []
+        for it in row:
+            own = definitions.get(module_of(it.file), {}) if "/specs/" in it.file else {}
+            ours, more = named_in(it.text, it.imports, own, definitions)
+            words.update(more)
+            for each in ours:
+                if (each.file, each.name) not in found and each is not start:
+                    found[each.file, each.name] = each
+                    following.append(each)
+        row = following
+    return list(found.values()), words
+
+
+def lines_of(definitions):
+    return sum(len([it for it in without_comments(each.text).split("\n") if it.strip()]) for each in definitions)
+
+
+def find(name, definitions, functions):
+    """Returns the function or the definition of this name, or says which names are near."""
+    if functions.get(name):
+        # A public one before a private one of the same name.
+        return sorted(functions[name], key=lambda it: "pub fn" not in it.text)[0]
+    for found in definitions.values():
+        if name in found:
+            return found[name]
+    every = [*functions, *[it for found in definitions.values() for it in found]]
+    near = difflib.get_close_matches(name, every, 5, 0.5) or TRY
+    sys.exit(f"claim: nothing is named {name}; near are {', '.join(near)}")
+
+
+def show(start, found, words):
+    print(f"-- {os.path.relpath(start.file, TOP)}\n\n{start.text}\n")
+    files = collections.defaultdict(list)
+    for it in found:
+        files[it.file].append(it)
+    for path, each in files.items():
+        first = read(path).split("\n")[0]
+        print(f"---- {os.path.relpath(path, TOP)}{': ' + first[3:] if first.startswith('-- ') else ''}\n")
+        print("\n\n".join(it.text for it in each) + "\n")
+    modules = collections.defaultdict(list)
+    for name, module in sorted(words.items()):
+        modules[module].append(name)
+    types = {it: names for it, names in modules.items() if it.startswith("Rattle.tracing_tree")}
+    print("---- types of the code\n")
+    print("\n".join(f"use {it}.{{{', '.join(names)}}}" for it, names in sorted(types.items())))
+    print("\n---- words of the toolchain's library\n")
+    print("\n".join(f"use {it}.{{{', '.join(names)}}}" for it, names in sorted(modules.items()) if it not in types) + "\n")
+
+
+def check(definitions, functions):
+    """Compares the counts in docs/PROVED.md, and returns how many differ."""
+    rows = re.findall(r"(?m)`make claim NAME=(\S+)` \| (\d+) lines, (\d+) definitions", read(f"{TOP}/docs/PROVED.md"))
+    differ = 0
+    for name, lines, count in rows:
+        found, _ = rests_on(find(name, definitions, functions), definitions)
+        is_well = (int(lines), int(count)) == (lines_of(found), len(found))
+        differ += not is_well
+        now = "" if is_well else f"FAILED: docs/PROVED.md says {lines} lines, {count} definitions, and now it is "
+        print(f"claim {name}: {now}{lines_of(found)} lines, {len(found)} definitions")
+    print(f"claims: {len(rows) - differ} passed, {differ} failed")
+    return differ if rows else 1
+
+
+def main():
+    asked = argparse.ArgumentParser(description=__doc__, formatter_class=argparse.RawDescriptionHelpFormatter)
+    asked.add_argument("--count", action="store_true")
+    asked.add_argument("--check", action="store_true")
+    asked.add_argument("name", nargs="?", default="")
+    asked = asked.parse_args()
+    if not asked.name and not asked.check:
+        sys.exit(f"usage: make claim NAME=WORD, where WORD is a public function, a method or a definition, as {', '.join(TRY)}")
+    definitions, functions = all_definitions(), all_functions()
+    if asked.check:
+        return 1 if check(definitions, functions) else 0
+    start = find(asked.name, definitions, functions)
+    found, words = rests_on(start, definitions)
+    if not asked.count:
+        show(start, found, words)
+    print(f"{lines_of(found)} lines, {len(found)} definitions")
+    return 0
+
+
+if __name__ == "__main__":
+    sys.exit(main())

@@ -1,0 +1,15 @@
+#!/bin/bash
+# Draws the example: by the proved program, if bin/ has one that is newer than every source, else by an unproved run of the sources.
+set -eu
+top=$(cd "$(dirname "$0")/.." && pwd)
+example=$top/examples/first.jsonl
+program=$top/bin/tracing_tree
+if [ -x "$program" ] && [ -z "$(find "$top/crates" "$top/crates.txt" -newer "$program" -type f -not -path '*/out/*' -not -path '*/must-fail/*' -print -quit)" ]; then
+    exec "$program" < "$example"
+fi
+command -v rt > /dev/null || { echo "demo: the kit's command rt is not on the PATH" >&2; exit 2; }
+echo "demo: this run compiles the sources without their proofs, in about a minute; 'make build' makes the proved program" >&2
+said=$(mktemp)
+trap 'rm -f "$said"' EXIT
+cd "$top/crates/tracing_tree_cli"
+rt try --steps 1 < "$example" 2> "$said" || { cat "$said" >&2; exit 1; }

@@ -1,0 +1,436 @@
+#!/usr/bin/env python3
+"""Tries the edits that the prover must refuse, many in one check: edits.py [--plan] [--lanes N] [--sample N] [CRATE..]
+
+The proof of a function rests on the contracts of what it calls, and not on their bodies. So edits of several bodies go into one check of a
+copy of the crate, a round, with at most one edit a function. An edit is refused where its own function fails at a goal of its own; that
+it calls a function that is refused shows nothing. What such a round doesn't settle is tried alone, by the code of `rt must-fail`: an edit
+outside a body, and one that doesn't compile among the others. An edit that is refused only by a type error, or only since a proof file
+names what it took away, has failed, and so has one that is proved or doesn't apply.
+
+It prints a line for each edit, and last 'edits: N passed, M failed'. --plan prints the rounds alone. --sample N tries N of the edits that
+a round refused alone too, and an edit of which `rt must-fail` says otherwise has failed."""
+import argparse, concurrent.futures, importlib.machinery, importlib.util, os, re, shutil, subprocess, sys, tempfile, threading, time
+from collections import Counter, defaultdict
+from dataclasses import dataclass
+
+TOP = os.path.dirname(os.path.dirname(os.path.abspath(__file__)))
+# A check of an edit takes up to so much memory, in KiB. None is begun while less is free.
+ROOM = 3_000_000
+
+FUNCTION = re.compile(rb"(?m)^[ \t]*(?P<words>(?:[a-z]+(?:\([a-z]+\))? +)*)fn (?P<name>\w+)")
+CLAUSE = re.compile(rb"[ \t]*(requires|ensures|decreases|ghost|where)\b")
+# What the check says of a goal that it couldn't prove, with the file and the line of the function or of its proof's answer.
+GOAL = re.compile(r"note: (?P<file>src/\S+?\.rt):(?P<line>\d+):\d+: (?P<goal>it is not proved that.*|.*`search` gave up.*)")
+ANSWER = re.compile(r"(?:\./)?proofs/(?P<folder>\S+)/(?:Answers|Invariants|Proof)\.antt:\d+:\d+: error: (?P<goal>.*)")
+COMPILES = re.compile(r"(?m)^(src/\S+?\.rt):(\d+):\d+: error")
+# What antt says of a proof that names what an edit took away. It is no answer about a contract.
+NAMES = re.compile(r"has no field|is not in scope|has no `|was not admitted|cannot continue|expected the end")
+ONLY_NAMES = "only because a proof file names what the edit took away"
+
+
+@dataclass(frozen=True)
+class Body:
+    """A function's body: its file, its name, the folder of its proofs, its lines and the place of its braces."""
+
+    file: str
+    name: str
+    folder: str
+    first: int
+    last: int
+    start: int
+    end: int
+    is_const: bool
+
+
+@dataclass(frozen=True)
+class Edit:
+    """An edit: its crate and file, its pairs of texts by source file, and the body in which they stand, if they stand in one."""
+
+    crate: str
+    path: str
+    pairs: tuple
+    body: Body | None
+
+    @property
+    def name(self):
+        return f"{self.crate}/{os.path.basename(self.path)}"
+
+
+@dataclass(frozen=True)
+class Verdict:
+    edit: Edit
+    is_refused: bool
+    why: str
+
+
+def kit():
+    """Returns the kit's own `rt` as a module: the edits' format, and the check of an edited copy, are its."""
+    path = shutil.which("rt")
+    if not path:
+        sys.exit("edits: the kit's command rt is not on the PATH")
+    loader = importlib.machinery.SourceFileLoader("kit_rt", os.path.realpath(path))
+    made = importlib.util.module_from_spec(importlib.util.spec_from_loader("kit_rt", loader))
+    sys.modules["kit_rt"] = made
+    loader.exec_module(made)
+    wanted = ("checked", "must_fail", "read_edit", "rtlib")
+    if not all(hasattr(made, it) for it in wanted):
+        sys.exit(f"edits: this kit's rt lacks one of {', '.join(wanted)}: edits.py was written for the kit that README names")
+    return made
+
+
+def read(path):
+    with open(path, "rb") as file:
+        return file.read()
+
+
+def closing(text, at):
+    """Returns the place after the brace that closes the one at this place."""
+    depth = 0
+    for brace in re.compile(rb"[{}]").finditer(text, at):
+        depth += 1 if brace[0] == b"{" else -1
+        if not depth:
+            return brace.end()
+    return len(text)
+
+
+def body_after(text, at):
+    """Returns where the braces of a function's body stand, after its signature and its clauses, or None if it has none."""
+    while True:
+        stop = re.compile(rb"[;{]").search(text, at)
+        if not stop or stop[0] == b";":
+            return None
+        end = closing(text, stop.start())
+        line = text[text.rfind(b"\n", 0, stop.start()) + 1 : stop.start()]
+        if not CLAUSE.match(line):
+            return stop.start(), end
+        at = end
+
+
+def owner_of(head):
+    """Returns the name that the check gives an impl: the words of its type, and then those of its trait."""
+    head, taken = re.split(r"\bwhere\b", re.sub(r"'\w+|->", "", head))[0], []
+    if head.lstrip().startswith("<"):
+        depth = 0
+        for at, it in enumerate(head):
+            depth += {"<": 1, ">": -1}.get(it, 0)
+            if it in "<," and depth == 1:
+                taken += re.findall(r"\A\s*(?:const\s+)?(\w+)", head[at + 1 :])
+            elif it == ">" and not depth:
+                head = head[at + 1 :]
+                break
+    trait, is_trait, kind = head.partition(" for ")
+    words = re.findall(r"\w+", f"{kind} {trait}" if is_trait else trait)
+    return "".join(it[0].upper() + it[1:] for it in words if it not in taken)
+
+
+def bodies_of(file, text):
+    """Returns the bodies of a source file, whose text has blanks in place of comments, strings and characters."""
+    impls = re.finditer(rb"(?m)^impl\b(?P<head>[^{]*)\{", text)
+    owners = [(it.start(), closing(text, it.end() - 1), owner_of(it["head"].decode())) for it in impls]
+    module = file.removeprefix("src/").removesuffix(".rt")
+    found = []
+    for fn in FUNCTION.finditer(text):
+        braces = body_after(text, fn.end())
+        if not braces:
+            continue
+        owner = next((it for start, end, it in owners if start <= fn.start() < end), "")
+        name = fn["name"].decode()
+        folder = "/".join(it for it in ("" if module in ("lib", "main") else module, owner, name) if it)
+        # A note stands at the function's attributes if it has some, and those may stand above its comment.
+        above = re.search(rb"(?m)^(?:[ \t]*(?:#\[[^\n]*)?\n)*\Z", text[: fn.start()])
+        first = text.count(b"\n", 0, above.start() if above else fn.start()) + 1
+        last = text.count(b"\n", 0, braces[1]) + 1
+        found.append(Body(file, name, folder, first, last, *braces, b"const" in fn["words"]))
+    return found
+
+
+def all_bodies(rt, crate):
+    """Returns the bodies of a crate, by source file."""
+    found = {}
+    for path, text in rt.rtlib.blanked(crate.folder).items():
+        if path.endswith(".rt"):
+            file = os.path.relpath(path, crate.folder)
+            found[file] = bodies_of(file, text.encode())
+    return found
+
+
+def pairs_of(path):
+    """Returns an edit's file, old text and new text, as often as it has them."""
+    file, old, pairs = "", b"", []
+    for line in read(path).split(b"\n"):
+        if line.startswith(b"file: "):
+            file = line[6:].strip().decode()
+        elif line.startswith(b"old: "):
+            old = line[5:]
+        elif line.startswith(b"new:"):
+            pairs.append((file, old, line[4:].removeprefix(b" ")))
+    return tuple(pairs)
+
+
+def body_of(pair, texts, bodies):
+    """Returns the one body in which a pair's old text stands, if it stands once in its file and in one body that can be edited alone."""
+    file, old, _ = pair
+    text = texts.get(file)
+    if not text or not old or text.count(old) != 1:
+        return None
+    at = text.index(old)
+    around = [it for it in bodies.get(file, []) if it.start < at and at + len(old) <= it.end]
+    is_macro = b"macro_rules" in text[:at]
+    return None if len(around) != 1 or around[0].is_const or is_macro else around[0]
+
+
+def edits_of(crate, folder, bodies):
+    """Returns the edits in a folder, of a crate with these bodies."""
+    texts = {file: read(f"{crate.folder}/{file}") for file in bodies}
+    found = []
+    for name in sorted(os.listdir(folder)):
+        if name.endswith(".edit"):
+            pairs = pairs_of(f"{folder}/{name}")
+            places = {body_of(it, texts, bodies) for it in pairs}
+            found.append(Edit(crate.name, f"{folder}/{name}", pairs, places.pop() if len(places) == 1 else None))
+    return found
+
+
+def rounds_of(edits):
+    """Returns rounds with at most one edit a body, the largest first, and the edits that go alone."""
+    nth, rounds = Counter(), defaultdict(list)
+    for it in edits:
+        if it.body:
+            rounds[nth[it.body]].append(it)
+            nth[it.body] += 1
+    return [rounds[n] for n in sorted(rounds)], [it for it in edits if not it.body]
+
+
+def edited(crate, edits):
+    """Returns the sources with these edits, by path. Old texts are looked for in the unchanged text."""
+    places = defaultdict(list)
+    for file, old, new in (pair for edit in edits for pair in edit.pairs):
+        places[file].append((read(f"{crate.folder}/{file}").index(old), old, new))
+    texts = {}
+    for file, found in places.items():
+        text = read(f"{crate.folder}/{file}")
+        for at, old, new in sorted(found, reverse=True):
+            text = text[:at] + new + text[at + len(old) :]
+        texts[file] = text.decode()
+    return texts
+
+
+def told_at(line, bodies):
+    """Returns the body of which a line of the check tells that a goal of its own is refused, with the goal; else None. The body is None
+    where such a line is told of none that is known."""
+    goal, answer = GOAL.match(line), ANSWER.match(line)
+    if goal:
+        near = [it for it in bodies.get(goal["file"], []) if it.first <= int(goal["line"]) <= it.last]
+        return (near[-1] if near else None), goal["goal"]
+    if not answer or NAMES.search(answer["goal"]):
+        return None
+    folder = answer["folder"].replace("+", "")
+    every = [it for found in bodies.values() for it in found]
+    near = [it for it in every if it.folder == folder]
+    # An impl may stand in another module than its type.
+    near = near or [it for it in every if "/" in it.folder and folder.endswith("/" + "/".join(it.folder.split("/")[-2:]))]
+    return (near[0] if len(near) == 1 else None), f"proofs/{answer['folder']}: {answer['goal']}"
+
+
+def goals_in(output, bodies):
+    """Returns the first goal of each body that is refused by a goal of its own, and such goals of bodies that aren't known."""
+    own, strange = {}, []
+    for line in output.split("\n"):
+        told = told_at(line, bodies)
+        if told and told[0]:
+            own.setdefault(told[0], told[1])
+        elif told:
+            strange.append(line)
+    return own, strange
+
+
+class Trial:
+    """The edits of one crate: the check without an edit, whose work the others are done over, the rounds, and the edits alone."""
+
+    def __init__(self, rt, crate, folder, room, say):
+        self.rt, self.crate, self.room, self.say = rt, crate, room, say
+        self.bodies = all_bodies(rt, crate)
+        self.edits = edits_of(crate, folder, self.bodies)
+        self.rounds, self.alone = rounds_of(self.edits)
+        self.kept = f"{room}/{crate.name}"
+
+    def plan(self):
+        return f"{self.crate.name}: {len(self.edits)} edits, in rounds of {[len(it) for it in self.rounds]}, and {len(self.alone)} alone"
+
+    def check_unchanged(self):
+        """Returns whether the crate is proved without an edit."""
+        os.makedirs(self.kept)
+        start = time.time()
+        ran = self.rt.checked(self.crate, {}, ["--jobs", "1"], self.kept)
+        self.say(f"{self.crate.name} without an edit: {'proved' if not ran.returncode else 'NOT PROVED'}", start)
+        if ran.returncode:
+            self.say("\n".join(ran.stdout.split("\n")[-30:]))
+        return not ran.returncode
+
+    def over_kept(self, call):
+        """Calls with a copy of what the check without an edit kept, since checks side by side can't share one."""
+        wait_for_memory()
+        with tempfile.TemporaryDirectory(dir=self.room) as copy:
+            shutil.copytree(self.kept, f"{copy}/kept")
+            return call(f"{copy}/kept")
+
+    def try_alone(self, edit):
+        """Returns the verdict of `rt must-fail`, by which an edit that only a proof file's names refuse has failed."""
+        is_refused, said = self.over_kept(lambda kept: self.rt.must_fail(self.crate, edit.path, ["--jobs", "1"], kept))
+        why = said.partition(": ")[2]
+        return Verdict(edit, is_refused and ONLY_NAMES not in said, f"alone: {why}")
+
+    def try_round(self, edits):
+        """Checks the crate with all of these edits, and returns a verdict of each that the check refused, and the edits of which it says
+        nothing."""
+        texts = edited(self.crate, edits)
+        ran = self.over_kept(lambda kept: self.rt.checked(self.crate, texts, ["--jobs", "1"], kept))
+        output = ran.stdout
+        if "logic=not-proved" in output:
+            own, strange = goals_in(output, self.bodies)
+            beyond = set(own) - {it.body for it in edits}
+            if not strange and not beyond:
+                refused = [Verdict(it, True, f"refused at {own[it.body]}") for it in edits if it.body in own]
+                return refused, [it for it in edits if it.body not in own]
+            self.say(f"{self.crate.name}: beyond the edits: {(strange or [it.folder for it in beyond])[0]}")
+        places = [(file, int(line)) for file, line in COMPILES.findall(output)]
+        bad = [it for it in edits if any(it.body.file == file and it.body.first <= n <= it.body.last for file, n in places)]
+        return self.halves(edits, bad)
+
+    def halves(self, edits, bad):
+        """Tries the edits of a round that shows nothing again, without those that don't compile, or else in two halves."""
+        if len(edits) == 1 or len(bad) == len(edits):
+            return [], edits
+        good = [it for it in edits if it not in bad]
+        parts = [good] if bad else [edits[: len(edits) // 2], edits[len(edits) // 2 :]]
+        tried = [self.try_round(it) for it in parts]
+        return [it for found, _ in tried for it in found], bad + [it for _, left in tried for it in left]
+
+
+def wait_for_memory():
+    while available() < ROOM:
+        time.sleep(2)
+
+
+def available():
+    with open("/proc/meminfo", encoding="ascii") as file:
+        return int(re.search(r"MemAvailable:\s+(\d+)", file.read())[1])
+
+
+class Edits:
+    """All edits of crates, tried in lanes. A crate's are tried once it is handed in, with all that it stands on built."""
+
+    def __init__(self, rt, lanes, say, sample=0):
+        self.rt, self.say, self.sample = rt, say, sample
+        self.room = tempfile.TemporaryDirectory(prefix="edits-")
+        self.pool = concurrent.futures.ThreadPoolExecutor(lanes)
+        self.trials, self.tasks, self.verdicts, self.bad = [], [], [], []
+        self.lock = threading.Lock()
+
+    def take(self, crate, folder):
+        """Tries a crate's edits, in the background."""
+        trial = Trial(self.rt, crate, folder, self.room.name, self.say)
+        self.trials.append(trial)
+        self.say(trial.plan())
+        self.start(self.run, trial)
+
+    def start(self, call, *given):
+        with self.lock:
+            self.tasks.append(self.pool.submit(call, *given))
+
+    def run(self, trial):
+        if not trial.check_unchanged():
+            self.bad.append(f"{trial.crate.name} is not proved without an edit")
+            return
+        for n, it in enumerate(trial.rounds):
+            self.start(self.round, trial, n, it)
+        for it in trial.alone:
+            self.start(self.alone, trial, it)
+
+    def round(self, trial, n, edits):
+        start = time.time()
+        refused, left = trial.try_round(edits)
+        self.say(f"{trial.crate.name} round {n + 1} of {len(trial.rounds)}: {len(refused)} of {len(edits)} refused", start)
+        for it in refused:
+            self.add(it)
+        for it in left:
+            self.add(trial.try_alone(it))
+
+    def alone(self, trial, edit):
+        self.add(trial.try_alone(edit))
+
+    def add(self, verdict):
+        with self.lock:
+            self.verdicts.append(verdict)
+        self.say(f"must-fail {verdict.edit.name}: {'' if verdict.is_refused else 'FAILED: '}{verdict.why[:240]}")
+
+    def compare(self):
+        """Tries some of the edits that a round refused alone too, evenly from the crates. Returns how many, and the names of those of which
+        `rt must-fail` says otherwise."""
+        by_round = sorted((it.edit for it in self.verdicts if it.why.startswith("refused at")), key=lambda it: it.name)
+        count = min(self.sample, len(by_round))
+        drawn = [by_round[n * len(by_round) // count] for n in range(count)]
+        trials = {it.crate.name: it for it in self.trials}
+        singly = list(self.pool.map(lambda it: trials[it.crate].try_alone(it), drawn))
+        for it in singly:
+            self.say(f"single {it.edit.name}: {'' if it.is_refused else 'FAILED: '}{it.why[:240]}")
+        return count, [it.edit.name for it in singly if not it.is_refused]
+
+    def finish(self):
+        """Waits until all edits are tried. Returns how many were refused as they must be, and the names of those that failed."""
+        at = 0
+        while at < len(self.tasks):
+            self.tasks[at].result()
+            at += 1
+        count, differ = self.compare()
+        if count:
+            self.say(f"{count} edits of rounds tried alone too: {count - len(differ)} refused there as well")
+        self.pool.shutdown()
+        self.room.cleanup()
+        refused = {it.edit.name for it in self.verdicts if it.is_refused} - {*differ}
+        return len(refused), self.bad + sorted({it.edit.name for it in self.verdicts} - refused)
+
+
+def folder_of(crate):
+    """Returns the folder of a crate's edits."""
+    return f"{TOP}/crates/{crate.name}/must-fail"
+
+
+def say(text, start=None):
+    took = f" ({(time.time() - start) / 60:.1f} min)" if start else ""
+    print(f"edits: {text}{took}", flush=True)
+
+
+def main():
+    asked = argparse.ArgumentParser(description=__doc__, formatter_class=argparse.RawDescriptionHelpFormatter)
+    asked.add_argument("--plan", action="store_true")
+    asked.add_argument("--lanes", type=int, default=len(os.sched_getaffinity(0)))
+    asked.add_argument("--sample", type=int, default=0)
+    asked.add_argument("crates", nargs="*")
+    asked = asked.parse_args()
+    rt = kit()
+    rt.rtlib.guarded()
+    crates = [it for it in rt.rtlib.crates_below(TOP) if os.path.isdir(folder_of(it))]
+    unknown = set(asked.crates) - {it.name for it in crates}
+    if unknown:
+        sys.exit(f"edits: no crate with edits is named {', '.join(sorted(unknown))}")
+    crates = [it for it in crates if not asked.crates or it.name in asked.crates]
+    if asked.plan:
+        with tempfile.TemporaryDirectory() as room:
+            for it in crates:
+                say(Trial(rt, it, folder_of(it), room, say).plan())
+        return 0
+    edits = Edits(rt, asked.lanes, say, asked.sample)
+    for crate in crates:
+        if any(dep.build_rlib(["--jobs", "1"], anew=False) for dep in crate.below()):
+            return 1
+        edits.take(crate, folder_of(crate))
+    passed, failed = edits.finish()
+    for it in failed:
+        say(f"FAILED: {it}")
+    print(f"edits: {passed} passed, {len(failed)} failed")
+    return 1 if failed else 0
+
+
+if __name__ == "__main__":
+    sys.exit(main())

@@ -1,0 +1,161 @@
+#!/usr/bin/env python3
+"""The gate: what must not compile, every proof from nothing, every edit that the prover must refuse, the tests and the programs as they are
+proved and built, and the runs of these programs: gate.py [--sample N]
+
+`rt ci` works on a copy of the repository without its edits, which scripts/edits.py tries beside it, many in one check and each over the
+libraries that `rt ci` has just proved. Edits take only the processor time that `rt ci` leaves. Everything that is said goes to bin/gate.log
+too. The last line is 'N passed, M failed'."""
+import argparse, os, re, shutil, subprocess, sys, tempfile, threading, time
+
+import edits as edit_trials
+
+TOP = edit_trials.TOP
+START = time.time()
+PRINTING = threading.Lock()
+# What is copied: what git has, and what was added to it since.
+LISTED = ["git", "ls-files", "-z", "--cached", "--others", "--exclude-standard"]
+
+
+def say(text, start=None):
+    took = f" ({(time.time() - start) / 60:.1f} min)" if start else ""
+    line = f"gate: {(time.time() - START) / 60:5.1f} min: {text}{took}"
+    with PRINTING, open(f"{TOP}/bin/gate.log", "a", encoding="utf-8") as log:
+        print(line, flush=True)
+        print(line, file=log)
+
+
+def copy_to(room):
+    """Copies the repository without its edits."""
+    names = subprocess.run(LISTED, cwd=TOP, stdout=subprocess.PIPE, check=True).stdout.decode().split("\0")
+    for name in names:
+        if not name or "/must-fail/" in name or not os.path.isfile(f"{TOP}/{name}"):
+            continue
+        os.makedirs(os.path.dirname(f"{room}/{name}"), exist_ok=True)
+        shutil.copy2(f"{TOP}/{name}", f"{room}/{name}")
+
+
+class Gate:
+    def __init__(self, rt, room, sample):
+        self.rt, self.room = rt, room
+        self.passed, self.failed, self.proved = 0, [], 0
+        lanes = len(os.sched_getaffinity(0))
+        self.edits = edit_trials.Edits(rt, lanes, say, sample)
+        self.crates = {it.name: it for it in rt.rtlib.crates_below(room)}
+
+    def count(self, step, passed, failed, start):
+        """Adds what a step counted."""
+        self.passed += passed
+        self.failed += failed
+        say(f"{step}: {passed} passed, {len(failed)} failed", start)
+
+    def start_proving(self):
+        """Starts `rt ci` on the copy. All that this process starts from then on takes only the processor time that it leaves."""
+        how = {"cwd": self.room, "stdin": subprocess.DEVNULL, "stdout": subprocess.PIPE, "stderr": subprocess.STDOUT, "text": True}
+        ran = subprocess.Popen(["rt", "ci"], errors="replace", **how)
+        os.nice(15)
+        reading = threading.Thread(target=self.prove, args=(ran,))
+        reading.start()
+        return reading
+
+    def prove(self, ran):
+        """Reads what `rt ci` says to its end, and hands each crate's edits in once the crate is proved."""
+        start, last, names = time.time(), "", []
+        for line in ran.stdout:
+            last = self.heard(line.rstrip("\n")) or last
+            names += re.findall(r"^rt: FAILED: (.*)", line)
+        ran.wait()
+        found = re.fullmatch(r"(\d+) passed, (\d+) failed", last)
+        failed = names[0].split() if names else [] if found and found[2] == "0" else ["rt ci"]
+        self.count("proofs from nothing, tests and programs", int(found[1]) if found else 0, failed, start)
+
+    def heard(self, line):
+        """Takes a line of `rt ci`, and returns it if it counts."""
+        with PRINTING, open(f"{TOP}/bin/ci.log", "a", encoding="utf-8") as log:
+            print(line, file=log)
+        proved = re.fullmatch(r"rt: (\w+) proved", line)
+        if proved:
+            self.proved += 1
+            say(f"{proved[1]} proved, {self.proved} of {len(self.crates)} crates")
+            folder = edit_trials.folder_of(self.crates[proved[1]])
+            if os.path.isdir(folder):
+                self.edits.take(self.crates[proved[1]], folder)
+        elif re.match(r"rt: |test .*FAILED|\S+:\d+:\d+: error|error", line):
+            say(line)
+        return line if re.fullmatch(r"\d+ passed, \d+ failed", line) else None
+
+    def misuse(self):
+        start = time.time()
+        ran = subprocess.run([f"{TOP}/misuse/run.sh"], stdin=subprocess.DEVNULL, stdout=subprocess.PIPE, stderr=subprocess.STDOUT, text=True)
+        lines = [it for it in ran.stdout.split("\n") if it.startswith("misuse ")]
+        failed = [it for it in lines if "refused, as it must be" not in it] or ["misuse"] * bool(ran.returncode)
+        for it in lines:
+            say(it)
+        self.count("what must not compile", len(lines) - len(failed), failed, start)
+
+    def try_edits(self):
+        start = time.time()
+        passed, failed = self.edits.finish()
+        every = sum(len(os.listdir(edit_trials.folder_of(it))) for it in self.crates.values() if os.path.isdir(edit_trials.folder_of(it)))
+        if passed + len(failed) < every:
+            failed.append(f"{every - passed - len(failed)} edits not tried")
+        self.count("edits that must be refused", passed, failed, start)
+
+    def programs(self):
+        """Runs the programs that `rt ci` built."""
+        start = time.time()
+        built = [f"{self.room}/crates/{it}/out/{it}" for it in ("tracing_tree_cli", "tracing_tree_read")]
+        if not all(os.path.isfile(it) for it in built):
+            return self.count("runs of the programs", 0, ["programs not built"], start)
+        ran = subprocess.run([f"{TOP}/scripts/program.sh", *built], stdin=subprocess.DEVNULL, stdout=subprocess.PIPE, text=True)
+        print(ran.stdout, end="", flush=True)
+        found = re.search(r"program: (\d+) of (\d+) runs", ran.stdout)
+        passed, runs = (int(found[1]), int(found[2])) if found else (0, 1)
+        failed = re.findall(r"(?m)^(program .*?): FAILED", ran.stdout) or ["runs of the programs"] * (passed < runs or ran.returncode != 0)
+        return self.count("runs of the programs", passed, failed, start)
+
+    def bindings(self):
+        """Builds the library for C over what `rt ci` proved, and runs the tests of its header and of the Rust crate."""
+        start, crate = time.time(), self.crates["tracing_tree_c"]
+        archive = f"out/lib{crate.name}.a"
+        with open(f"{TOP}/bin/bindings.log", "w", encoding="utf-8") as crate.out:
+            if crate.compile(["--jobs", "4"], archive):
+                return self.count("library for C", 0, ["library for C not built: bin/bindings.log"], start)
+        said = ""
+        for words in (["bindings/build.sh", f"crates/{crate.name}/{archive}"], ["bindings/test.sh"]):
+            how = {"cwd": self.room, "stdin": subprocess.DEVNULL, "stdout": subprocess.PIPE, "stderr": subprocess.STDOUT, "text": True}
+            said += subprocess.run(words, errors="replace", **how).stdout
+        print(said, end="", flush=True)
+        found = re.search(r"bindings: (\d+) passed, (\d+) failed", said)
+        failed = re.findall(r"(?m)^bindings: FAILED: (.*)", said) or ["library for C"] * (not found or found[2] != "0")
+        return self.count("library for C", int(found[1]) if found else 0, failed, start)
+
+
+def main():
+    asked = argparse.ArgumentParser(description=__doc__, formatter_class=argparse.RawDescriptionHelpFormatter)
+    asked.add_argument("--sample", type=int, default=5)
+    asked = asked.parse_args()
+    for word in ("rt", "bash", "git"):
+        if not shutil.which(word):
+            sys.exit(f"gate: the command {word} is not on the PATH")
+    os.makedirs(f"{TOP}/bin", exist_ok=True)
+    for name in ("gate.log", "ci.log"):
+        open(f"{TOP}/bin/{name}", "w", encoding="utf-8").close()
+    rt = edit_trials.kit()
+    rt.rtlib.guarded()
+    with tempfile.TemporaryDirectory(prefix="gate-") as room:
+        copy_to(room)
+        gate = Gate(rt, room, asked.sample)
+        proving = gate.start_proving()
+        gate.misuse()
+        proving.join()
+        gate.try_edits()
+        gate.programs()
+        gate.bindings()
+    for it in gate.failed:
+        say(f"FAILED: {it}")
+    print(f"{gate.passed} passed, {len(gate.failed)} failed")
+    return 1 if gate.failed else 0
+
+
+if __name__ == "__main__":
+    sys.exit(main())

@@ -1,0 +1,121 @@
+#!/usr/bin/env python3
+"""Runs every test, every worked case and the runs of the programs, without a proof: tests.py [CRATE..]
+
+The tests of each crate run by `rt try --test`, which compiles the sources as they stand, with checks. The programs are compiled so too
+(scripts/unproved.py), and scripts/program.sh runs them as their users do. That no function does anything but what its contract says is
+for `make gate` to show, which runs all of this again as it is proved and built. The last line is 'N passed, M failed'."""
+import concurrent.futures, glob, os, re, shutil, subprocess, sys, time
+
+TOP = os.path.dirname(os.path.dirname(os.path.abspath(__file__)))
+START = time.time()
+# The programs: the crate, and where its unproved executable goes.
+PROGRAMS = {"tracing_tree_cli": "bin/unproved_tree", "tracing_tree_read": "bin/unproved_read"}
+
+
+# How many of the steps have ended, and how many there are.
+STEPS = {"done": 0, "all": 0}
+
+
+def say(text):
+    print(f"test: {(time.time() - START) / 60:4.1f} min: {text}", flush=True)
+
+
+def ended(text):
+    """Says that a step has ended."""
+    STEPS["done"] += 1
+    say(f"{STEPS['done']} of {STEPS['all']}: {text}")
+
+
+def ran(*words, folder=TOP):
+    """Runs a command, and returns its status and all that it said."""
+    how = {"cwd": folder, "stdin": subprocess.DEVNULL, "stdout": subprocess.PIPE, "stderr": subprocess.STDOUT, "text": True}
+    done = subprocess.run(words, errors="replace", **how)
+    return done.returncode, done.stdout
+
+
+def crates_with_tests():
+    """Returns the crates of crates.txt that have a test, those with the most text first."""
+    with open(f"{TOP}/crates.txt", encoding="utf-8") as file:
+        names = [line.partition(":")[0].split()[0] for line in file if line.strip() and not line.startswith("#")]
+    sizes = {}
+    for name in names:
+        text = ""
+        for path in glob.glob(f"{TOP}/crates/{name}/src/**/*.rt", recursive=True):
+            with open(path, encoding="utf-8") as file:
+                text += file.read()
+        if re.search(r"(?m)^\s*#\[test\]", text):
+            sizes[name] = len(text)
+    return sorted(sizes, key=sizes.get, reverse=True)
+
+
+def run_tests(crate):
+    """Runs a crate's tests, and returns how many passed and how many failed."""
+    status, said = ran("rt", "try", "--test", "--seconds", "600", folder=f"{TOP}/crates/{crate}")
+    found = re.search(r"test result: \w+\. (\d+) passed; (\d+) failed", said)
+    passed, failed = (int(found[1]), int(found[2])) if found else (0, 1)
+    if status and not failed:
+        failed = 1
+    ended(f"{crate}: {passed} passed, {failed} failed")
+    if failed:
+        print(said, flush=True)
+    return passed, failed
+
+
+def build(crate):
+    """Compiles a program, and returns whether it was."""
+    status, said = ran(sys.executable, "scripts/unproved.py", crate, PROGRAMS[crate])
+    ended(f"{crate}: {'compiled, without its proofs' if not status else 'NOT COMPILED'}")
+    if status:
+        print(said, flush=True)
+    return not status
+
+
+def run_programs():
+    """Runs the programs, and returns how many runs passed and how many failed."""
+    status, said = ran("scripts/program.sh", "--checked", *PROGRAMS.values())
+    print(said, end="", flush=True)
+    found = re.search(r"program: (\d+) of (\d+) runs ended as they must", said)
+    if not found:
+        return 0, 1
+    passed, runs = int(found[1]), int(found[2])
+    ended(f"runs of the programs: {passed} passed, {runs - passed} failed")
+    return passed, max(runs - passed, 1 if status else 0)
+
+
+def check_claims():
+    """Compares the counts of docs/PROVED.md, and returns how many are as they stand there and how many are not."""
+    _, said = ran(sys.executable, "scripts/claim.py", "--check")
+    print(said, end="", flush=True)
+    ended("sizes of the claims")
+    found = re.search(r"claims: (\d+) passed, (\d+) failed", said)
+    return (int(found[1]), int(found[2])) if found else (0, 1)
+
+
+def main():
+    for word in ("rt", "bash"):
+        if not shutil.which(word):
+            sys.exit(f"test: the command {word} is not on the PATH")
+    os.makedirs(f"{TOP}/bin", exist_ok=True)
+    crates = crates_with_tests()
+    unknown = set(sys.argv[1:]) - {*crates}
+    if unknown:
+        sys.exit(f"test: no crate with tests is named {', '.join(sorted(unknown))}")
+    wanted = [it for it in crates if not sys.argv[1:] or it in sys.argv[1:]]
+    programs = [] if sys.argv[1:] else [*PROGRAMS]
+    STEPS["all"] = len(wanted) + len(programs) + (2 if programs else 0)
+    say(f"{len(wanted)} crates with tests and {len(programs)} programs, compiled without their proofs")
+    with concurrent.futures.ThreadPoolExecutor(len(os.sched_getaffinity(0))) as pool:
+        tested = [pool.submit(run_tests, it) for it in wanted]
+        built = [pool.submit(build, it) for it in programs]
+        counts = [it.result() for it in tested]
+        are_built = [it.result() for it in built]
+    if programs:
+        counts.append(check_claims())
+        counts.append(run_programs() if all(are_built) else (0, 1))
+    passed, failed = (sum(it) for it in zip(*counts))
+    print(f"{passed} passed, {failed} failed")
+    return 1 if failed else 0
+
+
+if __name__ == "__main__":
+    sys.exit(main())
