@@ -49,7 +49,7 @@ abbrev pub opened : SettingsRef → Timer → Seen
 opened given timer = record {
   settings = settings_of given;
   timer = timer;
-  state = opening_state (id_of 1);
+  state = opening_state (Some (id_of 1));
   writer = record { bytes = Some []; faults = 0; whole = true };
 }
 
