@@ -4,7 +4,7 @@
 The proof of a function rests on the contracts of what it calls, and not on their bodies. So edits of several bodies go into one check of a
 copy of the crate, a round, with at most one edit a function. An edit is refused where its own function fails at a goal of its own; that
 it calls a function that is refused shows nothing. What such a round doesn't settle is tried alone, by the code of `rt must-fail`: an edit
-outside a body, and one that doesn't compile among the others. An edit that is refused only by a type error, or only since a proof file
+outside a function, and one that doesn't compile among the others. An edit that is refused only by a type error, or only since a proof file
 names what it took away, has failed, and so has one that is proved or doesn't apply.
 
 It prints a line for each edit, and last 'edits: N passed, M failed'. --plan prints the rounds alone. --sample N tries N of the edits that
@@ -30,21 +30,29 @@ ONLY_NAMES = "only because a proof file names what the edit took away"
 
 @dataclass(frozen=True)
 class Body:
-    """A function's body: its file, its name, the folder of its proofs, its lines and the place of its braces."""
+    """A function's body: its file, its name, the folder of its proofs, its lines, where its signature stands, which ends before its clauses,
+    and the place of its braces."""
 
     file: str
     name: str
     folder: str
     first: int
     last: int
+    head: int
+    signed: int
     start: int
     end: int
     is_const: bool
 
+    def holds(self, at, end):
+        """Returns whether these places lie in the body, or in the signature and what follows it without a clause between."""
+        signed = self.end if self.signed == self.start else self.signed
+        return self.start < at and end <= self.end or self.head <= at and end <= signed
+
 
 @dataclass(frozen=True)
 class Edit:
-    """An edit: its crate and file, its pairs of texts by source file, and the body in which they stand, if they stand in one."""
+    """An edit: its crate and file, its pairs of texts by source file, and the function in which they stand, if they stand in one."""
 
     crate: str
     path: str
@@ -94,16 +102,16 @@ def closing(text, at):
 
 
 def body_after(text, at):
-    """Returns where the braces of a function's body stand, after its signature and its clauses, or None if it has none."""
+    """Returns where a function's signature ends and where the braces of its body stand, or None if it has no body."""
+    signed = None
     while True:
         stop = re.compile(rb"[;{]").search(text, at)
         if not stop or stop[0] == b";":
             return None
-        end = closing(text, stop.start())
-        line = text[text.rfind(b"\n", 0, stop.start()) + 1 : stop.start()]
-        if not CLAUSE.match(line):
-            return stop.start(), end
-        at = end
+        end, line = closing(text, stop.start()), text.rfind(b"\n", 0, stop.start()) + 1
+        if not CLAUSE.match(text[line : stop.start()]):
+            return signed or stop.start(), stop.start(), end
+        signed, at = signed or line, end
 
 
 def owner_of(head):
@@ -130,8 +138,8 @@ def bodies_of(file, text):
     module = file.removeprefix("src/").removesuffix(".rt")
     found = []
     for fn in FUNCTION.finditer(text):
-        braces = body_after(text, fn.end())
-        if not braces:
+        places = body_after(text, fn.end())
+        if not places:
             continue
         owner = next((it for start, end, it in owners if start <= fn.start() < end), "")
         name = fn["name"].decode()
@@ -139,8 +147,8 @@ def bodies_of(file, text):
         # A note stands at the function's attributes if it has some, and those may stand above its comment.
         above = re.search(rb"(?m)^(?:[ \t]*(?:#\[[^\n]*)?\n)*\Z", text[: fn.start()])
         first = text.count(b"\n", 0, above.start() if above else fn.start()) + 1
-        last = text.count(b"\n", 0, braces[1]) + 1
-        found.append(Body(file, name, folder, first, last, *braces, b"const" in fn["words"]))
+        last = text.count(b"\n", 0, places[2]) + 1
+        found.append(Body(file, name, folder, first, last, fn.start(), *places, b"const" in fn["words"]))
     return found
 
 
@@ -168,13 +176,13 @@ def pairs_of(path):
 
 
 def body_of(pair, texts, bodies):
-    """Returns the one body in which a pair's old text stands, if it stands once in its file and in one body that can be edited alone."""
+    """Returns the one function whose body or signature has a pair's old text, if that stands once in its file."""
     file, old, _ = pair
     text = texts.get(file)
     if not text or not old or text.count(old) != 1:
         return None
     at = text.index(old)
-    around = [it for it in bodies.get(file, []) if it.start < at and at + len(old) <= it.end]
+    around = [it for it in bodies.get(file, []) if it.holds(at, at + len(old))]
     is_macro = b"macro_rules" in text[:at]
     return None if len(around) != 1 or around[0].is_const or is_macro else around[0]
 

@@ -51,7 +51,7 @@ class Gate:
     def start_proving(self):
         """Starts `rt ci` on the copy. All that this process starts from then on takes only the processor time that it leaves."""
         how = {"cwd": self.room, "stdin": subprocess.DEVNULL, "stdout": subprocess.PIPE, "stderr": subprocess.STDOUT, "text": True}
-        ran = subprocess.Popen(["rt", "ci"], errors="replace", **how)
+        ran = subprocess.Popen([*self.rt.rtlib.guarded(), "rt", "ci"], errors="replace", **how)
         os.nice(15)
         reading = threading.Thread(target=self.prove, args=(ran,))
         reading.start()
