@@ -26,7 +26,7 @@ claim: need-python
 	@python3 scripts/claim.py $(NAME)
 
 # Proves and builds the programs, and leaves them at bin/.
-build: bin/tracing_tree bin/tracing_tree_read
+build: bin/tracing_tree bin/tracing_tree_read bin/ttree
 
 SOURCES = $(shell find crates crates.txt -type f -not -path '*/out/*' -not -path '*/must-fail/*')
 
@@ -35,6 +35,9 @@ bin/tracing_tree: $(SOURCES)
 
 bin/tracing_tree_read: $(SOURCES)
 	@scripts/build.sh tracing_tree_read $@
+
+bin/ttree: $(SOURCES)
+	@scripts/build.sh tracing_tree_ttree $@
 
 bin/%: $(SOURCES)
 	@scripts/build.sh $* $@
@@ -65,7 +68,7 @@ DRAWINGS = $(addprefix $(DATA)/,first/tree.out retracing/concurrent_eager.out re
 # Refuses the programs each allocation, each read and each write in turn, and looks at what they leave.
 faults: need-python need-cc build
 	@$(CC) -O1 -shared -fPIC -o bin/refuse.so scripts/refuse.c -ldl
-	@python3 scripts/refuse.py bin/tracing_tree bin/refuse.so examples/*.jsonl $(FAULTY)
+	@python3 scripts/refuse.py bin/tracing_tree bin/refuse.so examples/first.jsonl examples/server.jsonl $(FAULTY)
 	@python3 scripts/refuse.py bin/tracing_tree_read bin/refuse.so $(DRAWINGS)
 
 .PHONY: need-python need-cc

@@ -100,18 +100,18 @@ class Gate:
             failed.append(f"{every - passed - len(failed)} edits not tried")
         self.count("edits that must be refused", passed, failed, start)
 
-    def programs(self):
-        """Runs the programs that `rt ci` built."""
+    def programs(self, *words):
+        """Runs programs that `rt ci` built, by a script."""
         start = time.time()
-        built = [f"{self.room}/crates/{it}/out/{it}" for it in ("tracing_tree_cli", "tracing_tree_read")]
+        built = [f"{self.room}/crates/{it}/out/{it}" for it in words[1:]]
         if not all(os.path.isfile(it) for it in built):
-            return self.count("runs of the programs", 0, ["programs not built"], start)
-        ran = subprocess.run([f"{TOP}/scripts/program.sh", *built], stdin=subprocess.DEVNULL, stdout=subprocess.PIPE, text=True)
+            return self.count(f"runs by {words[0]}", 0, ["programs not built"], start)
+        ran = subprocess.run([f"{TOP}/{words[0]}", *built], stdin=subprocess.DEVNULL, stdout=subprocess.PIPE, text=True)
         print(ran.stdout, end="", flush=True)
-        found = re.search(r"program: (\d+) of (\d+) runs", ran.stdout)
+        found = re.search(r"(\d+) of (\d+) runs ended as they must", ran.stdout)
         passed, runs = (int(found[1]), int(found[2])) if found else (0, 1)
-        failed = re.findall(r"(?m)^(program .*?): FAILED", ran.stdout) or ["runs of the programs"] * (passed < runs or ran.returncode != 0)
-        return self.count("runs of the programs", passed, failed, start)
+        failed = re.findall(r"(?m)^(program .*?): FAILED", ran.stdout) or [words[0]] * (passed < runs or ran.returncode != 0)
+        return self.count(f"runs by {words[0]}", passed, failed, start)
 
     def bindings(self):
         """Builds the library for C over what `rt ci` proved, and runs the tests of its header and of the Rust crate."""
@@ -149,7 +149,8 @@ def main():
         gate.misuse()
         proving.join()
         gate.try_edits()
-        gate.programs()
+        gate.programs("scripts/program.sh", "tracing_tree_cli", "tracing_tree_read")
+        gate.programs("scripts/ttree.sh", "tracing_tree_ttree", "tracing_tree_cli")
         gate.bindings()
     for it in gate.failed:
         say(f"FAILED: {it}")

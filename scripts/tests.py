@@ -9,7 +9,9 @@ import concurrent.futures, glob, os, re, shutil, subprocess, sys, time
 TOP = os.path.dirname(os.path.dirname(os.path.abspath(__file__)))
 START = time.time()
 # The programs: the crate, and where its unproved executable goes.
-PROGRAMS = {"tracing_tree_cli": "bin/unproved_tree", "tracing_tree_read": "bin/unproved_read"}
+PROGRAMS = {"tracing_tree_cli": "bin/unproved_tree", "tracing_tree_read": "bin/unproved_read", "tracing_tree_ttree": "bin/unproved_ttree"}
+# The scripts that run them, with their words.
+RUNS = (("scripts/program.sh", "--checked", "tracing_tree_cli", "tracing_tree_read"), ("scripts/ttree.sh", "tracing_tree_ttree", "tracing_tree_cli"))
 
 
 # How many of the steps have ended, and how many there are.
@@ -70,15 +72,15 @@ def build(crate):
     return not status
 
 
-def run_programs():
-    """Runs the programs, and returns how many runs passed and how many failed."""
-    status, said = ran("scripts/program.sh", "--checked", *PROGRAMS.values())
+def run_programs(*words):
+    """Runs programs by a script, and returns how many runs passed and how many failed."""
+    status, said = ran(*(PROGRAMS.get(it, it) for it in words))
     print(said, end="", flush=True)
-    found = re.search(r"program: (\d+) of (\d+) runs ended as they must", said)
+    found = re.search(r"(\d+) of (\d+) runs ended as they must", said)
     if not found:
         return 0, 1
     passed, runs = int(found[1]), int(found[2])
-    ended(f"runs of the programs: {passed} passed, {runs - passed} failed")
+    ended(f"runs by {words[0]}: {passed} passed, {runs - passed} failed")
     return passed, max(runs - passed, 1 if status else 0)
 
 
@@ -102,7 +104,7 @@ def main():
         sys.exit(f"test: no crate with tests is named {', '.join(sorted(unknown))}")
     wanted = [it for it in crates if not sys.argv[1:] or it in sys.argv[1:]]
     programs = [] if sys.argv[1:] else [*PROGRAMS]
-    STEPS["all"] = len(wanted) + len(programs) + (2 if programs else 0)
+    STEPS["all"] = len(wanted) + len(programs) + (1 + len(RUNS) if programs else 0)
     say(f"{len(wanted)} crates with tests and {len(programs)} programs, compiled without their proofs")
     with concurrent.futures.ThreadPoolExecutor(len(os.sched_getaffinity(0))) as pool:
         tested = [pool.submit(run_tests, it) for it in wanted]
@@ -111,7 +113,7 @@ def main():
         are_built = [it.result() for it in built]
     if programs:
         counts.append(check_claims())
-        counts.append(run_programs() if all(are_built) else (0, 1))
+        counts += [run_programs(*it) if all(are_built) else (0, 1) for it in RUNS]
     passed, failed = (sum(it) for it in zip(*counts))
     print(f"{passed} passed, {failed} failed")
     return 1 if failed else 0

@@ -18,7 +18,7 @@ ghost use Rattle.tracing_tree_base.specs.Drawing.Writers.{seen_writer};
 
 use call::call_of_line;
 use json::Scratch;
-use read::{holds_line, is_skipped, read_line};
+pub use read::{holds_line, is_skipped, read_line};
 use settings::{Setup, settings_of_line};
 use std::alloc::{AllocError, AllocFailed, Global};
 use std::fmt;

@@ -24,16 +24,16 @@ enum Part {
     Interrupted,
 }
 
-// Whether the reader's buffer holds the next line with its line end, so that the line is read without reading input.
-pub(super) fn holds_line<R: Read>(reader: &BufReader<R>) -> bool
+/// Whether the reader's buffer holds the next line with its line end, so that the line is read without reading input.
+pub fn holds_line<R: Read>(reader: &BufReader<R>) -> bool
     ensures { result ≡ is_some (position (λ byte. byte == 10) (reader_buffer reader.now)) }
 {
     line_end(reader.buffer()).is_some()
 }
 
-// Reads the next line, without its line end, in place of what `line` held. Returns whether there is one: what stands after
-// the last line end is a line if it isn't empty.
-pub(super) fn read_line<B: BufRead>(reader: &mut B, line: &mut Vec<u8>) -> Result<bool, LineCause>
+/// Reads the next line, without its line end, in place of what `line` held. Returns whether there is one: what stands after
+/// the last line end is a line if it isn't empty.
+pub fn read_line<B: BufRead>(reader: &mut B, line: &mut Vec<u8>) -> Result<bool, LineCause>
     ensures { ReadsNext (B.remaining reader.old) (B.remaining reader.new) line.new.items result }
 {
     if read_ended(reader, line)? {
@@ -101,8 +101,8 @@ fn line_end(held: &[u8]) -> Option<usize>
     memchr(b'\n', held)
 }
 
-// Whether the line is spaces, tabs and carriage returns alone.
-pub(super) fn is_skipped(line: &[u8]) -> bool
+/// Whether the line is spaces, tabs and carriage returns alone.
+pub fn is_skipped(line: &[u8]) -> bool
     ensures { result ≡ is_skipped line.now }
 {
     line.iter()

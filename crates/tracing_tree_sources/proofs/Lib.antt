@@ -1,0 +1,4 @@
+pub mod Made
+pub mod Heard
+pub mod GoLines
+mod Worked

@@ -1,0 +1,37 @@
+-- Examples computed from the definitions of Go's tests.
+use Rattle.std.proofs.Common.{◌≡◌, true, false, Some, [], codes, refl}
+use Rattle.tracing_tree_sources.specs.GoTest.{after_mark, is_frame, leads, up_to_space}
+use Rattle.tracing_tree_sources.specs.Told.{is_escaped}
+
+pub frame_of_its_own : is_frame (codes "TestSum") (codes "    --- PASS: TestSum (0.00s)") ≡ true
+frame_of_its_own = refl
+
+pub frame_of_another : is_frame (codes "TestSum") (codes "--- PASS: TestSums (0.00s)") ≡ false
+frame_of_another = refl
+
+pub frame_of_a_package : is_frame [] (codes "ok  \texample.com/ok\t0.003s") ≡ true
+frame_of_a_package = refl
+
+pub subtest_without_the_test_between : leads (codes "TestSum") (codes "TestSum/a/b") ≡ true
+subtest_without_the_test_between = refl
+
+pub a_longer_name_is_no_subtest : leads (codes "TestSum") (codes "TestSums") ≡ false
+a_longer_name_is_no_subtest = refl
+
+pub every_test_is_in_its_package : leads [] (codes "TestSum") ≡ true
+every_test_is_in_its_package = refl
+
+pub heading_of_a_build : after_mark (codes "# ") (codes "# q [q.test]") ≡ Some (codes "q [q.test]")
+heading_of_a_build = refl
+
+pub package_of_a_heading : up_to_space (codes "q [q.test]") ≡ codes "q"
+package_of_a_heading = refl
+
+pub escape_begins_a_sequence : is_escaped 27 ≡ true
+escape_begins_a_sequence = refl
+
+pub so_does_one_of_the_higher_controls : is_escaped 155 ≡ true
+so_does_one_of_the_higher_controls = refl
+
+pub tabs_and_letters_stay : (is_escaped 9 ≡ false) × (is_escaped 233 ≡ false)
+tabs_and_letters_stay = (refl, refl)

@@ -1,0 +1,13 @@
+use Rattle.std.proofs.Common.{◌≡◌, ◌++◌, List, length}
+use Rattle.std.specs.Vec.Iter.{into_iter_items, into_iter_len}
+use Rattle.tracing_tree_layer.specs.Calls.Layers.{seen, Changes}
+use Rattle.tracing_tree_layer.specs.declared.call.Call.{Call}
+use Rattle.tracing_tree_sources.specs.Source.{Makes}
+use Rattle.tracing_tree_sources.proofs.run.make.Given as goal
+
+-- the calls so far were accepted
+abbrev pub invariant-loop-call : goal.invariant-loop-call
+invariant-loop-call g l =
+    (done : List Call) × (l.fn.calls.items ≡ done ++ into_iter_items l.call-iterator)
+    × Changes (seen g.FT.FormatTime g.W.Output) (Makes done) l.fn.layered l.layered
+    × (into_iter_len l.call-iterator ≡ length (into_iter_items l.call-iterator))

@@ -1,0 +1,31 @@
+use Rattle.std.proofs.Common.{refl, sym, ◌∙◌}
+use Rattle.tracing_tree_layer.specs.Calls.Layers.{seen}
+use Rattle.tracing_tree_sources.proofs.Heard.{hears_no_text, hears_calls, hears_stop}
+use Rattle.tracing_tree_sources.proofs.run.run_line.Goals as goal
+
+pub returns-in_default : goal.returns-in_default
+returns-in_default g c = record {
+  changed = hears_no_text g.S.Source.takes c.args.line.now c.args.source.now (seen g.FT.FormatTime g.W.Output c.args.layered.now)
+      (sym c.is_skipped.ensures ∙ c.if-is_skipped.false) c.in_default.ensures;
+  fixed = refl;
+}
+
+pub returns-in-Ok-make : goal.returns-in-Ok-make
+returns-in-Ok-make g c =
+    let see = seen g.FT.FormatTime g.W.Output in
+    let told = rw (c.in-Ok.ensures.0, c.in-Some.is) at c.in-Ok-hear.ensures in
+    record {
+      changed = hears_calls g.S.Source.takes c.args.line.now c.args.source.now c.hear.new.source c.in-Some.calls.items (see c.args.layered.now) (see c.make.new.layered)
+          (sym c.is_skipped.ensures ∙ c.if-is_skipped.false) c.in-Ok.ensures.1 told c.in-Ok-make.ensures.changed;
+      fixed = c.in-Ok-make.ensures.fixed;
+    }
+
+pub returns-in-Err : goal.returns-in-Err
+returns-in-Err g c =
+    let see = seen g.FT.FormatTime g.W.Output in
+    let told = rw (c.in-Ok.ensures.0, c.in-Some.is) at c.in-Ok-hear.ensures in
+    record {
+      changed = hears_stop g.S.Source.takes c.args.line.now c.args.source.now c.hear.new.source c.in-Some.calls.items c.in-Err.cause (see c.args.layered.now) (see c.make.new.layered)
+          (sym c.is_skipped.ensures ∙ c.if-is_skipped.false) c.in-Ok.ensures.1 told c.in-Err.ensures.changed;
+      fixed = c.in-Err.ensures.fixed;
+    }

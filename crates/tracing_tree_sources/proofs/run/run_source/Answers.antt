@@ -1,0 +1,85 @@
+use Rattle.std.proofs.Common.{◌≡◌, ◌+◌, refl, arith, true, false, Ok}
+use Rattle.std.specs.Io.Buffered.{reader_remaining}
+use Rattle.tracing_tree_layer.specs.Calls.Layers.{seen}
+use Rattle.tracing_tree_layer.proofs.Runs.{change_then}
+use Rattle.tracing_tree.specs.declared.lines.LineCause.TheVariants.{Read}
+use Rattle.tracing_tree_sources.specs.declared.run.Judged.TheVariants.{Known, Unknown}
+use Rattle.tracing_tree_sources.proofs.Heard.{starts, flushed, more, stops, finishes, next_outside}
+use Rattle.tracing_tree_sources.proofs.run.run_source.Goals.{in-Ok-Known, in-Ok-Unknown}
+use Rattle.tracing_tree_sources.proofs.run.run_source.Goals as goal
+
+pub loop-number-init : goal.loop-number-init
+loop-number-init g c = record {
+  room = omega arith;
+  change = record {
+    changed = starts g.S.Source.takes (reader_remaining g.R.Read.remaining c.args.lines.now) c.args.source.now (seen g.FT.FormatTime g.W.Output c.args.layered.now);
+    fixed = refl;
+  };
+}
+
+pub returns-in-Ok-End : goal.returns-in-Ok-End
+returns-in-Ok-End g c =
+    let takes = g.S.Source.takes in
+    let known = reader_remaining g.R.Read.remaining c.args.lines.now in
+    let middle = reader_remaining g.R.Read.remaining c.loop-number.lines in
+    let left = reader_remaining g.R.Read.remaining c.run_next.new.lines in
+    let see = seen g.FT.FormatTime g.W.Output in
+    let shown = change_then see (flushed takes known middle c.args.source.now c.loop-number.source c.loop-number.unknown)
+    c.args.layered.now c.loop-number.layered c.show_before_read.new.layered c.loop-number.invariant.change c.show_before_read.ensures in
+    let next = rw (c.in-Ok-End.is, c.in-Ok-End.field-0-is) at c.run_next.ensures in
+    change_then see (finishes takes g.S.Source.ends known middle left c.args.source.now c.loop-number.source c.run_next.new.source c.loop-number.unknown)
+    c.args.layered.now c.show_before_read.new.layered c.run_next.new.layered shown next
+
+pub returns-in-Err : goal.returns-in-Err
+returns-in-Err g c =
+    let takes = g.S.Source.takes in
+    let known = reader_remaining g.R.Read.remaining c.args.lines.now in
+    let middle = reader_remaining g.R.Read.remaining c.loop-number.lines in
+    let left = reader_remaining g.R.Read.remaining c.run_next.new.lines in
+    let see = seen g.FT.FormatTime g.W.Output in
+    let shown = change_then see (flushed takes known middle c.args.source.now c.loop-number.source c.loop-number.unknown)
+    c.args.layered.now c.loop-number.layered c.show_before_read.new.layered c.loop-number.invariant.change c.show_before_read.ensures in
+    change_then see (stops takes g.S.Source.ends known middle left c.args.source.now c.loop-number.source c.run_next.new.source c.loop-number.unknown c.in-Err.cause)
+    c.args.layered.now c.show_before_read.new.layered c.run_next.new.layered shown c.in-Err.ensures
+
+pub loop-number-preserved : goal.loop-number-preserved
+loop-number-preserved g c =
+    let takes = g.S.Source.takes in
+    let known = reader_remaining g.R.Read.remaining c.args.lines.now in
+    let middle = reader_remaining g.R.Read.remaining c.loop-number.lines in
+    let left = reader_remaining g.R.Read.remaining c.run_next.new.lines in
+    let see = seen g.FT.FormatTime g.W.Output in
+    let shown = change_then see (flushed takes known middle c.args.source.now c.loop-number.source c.loop-number.unknown)
+    c.args.layered.now c.loop-number.layered c.show_before_read.new.layered c.loop-number.invariant.change c.show_before_read.ensures in
+    elim c.match-run_next-2.branch [
+      | in-Ok-Known w ↦
+          let is : c.run_next.result ≡ Ok Known = cc in
+          let next = rw is at c.run_next.ensures in
+          record {
+            room = omega (arith, w.unknown-is, c.loop-number.invariant.room);
+            change = rw w.unknown-is (change_then see (more takes known middle left c.args.source.now c.loop-number.source c.run_next.new.source c.loop-number.unknown c.loop-number.unknown true (omega arith))
+                c.args.layered.now c.show_before_read.new.layered c.run_next.new.layered shown next);
+          }
+      | in-Ok-Unknown w ↦
+          let is : c.run_next.result ≡ Ok Unknown = cc in
+          let next = rw is at c.run_next.ensures in
+          record {
+            room = omega (arith, w.unknown-is, c.loop-number.invariant.room);
+            change = rw w.unknown-is (change_then see (more takes known middle left c.args.source.now c.loop-number.source c.run_next.new.source c.loop-number.unknown (c.loop-number.unknown + 1) false refl)
+                c.args.layered.now c.show_before_read.new.layered c.run_next.new.layered shown next);
+          }
+    ]
+
+pub returns : goal.returns
+returns g c =
+    let takes = g.S.Source.takes in
+    let known = reader_remaining g.R.Read.remaining c.args.lines.now in
+    let middle = reader_remaining g.R.Read.remaining c.loop-number.lines in
+    let see = seen g.FT.FormatTime g.W.Output in
+    let now = see c.loop-number.layered in
+    record {
+      changed = stops takes g.S.Source.ends known middle middle c.args.source.now c.loop-number.source c.loop-number.source c.loop-number.unknown Read
+          (see c.args.layered.now) now now c.loop-number.invariant.change.changed
+          (next_outside takes g.S.Source.ends middle middle c.loop-number.source c.loop-number.source Read now refl);
+      fixed = c.loop-number.invariant.change.fixed;
+    }

@@ -1,0 +1,397 @@
+-- Go's tests: what each line of `go test -json` tells.
+use Rattle.std.specs.Prelude.{◌≡◌, ℕ, pos, ◌+◌, ◌-◌, ◌^◌, ◌==◌, ◌&&◌, ◌||◌, nat_le, min, Bool, true, false, not, if◌then◌else◌, List, [], ◌∷◌, ◌++◌, length, take, drop, slice_get, Option, Some, None, unwrap_or, option_map, option_and_then, codes, bytes_eq}
+use Rattle.std.specs.List.{starts_with, ends_with, position_or_len}
+use Rattle.json.specs.Json.{Json}
+use Rattle.json.specs.Find.{get, as_str, as_number}
+use Rattle.tracing_tree_base.specs.Drawing.Texts.{rendered_field, whole_field}
+use Rattle.tracing_tree_core.specs.Registry.Ids.{id_of}
+use Rattle.tracing_tree_base.specs.declared.context.Id.{Id}
+use Rattle.tracing_tree_base.specs.declared.context.Moment.{Moment}
+use Rattle.tracing_tree_base.specs.declared.field.Field.{Field}
+use Rattle.tracing_tree_base.specs.declared.style.Level.{Level}
+use Rattle.tracing_tree_base.specs.declared.style.Level.TheVariants.{Info, Warn, Error}
+use Rattle.tracing_tree_layer.specs.declared.call.Call.{Call}
+use Rattle.tracing_tree.specs.Lines.Spelled.{is_skipped}
+use Rattle.tracing_tree_sources.specs.Source.{Step}
+use Rattle.tracing_tree_sources.specs.Told.{close_call, event_call, message_field, span_call}
+use Rattle.tracing_tree_sources.specs.declared.go_test.Ending.{Ending}
+use Rattle.tracing_tree_sources.specs.declared.go_test.Ending.TheVariants.{Passed, Failed, Skipped, Unfinished}
+use Rattle.tracing_tree_sources.specs.declared.go_test.Running.{Running}
+use Rattle.tracing_tree_sources.specs.declared.go_test.Tally.{Tally}
+
+-- What is known of the tests that run: the id of the next span, the moment of all calls, what runs,
+-- how many tests came to which end, the package whose build tells lines, whether something failed,
+-- and the calls that were told and not handed out yet.
+pub record GoState : Type 0 where
+  pub next : ℕ
+  pub moment : Moment
+  pub running : List Running
+  pub tally : Tally
+  pub building : List ℕ
+  pub has_failed : Bool
+  pub calls : List Call
+
+-- no test runs yet
+abbrev pub nothing_run : ℕ → Moment → GoState
+nothing_run next moment = record {
+  next = next;
+  moment = moment;
+  running = [];
+  tally = record { passed = 0; failed = 0; skipped = 0; unfinished = 0 };
+  building = [];
+  has_failed = false;
+  calls = [];
+}
+
+-- ---- texts
+
+-- nothing or this byte begins what is left
+abbrev pub ends_word : ℕ → List ℕ → Bool
+ends_word byte [] = true
+ends_word byte (b ∷ rest) = b == byte
+
+-- a name is this one or a beginning of it at a `/`, as the empty name of a package is
+abbrev pub leads : List ℕ → List ℕ → Bool
+leads name test =
+    (length name == 0)
+    || (starts_with (λ a b. a == b) test name && ends_word 47 (drop (length name) test))
+
+abbrev pub is_empty : List ℕ → Bool
+is_empty text = length text == 0
+
+abbrev pub without_spaces : List ℕ → List ℕ
+without_spaces [] = []
+without_spaces (b ∷ rest) = if b == 32 then without_spaces rest else b ∷ rest
+
+abbrev pub up_to_space : List ℕ → List ℕ
+up_to_space text = take (position_or_len (λ b. b == 32) text) text
+
+abbrev pub begins : List ℕ → List ℕ → Bool
+begins mark text = starts_with (λ a b. a == b) text mark
+
+abbrev pub ends_line : List ℕ → Bool
+ends_line text = ends_with (λ a b. a == b) text (codes "\n")
+
+abbrev pub without_line_end : List ℕ → List ℕ
+without_line_end text = if ends_line text then take (length text - 1) text else text
+
+-- ---- lines that only frame
+
+-- the line is this mark, the test's name and nothing more, or a time after it
+abbrev pub frames : List ℕ → List ℕ → List ℕ → Bool
+frames line test mark =
+    begins mark line && begins test (drop (length mark) line)
+    && ends_word 32 (drop (length test) (drop (length mark) line))
+
+abbrev pub is_package_frame : List ℕ → Bool
+is_package_frame line =
+    bytes_eq line (codes "PASS") || bytes_eq line (codes "FAIL") || begins (codes "ok  \t") line
+    || begins (codes "FAIL\t") line || begins (codes "?   \t") line
+
+abbrev pub is_step_frame : List ℕ → List ℕ → Bool
+is_step_frame test line =
+    frames line test (codes "=== RUN   ") || frames line test (codes "=== PAUSE ")
+    || frames line test (codes "=== CONT  ") || frames line test (codes "=== NAME  ")
+
+abbrev pub is_end_frame : List ℕ → List ℕ → Bool
+is_end_frame test line =
+    frames line test (codes "--- PASS: ") || frames line test (codes "--- FAIL: ")
+    || frames line test (codes "--- SKIP: ") || frames line test (codes "--- BENCH: ")
+
+abbrev pub is_test_frame : List ℕ → List ℕ → Bool
+is_test_frame test line = is_step_frame test line || is_end_frame test line
+
+abbrev pub is_frame : List ℕ → List ℕ → Bool
+is_frame test line =
+    if is_empty test then is_package_frame line else is_test_frame test (without_spaces line)
+
+-- ---- endings
+
+abbrev pub word_of : Ending → List ℕ
+word_of Passed = codes "pass"
+word_of Failed = codes "fail"
+word_of Skipped = codes "skip"
+word_of Unfinished = codes "unfinished"
+
+abbrev pub level_of : Ending → Level
+level_of Passed = Info
+level_of Failed = Error
+level_of Skipped = Warn
+level_of Unfinished = Error
+
+abbrev pub one_more : ℕ → ℕ
+one_more n = min (n + 1) (2 ^ 64 - 1)
+
+abbrev pub counted : Ending → GoState → GoState
+counted Passed s = record s { tally = record s.tally { passed = one_more s.tally.passed } }
+counted Failed s =
+    record s { tally = record s.tally { failed = one_more s.tally.failed }; has_failed = true }
+counted Skipped s = record s { tally = record s.tally { skipped = one_more s.tally.skipped } }
+counted Unfinished s =
+    record s { tally = record s.tally { unfinished = one_more s.tally.unfinished } }
+
+-- ---- calls
+
+abbrev pub told : Call → GoState → GoState
+told call s = record s { calls = s.calls ++ call ∷ [] }
+
+abbrev pub elapsed_fields : Option (List ℕ) → List Field
+elapsed_fields None = []
+elapsed_fields (Some elapsed) = rendered_field (codes "elapsed") elapsed ∷ []
+
+-- an event in this span, unless its text is blank
+abbrev pub event_told : Level → List ℕ → Option (List ℕ) → Option Id → GoState → GoState
+event_told level text elapsed above s =
+    if is_skipped text then s
+    else told (event_call s.moment level (message_field text ∷ elapsed_fields elapsed) above) s
+
+-- the end of a test that told nothing
+abbrev pub quiet_told : Ending → List ℕ → Option (List ℕ) → Option Id → GoState → GoState
+quiet_told ending name elapsed above s =
+    event_told (level_of ending) (word_of ending ++ codes " " ++ name) elapsed above s
+
+-- the name that a span or a line shows
+abbrev pub name_of : Running → List ℕ
+name_of one = if is_empty one.test then one.path else one.test
+
+-- ---- what runs, outside the list while it is told of
+
+pub record Held : Type 0 where
+  pub one : Running
+  pub state : GoState
+
+abbrev pub holds : Running → GoState → Held
+holds one state = record { one = one; state = state }
+
+abbrev pub kept : Held → GoState
+kept h = record h.state { running = h.state.running ++ h.one ∷ [] }
+
+-- its span is opened, unless it is open
+abbrev pub opened_as : Option Id → Held → Held
+opened_as (Some id) h = h
+opened_as None h = record {
+  one = record h.one { span = Some (id_of h.state.next) };
+  state = record (told (span_call h.state.moment (name_of h.one) [] h.one.above) h.state)
+      { next = one_more h.state.next };
+}
+
+abbrev pub opened : Held → Held
+opened h = opened_as h.one.span h
+
+-- an event in its span
+abbrev pub said : Level → List ℕ → Held → Held
+said level text h =
+    record h { state = event_told level text None h.one.span h.state }
+
+-- this line of it is told, unless it only frames
+abbrev pub line_of : List ℕ → Held → Held
+line_of text h =
+    let line = without_line_end text in
+    if is_frame h.one.test line then h else said Info line (opened h)
+
+-- the line that it has printed is told
+abbrev pub line_told : Held → Held
+line_told h = line_of h.one.part (record h { one = record h.one { part = [] } })
+
+abbrev pub part_told : Held → Held
+part_told h = if is_empty h.one.part then h else line_told h
+
+abbrev pub span_ended : Ending → Option (List ℕ) → Option Id → Held → GoState
+span_ended ending elapsed (Some id) h =
+    told (close_call h.state.moment id h.one.above)
+    (event_told (level_of ending) (word_of ending) elapsed (Some id) h.state)
+span_ended ending elapsed None h = quiet_told ending (name_of h.one) elapsed h.one.above h.state
+
+-- it runs no longer
+abbrev pub finished : Ending → Option (List ℕ) → Held → GoState
+finished ending elapsed h =
+    let last = part_told h in
+    span_ended ending elapsed last.one.span last
+
+abbrev pub begun : List ℕ → List ℕ → Option Id → Running
+begun path test above =
+    record { path = path; test = test; above = above; span = None; part = [] }
+
+-- what runs under the longest beginning of a name: the longest so far, and where it stands
+pub record Longest : Type 0 where
+  pub longest : ℕ
+  pub found : Option ℕ
+
+abbrev pub owner_from : List ℕ → List ℕ → List Running → ℕ → Longest → Longest
+owner_from path test [] at best = best
+owner_from path test (one ∷ others) at best =
+    owner_from path test others (at + 1)
+    (if bytes_eq one.path path && leads one.test test && nat_le best.longest (length one.test)
+    then record { longest = length one.test; found = Some at } else best)
+
+abbrev pub owner : List Running → List ℕ → List ℕ → Option ℕ
+owner running path test =
+    (owner_from path test running 0 (record { longest = 0; found = None })).found
+
+abbrev pub held_one : Option Running → ℕ → List ℕ → GoState → Held
+held_one (Some one) at path s =
+    let others : List Running = take at s.running ++ drop (at + 1) s.running in
+    record { one = one; state = record s { running = others } }
+held_one None at path s = record { one = begun path [] None; state = s }
+
+abbrev pub held_at : Option ℕ → List ℕ → GoState → Held
+held_at (Some at) path s = held_one (slice_get s.running at) at path s
+held_at None path s = record { one = begun path [] None; state = s }
+
+-- what runs under the longest beginning of a name is taken out of the list; a package that isn't
+-- known yet begins
+abbrev pub held : List ℕ → List ℕ → GoState → Held
+held path test s = held_at (owner s.running path test) path s
+
+-- ---- actions
+
+-- a test begins
+abbrev pub ran : List ℕ → List ℕ → GoState → GoState
+ran path test s =
+    let h = opened (held path test s) in
+    kept (record { one = begun path test h.one.span; state = kept h })
+
+-- the line that this text ends is told
+abbrev pub told_if_ended : List ℕ → Held → Held
+told_if_ended text h = if ends_line text then line_told h else h
+
+-- a text behind what is printed of a line
+abbrev pub more_printed : List ℕ → Held → Held
+more_printed text h = record h { one = record h.one { part = h.one.part ++ text } }
+
+-- a test prints
+abbrev pub printed : List ℕ → List ℕ → List ℕ → GoState → GoState
+printed path test text s = kept (told_if_ended text (more_printed text (held path test s)))
+
+-- a package's test that still runs ends unfinished; what else runs is kept
+abbrev pub left_one : List ℕ → Running → GoState → GoState
+left_one path one s =
+    if bytes_eq one.path path && not (is_empty one.test)
+    then finished Unfinished None (holds one (counted Unfinished s))
+    else kept (holds one s)
+
+abbrev pub left_over : List ℕ → List Running → GoState → GoState
+left_over path [] s = s
+left_over path (one ∷ others) s = left_over path others (left_one path one s)
+
+abbrev pub all_left_over : List ℕ → GoState → GoState
+all_left_over path s = left_over path s.running (record s { running = [] })
+
+abbrev pub failed_by : Ending → GoState → GoState
+failed_by Failed s = record s { has_failed = true }
+failed_by ending s = s
+
+-- a package ends
+abbrev pub package_ended : Ending → List ℕ → Option (List ℕ) → GoState → GoState
+package_ended ending path elapsed s =
+    finished ending elapsed (held path [] (all_left_over path (failed_by ending s)))
+
+-- a test ends that runs, or that didn't
+abbrev pub test_ended : Ending → List ℕ → Option (List ℕ) → Held → GoState
+test_ended ending test elapsed h =
+    if bytes_eq h.one.test test then finished ending elapsed h
+    else
+    let shown : Held = opened h in
+    kept (record shown { state = quiet_told ending test elapsed shown.one.span shown.state })
+
+abbrev pub ended : Ending → List ℕ → List ℕ → Option (List ℕ) → GoState → GoState
+ended ending path test elapsed s =
+    if is_empty test then package_ended ending path elapsed s
+    else test_ended ending test elapsed (held path test (counted ending s))
+
+-- ---- lines
+
+-- what stands behind this mark at the front of a line
+abbrev pub after_mark : List ℕ → List ℕ → Option (List ℕ)
+after_mark mark line = if begins mark line then Some (drop (length mark) line) else None
+
+-- a line that a build prints
+abbrev pub takes_plain : List ℕ → GoState → GoState
+takes_plain line s =
+    if is_package_frame line then s
+    else if is_empty s.building then event_told Error line None None s
+    else kept (said Error line (opened (held s.building [] s)))
+
+abbrev pub takes_failure : Option (List ℕ) → List ℕ → GoState → GoState
+takes_failure (Some rest) line s =
+    package_ended Failed (up_to_space rest) None (record s { building = [] })
+takes_failure None line s = takes_plain line s
+
+abbrev pub takes_heading : Option (List ℕ) → List ℕ → GoState → GoState
+takes_heading (Some rest) line s = record s { building = up_to_space rest }
+takes_heading None line s = takes_failure (after_mark (codes "FAIL\t") line) line s
+
+-- a line that isn't JSON: of a build that fails
+abbrev pub takes_text : List ℕ → GoState → GoState
+takes_text line s = takes_heading (after_mark (codes "# ") line) line s
+
+abbrev pub text_at : List ℕ → Json → Option (List ℕ)
+text_at key value = option_and_then as_str (get key value)
+
+-- the test of a line; a package's line has none
+abbrev pub test_of : Json → List ℕ
+test_of value = unwrap_or (text_at (codes "Test") value) []
+
+abbrev pub elapsed_in : Json → Option (List ℕ)
+elapsed_in value = option_and_then as_number (get (codes "Elapsed") value)
+
+-- the package of a line; that of a build's line is the beginning of its import path
+abbrev pub package_of : Json → Option (List ℕ)
+package_of value = package_or_path (text_at (codes "Package") value) where
+  package_or_path : Option (List ℕ) → Option (List ℕ)
+  package_or_path (Some path) = Some path
+  package_or_path None = option_map up_to_space (text_at (codes "ImportPath") value)
+
+abbrev pub printed_if : List ℕ → List ℕ → Option (List ℕ) → GoState → Option GoState
+printed_if path test None s = None
+printed_if path test (Some text) s = Some (printed path test text s)
+
+abbrev pub acted : List ℕ → List ℕ → List ℕ → Json → GoState → Option GoState
+acted action path test value s =
+    if bytes_eq action (codes "run") then Some (ran path test s)
+    else if bytes_eq action (codes "output") || bytes_eq action (codes "build-output")
+    then printed_if path test (text_at (codes "Output") value) s
+    else if bytes_eq action (codes "pass") || bytes_eq action (codes "bench")
+    then Some (ended Passed path test (elapsed_in value) s)
+    else if bytes_eq action (codes "fail")
+    then Some (ended Failed path test (elapsed_in value) s)
+    else if bytes_eq action (codes "skip")
+    then Some (ended Skipped path test (elapsed_in value) s)
+    else Some s
+
+abbrev pub acted_for : Option (List ℕ) → Option (List ℕ) → Json → GoState → Option GoState
+acted_for (Some action) (Some path) value s =
+    acted action path (test_of value) value s
+acted_for (Some action) None value s = None
+acted_for None path value s = None
+
+abbrev pub takes_json : Json → GoState → Option GoState
+takes_json value s = acted_for (text_at (codes "Action") value) (package_of value) value s
+
+-- what is known of a line is done, and nothing of another
+abbrev pub takes_value_as : Option GoState → GoState → GoState → Bool → Type 0
+takes_value_as (Some state) old new known = (new ≡ state) × (known ≡ true)
+takes_value_as None old new known = (new ≡ old) × (known ≡ false)
+
+abbrev pub takes_value : Json → GoState → GoState → Bool → Type 0
+takes_value value old new known = takes_value_as (takes_json value old) old new known
+
+abbrev pub handed_out : GoState → Step GoState
+handed_out s = record { calls = s.calls; source = record s { calls = [] } }
+
+-- what a line tells
+abbrev pub go_takes : GoState → List ℕ → Option Json → Option (Step GoState)
+go_takes s line None = Some (handed_out (takes_text line s))
+go_takes s line (Some value) = option_map handed_out (takes_json value s)
+
+-- at the end one line counts the tests
+abbrev pub tally_fields : Tally → List Field
+tally_fields tally =
+    whole_field (codes "passed") (pos tally.passed)
+    ∷ whole_field (codes "failed") (pos tally.failed)
+    ∷ whole_field (codes "skipped") (pos tally.skipped)
+    ∷ whole_field (codes "unfinished") (pos tally.unfinished) ∷ []
+
+abbrev pub go_ends : GoState → List Call
+go_ends s =
+    event_call s.moment (if s.has_failed then Error else Info) (tally_fields s.tally) None ∷ []

@@ -1,0 +1,3 @@
+pub mod Source
+pub mod Told
+pub mod GoTest

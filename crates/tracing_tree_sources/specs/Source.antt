@@ -1,0 +1,140 @@
+-- What lines of another tool's output mean: a source takes a line's text and value in and gives calls
+-- and its next state out.
+use Rattle.std.specs.Prelude.{◌≡◌, ℕ, ◌+◌, Bool, true, false, if◌then◌else◌, List, [], ◌∷◌, ◌++◌, length, Option, Some, None, Result, Ok, Err, IfSome, MatchOption, ⊤}
+use Rattle.std.specs.Io.KnownBytes.{Appends}
+use Rattle.std.specs.Str.{is_utf8}
+use Rattle.json.specs.Json.{Json, document}
+use Rattle.tracing_tree_base.specs.Drawing.Picture.{draw}
+use Rattle.tracing_tree_layer.specs.Calls.Seen.{Seen, seen_later}
+use Rattle.tracing_tree_layer.specs.Calls.Headline.{run_from}
+use Rattle.tracing_tree_layer.specs.Calls.Answered.{IsAnswered}
+use Rattle.tracing_tree_layer.specs.declared.call.Call.{Call}
+use Rattle.tracing_tree.specs.Lines.Spelled.{input_lines, is_skipped}
+use Rattle.tracing_tree.specs.Lines.Reads.{TakesLine}
+use Rattle.tracing_tree.specs.declared.lines.LineCause.{LineCause}
+use Rattle.tracing_tree.specs.declared.lines.LineCause.TheVariants.{Refused}
+use Rattle.tracing_tree_sources.specs.declared.run.SourceRun.{SourceRun}
+use Rattle.tracing_tree_sources.specs.declared.run.Judged.{Judged}
+use Rattle.tracing_tree_sources.specs.declared.run.Judged.TheVariants.{End, Known, Unknown}
+
+-- the calls that something told, and the source afterwards
+pub record Step (S : Type 0) : Type 0 where
+  pub calls : List Call
+  pub source : S
+
+-- what lines told: calls, the source after them, and how many lines told nothing that is known
+pub record Heard (S : Type 0) : Type 0 where
+  pub calls : List Call
+  pub source : S
+  pub unknown : ℕ
+
+module _ {S : Type 0} where
+  abbrev pub heard_step : S → Option (Step S) → Heard S
+  heard_step source None = record { calls = []; source = source; unknown = 1 }
+  heard_step source (Some step) = record {
+    calls = step.calls;
+    source = step.source;
+    unknown = 0;
+  }
+
+  abbrev pub nothing_heard : S → Heard S
+  nothing_heard source = record { calls = []; source = source; unknown = 0 }
+
+  abbrev pub then_heard : Heard S → Heard S → Heard S
+  then_heard first next = record {
+    calls = first.calls ++ next.calls;
+    source = next.source;
+    unknown = first.unknown + next.unknown;
+  }
+
+  module _ (takes : S → List ℕ → Option Json → Option (Step S)) where
+    -- what a line tells: a blank one nothing, and one that isn't UTF-8 nothing that is known
+    abbrev pub hear_line : S → List ℕ → Heard S
+    hear_line source line =
+        if is_skipped line then nothing_heard source
+        else if is_utf8 line then heard_step source (takes source line (document line))
+        else heard_step source None
+
+    -- what lines tell, one after another
+    abbrev pub hear : S → List (List ℕ) → Heard S
+    hear source [] = nothing_heard source
+    hear source (line ∷ lines) =
+        let heard = hear_line source line in
+        then_heard heard (hear heard.source lines)
+
+    -- all calls of an input: those of its lines, and those that its end brings
+    abbrev pub calls_of : (S → List Call) → S → List (List ℕ) → List Call
+    calls_of ends source lines =
+        let heard = hear source lines in
+        heard.calls ++ ends heard.source
+
+-- what a line's text and value tell is answered, and the source goes on from there
+abbrev pub Tells : {S : Type 0} → Option (Step S) → S → S → Option (List Call) → Type 0
+Tells None old new None = new ≡ old
+Tells None old new (Some calls) = ⊥
+Tells (Some step) old new None = ⊥
+Tells (Some step) old new (Some calls) = (calls ≡ step.calls) × (new ≡ step.source)
+
+-- Each of these calls was accepted: state and bytes are those of their run.
+pub record Makes (calls : List Call) (old new : Seen) : Type 0 where
+  pub left : new ≡ seen_later old (run_from old calls).state new.writer
+  pub bytes : Appends old.writer.bytes new.writer.bytes
+      (draw old.settings (run_from old calls).rows)
+  pub all : length (run_from old calls).replies ≡ length calls
+  pub calm : new.writer.faults ≡ old.writer.faults
+
+-- of what ends a run early, a refused call alone leaves anything; it is the first of the rest
+abbrev pub Breaks : LineCause → List Call → Seen → Seen → Type 0
+Breaks (Refused refusal) [] old new = ⊥
+Breaks (Refused refusal) (call ∷ rest) old new = IsAnswered call (Err refusal) old new
+Breaks cause rest old new = new ≡ old
+
+-- a beginning of these calls was accepted, and then this ended the run
+pub record StopsIn (calls : List Call) (cause : LineCause) (old new : Seen) : Type 0 where
+  pub made : List Call
+  pub rest : List Call
+  pub split : made ++ rest ≡ calls
+  pub between : Seen
+  pub makes : Makes made old between
+  pub breaks : Breaks cause rest between new
+
+-- all of these calls were accepted, or a beginning
+abbrev pub MakesAll : List Call → Result ⊤ LineCause → Seen → Seen → Type 0
+MakesAll calls (Ok done) old new = Makes calls old new
+MakesAll calls (Err cause) old new = StopsIn calls cause old new
+
+module _ {S : Type 0} (takes : S → List ℕ → Option Json → Option (Step S)) where
+  -- what one line did; where it is known, the source goes on as it says
+  abbrev pub HearsLine : List ℕ → S → S → Result Bool LineCause → Seen → Seen → Type 0
+  HearsLine line before after (Ok known) old new =
+      let heard = hear_line takes before line in
+      Makes heard.calls old new × (after ≡ heard.source)
+      × (heard.unknown ≡ (if known then 0 else 1))
+  HearsLine line before after (Err cause) old new =
+      StopsIn (hear_line takes before line).calls cause old new
+
+  -- What the next line did, or the end: then these were the calls of all that is left.
+  abbrev pub HearsNext : (S → List Call) → Option (List ℕ) → Option (List ℕ) → S → S
+      → Result Judged LineCause → Seen → Seen → Type 0
+  HearsNext ends known left before after (Ok End) old new =
+      IfSome known (λ input. (input_lines input ≡ []) × Makes (ends before) old new)
+  HearsNext ends known left before after (Ok Known) old new =
+      (line : List ℕ) × TakesLine known left line × HearsLine line before after (Ok true) old new
+  HearsNext ends known left before after (Ok Unknown) old new =
+      (line : List ℕ) × TakesLine known left line × HearsLine line before after (Ok false) old new
+  HearsNext ends known left before after (Err cause) old new =
+      IfSome known (λ input. StopsIn (calls_of takes ends before (input_lines input)) cause old new)
+
+  -- The drawing is that of the calls of the known lines, and of those that the end brings; each was
+  -- accepted. Where something ended the run, it is that of a beginning of these calls.
+  abbrev pub RunsLines : (S → List Call) → List (List ℕ) → S → SourceRun → Seen → Seen → Type 0
+  RunsLines ends lines source run old new =
+      MatchOption run.fault
+      (Makes (calls_of takes ends source lines) old new
+      × (run.unknown ≡ (hear takes source lines).unknown))
+      (λ fault. StopsIn (calls_of takes ends source lines) fault.cause old new)
+
+  -- the same over what is left of the input, where that is known
+  abbrev pub RunsSource : (S → List Call) → Option (List ℕ) → S → SourceRun → Seen → Seen → Type 0
+  RunsSource ends known source run old new =
+      IfSome known (λ input. RunsLines ends (input_lines input) source run old new)

@@ -1,0 +1,748 @@
+//! Go's tests: the lines of `go test -json`.
+
+ghost use Rattle.std.specs.Prelude.{◌≡◌, ◌++◌, ◌∷◌, ◌<◌, [], Bool, true, false, IfOk, IfSome, OnOk, Option, None, Some, option_map, length, bytes_eq, codes, unwrap_or};
+ghost use Rattle.json.specs.Value.{value_view};
+ghost use Rattle.tracing_tree_sources.specs.GoTest.{acted, after_mark, all_left_over, failed_by, takes_plain, takes_value_as, test_ended, told_if_ended, begun, counted, elapsed_in, ended, ends_line, ends_word, event_told, finished, frames, go_ends, held, holds, is_frame, is_package_frame, kept, is_end_frame, is_step_frame, leads, left_one, left_over, level_of, line_of, line_told, name_of, nothing_run, opened, owner, package_ended, package_of, printed, quiet_told, ran, takes_text, takes_value, test_of, text_at, up_to_space, without_line_end, without_spaces, word_of};
+
+use crate::source::Source;
+use crate::told::{close_call, event_call, message_field, span_call};
+use json::Value;
+use std::alloc::{AllocError, Global};
+use std::marker::Model;
+use std::mem;
+use tracing_tree::call::Call;
+use tracing_tree::field::{Field, Fields};
+use tracing_tree::format::Id;
+use tracing_tree::lines::is_skipped;
+use tracing_tree::style::Level;
+use tracing_tree::text::Text;
+use tracing_tree::time::Moment;
+
+/// How many tests came to which end.
+#[derive(Clone, Copy, Debug)]
+pub struct Tally {
+    pub passed: u64,
+    pub failed: u64,
+    pub skipped: u64,
+    pub unfinished: u64,
+}
+
+// How a test or a package ends.
+#[derive(Clone, Copy)]
+enum Ending {
+    Passed,
+    Failed,
+    Skipped,
+    Unfinished,
+}
+
+impl Ending {
+    fn word(self) -> &'static str
+        ensures { result.now ≡ word_of self }
+    {
+        match self {
+            Ending::Passed => "pass",
+            Ending::Failed => "fail",
+            Ending::Skipped => "skip",
+            Ending::Unfinished => "unfinished",
+        }
+    }
+
+    fn level(self) -> Level
+        ensures { result ≡ level_of self }
+    {
+        match self {
+            Ending::Passed => Level::Info,
+            Ending::Failed | Ending::Unfinished => Level::Error,
+            Ending::Skipped => Level::Warn,
+        }
+    }
+}
+
+// A test that runs, or its package, which has no test's name.
+#[derive(Drop)]
+struct Running {
+    path: Text,
+    test: Text,
+    // The span in which it stands.
+    above: Option<Id>,
+    // Its own, once it has told something.
+    span: Option<Id>,
+    // The beginning of a line whose end isn't printed yet.
+    part: Text,
+}
+
+/// What is known of the tests that run. A test's parent is the longest beginning of its name, at a `/`, that runs, or its
+/// package. A test that tells nothing before its end is one event in the span above it.
+#[derive(Drop)]
+pub struct GoTest {
+    alloc: Global,
+    // The id that the next span gets.
+    next: u64,
+    moment: Moment,
+    running: Vec<Running>,
+    tally: Tally,
+    // The package whose build tells lines that aren't JSON.
+    building: Text,
+    has_failed: bool,
+    calls: Vec<Call>,
+}
+
+impl Model for GoTest {
+    ghost use Rattle.tracing_tree_sources.specs.GoTest.{GoState};
+
+    ghost Value = { GoState };
+
+    ghost view = { λ g. record {
+      next = g.next;
+      moment = g.moment;
+      running = g.running.items;
+      tally = g.tally;
+      building = g.building;
+      has_failed = g.has_failed;
+      calls = g.calls.items;
+    } };
+}
+
+impl GoTest {
+    /// No test runs yet. The next span gets this id, and all calls are made at this moment.
+    pub fn new(alloc: Global, next: u64, moment: Moment) -> Result<GoTest, AllocError>
+        ensures { IfOk result (λ source. source ≡ nothing_run next moment) }
+    {
+        Ok(GoTest {
+            alloc,
+            next,
+            moment,
+            running: Vec::new(alloc),
+            tally: Tally {
+                passed: 0,
+                failed: 0,
+                skipped: 0,
+                unfinished: 0,
+            },
+            building: Text::from_str(alloc, "")?,
+            has_failed: false,
+            calls: Vec::new(alloc),
+        })
+    }
+
+    /// Whether something has failed.
+    pub fn has_failed(&self) -> bool
+        ensures { result ≡ self.now.has_failed }
+    {
+        self.has_failed
+    }
+
+    /// How many tests came to which end.
+    pub fn tally(&self) -> Tally
+        ensures { result ≡ self.now.tally }
+    {
+        self.tally
+    }
+
+    // Hands out the calls.
+    fn told(&mut self) -> Vec<Call>
+        ensures told { result.items ≡ self.old.calls }
+        ensures rest { self.new ≡ record self.old { calls = [] } }
+    {
+        mem::replace(&mut self.calls, Vec::new(self.alloc))
+    }
+
+    // A line of text: of a build that fails.
+    fn take_text(&mut self, line: &str) -> Result<(), AllocError>
+        ensures { OnOk result (self.new ≡ takes_text line.now self.old) }
+    {
+        if let Some(rest) = after_mark(line, "# ") {
+            return self.set_building(up_to_space(rest));
+        }
+        if let Some(rest) = after_mark(line, "FAIL\t") {
+            self.set_building("")?;
+            return self.end_package(Ending::Failed, up_to_space(rest), None);
+        }
+        self.take_plain(line)
+    }
+
+    // The package whose build prints from here on; none where the name is empty.
+    fn set_building(&mut self, path: &str) -> Result<(), AllocError>
+        ensures { OnOk result (self.new ≡ record self.old { building = path.now }) }
+    {
+        self.building = Text::from_str(self.alloc, path)?;
+        Ok(())
+    }
+
+    // A line that a build prints.
+    fn take_plain(&mut self, line: &str) -> Result<(), AllocError>
+        ensures { OnOk result (self.new ≡ takes_plain line.now self.old) }
+    {
+        if is_package_frame(line.as_bytes()) {
+            return Ok(());
+        }
+        if self.building.as_str().is_empty() {
+            return self.push_event(Level::Error, line, None, None);
+        }
+        let path = self.building.clone()?;
+        let mut owner = self.take_owner(path.as_str(), "")?;
+        self.open(&mut owner)?;
+        self.push_event(Level::Error, line, None, owner.span)?;
+        Ok(self.running.push(owner)?)
+    }
+
+    // A line that is a JSON value. Returns whether it is known.
+    fn take_value(&mut self, value: &Value<'_>) -> Result<bool, AllocError>
+        ensures { IfOk result (takes_value (value_view value.now) self.old self.new) }
+    {
+        let Some(action) = text_at(value, "Action") else {
+            return Ok(false);
+        };
+        let Some(path) = package_of(value) else {
+            return Ok(false);
+        };
+        self.act(action, path, test_of(value), value)
+    }
+
+    // A line of this action.
+    fn act(
+        &mut self,
+        action: &str,
+        path: &str,
+        test: &str,
+        value: &Value<'_>,
+    ) -> Result<bool, AllocError>
+        ensures { IfOk result (takes_value_as
+            (acted action.now path.now test.now (value_view value.now) self.old) self.old
+            self.new) }
+    {
+        if action == "run" {
+            self.run(path, test)?;
+        } else if action == "output" || action == "build-output" {
+            let Some(text) = text_at(value, "Output") else {
+                return Ok(false);
+            };
+            self.output(path, test, text)?;
+        } else if action == "pass" || action == "bench" {
+            self.end(Ending::Passed, path, test, value)?;
+        } else if action == "fail" {
+            self.end(Ending::Failed, path, test, value)?;
+        } else if action == "skip" {
+            self.end(Ending::Skipped, path, test, value)?;
+        }
+        Ok(true)
+    }
+
+    // A test begins.
+    fn run(&mut self, path: &str, test: &str) -> Result<(), AllocError>
+        ensures { OnOk result (self.new ≡ ran path.now test.now self.old) }
+    {
+        let mut owner = self.take_owner(path, test)?;
+        self.open(&mut owner)?;
+        let above = owner.span;
+        self.running.push(owner)?;
+        let begun = self.begun(path, test, above)?;
+        Ok(self.running.push(begun)?)
+    }
+
+    fn begun(&self, path: &str, test: &str, above: Option<Id>) -> Result<Running, AllocError>
+        ensures { IfOk result (λ one. one ≡ begun path.now test.now above) }
+    {
+        Ok(Running {
+            path: Text::from_str(self.alloc, path)?,
+            test: Text::from_str(self.alloc, test)?,
+            above,
+            span: None,
+            part: Text::from_str(self.alloc, "")?,
+        })
+    }
+
+    // A test prints.
+    fn output(&mut self, path: &str, test: &str, text: &str) -> Result<(), AllocError>
+        ensures { OnOk result (self.new ≡ printed path.now test.now text.now self.old) }
+    {
+        let mut owner = self.take_owner(path, test)?;
+        add_to_part(self.alloc, &mut owner, text)?;
+        self.tell_if_ended(&mut owner, text)?;
+        Ok(self.running.push(owner)?)
+    }
+
+    // Tells the line that this text ends.
+    fn tell_if_ended(&mut self, owner: &mut Running, text: &str) -> Result<(), AllocError>
+        ensures { OnOk result (holds owner.new self.new
+            ≡ told_if_ended text.now (holds owner.old self.old)) }
+    {
+        if ends_line(text.as_bytes()) {
+            return self.tell_part(owner);
+        }
+        Ok(())
+    }
+
+    // Tells the line that a test has printed, but for one that only frames.
+    fn tell_part(&mut self, owner: &mut Running) -> Result<(), AllocError>
+        ensures { OnOk result (holds owner.new self.new ≡ line_told (holds owner.old self.old)) }
+    {
+        let part = take_part(self.alloc, owner)?;
+        self.tell_line(owner, part.as_str())
+    }
+
+    // Tells this line of what runs, unless it only frames.
+    fn tell_line(&mut self, owner: &mut Running, text: &str) -> Result<(), AllocError>
+        ensures { OnOk result (holds owner.new self.new
+            ≡ line_of text.now (holds owner.old self.old)) }
+    {
+        let line = without_line_end(text);
+        if is_frame(owner.test.as_str().as_bytes(), line.as_bytes()) {
+            return Ok(());
+        }
+        self.open(owner)?;
+        self.push_event(Level::Info, line, None, owner.span)
+    }
+
+    // A test ends, or a package.
+    fn end(
+        &mut self,
+        ending: Ending,
+        path: &str,
+        test: &str,
+        value: &Value<'_>,
+    ) -> Result<(), AllocError>
+        ensures { OnOk result (self.new ≡ ended ending path.now test.now
+            (elapsed_in (value_view value.now)) self.old) }
+    {
+        let elapsed = elapsed_in(value);
+        if test.is_empty() {
+            return self.end_package(ending, path, elapsed);
+        }
+        self.count(ending);
+        let owner = self.take_owner(path, test)?;
+        self.end_test(owner, ending, test, elapsed)
+    }
+
+    // The test of this name ends, or one in it that didn't run.
+    fn end_test(
+        &mut self,
+        owner: Running,
+        ending: Ending,
+        test: &str,
+        elapsed: Option<&str>,
+    ) -> Result<(), AllocError>
+        ensures { OnOk result (self.new ≡ test_ended ending test.now
+            (option_map (λ e. e.now) elapsed.entry) (holds owner self.old)) }
+    {
+        if owner.test.as_str() == test {
+            return self.finish(owner, ending, elapsed);
+        }
+        let mut owner = owner;
+        self.open(&mut owner)?;
+        self.push_quiet(ending, test, elapsed, owner.span)?;
+        Ok(self.running.push(owner)?)
+    }
+
+    fn end_package(
+        &mut self,
+        ending: Ending,
+        path: &str,
+        elapsed: Option<&str>,
+    ) -> Result<(), AllocError>
+        ensures { OnOk result (self.new ≡ package_ended ending path.now
+            (option_map (λ e. e.now) elapsed.entry) self.old) }
+    {
+        self.note_failed(ending);
+        self.leave_all_over(path)?;
+        let owner = self.take_owner(path, "")?;
+        self.finish(owner, ending, elapsed)
+    }
+
+    fn note_failed(&mut self, ending: Ending)
+        ensures { self.new ≡ failed_by ending self.old }
+    {
+        match ending {
+            Ending::Failed => self.has_failed = true,
+            Ending::Passed | Ending::Skipped | Ending::Unfinished => {}
+        }
+    }
+
+    fn take_running(&mut self) -> Vec<Running>
+        ensures running { result.items ≡ self.old.running }
+        ensures rest { self.new ≡ record self.old { running = [] } }
+    {
+        mem::replace(&mut self.running, Vec::new(self.alloc))
+    }
+
+    // Ends the tests of a package that still run.
+    fn leave_all_over(&mut self, path: &str) -> Result<(), AllocError>
+        ensures { OnOk result (self.new ≡ all_left_over path.now self.old) }
+    {
+        let running = self.take_running();
+        self.leave_over(running, path)
+    }
+
+    // Ends the tests of a package among these, and keeps the others.
+    fn leave_over(&mut self, running: Vec<Running>, path: &str) -> Result<(), AllocError>
+        ensures { OnOk result (self.new ≡ left_over path.now running.items self.old) }
+    {
+        for one in running {
+            self.leave_one(one, path)?;
+        }
+        Ok(())
+    }
+
+    fn leave_one(&mut self, one: Running, path: &str) -> Result<(), AllocError>
+        ensures { OnOk result (self.new ≡ left_one path.now one self.old) }
+    {
+        if one.path.as_str() == path && !one.test.as_str().is_empty() {
+            self.count(Ending::Unfinished);
+            return self.finish(one, Ending::Unfinished, None);
+        }
+        Ok(self.running.push(one)?)
+    }
+
+    fn count(&mut self, ending: Ending)
+        ensures { self.new ≡ counted ending self.old }
+    {
+        match ending {
+            Ending::Passed => self.tally.passed = self.tally.passed.saturating_add(1),
+            Ending::Failed => {
+                self.tally.failed = self.tally.failed.saturating_add(1);
+                self.has_failed = true;
+            }
+            Ending::Skipped => self.tally.skipped = self.tally.skipped.saturating_add(1),
+            Ending::Unfinished => self.tally.unfinished = self.tally.unfinished.saturating_add(1),
+        }
+    }
+
+    // What runs no longer: its end is told in its span, which closes, or where it told nothing in one line in the span above.
+    fn finish(
+        &mut self,
+        one: Running,
+        ending: Ending,
+        elapsed: Option<&str>,
+    ) -> Result<(), AllocError>
+        ensures { OnOk result (self.new ≡ finished ending (option_map (λ e. e.now) elapsed.entry)
+            (holds one self.old)) }
+    {
+        let mut one = one;
+        if !one.part.as_str().is_empty() {
+            self.tell_part(&mut one)?;
+        }
+        match one.span {
+            Some(id) => {
+                self.push_event(ending.level(), ending.word(), elapsed, Some(id))?;
+                let call = close_call(self.moment, id, one.above);
+                Ok(self.calls.push(call)?)
+            }
+            None => {
+                let name = name_of(&one);
+                self.push_quiet(ending, name, elapsed, one.above)
+            }
+        }
+    }
+
+    // The end of a test that told nothing.
+    fn push_quiet(
+        &mut self,
+        ending: Ending,
+        name: &str,
+        elapsed: Option<&str>,
+        above: Option<Id>,
+    ) -> Result<(), AllocError>
+        ensures { OnOk result (self.new ≡ quiet_told ending name.now
+            (option_map (λ e. e.now) elapsed.entry) above self.old) }
+    {
+        let mut text = String::from_str(self.alloc, ending.word())?;
+        text.push_str(" ")?;
+        text.push_str(name)?;
+        self.push_event(ending.level(), text.as_str(), elapsed, above)
+    }
+
+    // An event in this span, unless its text is blank.
+    fn push_event(
+        &mut self,
+        level: Level,
+        text: &str,
+        elapsed: Option<&str>,
+        above: Option<Id>,
+    ) -> Result<(), AllocError>
+        ensures { OnOk result (self.new ≡ event_told level text.now
+            (option_map (λ e. e.now) elapsed.entry) above self.old) }
+    {
+        if is_skipped(text.as_bytes()) {
+            return Ok(());
+        }
+        let mut fields = Vec::with_capacity(self.alloc, 2)?;
+        fields.push(message_field(self.alloc, text)?)?;
+        if let Some(elapsed) = elapsed {
+            fields.push(Field::rendered(self.alloc, "elapsed", elapsed)?)?;
+        }
+        let call = event_call(self.alloc, self.moment, level, Fields::from(fields), above)?;
+        Ok(self.calls.push(call)?)
+    }
+
+    // Opens the span of what runs, unless it is open.
+    fn open(&mut self, one: &mut Running) -> Result<(), AllocError>
+        ensures { OnOk result (holds one.new self.new ≡ opened (holds one.old self.old)) }
+    {
+        if one.span.is_some() {
+            return Ok(());
+        }
+        let call = span_call(
+            self.alloc,
+            self.moment,
+            name_of(one),
+            Fields::new(self.alloc),
+            one.above,
+        )?;
+        self.calls.push(call)?;
+        one.span = Some(Id(self.next));
+        self.next = self.next.saturating_add(1);
+        Ok(())
+    }
+
+    // What runs under the longest beginning of this name, taken out of the list. A package that isn't known yet begins.
+    fn take_owner(&mut self, path: &str, test: &str) -> Result<Running, AllocError>
+        ensures { IfOk result (λ one. holds one self.new ≡ held path.now test.now self.old) }
+    {
+        match owner(self.running.as_slice(), path, test) {
+            Some(at) => Ok(self.running.remove(at)),
+            None => self.begun(path, "", None),
+        }
+    }
+}
+
+impl Source for GoTest {
+    ghost use Rattle.tracing_tree_sources.specs.GoTest.{go_takes, go_ends};
+
+    ghost takes = { go_takes };
+
+    ghost ends = { go_ends };
+
+    fn take(
+        &mut self,
+        _alloc: Global,
+        line: &str,
+        value: Option<&Value<'_>>,
+    ) -> Result<Option<Vec<Call>>, AllocError> {
+        match value {
+            Some(value) => {
+                if !self.take_value(value)? {
+                    return Ok(None);
+                }
+            }
+            None => self.take_text(line)?,
+        }
+        Ok(Some(self.told()))
+    }
+
+    fn end(&mut self, alloc: Global) -> Result<Vec<Call>, AllocError> {
+        let tally = self.tally;
+        let mut fields = Vec::with_capacity(alloc, 4)?;
+        fields.push(Field::whole(alloc, "passed", i128::from(tally.passed))?)?;
+        fields.push(Field::whole(alloc, "failed", i128::from(tally.failed))?)?;
+        fields.push(Field::whole(alloc, "skipped", i128::from(tally.skipped))?)?;
+        fields.push(Field::whole(alloc, "unfinished", i128::from(tally.unfinished))?)?;
+        let level = if self.has_failed {
+            Level::Error
+        } else {
+            Level::Info
+        };
+        let mut calls = Vec::new(alloc);
+        calls.push(event_call(alloc, self.moment, level, Fields::from(fields), None)?)?;
+        Ok(calls)
+    }
+}
+
+fn text_at<'v>(value: &'v Value<'_>, key: &str) -> Option<&'v str>
+    ensures { option_map (λ s. s.now) result ≡ text_at key.now (value_view value.now) }
+{
+    value.get(key)?.as_str()
+}
+
+// The test of a line; a package's line has none.
+fn test_of<'v>(value: &'v Value<'_>) -> &'v str
+    ensures { result.now ≡ test_of (value_view value.now) }
+{
+    match text_at(value, "Test") {
+        Some(test) => test,
+        None => "",
+    }
+}
+
+// How long a test took, as the line's number reads.
+fn elapsed_in<'v>(value: &'v Value<'_>) -> Option<&'v str>
+    ensures { option_map (λ s. s.now) result ≡ elapsed_in (value_view value.now) }
+{
+    value.get("Elapsed")?.as_number()
+}
+
+// The package of a line; that of a build's line is the beginning of its import path.
+fn package_of<'v>(value: &'v Value<'_>) -> Option<&'v str>
+    ensures { option_map (λ s. s.now) result ≡ package_of (value_view value.now) }
+{
+    match text_at(value, "Package") {
+        Some(path) => Some(path),
+        None => {
+            let path = text_at(value, "ImportPath")?;
+            Some(up_to_space(path))
+        }
+    }
+}
+
+// Takes what is printed of a line.
+fn take_part(alloc: Global, one: &mut Running) -> Result<Text, AllocError>
+    ensures part { IfOk result (λ part. part ≡ one.old.part) }
+    ensures rest { OnOk result (one.new ≡ record one.old { part = [] }) }
+{
+    let empty = Text::from_str(alloc, "")?;
+    Ok(mem::replace(&mut one.part, empty))
+}
+
+// Puts a text behind what is printed of a line.
+fn add_to_part(alloc: Global, one: &mut Running, text: &str) -> Result<(), AllocError>
+    ensures { OnOk result (one.new ≡ record one.old { part = one.old.part ++ text.now }) }
+{
+    let mut line = String::from_str(alloc, one.part.as_str())?;
+    line.push_str(text)?;
+    one.part = Text::from(line);
+    Ok(())
+}
+
+// What stands behind this mark at the front of a line.
+fn after_mark<'a>(line: &'a str, mark: &str) -> Option<&'a str>
+    ensures { option_map (λ s. s.now) result ≡ after_mark mark.now line.now }
+{
+    line.strip_prefix(mark)
+}
+
+// The name that a span or a line shows.
+fn name_of(one: &Running) -> &str
+    ensures { result.now ≡ name_of one.now }
+{
+    if one.test.as_str().is_empty() {
+        one.path.as_str()
+    } else {
+        one.test.as_str()
+    }
+}
+
+// Where what runs under the longest beginning of this name stands in the list.
+fn owner(running: &[Running], path: &str, test: &str) -> Option<usize>
+    ensures owner { result ≡ owner running.now path.now test.now }
+    ensures within { IfSome result (λ at. at < length running.now) }
+{
+    let mut longest = 0;
+    let mut found = None;
+    let mut at = 0;
+    let mut rest = running;
+    while let [one, others @ ..] = rest {
+        let name = one.test.as_str().as_bytes();
+        if one.path.as_str() == path && leads(name, test.as_bytes()) && longest <= name.len() {
+            longest = name.len();
+            found = Some(at);
+        }
+        at += 1;
+        rest = others;
+    }
+    found
+}
+
+// Whether a name is this one or a beginning of it at a `/`, as the empty name of a package is.
+fn leads(name: &[u8], test: &[u8]) -> bool
+    ensures { result ≡ leads name.now test.now }
+{
+    name.is_empty() || test.starts_with(name) && ends_word(b'/', &test[name.len()..])
+}
+
+// Whether nothing or this byte begins what is left.
+fn ends_word(byte: u8, rest: &[u8]) -> bool
+    ensures { result ≡ ends_word byte rest.now }
+{
+    match rest {
+        [] => true,
+        [first, ..] => *first == byte,
+    }
+}
+
+// What stands before the first space.
+fn up_to_space(text: &str) -> &str
+    ensures { result.now ≡ up_to_space text.now }
+{
+    match text.split_once(' ') {
+        Some((front, _)) => front,
+        None => text,
+    }
+}
+
+fn ends_line(bytes: &[u8]) -> bool
+    ensures { result ≡ ends_line bytes.now }
+{
+    bytes.ends_with("\n".as_bytes())
+}
+
+fn without_line_end(text: &str) -> &str
+    ensures { result.now ≡ without_line_end text.now }
+{
+    match text.strip_suffix("\n") {
+        Some(line) => line,
+        None => text,
+    }
+}
+
+// Whether a line only frames what the test of this name, or a package, prints.
+fn is_frame(test: &[u8], line: &[u8]) -> bool
+    ensures { result ≡ is_frame test.now line.now }
+{
+    if test.is_empty() {
+        return is_package_frame(line);
+    }
+    let line = without_spaces(line);
+    is_step_frame(test, line) || is_end_frame(test, line)
+}
+
+// Whether a line tells that the test goes on or waits.
+fn is_step_frame(test: &[u8], line: &[u8]) -> bool
+    ensures { result ≡ is_step_frame test.now line.now }
+{
+    frames(line, "=== RUN   ", test)
+        || frames(line, "=== PAUSE ", test)
+        || frames(line, "=== CONT  ", test)
+        || frames(line, "=== NAME  ", test)
+}
+
+// Whether a line tells how the test ended.
+fn is_end_frame(test: &[u8], line: &[u8]) -> bool
+    ensures { result ≡ is_end_frame test.now line.now }
+{
+    frames(line, "--- PASS: ", test)
+        || frames(line, "--- FAIL: ", test)
+        || frames(line, "--- SKIP: ", test)
+        || frames(line, "--- BENCH: ", test)
+}
+
+// What stands from the first byte on that is no space.
+fn without_spaces(line: &[u8]) -> &[u8]
+    ensures { result.now ≡ without_spaces line.now }
+{
+    let mut rest = line;
+    while let [b' ', more @ ..] = rest {
+        rest = more;
+    }
+    rest
+}
+
+// Whether the line is this mark, the test's name and nothing more, or a time after it.
+fn frames(line: &[u8], mark: &str, test: &[u8]) -> bool
+    ensures { result ≡ frames line.now test.now mark.now }
+{
+    if !line.starts_with(mark.as_bytes()) {
+        return false;
+    }
+    let rest = &line[mark.len()..];
+    rest.starts_with(test) && ends_word(b' ', &rest[test.len()..])
+}
+
+fn is_package_frame(line: &[u8]) -> bool
+    ensures { result ≡ is_package_frame line.now }
+{
+    line == "PASS".as_bytes()
+        || line == "FAIL".as_bytes()
+        || line.starts_with("ok  \t".as_bytes())
+        || line.starts_with("FAIL\t".as_bytes())
+        || line.starts_with("?   \t".as_bytes())
+}

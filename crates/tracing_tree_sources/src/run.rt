@@ -1,0 +1,225 @@
+//! The run of a source over an input.
+
+ghost use Rattle.std.specs.Prelude.{◌≡◌, IfOk, option_map};
+ghost use Rattle.std.specs.Io.Buffered.{reader_remaining};
+ghost use Rattle.json.specs.Json.{document};
+ghost use Rattle.json.specs.Value.{value_view};
+ghost use Rattle.tracing_tree_layer.specs.Calls.Layers.{seen, Changes, Flushes};
+ghost use Rattle.tracing_tree_sources.specs.Source.{HearsLine, HearsNext, MakesAll, RunsSource, Tells};
+
+use crate::source::Source;
+use json::{Error, Scratch, Value};
+use simdutf8::basic::from_utf8;
+use std::alloc::{AllocError, Global};
+use std::io::{BufRead, BufReader, Read};
+use tracing_tree::call::Call;
+use tracing_tree::format::Output;
+use tracing_tree::layered::Layered;
+use tracing_tree::lines::{LineCause, LineFault, holds_line, is_skipped, read_line};
+use tracing_tree::time::FormatTime;
+
+/// What a run of a source leaves.
+#[derive(Clone, Copy, Debug)]
+pub struct SourceRun {
+    /// How many lines told nothing that is known.
+    pub unknown: u64,
+
+    /// The first of them.
+    pub first_unknown: Option<u64>,
+
+    /// The line that ended the run; none where the input was run to its end.
+    pub fault: Option<LineFault>,
+}
+
+/// Runs the calls that a source's lines tell, and those that its end brings.
+///
+/// A line of which nothing is known is counted and left out. The run ends early where the input can't be read, where memory is
+/// refused, and where a call is refused. What is drawn is passed on before each read of the input.
+pub fn run_source<S: Source, R: Read, W: Output, FT: FormatTime>(
+    alloc: Global,
+    source: &mut S,
+    lines: &mut BufReader<R>,
+    layered: &mut Layered<W, FT>,
+) -> SourceRun
+    ensures { Changes (seen FT.FormatTime W.Output)
+        (RunsSource S.takes S.ends (reader_remaining R.remaining lines.old) source.old result)
+        layered.old layered.new }
+{
+    let mut line = Vec::new(alloc);
+    let mut scratch = Scratch::new(alloc);
+    let mut unknown = 0;
+    let mut first_unknown = None;
+    for number in 1..u64::MAX {
+        show_before_read(lines, layered);
+        match run_next(alloc, source, lines, &mut line, &mut scratch, layered) {
+            Ok(Judged::End) => {
+                return SourceRun {
+                    unknown,
+                    first_unknown,
+                    fault: None,
+                };
+            }
+            Ok(Judged::Known) => {}
+            Ok(Judged::Unknown) => {
+                unknown += 1;
+                first_unknown = first_unknown.or(Some(number));
+            }
+            Err(cause) => {
+                let fault = Some(LineFault {
+                    line: number,
+                    cause,
+                });
+                return SourceRun {
+                    unknown,
+                    first_unknown,
+                    fault,
+                };
+            }
+        }
+    }
+    let fault = Some(LineFault {
+        line: u64::MAX,
+        cause: LineCause::Read,
+    });
+    SourceRun {
+        unknown,
+        first_unknown,
+        fault,
+    }
+}
+
+// What became of a line.
+enum Judged {
+    // There is none: the calls that the end brings were made.
+    End,
+    Known,
+    Unknown,
+}
+
+// Reads one line, and makes the calls that it tells, or those that the end brings.
+fn run_next<S: Source, B: BufRead, W: Output, FT: FormatTime>(
+    alloc: Global,
+    source: &mut S,
+    lines: &mut B,
+    line: &mut Vec<u8>,
+    scratch: &mut Scratch,
+    layered: &mut Layered<W, FT>,
+) -> Result<Judged, LineCause>
+    ensures { Changes (seen FT.FormatTime W.Output)
+        (HearsNext S.takes S.ends (B.remaining lines.old) (B.remaining lines.new) source.old
+        source.new result) layered.old layered.new }
+{
+    match read_line(lines, line) {
+        Ok(true) => match run_line(alloc, source, line.as_slice(), scratch, layered) {
+            Ok(true) => Ok(Judged::Known),
+            Ok(false) => Ok(Judged::Unknown),
+            Err(cause) => Err(cause),
+        },
+        Ok(false) => match run_end(alloc, source, layered) {
+            Ok(()) => Ok(Judged::End),
+            Err(cause) => Err(cause),
+        },
+        Err(cause) => Err(cause),
+    }
+}
+
+// Has what is drawn passed on where the next line isn't read yet, since the read may wait.
+fn show_before_read<R: Read, W: Output, FT: FormatTime>(
+    lines: &BufReader<R>,
+    layered: &mut Layered<W, FT>,
+)
+    ensures { Changes (seen FT.FormatTime W.Output) Flushes layered.old layered.new }
+{
+    if !holds_line(lines) {
+        layered.flush();
+    }
+}
+
+// Makes the calls that a line tells. Returns whether something is known of such a line.
+fn run_line<S: Source, W: Output, FT: FormatTime>(
+    alloc: Global,
+    source: &mut S,
+    line: &[u8],
+    scratch: &mut Scratch,
+    layered: &mut Layered<W, FT>,
+) -> Result<bool, LineCause>
+    ensures { Changes (seen FT.FormatTime W.Output)
+        (HearsLine S.takes line.now source.old source.new result) layered.old layered.new }
+{
+    if is_skipped(line) {
+        return Ok(true);
+    }
+    let Ok(text) = from_utf8(line) else {
+        return Ok(false);
+    };
+    let Ok(told) = hear(alloc, source, text, scratch) else {
+        return Err(LineCause::Memory);
+    };
+    match told {
+        Some(calls) => match make(calls, layered) {
+            Ok(()) => Ok(true),
+            Err(cause) => Err(cause),
+        },
+        None => Ok(false),
+    }
+}
+
+// What a line tells.
+fn hear<S: Source>(
+    alloc: Global,
+    source: &mut S,
+    text: &str,
+    scratch: &mut Scratch,
+) -> Result<Option<Vec<Call>>, AllocError>
+    ensures { IfOk result (λ told. Tells (S.takes source.old text.now (document text.now))
+        source.old source.new (option_map (λ calls. calls.items) told)) }
+{
+    let value = value_of(alloc, text, scratch)?;
+    source.take(alloc, text, value.as_ref())
+}
+
+// The JSON value that a text is, if it is one.
+fn value_of<'a>(
+    alloc: Global,
+    text: &'a str,
+    scratch: &'a mut Scratch,
+) -> Result<Option<Value<'a>>, AllocError>
+    ensures { IfOk result (λ value. option_map value_view value ≡ document text.now) }
+{
+    match Value::parse(alloc, text, scratch) {
+        Ok(value) => Ok(Some(value)),
+        Err(Error::Invalid) => Ok(None),
+        Err(_) => Err(AllocError),
+    }
+}
+
+// Makes the calls that the input's end brings.
+fn run_end<S: Source, W: Output, FT: FormatTime>(
+    alloc: Global,
+    source: &mut S,
+    layered: &mut Layered<W, FT>,
+) -> Result<(), LineCause>
+    ensures { Changes (seen FT.FormatTime W.Output) (MakesAll (S.ends source.old) result)
+        layered.old layered.new }
+{
+    let Ok(calls) = source.end(alloc) else {
+        return Err(LineCause::Memory);
+    };
+    make(calls, layered)
+}
+
+// Makes these calls one after another, up to the first that is refused.
+fn make<W: Output, FT: FormatTime>(
+    calls: Vec<Call>,
+    layered: &mut Layered<W, FT>,
+) -> Result<(), LineCause>
+    ensures { Changes (seen FT.FormatTime W.Output) (MakesAll calls.items result)
+        layered.old layered.new }
+{
+    for call in calls {
+        if let Err(refusal) = layered.call(call) {
+            return Err(LineCause::Refused(refusal));
+        }
+    }
+    Ok(())
+}

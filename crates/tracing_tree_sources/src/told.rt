@@ -1,0 +1,114 @@
+//! Calls as a source tells them: each names the span that it stands in as its current span.
+
+ghost use Rattle.std.specs.Prelude.{◌≡◌, ◌++◌, IfOk, OnOk, [], ◌∷◌, string_bytes};
+ghost use Rattle.tracing_tree_sources.specs.Told.{close_call, context_at, event_call, is_escaped, message_field, shown, shown_char, span_call};
+
+use std::alloc::{AllocError, Global};
+use tracing_tree::call::Call;
+use tracing_tree::field::{Field, Fields};
+use tracing_tree::format::{Context, Id};
+use tracing_tree::registry::{Attributes, Event, Parent};
+use tracing_tree::style::Level;
+use tracing_tree::text::Text;
+use tracing_tree::time::Moment;
+
+// The context of a call with this current span.
+fn context_at(moment: Moment, current: Option<Id>) -> Context
+    ensures { result ≡ context_at moment current }
+{
+    Context {
+        current,
+        thread_id: 1,
+        thread_name: None,
+        moment,
+    }
+}
+
+// Whether a character is shown by its code. A tab and a line end are not: the drawing has lines of its own.
+fn is_escaped(c: char) -> bool
+    ensures { result ≡ is_escaped c }
+{
+    match c {
+        '\t' | '\n' => false,
+        _ => c < ' ' || '\u{7f}' <= c && c <= '\u{9f}',
+    }
+}
+
+// A character as it is shown.
+fn push_shown(out: &mut String, c: char) -> Result<(), AllocError>
+    ensures { OnOk result (string_bytes out.new ≡ string_bytes out.old ++ shown_char c) }
+{
+    if !is_escaped(c) {
+        return out.push(c);
+    }
+    let code = u32::from(c);
+    out.push_str("\\u{")?;
+    write!(out, "{code:x}")?;
+    out.push_str("}")
+}
+
+// A text with control characters as escapes, so that no input moves a terminal's cursor or changes its colour.
+fn shown(alloc: Global, text: &str) -> Result<Text, AllocError>
+    ensures { IfOk result (λ made. made ≡ shown text.now) }
+{
+    let mut out = String::new(alloc);
+    for c in text.chars() {
+        push_shown(&mut out, c)?;
+    }
+    Ok(Text::from(out))
+}
+
+// A new span.
+pub(crate) fn span_call(
+    alloc: Global,
+    moment: Moment,
+    name: &str,
+    fields: Fields,
+    above: Option<Id>,
+) -> Result<Call, AllocError>
+    ensures { IfOk result (λ call. call ≡ span_call moment name.now fields above) }
+{
+    let attributes = Attributes {
+        name: shown(alloc, name)?,
+        target: Text::from_str(alloc, "")?,
+        parent: Parent::Current,
+        fields,
+    };
+    Ok(Call::New(attributes, context_at(moment, above)))
+}
+
+// The field that is drawn as its text alone.
+pub(crate) fn message_field(alloc: Global, text: &str) -> Result<Field, AllocError>
+    ensures { IfOk result (λ field. field ≡ message_field text.now) }
+{
+    Ok(Field {
+        name: Text::from_str(alloc, "message")?,
+        value: shown(alloc, text)?,
+    })
+}
+
+// An event with these fields.
+pub(crate) fn event_call(
+    alloc: Global,
+    moment: Moment,
+    level: Level,
+    fields: Fields,
+    above: Option<Id>,
+) -> Result<Call, AllocError>
+    ensures { IfOk result (λ call. call ≡ event_call moment level fields above) }
+{
+    let event = Event {
+        level,
+        target: Text::from_str(alloc, "")?,
+        parent: Parent::Current,
+        fields,
+    };
+    Ok(Call::Event(event, context_at(moment, above)))
+}
+
+// A span's close.
+pub(crate) fn close_call(moment: Moment, id: Id, above: Option<Id>) -> Call
+    ensures { result ≡ close_call moment id above }
+{
+    Call::Close(id, context_at(moment, above))
+}

@@ -1,0 +1,111 @@
+#!/bin/bash
+# Runs the program that draws other tools' output as its users do, and compares what it draws with what the first program draws of the
+# calls that scripts/go_lines.py tells of the same input. It prints how many runs ended as they must, names each other run, and ends with
+# status 1 if there is one.
+#
+# usage: ttree.sh TTREE DRAWING_PROGRAM
+set -u
+ttree=$(realpath "$1")
+tree=$(realpath "$2")
+top=$(cd "$(dirname "$0")/.." && pwd)
+room=$(mktemp -d)
+trap 'rm -rf "$room"' EXIT
+runs=0
+right=0
+
+run() {
+    timeout 120 "$ttree" "$@" > "$room/out" 2> "$room/err"
+    status=$?
+}
+
+# Counts the run of this name: what stands in `out` must be this file, on standard error this text, and the status this one.
+count() {
+    runs=$((runs + 1))
+    if cmp -s "$room/$2" "$room/out" && [ "$3" = "$(cat "$room/err")" ] && [ "$4" = "$status" ]; then
+        right=$((right + 1))
+    else
+        echo "program ttree $1: FAILED: status $status, and on standard error: $(head -c 200 "$room/err")"
+    fi
+}
+
+# What the first program draws of this input, under settings that this expression of sed changes.
+expect() {
+    python3 "$top/scripts/go_lines.py" < "$1" | sed "1$2" | "$tree" > "$room/want"
+}
+
+# The drawing of an input with a status.
+drawing() {
+    expect "$1" 's/^//'
+    run "$1"
+    count "on $(basename "$1")" want '' "$2"
+}
+
+run_samples() {
+    drawing "$top/examples/go-fail.jsonl" 1
+    drawing "$top/examples/go-test.jsonl" 1
+    drawing "$top/examples/go-std.jsonl" 0
+}
+
+run_options() {
+    local input=$top/examples/go-test.jsonl
+    expect "$input" 's/"span_retrace": true/"ansi": true, "span_retrace": true/'
+    run --from go-test --color always "$input"
+    count 'with colours' want '' 1
+    expect "$input" 's/"indent_lines": true/"indent_amount": 5/'
+    run --no-lines --amount 5 "$input"
+    count 'without lines' want '' 1
+    expect "$input" 's/"span_retrace": true, "close_retrace": true/"span_retrace": false/'
+    run --no-retrace < "$input"
+    count 'without retracing' want '' 1
+}
+
+# Lines that no test of Go prints so, and the ends of inputs.
+run_odd() {
+    printf '%s\n' '{"Action":"output","Package":"p","Output":"a\u001b[31mred\u0085 \tb\n"}' '{"Action":"pause","Package":"p"}' '' \
+        '{"Action":"pass","Package":"p","Test":"Never/Ran","Elapsed":1e-3}' '{"Action":"fail","Package":"p"}' 'no build' > "$room/odd"
+    expect "$room/odd" 's/^//'
+    run "$room/odd"
+    count 'on odd lines' want '' 1
+    cp "$room/odd" "$room/skipped"
+    printf '[1]\n{"Action":"run"}\n\377\n' >> "$room/skipped"
+    run "$room/skipped"
+    count 'on lines that tell nothing' want 'ttree: lines skipped: 3, the first of them line 7' 1
+    sed 's/$/\r/' "$top/examples/go-test.jsonl" > "$room/crlf"
+    expect "$top/examples/go-test.jsonl" 's/^//'
+    run "$room/crlf"
+    count 'on lines that end as on Windows' want '' 1
+    : > "$room/none"
+    echo 'INFO passed=0, failed=0, skipped=0, unfinished=0' > "$room/want"
+    run "$room/none"
+    count 'on an empty file' want '' 0
+}
+
+run_faults() {
+    : > "$room/want"
+    run "$room/missing"
+    count 'on a missing file' want "ttree: $room/missing: No such file or directory (os error 2)" 2
+    run "$room"
+    count 'on a directory' want 'ttree: line 1: read' 1
+    timeout 120 "$ttree" "$top/examples/go-std.jsonl" > /dev/full 2> "$room/err"
+    status=$?
+    : > "$room/out"
+    [ -s "$room/err" ] && [ "$status" = 1 ] && : > "$room/err"
+    count 'on a full device' want '' 1
+    for word in --amount=x --from=cargo --unknown; do
+        run "$word"
+        [ -s "$room/err" ] && : > "$room/err"
+        count "with $word" want '' 2
+    done
+    for word in --help --version; do
+        run "$word"
+        [ -s "$room/out" ] && : > "$room/out"
+        count "with $word" want '' 0
+    done
+}
+
+run_samples
+run_options
+run_odd
+run_faults
+echo "ttree: $right of $runs runs ended as they must"
+[ "$right" = "$runs" ]
