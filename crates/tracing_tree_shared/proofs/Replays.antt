@@ -17,15 +17,16 @@ use Rattle.tracing_tree_layer.specs.Calls.Step.{turn_of, state_after}
 use Rattle.tracing_tree_layer.specs.Calls.Refused.{cause_of, first_of_all, first_cause, Causes, id_not_held, is_too_many, draws_too_wide, timer_faults}
 use Rattle.tracing_tree_layer.specs.Calls.Run.{Run, run, state_after_answer, MayAnswer, call_text}
 use Rattle.tracing_tree_layer.specs.Calls.Answered.{IsAnswered, Writes}
-use Rattle.tracing_tree_shared.specs.History.{Entry, IsKept, calls_in, replay}
+use Rattle.tracing_tree_shared.specs.History.{Entry, Slip, IsKept, calls_in, replay}
 use Rattle.tracing_tree_layer.specs.declared.call.Call.{Call}
 use Rattle.tracing_tree_layer.specs.declared.call.Reply.{Reply}
 use Rattle.tracing_tree_layer.proofs.DrawnLaws.{draw-append}
 use Rattle.tracing_tree_layer.proofs.Runs.{run_more}
 use Rattle.tracing_tree_layer.proofs.Reading.Ancestors.{reading-laws}
 use Rattle.tracing_tree_shared.specs.Finish.{IsReplay}
-use Rattle.tracing_tree_shared.specs.Kept.{KeepsReplay, IsAnsweredOrLacks, entries_of, BookView, seen_on_tape, IsApplied}
+use Rattle.tracing_tree_shared.specs.Kept.{KeepsReplay, IsAnsweredOrLacks, entries_of, BookView, seen_on_tape, answer_shown, IsApplied, IsAnsweredOnSome}
 use Rattle.tracing_tree_shared.specs.Drafts.{DraftView}
+use Rattle.tracing_tree_shared.specs.declared.draft.Refused as Answers
 use Rattle.tracing_tree_base.specs.Drawing.Outputs.{TapeView}
 use Rattle.tracing_tree_base.specs.declared.time.FormatTime.{Ghosts as FormatTime}
 
@@ -172,6 +173,11 @@ applied_refused {FT = FT} time draft cause now old new seen answered history fir
       shown = tt;
       first = first;
     })
+
+-- What is answered to a draft is answered on some layer.
+pub answered_on_some : {FT : Type 0} {time : FormatTime FT} {call : Call} {result : Result Slip Answers.Refused} {old new : BookView TapeView FT} →
+    IsApplied time call result old new → IsAnsweredOnSome time call (answer_shown result)
+answered_on_some {old = old} {new = new} applied = (old.layered, new.layered, applied.answered)
 
 -- A book's history with its drawing.
 pub replay_of : (first : Option Id) (history : List Entry) (seen : Seen) (written : List ℕ) → seen.writer.bytes ≡ Some written → KeepsReplay first history seen →

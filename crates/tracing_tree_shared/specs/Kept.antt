@@ -76,3 +76,14 @@ pub record IsApplied {FT : Type 0} (time : FormatTime FT) (call : Call)
   pub history : new.history ≡ old.history ++ entries_of call (answer_shown result)
   pub shown : ShowsCall call (length old.history) result
   pub first : new.first ≡ old.first
+
+-- what the answer to a submitted draft says of its call: the reply, or the cause
+abbrev pub answer_given : Result Reply Refused → Result Reply Refusal
+answer_given (Ok reply) = Ok reply
+answer_given (Err refused) = Err refused.cause
+
+-- There is a registry with a layer over a tape on which a call is answered so. Of a layer behind a lock no more can be said.
+abbrev pub IsAnsweredOnSome : {FT : Type 0} → FormatTime FT → Call → Result Reply Refusal → Type 0
+IsAnsweredOnSome {FT} time call answer =
+    (old : LayeredView TapeView FT) × (new : LayeredView TapeView FT)
+    × IsAnsweredOrLacks call answer (seen_on_tape time old) (seen_on_tape time new)

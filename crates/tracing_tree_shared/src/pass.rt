@@ -1,7 +1,8 @@
 //! Passes, and the lock.
 
-ghost use Rattle.std.specs.Prelude.{◌≡◌, ◌+◌, ◌<◌, ◌≤◌, ℕ, [], ◌∷◌, ◌++◌, false, None, All, length, IfOk, OnOk, OnErr, IfErr, vec_len, sum_by};
+ghost use Rattle.std.specs.Prelude.{◌≡◌, ◌⊎◌, Err, ◌+◌, ◌<◌, ◌≤◌, ℕ, [], ◌∷◌, ◌++◌, false, None, All, length, IfOk, OnOk, OnErr, IfErr, vec_len, sum_by};
 ghost use Rattle.tracing_tree_shared.specs.Drafts.{tail_under};
+ghost use Rattle.tracing_tree_shared.specs.Kept.{IsApplied, IsAnsweredOnSome, answer_given};
 ghost use Rattle.tracing_tree_shared.specs.Finish.{IsFinishAnswer};
 
 use crate::book::{Book, Receipt};
@@ -107,6 +108,7 @@ impl<FT: FormatTime, L: Ledger> Locked<FT, L> {
 
     fn apply(&mut self, share: &mut Share<L>, draft: Draft) -> Result<Receipt, Refused>
         requires { 0 < share.old.parts }
+        ensures applied { IsApplied FT.FormatTime draft.call result self.old.book self.new.book }
         ensures call { IfOk result (λ r. r.entry.0 ≡ draft.call) }
         ensures amount { OnOk result (share.new.amount ≡ share.old.amount + 1) }
         ensures parts { share.new.parts ≡ share.old.parts }
@@ -198,6 +200,8 @@ impl<FT: FormatTime + Drop, L: Ledger> SharedLayer<FT, L> {
         ensures ok { IfOk result (λ reply. (place : ℕ) × (pass.new
             ≡ pass.old ++ record { place = place; entry = (draft.call, reply) } ∷ [])) }
         ensures err { OnErr result (pass.new ≡ pass.old) }
+        ensures answered { (answer_given result ≡ Err Refusal.Memory)
+            ⊎ IsAnsweredOnSome FT.FormatTime draft.call (answer_given result) }
         ensures draft { IfErr result (λ e. e.draft ≡ draft) }
     {
         if pass.receipts.reserve(1).is_err() {

@@ -4,11 +4,12 @@ ghost use Rattle.std.specs.Prelude.{◌≡◌, IfOk, IfErr};
 ghost use Rattle.tracing_tree_layer.specs.Calls.Layers.{seen, Changes};
 ghost use Rattle.tracing_tree_layer.specs.Calls.Layers.{Flushes};
 ghost use Rattle.tracing_tree_shared.specs.Drafts.{tail_under};
-ghost use Rattle.tracing_tree_shared.specs.Streamed.{IsStreamed};
+ghost use Rattle.tracing_tree_shared.specs.Streamed.{IsStreamed, IsStreamedOnSome};
 
 use crate::draft::{Draft, Refused};
 use std::alloc::Global;
 use std::marker::Model;
+use std::mem;
 use std::sync::{Mutex, Wait};
 use tracing_tree_core::format::{Config, Output, Refusal};
 use tracing_tree_core::time::FormatTime;
@@ -69,8 +70,8 @@ impl<W: Output, FT: FormatTime> Counted<W, FT> {
         }
         match draft.tell(&mut self.layered) {
             Ok(reply) => {
-                let number = self.accepted;
-                self.accepted = number.saturating_add(1);
+                let next = self.accepted.saturating_add(1);
+                let number = mem::replace(&mut self.accepted, next);
                 Ok(Numbered { number, reply })
             }
             Err(cause) => Err(Refused { draft, cause }),
@@ -90,7 +91,11 @@ impl<W: Output, FT: FormatTime> Counted<W, FT> {
     pub fn into_layered(self) -> Layered<W, FT>
         ensures { result ≡ self.layered }
     {
-        self.layered
+        let Counted {
+            layered,
+            accepted: _,
+        } = self;
+        layered
     }
 }
 
@@ -98,7 +103,7 @@ impl<W: Output, FT: FormatTime> Counted<W, FT> {
 /// memory for the live spans alone. Contracts see the two settings under which it drafts events.
 ///
 /// Under its lock each call is `Counted::apply`. So its text is the drawing of the accepted calls in the order of their numbers; no
-/// contract of `submit` says so, since nothing is known of what stands behind a lock.
+/// contract of `submit` says so, since of what stands behind a lock only its type is known: it says that some layer answers so.
 #[derive(Drop)]
 pub struct StreamingLayer<W: Output, FT: FormatTime> {
     lock: Mutex<Counted<W, FT>>,
@@ -142,7 +147,8 @@ impl<W: Output, FT: FormatTime> StreamingLayer<W, FT> {
 
     /// Makes a call under the lock, for which it may wait. On a refusal the draft comes back.
     pub fn submit<R: Wait>(&self, rt: &R, draft: Draft) -> Result<Numbered, Refused>
-        ensures { IfErr result (λ e. e.draft ≡ draft) }
+        ensures applied { IsStreamedOnSome FT.FormatTime W.Output draft.call result }
+        ensures draft { IfErr result (λ e. e.draft ≡ draft) }
     {
         self.lock.lock(rt).apply(draft)
     }
