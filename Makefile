@@ -1,5 +1,5 @@
 # Every target needs the kit's command `rt` and Python 3; `bench` and `faults` need a C compiler besides. README says what each takes.
-.PHONY: demo test prove gate edits claim build jobs laws bench faults
+.PHONY: demo test prove gate edits claim build jobs laws stress bench faults
 
 # Draws the example, within a minute from a clean clone.
 demo:
@@ -51,6 +51,10 @@ jobs: bin/tracing_tree_jobs
 laws: need-python build bin/tracing_tree_rows_laws
 	@bin/tracing_tree_rows_laws 10000
 	@python3 scripts/reading_law.py bin/tracing_tree
+
+# Outside the gate: random calls of two to eight threads through the layers for several threads, in ten thousand rounds.
+stress: bin/tracing_tree_stress
+	@timeout 1800 bin/tracing_tree_stress 10000 20261124
 
 # Times the library by its own calls, the program on inputs that are made here, and the reading of drawings. It asserts nothing.
 bench: need-python need-cc build bin/tracing_tree_bench bin/tracing_tree_rows_bench
