@@ -37,7 +37,9 @@ pub record IsStreamed {W FT : Type 0} (time : FormatTime FT) (output : Output W)
       (seen time output new.layered)
   pub counted : IsCounted result old.accepted new.accepted
 
--- There is a registry with a layer, and a count, to which a draft is applied so. Of those behind a lock no more can be said.
-abbrev pub IsStreamedOnSome : {W FT : Type 0} → FormatTime FT → Output W → Call → Result Numbered Refused → Type 0
+-- There is a registry with a layer, and a count, to which a draft is applied so. Of those behind a
+-- lock no more can be said.
+abbrev pub IsStreamedOnSome : {W FT : Type 0} → FormatTime FT → Output W → Call
+    → Result Numbered Refused → Type 0
 IsStreamedOnSome {W} {FT} time output call result =
     (old : CountedView W FT) × (new : CountedView W FT) × IsStreamed time output call result old new
