@@ -57,9 +57,10 @@ stress: bin/tracing_tree_stress
 	@timeout 1800 bin/tracing_tree_stress 10000 20261124
 
 # Times the library by its own calls, the program on inputs that are made here, and the reading of drawings. It asserts nothing.
-bench: need-python need-cc build bin/tracing_tree_bench bin/tracing_tree_rows_bench
+bench: need-python need-cc build bin/tracing_tree_bench bin/tracing_tree_rows_bench bin/tracing_tree_shared_bench
 	@$(CC) -O1 -shared -fPIC -o bin/count.so scripts/count.c -ldl
 	@python3 scripts/bench_calls.py bin/tracing_tree_bench bin/count.so
+	@python3 scripts/bench_shared.py bin/tracing_tree_shared_bench
 	@python3 scripts/bench.py bin/tracing_tree
 	@python3 scripts/bench_rows.py bin/tracing_tree bin/tracing_tree_rows_bench
 

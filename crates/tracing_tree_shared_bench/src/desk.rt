@@ -1,0 +1,102 @@
+//! Where events are handed in.
+
+use crate::hand::Hand;
+use std::alloc::Global;
+use std::sync::ledger::Ledger;
+use std::sync::{Mutex, Wait};
+use tracing_tree::Layered;
+use tracing_tree::format::Tape;
+use tracing_tree_shared::{Counted, Pass, SharedLayer, StreamingLayer};
+
+pub trait Desk {
+    // Whether the event is accepted.
+    fn tell<R: Wait>(&mut self, rt: &R, alloc: Global, hand: Hand) -> bool;
+}
+
+#[derive(Drop)]
+pub struct Nowhere;
+
+impl Desk for Nowhere {
+    fn tell<R: Wait>(&mut self, _rt: &R, _alloc: Global, _hand: Hand) -> bool {
+        true
+    }
+}
+
+#[derive(Drop)]
+pub struct Alone {
+    pub layered: Layered<Tape, ()>,
+}
+
+impl Desk for Alone {
+    fn tell<R: Wait>(&mut self, _rt: &R, _alloc: Global, hand: Hand) -> bool {
+        match hand {
+            Hand::Call(call) => self.layered.call(call).is_ok(),
+            Hand::Draft(_) => false,
+        }
+    }
+}
+
+#[derive(Drop)]
+pub struct Locked<'a> {
+    pub lock: &'a Mutex<Layered<Tape, ()>>,
+}
+
+impl Desk for Locked<'_> {
+    fn tell<R: Wait>(&mut self, rt: &R, _alloc: Global, hand: Hand) -> bool {
+        match hand {
+            Hand::Call(call) => self.lock.lock(rt).call(call).is_ok(),
+            Hand::Draft(_) => false,
+        }
+    }
+}
+
+#[derive(Drop)]
+pub struct WithPass<'a, L: Ledger> {
+    pub layer: &'a SharedLayer<(), L>,
+    pub pass: Pass<L>,
+}
+
+impl<L: Ledger> Desk for WithPass<'_, L> {
+    fn tell<R: Wait>(&mut self, rt: &R, alloc: Global, hand: Hand) -> bool {
+        let draft = match hand {
+            Hand::Call(call) => self.layer.draft(alloc, call),
+            Hand::Draft(draft) => Ok(draft),
+        };
+        match draft {
+            Ok(draft) => self.layer.submit(rt, &mut self.pass, draft).is_ok(),
+            Err(_) => false,
+        }
+    }
+}
+
+#[derive(Drop)]
+pub struct Streamed<'a> {
+    pub layer: &'a StreamingLayer<Tape, ()>,
+}
+
+impl Desk for Streamed<'_> {
+    fn tell<R: Wait>(&mut self, rt: &R, alloc: Global, hand: Hand) -> bool {
+        let draft = match hand {
+            Hand::Call(call) => self.layer.draft(alloc, call),
+            Hand::Draft(draft) => Ok(draft),
+        };
+        match draft {
+            Ok(draft) => self.layer.submit(rt, draft).is_ok(),
+            Err(_) => false,
+        }
+    }
+}
+
+#[derive(Drop)]
+pub struct UnderLock {
+    pub counted: Counted<Tape, ()>,
+}
+
+impl Desk for UnderLock {
+    fn tell<R: Wait>(&mut self, _rt: &R, _alloc: Global, hand: Hand) -> bool {
+        match hand {
+            Hand::Draft(draft) => self.counted.apply(draft).is_ok(),
+            Hand::Call(_) => false,
+        }
+    }
+}

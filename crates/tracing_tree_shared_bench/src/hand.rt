@@ -1,0 +1,120 @@
+//! What is timed, and the events that are handed in.
+
+use std::alloc::{AllocError, Global};
+use tracing_tree::call::Call;
+use tracing_tree::field::{Field, Fields};
+use tracing_tree::format::Config;
+use tracing_tree::registry::{Event, Parent};
+use tracing_tree::style::Level;
+use tracing_tree::text::Text;
+use tracing_tree_for_tests::at;
+use tracing_tree_shared::Draft;
+
+#[derive(Clone, Copy, PartialEq, Eq)]
+pub enum Work {
+    // The events are made and dropped.
+    Idle,
+
+    // One thread with a layer of its own.
+    Alone,
+
+    // Threads with a lock round a layer: an event is drawn under the lock.
+    Locked,
+
+    // Threads with a layer that keeps the history.
+    Shared,
+
+    // The same, where the drafts are made before.
+    SharedDrafted,
+
+    // Threads with a layer that keeps no history.
+    Streaming,
+
+    // The same, where the drafts are made before.
+    StreamingDrafted,
+
+    // What a layer without a history does under its lock, with drafts that were made before.
+    Counted,
+
+    // The same with drafts under other settings, so that each event is drawn anew.
+    CountedAnew,
+}
+
+impl Work {
+    pub const ALL: [Work; 9] = [
+        Work::Idle,
+        Work::Alone,
+        Work::Locked,
+        Work::Shared,
+        Work::SharedDrafted,
+        Work::Streaming,
+        Work::StreamingDrafted,
+        Work::Counted,
+        Work::CountedAnew,
+    ];
+
+    pub fn name(self) -> &'static str {
+        match self {
+            Work::Idle => "idle",
+            Work::Alone => "alone",
+            Work::Locked => "locked",
+            Work::Shared => "shared",
+            Work::SharedDrafted => "shared-drafted",
+            Work::Streaming => "streaming",
+            Work::StreamingDrafted => "streaming-drafted",
+            Work::Counted => "counted",
+            Work::CountedAnew => "counted-anew",
+        }
+    }
+
+    pub fn named(name: &str) -> Option<Work> {
+        Work::ALL.iter().copied().find(|work| work.name() == name)
+    }
+
+    pub fn is_drafted(self) -> bool {
+        matches!(
+            self,
+            Work::SharedDrafted | Work::StreamingDrafted | Work::Counted | Work::CountedAnew
+        )
+    }
+}
+
+// A call, or its draft that was made before.
+#[derive(Drop)]
+pub enum Hand {
+    Call(Call),
+    Draft(Draft),
+}
+
+// An event in span 1 with a message and so many fields less one.
+pub fn event(alloc: Global, count: usize) -> Result<Call, AllocError> {
+    let mut fields = vec![in alloc; Field::rendered(alloc, "message", "something happened")?]?;
+    for _ in 1..count {
+        fields.push(Field::rendered(alloc, "key", "12")?)?;
+    }
+    let event = Event {
+        level: Level::Info,
+        target: Text::from_str(alloc, "bench")?,
+        parent: Parent::Current,
+        fields: Fields::from(fields),
+    };
+    Ok(Call::Event(event, at(Some(1))))
+}
+
+// So many events, as drafts under these settings if there are some.
+pub fn hands(
+    alloc: Global,
+    events: usize,
+    fields: usize,
+    drafted: Option<&Config>,
+) -> Result<Vec<Hand>, AllocError> {
+    let mut hands = Vec::new(alloc);
+    for _ in 0..events {
+        let call = event(alloc, fields)?;
+        hands.push(match drafted {
+            Some(config) => Hand::Draft(Draft::new(alloc, config, call)?),
+            None => Hand::Call(call),
+        })?;
+    }
+    Ok(hands)
+}

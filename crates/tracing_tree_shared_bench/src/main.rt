@@ -1,0 +1,80 @@
+//! Times events through the layers for several threads, beside a layer of one thread and a plain lock round it.
+//!
+//! The arguments are a work, how many threads, how many events each of them tells, and how many fields an event has. It prints what
+//! an event took, by the time in which all threads were done. Without arguments it prints the names of the works.
+#![tactic(auto)]
+
+ghost use Rattle.std.specs.Prelude.{◌≡◌, ◌<◌, ◌≤◌};
+
+mod desk;
+mod hand;
+mod works;
+
+use hand::Work;
+use std::marker::Brand;
+use std::rt::{Clock, Env};
+use std::sync::Wait;
+use std::sync::ledger::Blank;
+use std::thread::Threads;
+use works::{Size, Timed, alone, counted, idle, locked, shared, streaming};
+
+// How many threads there are at most.
+const MOST: usize = 64;
+
+fn main(rt: HostRuntime) -> anyhow::Result<()> {
+    let mut words = std::env::args(&rt)?.skip(1);
+    let Some(name) = words.next() else {
+        return list(&rt);
+    };
+    let Some(work) = Work::named(name.as_str()) else {
+        anyhow::bail!("no such work");
+    };
+    let mut numbers = [1usize, 1, 1];
+    for (number, word) in numbers.iter_mut().zip(words) {
+        *number = word.as_str().parse::<usize>()?;
+    }
+    let [threads, events, fields] = numbers;
+    anyhow::ensure!(1 <= threads && threads <= MOST, "one thread to sixty-four");
+    let size = Size {
+        threads,
+        events,
+        fields,
+    };
+    report(&rt, work, size, timed(&rt, work, size)?)
+}
+
+fn list(rt: &impl Print) -> anyhow::Result<()> {
+    for work in Work::ALL {
+        println!(rt; "{}", work.name())?;
+    }
+    Ok(())
+}
+
+fn timed<R: AllocGlobal + Threads + Wait + Clock + Sync>(
+    rt: &R,
+    work: Work,
+    size: Size,
+) -> anyhow::Result<Timed>
+    requires { size.threads ≤ 64 }
+{
+    match work {
+        Work::Idle => idle(rt, size),
+        Work::Alone => alone(rt, size),
+        Work::Locked => locked(rt, size),
+        Work::Shared | Work::SharedDrafted => {
+            let blank = Blank::new((size.threads + 1) as u64);
+            shared::<Brand, R>(rt, blank, work, size)
+        }
+        Work::Streaming | Work::StreamingDrafted => streaming(rt, work, size),
+        Work::Counted | Work::CountedAnew => counted(rt, work, size),
+    }
+}
+
+fn report(rt: &impl Print, work: Work, size: Size, timed: Timed) -> anyhow::Result<()> {
+    let name = work.name();
+    let threads = size.threads;
+    let Timed { told, nanos } = timed;
+    let each = nanos / told.max(1);
+    println!(rt; "{name}: {threads} threads, {told} events, {each} ns an event")?;
+    Ok(())
+}
