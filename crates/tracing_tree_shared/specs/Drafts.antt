@@ -33,6 +33,11 @@ abbrev pub KeepsTail : Call → Option TailView → Type 0
 KeepsTail call None = ⊤
 KeepsTail call (Some tail) = IsTailOf (settings_with tail.ansi tail.targets) call tail.text
 
+-- a copy, where there is one, is the call's
+abbrev pub IsCopyOf : Call → Option Call → Type 0
+IsCopyOf call None = ⊤
+IsCopyOf call (Some copy) = copy ≡ call
+
 -- the tail of an event under these two settings; other calls have none
 abbrev pub tail_under : Bool → Bool → Call → Option TailView
 tail_under ansi targets (New attributes context) = None

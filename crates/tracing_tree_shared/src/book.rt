@@ -107,9 +107,9 @@ impl<FT: FormatTime> Book<FT> {
         self.layered.writer()
     }
 
-    /// Makes the draft's call as `Layered::call` does. Room for the history and its copy of the call is taken first. The receipt
-    /// shows the call, its reply and their place.
-    pub fn apply(&mut self, draft: Draft) -> Result<Receipt, Refused>
+    /// Makes the draft's call as `Layered::call` does. Room for the history, and for its copy of the call where the draft has none,
+    /// is taken first. The receipt shows the call, its reply and their place.
+    pub fn apply(&mut self, mut draft: Draft) -> Result<Receipt, Refused>
         ensures applied { IsApplied FT.FormatTime draft.call result self.old self.new }
         ensures draft { IfErr result (λ e. e.draft ≡ draft) }
     {
@@ -125,7 +125,7 @@ impl<FT: FormatTime> Book<FT> {
                 cause: Refusal::Memory,
             });
         }
-        let Ok(kept) = draft.call().copied() else {
+        let Ok(kept) = draft.take_copy() else {
             return Err(Refused {
                 draft,
                 cause: Refusal::Memory,

@@ -35,16 +35,18 @@ impl Model for Tail {
 pub struct Draft {
     call: Call,
     tail: Option<Tail>,
+    // The copy that a history will keep, where it was made before the lock was taken.
+    copy: Option<Call>,
 }
 
 impl Model for Draft {
-    ghost use Rattle.tracing_tree_shared.specs.Drafts.{DraftView, KeepsTail};
+    ghost use Rattle.tracing_tree_shared.specs.Drafts.{DraftView, KeepsTail, IsCopyOf};
 
     ghost Value = { DraftView };
 
     ghost view = { λ d. record { call = d.call; tail = d.tail } };
 
-    ghost invariant = { λ d. KeepsTail d.call d.tail };
+    ghost invariant = { λ d. KeepsTail d.call d.tail × IsCopyOf d.call d.copy };
 }
 
 impl Draft {
@@ -55,7 +57,35 @@ impl Draft {
             ≡ tail_under config.now.ansi config.now.targets call) }
     {
         let tail = drawn_tail(alloc, config, &call)?;
-        Ok(Draft { call, tail })
+        Ok(Draft {
+            call,
+            tail,
+            copy: None,
+        })
+    }
+
+    // The same draft with a copy of its call, so that `take_copy` needs no memory.
+    pub(crate) fn with_copy(self) -> Result<Draft, AllocError>
+        ensures { IfOk result (λ draft. draft ≡ self) }
+    {
+        let copy = Some(self.call.copied()?);
+        let Draft {
+            call,
+            tail,
+            copy: _,
+        } = self;
+        Ok(Draft { call, tail, copy })
+    }
+
+    // A copy of the call: the one that was made before, if there is one.
+    pub(crate) fn take_copy(&mut self) -> Result<Call, AllocError>
+        ensures copy { IfOk result (λ copy. copy ≡ self.old.call) }
+        ensures same { self.new ≡ self.old }
+    {
+        match self.copy.take() {
+            Some(copy) => Ok(copy),
+            None => self.call.copied(),
+        }
     }
 
     /// The call.

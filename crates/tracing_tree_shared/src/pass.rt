@@ -179,14 +179,18 @@ impl<FT: FormatTime + Drop, L: Ledger> SharedLayer<FT, L> {
         Ok((layer, all))
     }
 
-    /// A draft of this call. Takes no lock and waits for nobody: an event's level, target and fields are drawn here.
+    /// A draft of this call. Takes no lock and waits for nobody: an event's level, target and fields are drawn here, and the call is
+    /// copied for the history.
     pub fn draft(&self, alloc: Global, call: Call) -> Result<Draft, Refusal>
         ensures call { IfOk result (λ draft. draft.call ≡ call) }
         ensures tail { IfOk result (λ draft. draft.tail
             ≡ tail_under self.now.ansi self.now.targets call) }
         ensures memory { IfErr result (λ refusal. refusal ≡ Refusal.Memory) }
     {
-        Draft::new(alloc, &self.config, call).map_err(|_| Refusal::Memory)
+        match Draft::new(alloc, &self.config, call) {
+            Ok(draft) => draft.with_copy().map_err(|_| Refusal::Memory),
+            Err(_) => Err(Refusal::Memory),
+        }
     }
 
     /// Makes a call under the lock, for which it may wait. The pass gains its receipt; on a refusal it is as it was, and the draft

@@ -70,6 +70,8 @@ impl<W: Output, FT: FormatTime> Counted<W, FT> {
         }
         match draft.tell(&mut self.layered) {
             Ok(reply) => {
+                // As one value, so that the proof needn't follow each of its parts.
+                drop(draft);
                 let next = self.accepted.saturating_add(1);
                 let number = mem::replace(&mut self.accepted, next);
                 Ok(Numbered { number, reply })
