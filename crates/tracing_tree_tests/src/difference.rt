@@ -1,14 +1,13 @@
 //! Differences of two iterators.
 
-ghost use Rattle.std.specs.Prelude.{◌≡◌, nat_eq, IfOk, Option};
-ghost use Rattle.tracing_tree_core.specs.Registry.Ids.{same_id};
-ghost use Rattle.tracing_tree_core.specs.Registry.Forest.{Forest, IsForest, path_of, path_of_any, fresh_ids};
+ghost use Rattle.std.specs.Prelude.{◌≡◌, nat_eq, IfOk};
 ghost use Rattle.tracing_tree_layer.specs.Differences.Items.{differing};
 
 use std::alloc::{AllocError, Global};
 use std::test::*;
 use tracing_tree::DifferenceIter;
 use tracing_tree::format::Id;
+use tracing_tree_laws::difference::fresh_spans;
 
 // The items of `right` that differ from those of `left`, by their values.
 fn differences<L: Iterator<Item = u32>>(
@@ -41,17 +40,6 @@ fn differences_of_references(
     DifferenceIter::new(left.iter(), right.iter(), |x: &&u32| **x)
         .copied()
         .collect(alloc)
-}
-
-// The ids of one path that differ from another's. Of two paths of one forest these are the spans that a retrace shows.
-fn fresh(alloc: Global, old: &[Id], new: &[Id]) -> Result<Vec<Id>, AllocError>
-    ensures differ { IfOk result (λ found. found.items ≡ differing same_id old.now new.now) }
-    ensures fresh { (forest : Forest) (last : Option Id) (i : Id) → IsForest forest
-        → old.now ≡ path_of_any forest last → new.now ≡ path_of forest i
-        → IfOk result (λ found. found.items ≡ fresh_ids forest last i) }
-{
-    let old = old.iter().copied();
-    DifferenceIter::new(old, new.iter().copied(), |id: &Id| *id).collect(alloc)
 }
 
 #[test]
@@ -133,7 +121,7 @@ fn asks_no_left_again_that_has_ended(rt: HostRuntime) -> Result<(), Fail> {
 
 #[test]
 fn gives_the_fresh_spans_of_a_path(rt: HostRuntime) -> Result<(), Fail> {
-    let found = fresh(rt.alloc(), &[Id(1), Id(2), Id(3)], &[Id(1), Id(4), Id(5)])?;
+    let found = fresh_spans(rt.alloc(), &[Id(1), Id(2), Id(3)], &[Id(1), Id(4), Id(5)])?;
     assert_eq!(rt; found.as_slice(), [Id(4), Id(5)].as_slice());
     Ok(())
 }

@@ -7,7 +7,6 @@ mod bare;
 mod calls;
 #[cfg(test)]
 mod difference;
-pub mod equal;
 #[cfg(test)]
 mod lone;
 #[cfg(test)]

@@ -1,7 +1,7 @@
 use Rattle.std.proofs.Common.{◌≡◌, Bool, sym, subst}
 use Rattle.std.specs.Bool.{Decides}
 use Rattle.tracing_tree_layer.proofs.Equality.{call_decides}
-use Rattle.tracing_tree_tests.proofs.equal.calls.Goals as goal
+use Rattle.tracing_tree_laws.proofs.equal.calls.Goals as goal
 
 pub returns : goal.returns
 returns c =

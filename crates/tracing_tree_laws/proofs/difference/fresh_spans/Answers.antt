@@ -7,7 +7,7 @@ use Rattle.tracing_tree_base.specs.declared.context.Id.{Id}
 use Rattle.tracing_tree_layer.specs.Differences.Items.{differing}
 use Rattle.tracing_tree_layer.proofs.DifferenceYields.{YieldsList-from_yields}
 use Rattle.tracing_tree_layer.proofs.PathPairs.{differing-fresh_ids}
-use Rattle.tracing_tree_tests.proofs.difference.fresh.Goals as goal
+use Rattle.tracing_tree_laws.proofs.difference.fresh_spans.Goals as goal
 
 pub returns-clause-differ : goal.returns-clause-differ
 returns-clause-differ c =

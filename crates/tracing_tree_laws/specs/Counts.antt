@@ -1,0 +1,9 @@
+-- Nearest counts, by what they are.
+use Rattle.std.specs.Prelude.{◌≡◌, ◌≢◌, ◌≤◌, ◌*◌, ℕ, true}
+use Rattle.tracing_tree_base.specs.Time.Clock.{distance, is_even}
+
+-- no other count of the unit lies nearer to n, and where another lies as near, this one is even
+pub record IsNearest (unit n count : ℕ) : Type 0 where
+  pub near : (other : ℕ) → distance n (count * unit) ≤ distance n (other * unit)
+  pub even : (other : ℕ) → other ≢ count → distance n (other * unit) ≡ distance n (count * unit) →
+      is_even count ≡ true

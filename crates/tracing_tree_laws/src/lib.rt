@@ -1,0 +1,11 @@
+//! What the definitions mean: laws that the contracts of other crates rest on, each as the contract of a public function.
+//!
+//! A law about definitions alone is the contract of a function with an empty body. `equal` and `difference` have calls as their
+//! bodies, of which their contracts speak.
+#![tactic(auto)]
+
+pub mod counts;
+pub mod dates;
+pub mod difference;
+pub mod equal;
+pub mod lines;
