@@ -1,0 +1,53 @@
+-- Calls that were made by a method.
+use Rattle.std.specs.Prelude.{◌≡◌, Bool, List, Option, Some, Result, Err}
+use Rattle.std.proofs.Common.{subst, sym}
+use Rattle.tracing_tree_base.specs.declared.context.Id.{Id}
+use Rattle.tracing_tree_base.specs.declared.context.Moment.{Moment}
+use Rattle.tracing_tree_base.specs.declared.context.Refusal.{Refusal}
+use Rattle.tracing_tree_layer.specs.Calls.Seen.{Seen}
+use Rattle.tracing_tree_layer.specs.Calls.Answered.{IsAnswered}
+use Rattle.tracing_tree_layer.specs.Calls.Layers.{LayeredView, Changes}
+use Rattle.tracing_tree_layer.specs.declared.call.Call.{Call}
+use Rattle.tracing_tree_layer.specs.declared.call.Reply.{Reply}
+use Rattle.tracing_tree_tracer.specs.declared.tracer.TraceFault.{TraceFault}
+use Rattle.tracing_tree_tracer.specs.declared.tracer.TraceFault.TheVariants.{Refused}
+use Rattle.tracing_tree_tracer.specs.Tracers.{TracerView, IsClosedAs, Leaves, Made, MadeAt, reply_as}
+
+module _ {W FT : Type 0} (see : LayeredView W FT → Seen) where
+  -- the call that was made is this one, its answer this one, and it was made on this layer
+  pub made_as : (given call : Call) → given ≡ call → (result answer : Result Reply Refusal) → result ≡ answer
+      → (inside old new : LayeredView W FT) → inside ≡ old → Changes see (IsAnswered given result) inside new
+      → Made see call old new answer
+  made_as given call is_call result answer is_answer inside old new is_old made =
+      let ByCall : Call → Type 0 = λ one. Made see one inside new result in
+      let ByAnswer : Result Reply Refusal → Type 0 = λ one. Made see call inside new one in
+      let ByOld : LayeredView W FT → Type 0 = λ one. Made see call one new answer in
+      subst ByOld is_old (subst ByAnswer is_answer (subst ByCall is_call made))
+
+  -- the same at a moment that was told
+  pub made_at : (may_tell : Moment → Type 0) (call : Moment → Call) (moment : Moment) → may_tell moment
+      → (given : Call) → given ≡ call moment → (result answer : Result Reply Refusal) → result ≡ answer
+      → (inside old new : LayeredView W FT) → inside ≡ old → Changes see (IsAnswered given result) inside new
+      → MadeAt see may_tell call old new answer
+  made_at may_tell call moment told given is_call result answer is_answer inside old new is_old made =
+      (moment, told, made_as given (call moment) is_call result answer is_answer inside old new is_old made)
+
+-- a call that was refused is all that a method makes
+pub leaves_refused : {W FT N A : Type 0}
+    (MadeFrom : LayeredView W FT → LayeredView W FT → Result Reply Refusal → Type 0)
+    (after : Result A TraceFault → List Id) (reply : A → Reply) (old new : TracerView W FT N) (refusal : Refusal)
+    (result : Result A TraceFault) → result ≡ Err (Refused refusal)
+    → MadeFrom old.layered new.layered (Err refusal)
+    → new ≡ record old { layered = new.layered; spans = after (Err (Refused refusal)) }
+    → Leaves MadeFrom (after result) (reply_as reply result) old new
+leaves_refused {A = A} MadeFrom after reply old new refusal result is_refused made left =
+    let ByResult : Result A TraceFault → Type 0 = λ one. Leaves MadeFrom (after one) (reply_as reply one) old new in
+    subst ByResult (sym is_refused) (record { made = made; left = left })
+
+-- the span that was closed is the current one
+pub closed_as : {W FT N : Type 0} (see : LayeredView W FT → Seen) (may_tell : N → Moment → Type 0) (found : Option Id)
+    (id : Id) → found ≡ Some id → (answer : Result Bool TraceFault) (old new : TracerView W FT N)
+    → IsClosedAs see may_tell (Some id) answer old new → IsClosedAs see may_tell found answer old new
+closed_as see may_tell found id is_found answer old new closed =
+    let ByFound : Option Id → Type 0 = λ one. IsClosedAs see may_tell one answer old new in
+    subst ByFound (sym is_found) closed

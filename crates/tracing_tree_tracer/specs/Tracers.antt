@@ -1,0 +1,178 @@
+-- What a tracer is, the calls that it makes, and what each of its methods leaves.
+use Rattle.std.specs.Prelude.{◌≡◌, ℕ, zero, suc, ◌-◌, List, [], ◌∷◌, ◌++◌, length, take, slice_get, Option, None, Some, Result, Ok, Err, Bool}
+use Rattle.tracing_tree_base.specs.declared.context.Id.{Id}
+use Rattle.tracing_tree_base.specs.declared.context.Moment.{Moment}
+use Rattle.tracing_tree_base.specs.declared.context.Context.{Context}
+use Rattle.tracing_tree_base.specs.declared.context.Refusal.{Refusal}
+use Rattle.tracing_tree_base.specs.declared.field.Field.{Field}
+use Rattle.tracing_tree_base.specs.declared.style.Level.{Level}
+use Rattle.tracing_tree_core.specs.declared.registry.Parent.TheVariants.{Current}
+use Rattle.tracing_tree_layer.specs.Calls.Seen.{Seen}
+use Rattle.tracing_tree_layer.specs.Calls.Answered.{IsAnswered}
+use Rattle.tracing_tree_layer.specs.Calls.Layers.{LayeredView, Changes}
+use Rattle.tracing_tree_layer.specs.declared.call.Call.{Call}
+use Rattle.tracing_tree_layer.specs.declared.call.Call.TheVariants.{New, Record, Event, Close}
+use Rattle.tracing_tree_layer.specs.declared.call.Reply.{Reply}
+use Rattle.tracing_tree_layer.specs.declared.call.Reply.TheVariants.{Span, Done, Closed}
+use Rattle.tracing_tree_tracer.specs.declared.tracer.TraceFault.{TraceFault}
+use Rattle.tracing_tree_tracer.specs.declared.tracer.TraceFault.TheVariants.{NoSpan, NoMoment, Memory, Refused}
+use Rattle.tracing_tree_tracer.specs.Values.{message_field}
+
+-- who tells: the target of all that is told, and the thread
+pub record Teller : Type 0 where
+  pub target : List ℕ
+  pub thread_id : ℕ
+  pub thread_name : Option (List ℕ)
+
+-- a tracer: its registry with its layer, its clock, who tells, and the spans that are open,
+-- outermost first
+pub record TracerView (W FT N : Type 0) : Type 0 where
+  pub layered : LayeredView W FT
+  pub clock : N
+  pub teller : Teller
+  pub spans : List Id
+
+-- the current span: of those that are open the last
+abbrev pub current_of : List Id → Option Id
+current_of spans = slice_get spans (length spans - 1)
+
+-- the spans around the current one
+abbrev pub outer_of : List Id → List Id
+outer_of spans = take (length spans - 1) spans
+
+-- ---- the calls
+
+-- what is handed in with a call in this current span
+abbrev pub context_in : Teller → Option Id → Moment → Context
+context_in teller current moment = record {
+  current = current;
+  thread_id = teller.thread_id;
+  thread_name = teller.thread_name;
+  moment = moment;
+}
+
+abbrev pub open_call : Teller → List Id → List ℕ → List Field → Moment → Call
+open_call teller spans name fields moment =
+    New (record { name = name; target = teller.target; parent = Current; fields = fields })
+    (context_in teller (current_of spans) moment)
+
+abbrev pub event_call : Teller → List Id → Level → List ℕ → List Field → Moment → Call
+event_call teller spans level message fields moment =
+    Event (record {
+      level = level;
+      target = teller.target;
+      parent = Current;
+      fields = message_field message ∷ fields;
+    }) (context_in teller (current_of spans) moment)
+
+-- a span is left before it is closed
+abbrev pub close_call : Teller → List Id → Id → Moment → Call
+close_call teller spans id moment =
+    Close id (context_in teller (current_of (outer_of spans)) moment)
+
+abbrev pub record_call : List Field → Id → Call
+record_call fields id = Record id (record { fields = fields })
+
+-- ---- what came of a call
+
+-- the open spans after a span was opened, if it was
+abbrev pub after_open : List Id → Result Id TraceFault → List Id
+after_open spans (Ok id) = spans ++ id ∷ []
+after_open spans (Err fault) = spans
+
+-- the open spans after the current one was closed, if it was
+abbrev pub after_close : List Id → Result Bool TraceFault → List Id
+after_close spans (Ok went) = outer_of spans
+after_close spans (Err fault) = spans
+
+-- the answer of a method, with the reply that its value stands for
+abbrev pub reply_as : {A : Type 0} → (A → Reply) → Result A TraceFault → Result Reply TraceFault
+reply_as reply (Ok value) = Ok (reply value)
+reply_as reply (Err fault) = Err fault
+
+abbrev pub done : Unit {0} → Reply
+done nothing = Done
+
+-- a call was made and answered so, or none was made
+abbrev pub CameOf : (Result Reply Refusal → Type 0) → Type 0 → Result Reply TraceFault → Type 0
+CameOf MadeWith Unmade (Ok reply) = MadeWith (Ok reply)
+CameOf MadeWith Unmade (Err (Refused refusal)) = MadeWith (Err refusal)
+CameOf MadeWith Unmade (Err NoSpan) = ⊥
+CameOf MadeWith Unmade (Err NoMoment) = Unmade
+CameOf MadeWith Unmade (Err Memory) = Unmade
+
+module _ {W FT : Type 0} (see : LayeredView W FT → Seen) where
+  -- this call was made and answered so
+  abbrev pub Made : Call → LayeredView W FT → LayeredView W FT → Result Reply Refusal → Type 0
+  Made call old new answer = Changes see (IsAnswered call answer) old new
+
+  -- the call of one of these moments was made and answered so
+  abbrev pub MadeAt : (Moment → Type 0) → (Moment → Call) → LayeredView W FT → LayeredView W FT
+      → Result Reply Refusal → Type 0
+  MadeAt may_tell call old new answer =
+      (moment : Moment) × may_tell moment × Made (call moment) old new answer
+
+module _ {W FT N : Type 0} where
+  -- what a method leaves that makes one call: these open spans, and nothing else changed if it
+  -- made none
+  pub record Leaves (MadeFrom : LayeredView W FT → LayeredView W FT → Result Reply Refusal → Type 0)
+      (spans : List Id) (answer : Result Reply TraceFault) (old new : TracerView W FT N) : Type 0 where
+    pub made : CameOf (MadeFrom old.layered new.layered) (new.layered ≡ old.layered) answer
+    pub left : new ≡ record old { layered = new.layered; spans = spans }
+
+module _ {W FT N : Type 0} (see : LayeredView W FT → Seen) (may_tell : N → Moment → Type 0) where
+  -- a span was opened
+  abbrev pub IsOpened : List ℕ → List Field → Result Id TraceFault → TracerView W FT N
+      → TracerView W FT N → Type 0
+  IsOpened name fields answer old new =
+      Leaves (MadeAt see (may_tell old.clock) (open_call old.teller old.spans name fields))
+      (after_open old.spans answer) (reply_as Span answer) old new
+
+  -- an event was told
+  abbrev pub IsTold : Level → List ℕ → List Field → Result (Unit {0}) TraceFault
+      → TracerView W FT N → TracerView W FT N → Type 0
+  IsTold level message fields answer old new =
+      Leaves (MadeAt see (may_tell old.clock) (event_call old.teller old.spans level message fields))
+      old.spans (reply_as done answer) old new
+
+  -- this span, which is the current one, was closed, if there is one
+  abbrev pub IsClosedAs : Option Id → Result Bool TraceFault → TracerView W FT N
+      → TracerView W FT N → Type 0
+  IsClosedAs None answer old new = (answer ≡ Err NoSpan) × (new ≡ old)
+  IsClosedAs (Some id) answer old new =
+      Leaves (MadeAt see (may_tell old.clock) (close_call old.teller old.spans id))
+      (after_close old.spans answer) (reply_as Closed answer) old new
+
+  abbrev pub IsClosed : Result Bool TraceFault → TracerView W FT N → TracerView W FT N → Type 0
+  IsClosed answer old new = IsClosedAs (current_of old.spans) answer old new
+
+  -- after this close the others follow, unless it was refused
+  abbrev pub ThenCloses : (Result (Unit {0}) TraceFault → TracerView W FT N → TracerView W FT N → Type 0)
+      → Result Bool TraceFault → Result (Unit {0}) TraceFault → TracerView W FT N → TracerView W FT N
+      → Type 0
+  ThenCloses Others (Ok went) answer between new = Others answer between new
+  ThenCloses Others (Err fault) answer between new = (answer ≡ Err fault) × (new ≡ between)
+
+  -- so many spans were closed, each the current one, or as many as could be
+  abbrev pub AreClosed : ℕ → Result (Unit {0}) TraceFault → TracerView W FT N → TracerView W FT N
+      → Type 0
+  AreClosed zero answer old new = (answer ≡ Ok tt) × (new ≡ old)
+  AreClosed (suc n) answer old new =
+      (first : Result Bool TraceFault) × (between : TracerView W FT N)
+      × IsClosed first old between × ThenCloses (AreClosed n) first answer between new
+
+  -- all open spans but so many were closed
+  abbrev pub AreClosedTo : ℕ → Result (Unit {0}) TraceFault → TracerView W FT N → TracerView W FT N
+      → Type 0
+  AreClosedTo depth answer old new = AreClosed (length old.spans - depth) answer old new
+
+-- fields were put at the end of those of this span, which is the current one, if there is one
+abbrev pub IsRecordedAs : {W FT N : Type 0} → (LayeredView W FT → Seen) → List Field → Option Id
+    → Result (Unit {0}) TraceFault → TracerView W FT N → TracerView W FT N → Type 0
+IsRecordedAs see fields None answer old new = (answer ≡ Err NoSpan) × (new ≡ old)
+IsRecordedAs see fields (Some id) answer old new =
+    Leaves (Made see (record_call fields id)) old.spans (reply_as done answer) old new
+
+abbrev pub IsRecorded : {W FT N : Type 0} → (LayeredView W FT → Seen) → List Field
+    → Result (Unit {0}) TraceFault → TracerView W FT N → TracerView W FT N → Type 0
+IsRecorded see fields answer old new = IsRecordedAs see fields (current_of old.spans) answer old new

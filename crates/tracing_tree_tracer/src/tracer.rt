@@ -1,0 +1,372 @@
+//! A tracer: a registry with a layer, the spans in which a service is, and what each call is handed.
+
+ghost use Rattle.std.specs.Prelude.{◌≡◌, ◌≢◌, [], IfOk, MatchResult, length};
+ghost use Rattle.tracing_tree_layer.specs.Calls.Layers.{seen};
+ghost use Rattle.tracing_tree_tracer.specs.Values.{fields_of};
+ghost use Rattle.tracing_tree_tracer.specs.Tracers.{current_of, context_in, open_call, event_call, close_call, AreClosedTo, IsOpened, IsTold, IsClosed, IsRecorded};
+
+use crate::clock::Now;
+use crate::spans::Spans;
+use crate::value::{Value, event_fields, span_fields};
+use std::alloc::{AllocError, Global};
+use std::marker::Model;
+use thiserror::Error;
+use tracing_tree_core::format::{Context, Id, Output, Refusal};
+use tracing_tree_core::registry::{Attributes, Event, Parent, Record};
+use tracing_tree_core::style::Level;
+use tracing_tree_core::text::Text;
+use tracing_tree_core::time::{FormatTime, Moment};
+use tracing_tree_layer::Layered;
+use tracing_tree_layer::call::{Call, Reply};
+
+/// Why a tracer did nothing. After the first three no call was made, and nothing has changed.
+#[derive(Clone, Copy, Debug, PartialEq, Eq, Error)]
+pub enum TraceFault {
+    /// No span is open.
+    #[error("no span is open")]
+    NoSpan,
+
+    /// The clock told no moment.
+    #[error("no moment")]
+    NoMoment,
+
+    /// Memory was refused before the call was made.
+    #[error("memory")]
+    Memory,
+
+    /// The call was refused.
+    #[error("{0}")]
+    Refused(Refusal),
+}
+
+impl From<Refusal> for TraceFault {
+    ghost use Rattle.std.specs.Prelude.{◌≡◌};
+    ghost use Rattle.tracing_tree_tracer.specs.declared.tracer.TraceFault.TheVariants.{Refused};
+
+    ghost from_gives = { λ refusal fault. fault ≡ Refused refusal };
+
+    fn from(refusal: Refusal) -> TraceFault {
+        TraceFault::Refused(refusal)
+    }
+}
+
+impl From<AllocError> for TraceFault {
+    ghost use Rattle.std.specs.Prelude.{◌≡◌};
+    ghost use Rattle.tracing_tree_tracer.specs.declared.tracer.TraceFault.TheVariants.{Memory};
+
+    ghost from_gives = { λ _ fault. fault ≡ Memory };
+
+    fn from(_error: AllocError) -> TraceFault {
+        TraceFault::Memory
+    }
+}
+
+/// What a service writes its tree with. It has the spans in which the service is, outermost first: the last is the current one.
+#[derive(Drop)]
+pub struct Tracer<W: Output, FT: FormatTime, N: Now> {
+    layered: Layered<W, FT>,
+    clock: N,
+    alloc: Global,
+    target: Text,
+    thread_id: u64,
+    thread_name: Option<Text>,
+    spans: Vec<Id>,
+}
+
+impl<W: Output, FT: FormatTime, N: Now> Model for Tracer<W, FT, N> {
+    ghost use Rattle.tracing_tree_tracer.specs.Tracers.{TracerView};
+
+    ghost Value = { TracerView W FT N };
+
+    ghost view = { λ t. record {
+      layered = t.layered;
+      clock = t.clock;
+      teller = record { target = t.target; thread_id = t.thread_id; thread_name = t.thread_name };
+      spans = t.spans.items;
+    } };
+}
+
+impl<W: Output, FT: FormatTime, N: Now> Tracer<W, FT, N> {
+    /// A tracer in no span, of thread 1, which has no name, with the empty text as its target. The layer may hold spans.
+    pub fn new(alloc: Global, layered: Layered<W, FT>, clock: N) -> Tracer<W, FT, N>
+        ensures { result ≡ record {
+          layered = layered;
+          clock = clock;
+          teller = record { target = []; thread_id = 1; thread_name = None };
+          spans = [];
+        } }
+    {
+        Tracer {
+            layered,
+            clock,
+            alloc,
+            target: Text::from(String::new(alloc)),
+            thread_id: 1,
+            thread_name: None,
+            spans: Vec::new(alloc),
+        }
+    }
+
+    /// With this target of all that it tells from now on.
+    pub fn with_target(mut self, target: Text) -> Tracer<W, FT, N>
+        ensures { result ≡ record self { teller = record self.teller { target = target } } }
+    {
+        self.target = target;
+        self
+    }
+
+    /// In this thread from now on.
+    pub fn with_thread(mut self, id: u64, name: Option<Text>) -> Tracer<W, FT, N>
+        ensures { result ≡ record self {
+          teller = record self.teller { thread_id = id; thread_name = name };
+        } }
+    {
+        self.thread_id = id;
+        self.thread_name = name;
+        self
+    }
+
+    /// The current span: the innermost that is open.
+    pub fn current(&self) -> Option<Id>
+        ensures { result ≡ current_of self.now.spans }
+    {
+        self.spans.as_slice().last().copied()
+    }
+
+    /// How many spans are open.
+    pub fn depth(&self) -> usize
+        ensures { result ≡ length self.now.spans }
+    {
+        self.spans.len()
+    }
+
+    /// The registry with its layer.
+    pub fn layered(&self) -> &Layered<W, FT>
+        ensures { result.now ≡ self.now.layered }
+    {
+        &self.layered
+    }
+
+    /// The registry with its layer. Spans that are open stay so.
+    pub fn into_layered(self) -> Layered<W, FT>
+        ensures { result ≡ self.layered }
+    {
+        self.layered
+    }
+
+    /// Opens a span with these fields in the current one, and returns its id. From now on it is the current one.
+    pub fn open(&mut self, name: &str, fields: &[(&str, Value<'_>)]) -> Result<Id, TraceFault>
+        ensures { IsOpened (seen FT.FormatTime W.Output) N.may_tell name.now (fields_of fields.now)
+            result self.old self.new }
+    {
+        let moment = self.moment()?;
+        let call = self.open_call(name, fields, moment)?;
+        self.spans.reserve(1)?;
+        let Reply::Span(id) = self.layered.call(call)? else {
+            unreachable!()
+        };
+        self.spans.push_reserved(id);
+        Ok(id)
+    }
+
+    /// Closes the current span, and returns whether it went: it stays where a span in it lives. Either way the span around it is
+    /// the current one from now on.
+    ///
+    /// `NoSpan` where no span is open.
+    pub fn close(&mut self) -> Result<bool, TraceFault>
+        ensures { IsClosed (seen FT.FormatTime W.Output) N.may_tell result self.old self.new }
+    {
+        let Some(id) = self.current() else {
+            return Err(TraceFault::NoSpan);
+        };
+        let moment = self.moment()?;
+        let call = self.close_call(id, moment)?;
+        let Reply::Closed(went) = self.layered.call(call)? else {
+            unreachable!()
+        };
+        self.spans.pop();
+        Ok(went)
+    }
+
+    /// Tells an event with a message and these fields, in the current span.
+    pub fn event(
+        &mut self,
+        level: Level,
+        message: &str,
+        fields: &[(&str, Value<'_>)],
+    ) -> Result<(), TraceFault>
+        ensures { IsTold (seen FT.FormatTime W.Output) N.may_tell level message.now
+            (fields_of fields.now) result self.old self.new }
+    {
+        let moment = self.moment()?;
+        let call = self.event_call(level, message, fields, moment)?;
+        let Reply::Done = self.layered.call(call)? else {
+            unreachable!()
+        };
+        Ok(())
+    }
+
+    /// Tells an event of level TRACE, as `event` does.
+    pub fn trace(&mut self, message: &str, fields: &[(&str, Value<'_>)]) -> Result<(), TraceFault>
+        ensures { IsTold (seen FT.FormatTime W.Output) N.may_tell Level.Trace message.now
+            (fields_of fields.now) result self.old self.new }
+    {
+        self.event(Level::Trace, message, fields)
+    }
+
+    /// Tells an event of level DEBUG, as `event` does.
+    pub fn debug(&mut self, message: &str, fields: &[(&str, Value<'_>)]) -> Result<(), TraceFault>
+        ensures { IsTold (seen FT.FormatTime W.Output) N.may_tell Level.Debug message.now
+            (fields_of fields.now) result self.old self.new }
+    {
+        self.event(Level::Debug, message, fields)
+    }
+
+    /// Tells an event of level INFO, as `event` does.
+    pub fn info(&mut self, message: &str, fields: &[(&str, Value<'_>)]) -> Result<(), TraceFault>
+        ensures { IsTold (seen FT.FormatTime W.Output) N.may_tell Level.Info message.now
+            (fields_of fields.now) result self.old self.new }
+    {
+        self.event(Level::Info, message, fields)
+    }
+
+    /// Tells an event of level WARN, as `event` does.
+    pub fn warn(&mut self, message: &str, fields: &[(&str, Value<'_>)]) -> Result<(), TraceFault>
+        ensures { IsTold (seen FT.FormatTime W.Output) N.may_tell Level.Warn message.now
+            (fields_of fields.now) result self.old self.new }
+    {
+        self.event(Level::Warn, message, fields)
+    }
+
+    /// Tells an event of level ERROR, as `event` does.
+    pub fn error(&mut self, message: &str, fields: &[(&str, Value<'_>)]) -> Result<(), TraceFault>
+        ensures { IsTold (seen FT.FormatTime W.Output) N.may_tell Level.Error message.now
+            (fields_of fields.now) result self.old self.new }
+    {
+        self.event(Level::Error, message, fields)
+    }
+
+    /// Puts these fields at the end of the current span's.
+    ///
+    /// `NoSpan` where no span is open.
+    pub fn record(&mut self, fields: &[(&str, Value<'_>)]) -> Result<(), TraceFault>
+        ensures recorded { IsRecorded (seen FT.FormatTime W.Output) (fields_of fields.now) result
+            self.old self.new }
+        ensures moment { result ≢ Err TraceFault.NoMoment }
+    {
+        let Some(id) = self.current() else {
+            return Err(TraceFault::NoSpan);
+        };
+        let fields = span_fields(self.alloc, fields)?;
+        let Reply::Done = self.layered.call(Call::Record(id, Record { fields }))? else {
+            unreachable!()
+        };
+        Ok(())
+    }
+
+    /// Closes spans, innermost first, until no more than so many are open. At the first that can't be closed it ends.
+    pub fn close_to(&mut self, depth: usize) -> Result<(), TraceFault>
+        ensures { AreClosedTo (seen FT.FormatTime W.Output) N.may_tell depth result self.old self.new }
+    {
+        if self.depth() <= depth {
+            return Ok(());
+        }
+        self.close()?;
+        self.close_to(depth)
+    }
+
+    fn moment(&self) -> Result<Moment, TraceFault>
+        ensures { MatchResult result (N.may_tell self.now.clock)
+            (λ fault. fault ≡ TraceFault.NoMoment) }
+    {
+        self.clock.now().ok_or(TraceFault::NoMoment)
+    }
+
+    fn open_call(
+        &self,
+        name: &str,
+        fields: &[(&str, Value<'_>)],
+        moment: Moment,
+    ) -> Result<Call, AllocError>
+        ensures { IfOk result (λ call. call
+            ≡ open_call self.now.teller self.now.spans name.now (fields_of fields.now) moment) }
+    {
+        let attributes = Attributes {
+            name: Text::from_str(self.alloc, name)?,
+            target: self.target.clone()?,
+            parent: Parent::Current,
+            fields: span_fields(self.alloc, fields)?,
+        };
+        let context = self.context(self.current(), moment)?;
+        Ok(Call::New(attributes, context))
+    }
+
+    fn event_call(
+        &self,
+        level: Level,
+        message: &str,
+        fields: &[(&str, Value<'_>)],
+        moment: Moment,
+    ) -> Result<Call, AllocError>
+        ensures { IfOk result (λ call. call ≡ event_call self.now.teller self.now.spans level
+            message.now (fields_of fields.now) moment) }
+    {
+        let event = Event {
+            level,
+            target: self.target.clone()?,
+            parent: Parent::Current,
+            fields: event_fields(self.alloc, message, fields)?,
+        };
+        let context = self.context(self.current(), moment)?;
+        Ok(Call::Event(event, context))
+    }
+
+    // A span is left before it is closed, so that the one around it is the current one then.
+    fn close_call(&self, id: Id, moment: Moment) -> Result<Call, AllocError>
+        ensures { IfOk result (λ call. call
+            ≡ close_call self.now.teller self.now.spans id moment) }
+    {
+        let outer = self.spans.len().saturating_sub(1);
+        let around = self.spans.as_slice()[..outer].last().copied();
+        Ok(Call::Close(id, self.context(around, moment)?))
+    }
+
+    fn context(&self, current: Option<Id>, moment: Moment) -> Result<Context, AllocError>
+        ensures { IfOk result (λ context. context ≡ context_in self.now.teller current moment) }
+    {
+        let thread_name = match &self.thread_name {
+            Some(name) => Some(name.clone()?),
+            None => None,
+        };
+        Ok(Context {
+            current,
+            thread_id: self.thread_id,
+            thread_name,
+            moment,
+        })
+    }
+}
+
+impl<W: Output, FT: FormatTime, N: Now> Spans for Tracer<W, FT, N> {
+    ghost use Rattle.std.specs.Prelude.{length};
+    ghost use Rattle.tracing_tree_layer.specs.Calls.Layers.{seen};
+    ghost use Rattle.tracing_tree_tracer.specs.Tracers.{AreClosedTo, IsOpened};
+
+    ghost depth_of = { λ tracer. length tracer.spans };
+
+    ghost opens = { IsOpened (seen FT.FormatTime W.Output) N.may_tell };
+
+    ghost closes_to = { AreClosedTo (seen FT.FormatTime W.Output) N.may_tell };
+
+    fn depth(&self) -> usize {
+        self.depth()
+    }
+
+    fn open(&mut self, name: &str, fields: &[(&str, Value<'_>)]) -> Result<Id, TraceFault> {
+        self.open(name, fields)
+    }
+
+    fn close_to(&mut self, depth: usize) -> Result<(), TraceFault> {
+        self.close_to(depth)
+    }
+}
