@@ -4,6 +4,7 @@
 pub mod lines;
 pub mod rows;
 pub mod shared;
+pub mod tracer;
 
 pub use lines::{LineCause, LineFault, LinesRun, run_lines, status};
 pub use tracing_tree_core::{field, format, registry, style, text, time};
