@@ -44,10 +44,11 @@ class Unsure(Exception):
 # ---- values
 
 class Float:
-    """A number that is not whole within 64 bits."""
+    """A number that is not whole within 64 bits. One that is past the range of a float is none."""
 
-    def __init__(self, _):
-        pass
+    def __init__(self, digits):
+        if abs(float(digits)) == float("inf"):
+            raise Unspelled(digits)
 
 
 class Members(list):
