@@ -1,0 +1,267 @@
+#!/usr/bin/env python3
+"""Runs the programs at the machine's limits and with odd arguments: limits.py [--checked] DRAWING_PROGRAM READING_PROGRAM TTREE
+
+Memory that ends in the middle, a small stack, a file that may not grow on, a full device and a full disk, a pipe whose reader goes, is slow
+or takes nothing, a signal that is ignored or not: what is out must be a beginning of the right text, which ends where docs/FORMATS.md says
+for the line and the word that are told, and the status must be the one of that word. The right texts are those of scripts/model.py and
+scripts/model_rows.py; of TTREE they are what it writes without a limit. --checked says that the programs were compiled with checks of
+memory: they reserve terabytes of addresses, so limits of memory and of the stack are left out. The last line is
+'limits: N of M runs ended as they must'.
+"""
+import fcntl, os, re, resource, shutil, signal, subprocess, sys, tempfile, threading, time
+
+import limit_inputs
+from limit_inputs import Drawing, Lines, Told
+
+SECONDS = 120
+KIB = 1024
+
+
+class Limits:
+    """The programs, in the order of `program` of their inputs, and how many runs ended as they must."""
+
+    def __init__(self, programs, room):
+        self.programs, self.room = programs, room
+        self.runs, self.right, self.words = 0, 0, {}
+
+    def count(self, name, is_right, ended):
+        self.runs += 1
+        self.right += bool(is_right)
+        if not is_right:
+            out, told, status = ended
+            print(f"limits: FAILED: {name}: status {status}, {len(out)} bytes out, standard error {told[:200]!r}", flush=True)
+
+    def run(self, given, limit=None, out=subprocess.PIPE, words=None, **how):
+        """Runs an input's program, or these words, with a limit that is set in it first."""
+        how = {"input": given.source, "stderr": subprocess.PIPE, "timeout": SECONDS, "check": False, **how}
+        done = subprocess.run(words or [self.programs[given.program]], stdout=out, preexec_fn=limit, **how)
+        return done.stdout or b"", done.stderr, done.returncode
+
+    def judge(self, name, given, ended, must_end=None):
+        """Counts a run under a limit: it ends well with the whole text, or tells a line and a word, and what is out is as they say. Where
+        it is known which of the two, `must_end` says it."""
+        out, told, status = ended
+        is_whole = ended == (given.whole, given.told, given.status)
+        found = re.fullmatch(r"(?:ttree: )?(?:line (\d+): (memory|writer|read)|end: (writer))\n", told.decode(errors="replace"))
+        word = (found[2] or found[3]) if found else ""
+        self.words.setdefault(name, set()).add(word)
+        if is_whole or not found:
+            return self.count(f"{name}, {given.name}", is_whole and must_end is not False, ended)
+        least, most = given.out(int(found[1]), word) if found[1] else (b"", given.whole)
+        is_right = status == 1 and out.startswith(least) and most.startswith(out) and must_end is not True
+        return self.count(f"{name}, {given.name}", is_right, ended)
+
+
+# ---- memory, files and devices
+
+def at_most(kind, count):
+    return lambda: resource.setrlimit(kind, (count, count))
+
+
+def little_memory(limits, inputs):
+    """Limits of the address space, from the least on with which the program begins: memory ends in the middle, at more places than one."""
+    for given in inputs:
+        name = f"little memory, program {given.program}"
+        empty = Lines("settings alone", [b"{}"]) if given.program == 0 else Drawing("nothing", b"")
+        words = [limits.programs[given.program]]
+        least = next(it for it in range(2048 * KIB, 2**28, 512 * KIB)
+                     if limits.run(empty, at_most(resource.RLIMIT_AS, it), words=words)[2] == 0)
+        for more in (0, 1, 2, 3, 4, 6, 9, 14, 22, 30, 40, 60):
+            limits.judge(name, given, limits.run(given, at_most(resource.RLIMIT_AS, least + more * 512 * KIB)))
+    for name, words in limits.words.items():
+        if name.startswith("little memory"):
+            limits.count(f"{name}: some runs end by it", "memory" in words, (b"", b"", 0))
+
+
+def small_stack(limits, inputs):
+    for given in inputs:
+        limits.judge("a stack of 128 KiB", given, limits.run(given, at_most(resource.RLIMIT_STACK, 128 * KIB)), must_end=True)
+
+
+def short_files(limits, inputs):
+    """Files that may not grow past a size, as when a quota is used up. Their signal is ignored, so that the write is refused."""
+    for given in inputs:
+        for most in (0, 1, 7, 4095, 4096, 8191, 8192, 8193, 65536, 65537, len(given.whole) - 1, len(given.whole)):
+            with open(f"{limits.room}/file", "w+b") as file:
+                _, told, status = limits.run(given, at_most(resource.RLIMIT_FSIZE, most), out=file, restore_signals=False)
+                file.seek(0)
+                out = file.read()
+            limits.judge(f"a file of {most} bytes", given, (out, told, status), must_end=most >= len(given.whole))
+
+
+def full_devices(limits, inputs):
+    for given in inputs:
+        with open("/dev/full", "wb") as full:
+            limits.judge("a full device", given, limits.run(given, out=full), must_end=False)
+    mounting = ["unshare", "-m", "mount", "-t", "tmpfs", "none", limits.room]
+    if not shutil.which("unshare") or subprocess.run(mounting, capture_output=True, check=False).returncode:
+        print("limits: left out: a full disk, since no file system may be mounted here")
+        return
+    script = 'mount -t tmpfs -o size=8k none "$0" && { "$@" > "$0/out"; status=$?; cat "$0/out"; exit $status; }'
+    for given in inputs:
+        disk = ["unshare", "-m", "sh", "-c", script, limits.room, limits.programs[given.program]]
+        limits.judge("a full disk", given, limits.run(given, words=disk), must_end=len(given.whole) <= 8 * KIB)
+
+
+# ---- pipes
+
+def piped(limits, given, take, is_blocking=True, **how):
+    """Runs an input into a pipe of one page, from which this function takes what is out."""
+    reading, writing = os.pipe()
+    fcntl.fcntl(reading, fcntl.F_SETPIPE_SZ, 4 * KIB)
+    os.set_blocking(writing, is_blocking)
+    ended = []
+
+    def run():
+        ended.append(limits.run(given, out=writing, **how))
+        os.close(writing)
+    running = threading.Thread(target=run)
+    running.start()
+    out = take(reading, running)
+    running.join()
+    return out, ended[0][1], ended[0][2]
+
+
+def rest(reading):
+    """What a pipe still has. It is closed then."""
+    out = b""
+    while part := os.read(reading, 64 * KIB):
+        out += part
+    os.close(reading)
+    return out
+
+
+def slow(reading, _):
+    """Takes a few bytes, and again, and then all."""
+    out = b""
+    for count in (1, 1, 2, 100, 4 * KIB, 1, 5000):
+        time.sleep(0.05)
+        out += os.read(reading, count)
+    return out + rest(reading)
+
+
+def later(reading, _):
+    """Takes nothing for a while."""
+    time.sleep(0.5)
+    return rest(reading)
+
+
+def gone(reading, _):
+    """Takes the beginning alone."""
+    out = os.read(reading, 100)
+    os.close(reading)
+    return out
+
+
+def ended_first(reading, running):
+    """Takes nothing before the program has ended."""
+    running.join(SECONDS)
+    return rest(reading)
+
+
+def pipes(limits, inputs):
+    for given in inputs:
+        limits.judge("a slow reader", given, piped(limits, given, slow), must_end=True)
+        limits.judge("a reader that waits", given, piped(limits, given, later), must_end=True)
+        limits.judge("a pipe that is full and can't wait", given, piped(limits, given, ended_first, is_blocking=False), must_end=False)
+        for is_default in (True, False):
+            name = f"a pipe whose reader goes, SIGPIPE {'as it is' if is_default else 'ignored'}"
+            limits.judge(name, given, piped(limits, given, gone, restore_signals=is_default), must_end=False)
+
+
+# ---- arguments and statuses
+
+# Stands for a text that isn't empty, where what it says isn't promised.
+ANY = object()
+
+
+def told(limits, name, words, source, wanted, closed=None, **how):
+    """Counts a run by what is out, what is told and the status. A standard stream may be closed first."""
+    how = {"stdout": subprocess.PIPE, "stderr": subprocess.PIPE, "timeout": SECONDS, "check": False, **how}
+    done = subprocess.run(words, input=source, preexec_fn=None if closed is None else lambda: os.close(closed), **how)
+    seen = done.stdout or b"", done.stderr or b"", done.returncode
+    limits.count(name, all(it == want or (want is ANY and it != b"") for it, want in zip(seen, wanted)), seen)
+
+
+def arguments(limits):
+    program, reader, ttree = limits.programs
+    tree, wide, go_lines = limit_inputs.events(3), limit_inputs.wide_row(), limit_inputs.go_lines(1)
+    told(limits, "drawing, an argument that isn't UTF-8", [program, b"\xff"], tree.source, (tree.whole, b"", 0))
+    for words in (["--amount", "300"], ["--amount=300"]):
+        told(limits, f"reading, {words}", [reader, *words], wide.source, (wide.whole, b"", 0))
+    told(limits, "reading, the widest amount", [reader, "--amount", str(2**64 - 1)], b"x\n", (Drawing("x", b"x\n").whole, b"", 0))
+    told(limits, "ttree, --amount 300", [ttree, "--amount", "300"], go_lines, (ANY, b"", 1))
+    told(limits, "reading, --amount 0", [reader, "--amount", "0"], b"x\n", (b"", ANY, 2))
+    for word in (str(2**64), "-1", "", "2.0", b"\xff"):
+        told(limits, f"reading, --amount {word!r}", [reader, "--amount", word], b"x\n", (b"", ANY, 2))
+        told(limits, f"ttree, --amount {word!r}", [ttree, "--amount", word], b"", (b"", ANY, 2))
+    for word in (b"\xff", b"--\xff", b"--amount=\xff", b"-\xff"):
+        told(limits, f"reading, {word!r}", [reader, word], b"x\n", (b"", ANY, 2))
+        told(limits, f"ttree, {word!r}", [ttree, word], b"", (b"", ANY, 2))
+    for words in (["--amount"], ["--color", "blue"], ["--color"], ["--from"], ["a", "b"]):
+        told(limits, f"ttree, {words}", [ttree, *words], b"", (b"", ANY, 2))
+
+
+def odd_lines(limits):
+    """Odd lines and texts, and what two of the texts are read as."""
+    program, reader, _ = limits.programs
+    for source, out, line, status in limit_inputs.ODD_LINES:
+        told(limits, f"drawing {source!r}", [program], source.encode(), (out.encode(), line.encode(), status))
+    told(limits, "drawing, a line that isn't UTF-8", [program], b'{}\n{"call":"new","name":"\xff"}\n', (b"", b"line 2: not a call\n", 1))
+    for text, rows in (("┐┐ \n", ["┐ "]), ("┐a\n┐┐b \n", ["a", "┐b "])):
+        out = "".join(f'{{"shape":"OpenRoot","level":0,"lines":["{it}"]}}\n' for it in rows)
+        told(limits, f"reading {text!r}", [reader], text.encode(), (out.encode(), b"", 0))
+
+
+def statuses(limits):
+    """What is told of drawings that end badly, and the statuses where a standard stream is closed."""
+    _, reader, ttree = limits.programs
+    lines = "┐a\n├─ INFO x\n".encode()
+    rows, first = Drawing("rows", lines), Drawing("row", lines[:5])
+    for name, source, out, line in (
+            ("a line that isn't UTF-8", lines[:5] + b"\xff\n" + lines[5:], first.whole, 2), ("no line end", lines[:-1], first.whole, 2),
+            ("an empty line", b"\n" + lines, b"", 1), ("a line of spaces", lines + b"  \n", rows.whole, 3)):
+        told(limits, f"reading, {name}", [reader], source, (out, b"line %d: not a row\n" % line, 1))
+    counted = b"INFO passed=0, failed=0, skipped=0, unfinished=0\n"
+    go_lines, quiet = limit_inputs.go_lines(1), {"stderr": None}
+    told(limits, "reading, with standard input closed", [reader], None, (b"", b"line 1: read\n", 1), closed=0)
+    told(limits, "ttree, with standard input closed", [ttree], None, (b"", b"ttree: line 1: read\n", 1), closed=0)
+    told(limits, "reading, with standard output closed", [reader], lines, (b"", b"end: writer\n", 1), closed=1)
+    told(limits, "ttree, with standard output closed", [ttree], go_lines, (b"", ANY, 1), closed=1)
+    told(limits, "reading, with standard error closed", [reader], lines, (rows.whole, b"", 0), closed=2, **quiet)
+    told(limits, "ttree, with standard error closed", [ttree], b"", (counted, b"", 0), closed=2, **quiet)
+    for program in (reader, ttree):
+        name = f"{os.path.basename(program)}, a wrong argument with standard error closed"
+        told(limits, name, [program, "-x"], b"", (b"", b"", 2), closed=2, **quiet)
+
+
+def main():
+    words = [os.path.abspath(it) for it in sys.argv[1:] if it != "--checked"]
+    if len(words) != 3:
+        sys.exit(__doc__)
+    is_checked = "--checked" in sys.argv[1:]
+    signal.signal(signal.SIGPIPE, signal.SIG_IGN)
+    with tempfile.TemporaryDirectory(prefix="limits-") as room:
+        limits, ttree = Limits(words, room), words[2]
+        short = 400 if is_checked else 5000
+        inputs = [limit_inputs.events(2 * short), limit_inputs.crowd(short), limit_inputs.many_rows(short),
+                  Told("Go's tests", limit_inputs.go_lines(short // 50), ttree)]
+        arguments(limits)
+        odd_lines(limits)
+        statuses(limits)
+        short_files(limits, inputs)
+        full_devices(limits, inputs)
+        pipes(limits, inputs)
+        if not is_checked:
+            deep = [limit_inputs.deep_value(127), limit_inputs.deep_value(128), limit_inputs.deep_drawing(500)]
+            small_stack(limits, [*inputs, *deep, limit_inputs.chain(2000), limit_inputs.long_line(10**6)])
+            little_memory(limits, [
+                limit_inputs.crowd(20000), limit_inputs.chain(1000), limit_inputs.long_line(10**7), limit_inputs.recorded(30000),
+                limit_inputs.deep_drawing(1500), Drawing("a long row", b"x" * 10**7 + b"\ny\n"),
+                Told("many of Go's tests", limit_inputs.go_lines(300), ttree)])
+        print(f"limits: {limits.right} of {limits.runs} runs ended as they must")
+        return 0 if limits.right == limits.runs else 1
+
+
+if __name__ == "__main__":
+    sys.exit(main())
