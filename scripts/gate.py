@@ -100,18 +100,30 @@ class Gate:
             failed.append(f"{every - passed - len(failed)} edits not tried")
         self.count("edits that must be refused", passed, failed, start)
 
-    def programs(self, *words):
-        """Runs programs that `rt ci` built, by a script."""
+    def programs(self, script, *crates, more=()):
+        """Runs programs that `rt ci` built, by a script that is given these words more."""
         start = time.time()
-        built = [f"{self.room}/crates/{it}/out/{it}" for it in words[1:]]
+        built = [f"{self.room}/crates/{it}/out/{it}" for it in crates]
         if not all(os.path.isfile(it) for it in built):
-            return self.count(f"runs by {words[0]}", 0, ["programs not built"], start)
-        ran = subprocess.run([f"{TOP}/{words[0]}", *built], stdin=subprocess.DEVNULL, stdout=subprocess.PIPE, text=True)
+            return self.count(f"runs by {script}", 0, ["programs not built"], start)
+        ran = subprocess.run([f"{TOP}/{script}", *built, *more], stdin=subprocess.DEVNULL, stdout=subprocess.PIPE, text=True)
         print(ran.stdout, end="", flush=True)
         found = re.search(r"(\d+) of (\d+) runs ended as they must", ran.stdout)
         passed, runs = (int(found[1]), int(found[2])) if found else (0, 1)
-        failed = re.findall(r"(?m)^(program .*?): FAILED", ran.stdout) or [words[0]] * (passed < runs or ran.returncode != 0)
-        return self.count(f"runs by {words[0]}", passed, failed, start)
+        failed = re.findall(r"(?m)^(program .*?): FAILED", ran.stdout) or [script] * (passed < runs or ran.returncode != 0)
+        return self.count(f"runs by {script}", passed, failed, start)
+
+    def faults(self):
+        """Refuses programs each allocation, each read and each write of a small input in turn, where there is a C compiler."""
+        compiler, shim = os.environ.get("CC", "cc"), f"{self.room}/refuse.so"
+        if not shutil.which(compiler):
+            return say(f"left out: refused allocations, reads and writes, since the C compiler {compiler} is not on the PATH")
+        made = subprocess.run([compiler, "-O1", "-shared", "-fPIC", "-o", shim, f"{TOP}/scripts/refuse.c", "-ldl"], check=False)
+        if made.returncode:
+            return self.count("refused calls", 0, ["scripts/refuse.c does not compile"], time.time())
+        self.programs("scripts/refuse.py", "tracing_tree_cli", more=[shim, f"{TOP}/examples/first.jsonl"])
+        drawing = f"{TOP}/crates/tracing_tree_cases/data/first/tree.out"
+        return self.programs("scripts/refuse.py", "tracing_tree_read", more=[shim, drawing])
 
     def bindings(self):
         """Builds the library for C over what `rt ci` proved, and runs the tests of its header and of the Rust crate."""
@@ -151,6 +163,7 @@ def main():
         gate.try_edits()
         gate.programs("scripts/program.sh", "tracing_tree_cli", "tracing_tree_read")
         gate.programs("scripts/ttree.sh", "tracing_tree_ttree", "tracing_tree_cli")
+        gate.faults()
         gate.bindings()
     for it in gate.failed:
         say(f"FAILED: {it}")

@@ -1,11 +1,13 @@
 /* Preloaded into the program, this refuses the call of REFUSE_KIND (malloc, read or write) with the number REFUSE_AT, counted
- * from 1. */
+ * from 1. The file REFUSE_TOLD is there from then on. */
 #define _GNU_SOURCE
 #include <dlfcn.h>
 #include <errno.h>
+#include <fcntl.h>
 #include <stdlib.h>
 #include <string.h>
 #include <sys/types.h>
+#include <unistd.h>
 
 static long counted;
 
@@ -13,7 +15,12 @@ static int refused(const char *kind)
 {
     const char *wanted = getenv("REFUSE_KIND");
     const char *at = getenv("REFUSE_AT");
-    return wanted && at && strcmp(wanted, kind) == 0 && ++counted == atol(at);
+    const char *told = getenv("REFUSE_TOLD");
+    if (!wanted || !at || strcmp(wanted, kind) != 0 || ++counted != atol(at))
+        return 0;
+    if (told)
+        close(open(told, O_CREAT | O_WRONLY, 0600));
+    return 1;
 }
 
 void *malloc(size_t size)

@@ -1,8 +1,11 @@
-"""Refuses the program each allocation, each read and each write in turn, and looks at what it leaves.
+#!/usr/bin/env python3
+"""Refuses the program each allocation, each read and each write in turn, and looks at the status, at what it tells and at what it leaves.
 
 After a refusal the program must end with status 1, name the line and the cause, and have written what it writes of the lines
-before that one: nothing lost, nothing of a call that was not accepted. After a refused write a beginning of the text is out, and
-where the input has a fault of its own, that may be told. The inputs may be of the program that draws or of the one that reads.
+before that one: nothing lost, nothing of a call that was not accepted. After a refused write a beginning of the text is out, and the line
+that is told has a text that ends no earlier; where the input has a fault of its own, that may be told, with its status. A refusal that
+changes nothing is wrong too. The inputs may be of the program that draws, of the one that reads, or of ttree, of which a beginning of the
+whole text must be out. The last line is 'refuse: N of M runs ended as they must'.
 
 usage: refuse.py PROGRAM SHIM INPUT..
 """
@@ -10,70 +13,87 @@ import os
 import re
 import subprocess
 import sys
+import tempfile
+
+WORDS = {"malloc": "memory", "read": "read", "write": "writer"}
 
 
-def run(program, lines, shim=None, kind=None, at=0):
-    """The status, the text and the fault line of a run, where this call of this kind is refused."""
-    env = dict(os.environ)
-    if shim:
-        env.update(LD_PRELOAD=shim, REFUSE_KIND=kind, REFUSE_AT=str(at))
-    done = subprocess.run([program], input=b"".join(lines), capture_output=True, env=env, timeout=60, check=False)
-    return done.returncode, done.stdout, done.stderr.decode()
+class Refusals:
+    """A program under refusals, on one input after another."""
 
+    def __init__(self, program, shim, room):
+        self.program, self.shim, self.told = program, shim, f"{room}/told"
+        self.kind = next((it for it in ("ttree", "read") if os.path.basename(program).endswith(it)), "draw")
+        self.runs = self.wrong = 0
 
-def before(program, lines, line):
-    """What the program writes of the lines before this one."""
-    return run(program, lines[:line - 1])[1] if line > 1 else b""
+    def run(self, lines, kind=None, at=0):
+        """The status, the text and the fault line of a run, where this call of this kind is refused, and whether it was."""
+        env = dict(os.environ)
+        if kind:
+            env.update(LD_PRELOAD=self.shim, REFUSE_KIND=kind, REFUSE_AT=str(at), REFUSE_TOLD=self.told)
+        done = subprocess.run([self.program], input=b"".join(lines), capture_output=True, env=env, timeout=60, check=False)
+        was_refused = os.path.exists(self.told)
+        if was_refused:
+            os.remove(self.told)
+        return (done.returncode, done.stdout, done.stderr.decode()), was_refused
 
+    def before(self, lines, line):
+        """What the program writes of the lines before this one."""
+        return self.run(lines[:line - 1])[0][1] if line > 1 else b""
 
-def is_right(program, lines, kind, whole, ended):
-    """Whether a run that was refused something left what it must."""
-    status, text, told = ended
-    cause = {"malloc": "memory", "read": "read", "write": "writer"}[kind]
-    if status != 1:
-        return False
-    if kind == "write":
-        return whole[1].startswith(text) and (told == whole[2] or re.fullmatch(r"(line \d+|end): writer\n", told) is not None)
-    blamed = re.fullmatch(rf"line (\d+): {cause}\n", told)
-    return blamed is not None and is_before(text, before(program, lines, int(blamed[1])), program.endswith("_read"))
+    def is_right(self, lines, kind, whole, ended):
+        """Whether a run that was refused something told it, with its status, and left what it must."""
+        status, text, told = ended
+        if kind == "write" and whole[0] and (status, told) == (whole[0], whole[2]):
+            return whole[1].startswith(text)
+        found = re.fullmatch(rf"{'ttree: ' * (self.kind == 'ttree')}(?:line (\d+)|end): {WORDS[kind]}\n", told)
+        if not found or status != 1 or not (found[1] or kind == "write"):
+            return False
+        if self.kind == "ttree" or not found[1]:
+            return whole[1].startswith(text)
+        line = int(found[1])
+        if kind == "write":
+            return line <= len(lines) and self.before(lines, line + (self.kind == "draw")).startswith(text)
+        return self.is_before(text, self.before(lines, line))
 
+    def is_before(self, text, wanted):
+        """Whether the text is that of the lines before. The program that reads may still hold the last row, which a line can go on."""
+        held = wanted[len(text):].count(b"\n")
+        return wanted.startswith(text) and (held == 0 or (self.kind == "read" and held == 1))
 
-def is_before(text, wanted, reads):
-    """Whether the text is that of the lines before. The program that reads may still hold the last row, which a line can go on."""
-    held = wanted[len(text):].count(b"\n")
-    return wanted.startswith(text) and (held == 0 or (reads and held == 1))
+    def refuse_all(self, name, lines, kind):
+        """Refuses one call after another until there is none left. Returns how many were refused, and how many went wrong."""
+        whole, at, wrong = self.run(lines)[0], 1, 0
+        ended, was_refused = self.run(lines, kind, at)
+        while was_refused:
+            if not self.is_right(lines, kind, whole, ended):
+                print(f"program {os.path.basename(self.program)} on {name}: FAILED: {kind} {at}: status {ended[0]}, {ended[2]!r}")
+                wrong += 1
+            at += 1
+            ended, was_refused = self.run(lines, kind, at)
+        return at - 1, wrong
 
-
-def refuse_all(program, shim, name, lines, kind):
-    """Refuses one after another until ten runs in a row aren't changed by it. Returns how many were, and how many went wrong."""
-    whole = run(program, lines)
-    changed = wrong = unchanged = at = 0
-    while unchanged < 10:
-        at += 1
-        ended = run(program, lines, shim, kind, at)
-        if ended == whole:
-            unchanged += 1
-            continue
-        unchanged = 0
-        changed += 1
-        if not is_right(program, lines, kind, whole, ended):
-            print(f"{name}: {kind} {at}: status {ended[0]}, {ended[2]!r}")
-            wrong += 1
-    return changed, wrong
+    def take(self, path):
+        """Refuses the program each call on this input. An input of which nothing is drawn has no write."""
+        with open(path, "rb") as file:
+            lines = file.readlines()
+        for kind in WORDS:
+            refused, wrong = self.refuse_all(path, lines, kind)
+            is_silent = kind == "write" and not self.run(lines)[0][1]
+            print(f"{path}: {refused} refused by {kind}, {wrong} went wrong", flush=True)
+            self.runs += max(refused, not is_silent)
+            self.wrong += max(wrong, refused == 0 and not is_silent)
 
 
 def main():
     program, shim = os.path.abspath(sys.argv[1]), os.path.abspath(sys.argv[2])
-    failed = False
-    for path in sys.argv[3:]:
-        with open(path, "rb") as file:
-            lines = file.readlines()
-        for kind in ("malloc", "read", "write"):
-            refused, wrong = refuse_all(program, shim, path, lines, kind)
-            print(f"{path}: {refused} refused by {kind}, {wrong} went wrong")
-            silent = kind == "write" and not run(program, lines)[1]
-            failed = failed or wrong > 0 or (refused == 0 and not silent)
-    sys.exit(1 if failed else 0)
+    with tempfile.TemporaryDirectory(prefix="refuse-") as room:
+        refusals = Refusals(program, shim, room)
+        for path in sys.argv[3:]:
+            refusals.take(path)
+    print(f"refuse: {refusals.runs - refusals.wrong} of {refusals.runs} runs ended as they must")
+    return 1 if refusals.wrong else 0
 
 
-main()
+if __name__ == "__main__":
+    sys.exit(main())
