@@ -1,5 +1,6 @@
-# Every target needs the kit's command `rt` and Python 3; `bench` and `faults` need a C compiler besides. README says what each takes.
-.PHONY: demo test prove gate edits claim build jobs laws stress bench faults
+# Every target needs the kit's command `rt` and Python 3; `bench`, `faults` and `soak` need a C compiler besides, `memcheck` valgrind. README
+# says what each takes.
+.PHONY: demo test prove gate edits claim build jobs laws stress bench faults fuzz soak memcheck limits
 
 # Draws the example, within a minute from a clean clone.
 demo:
@@ -70,11 +71,38 @@ FAULTY = $(addprefix $(DATA)/,retracing/concurrent_eager.in retracing/deferred_c
 	clocks/utc.in clocks/local.in clocks/uptime_higher.in lines/settings_wraparound_text.in lines/call_close_without_id.in)
 DRAWINGS = $(addprefix $(DATA)/,first/tree.out retracing/concurrent_eager.out retracing/retrace.out)
 
-# Refuses the programs each allocation, each read and each write in turn, and looks at what they leave.
+# Refuses the programs each allocation, each read and each write in turn, and looks at what they tell and leave, and at their status.
 faults: need-python need-cc build
 	@$(CC) -O1 -shared -fPIC -o bin/refuse.so scripts/refuse.c -ldl
 	@python3 scripts/refuse.py bin/tracing_tree bin/refuse.so examples/first.jsonl examples/server.jsonl $(FAULTY)
 	@python3 scripts/refuse.py bin/tracing_tree_read bin/refuse.so $(DRAWINGS)
+	@python3 scripts/refuse.py bin/ttree bin/refuse.so examples/go-test.jsonl
+
+# How much `fuzz` and `soak` try. The same seed gives the same runs again.
+LINES = 1000000
+CALLS = 300000
+DRAWN = 300000
+SEED = 1
+SOAKED = 100000000
+
+# Outside the gate: so many random lines, calls and lines of drawings through the programs. A model that is written from the docs alone says
+# what is right; first it must agree with the worked cases. Each failure is left below bin/fuzz, to be run again.
+fuzz: need-python build
+	@python3 scripts/model.py $(DATA)
+	@python3 scripts/fuzz.py --lines $(LINES) --calls $(CALLS) --drawings $(DRAWN) --seed $(SEED) bin/tracing_tree bin/tracing_tree_read
+
+# Outside the gate: so many calls through the program, and what it keeps and how fast it is at the start and at the end.
+soak: need-python need-cc build
+	@$(CC) -O2 -o bin/soak scripts/soak.c
+	@python3 scripts/soak.py bin/tracing_tree bin/soak $(SOAKED)
+
+# Outside the gate: the programs under valgrind, on all worked cases and some drawings.
+memcheck: need-python build
+	@python3 scripts/memcheck.py bin/tracing_tree bin/tracing_tree_read bin/ttree
+
+# Outside the gate, but without limits of memory in `test` too: the programs where memory, stack, disks and pipes end, and odd arguments.
+limits: need-python build
+	@python3 scripts/limits.py bin/tracing_tree bin/tracing_tree_read bin/ttree
 
 .PHONY: need-python need-cc
 need-python:

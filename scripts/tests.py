@@ -2,8 +2,10 @@
 """Runs every test, every worked case and the runs of the programs, without a proof: tests.py [CRATE..]
 
 The tests of each crate run by `rt try --test`, which compiles the sources as they stand, with checks. The programs are compiled so too
-(scripts/unproved.py), and scripts/program.sh runs them as their users do. That no function does anything but what its contract says is
-for `make gate` to show, which runs all of this again as it is proved and built. The last line is 'N passed, M failed'."""
+(scripts/unproved.py), and scripts/program.sh runs them as their users do. A model that is written from the docs alone (scripts/model.py)
+says what they must write for random lines, and they are run where files and pipes end. That no function does anything but what its contract
+says is for `make gate` to show, which runs tests, cases and programs again as they are proved and built. The last line is
+'N passed, M failed'."""
 import concurrent.futures, glob, os, re, shutil, subprocess, sys, time
 
 TOP = os.path.dirname(os.path.dirname(os.path.abspath(__file__)))
@@ -11,7 +13,14 @@ START = time.time()
 # The programs: the crate, and where its unproved executable goes.
 PROGRAMS = {"tracing_tree_cli": "bin/unproved_tree", "tracing_tree_read": "bin/unproved_read", "tracing_tree_ttree": "bin/unproved_ttree"}
 # The scripts that run them, with their words.
-RUNS = (("scripts/program.sh", "--checked", "tracing_tree_cli", "tracing_tree_read"), ("scripts/ttree.sh", "tracing_tree_ttree", "tracing_tree_cli"))
+RUNS = (
+    ("scripts/program.sh", "--checked", "tracing_tree_cli", "tracing_tree_read"),
+    ("scripts/ttree.sh", "tracing_tree_ttree", "tracing_tree_cli"),
+    ("scripts/model.py", "crates/tracing_tree_cases/data"),
+    ("scripts/fuzz.py", "--checked", "--lines", "4000", "--calls", "4000", "--drawings", "3000", "--sizes", "-1",
+     "tracing_tree_cli", "tracing_tree_read"),
+    ("scripts/limits.py", "--checked", "tracing_tree_cli", "tracing_tree_read", "tracing_tree_ttree"),
+)
 
 
 # How many of the steps have ended, and how many there are.
@@ -76,7 +85,7 @@ def run_programs(*words):
     """Runs programs by a script, and returns how many runs passed and how many failed."""
     status, said = ran(*(PROGRAMS.get(it, it) for it in words))
     print(said, end="", flush=True)
-    found = re.search(r"(\d+) of (\d+) runs ended as they must", said)
+    found = re.search(r"(\d+) of (\d+) (?:runs ended as they must|cases agree)", said)
     if not found:
         return 0, 1
     passed, runs = int(found[1]), int(found[2])
