@@ -1,5 +1,5 @@
-# Every target needs the kit's command `rt` and Python 3; `bench`, `faults` and `soak` need a C compiler besides, `memcheck` valgrind. README
-# says what each takes.
+# Every target needs the kit's command `rt` and Python 3; `bench`, `faults` and `soak` need a C compiler besides, `memcheck` valgrind.
+# README says what each takes.
 .PHONY: demo test prove gate edits claim build jobs laws stress bench faults fuzz soak memcheck limits
 
 # Draws the example, within a minute from a clean clone.

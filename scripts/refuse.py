@@ -3,9 +3,10 @@
 
 After a refusal the program must end with status 1, name the line and the cause, and have written what it writes of the lines
 before that one: nothing lost, nothing of a call that was not accepted. After a refused write a beginning of the text is out, and the line
-that is told has a text that ends no earlier; where the input has a fault of its own, that may be told, with its status. A refusal that
-changes nothing is wrong too. The inputs may be of the program that draws, of the one that reads, or of ttree, of which a beginning of the
-whole text must be out. The last line is 'refuse: N of M runs ended as they must'.
+that is told has a text that ends no earlier; where the input has a fault of its own, that may be told, with its status. A refused read or
+write that changes nothing is wrong too; an allocation may be one that can be done without. The inputs may be of the program that draws, of
+the one that reads, or of ttree, of which a beginning of the whole text must be out. The last line is
+'refuse: N of M runs ended as they must'.
 
 usage: refuse.py PROGRAM SHIM INPUT..
 """
@@ -44,6 +45,8 @@ class Refusals:
     def is_right(self, lines, kind, whole, ended):
         """Whether a run that was refused something told it, with its status, and left what it must."""
         status, text, told = ended
+        if kind == "malloc" and ended == whole:
+            return True
         if kind == "write" and whole[0] and (status, told) == (whole[0], whole[2]):
             return whole[1].startswith(text)
         found = re.fullmatch(rf"{'ttree: ' * (self.kind == 'ttree')}(?:line (\d+)|end): {WORDS[kind]}\n", told)
