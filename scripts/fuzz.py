@@ -265,7 +265,7 @@ def fuzz_drawings(tally, program, count):
 
 def main():
     asked = argparse.ArgumentParser(description=__doc__, formatter_class=argparse.RawDescriptionHelpFormatter)
-    for name, count in (("--lines", 1_000_000), ("--calls", 300_000), ("--drawings", 300_000), ("--sizes", 2**20 + 1), ("--seed", 1)):
+    for name, count in (("--lines", 1_000_000), ("--calls", 300_000), ("--drawings", 300_000), ("--sizes", 2**14 + 1), ("--seed", 1)):
         asked.add_argument(name, type=int, default=count)
     asked.add_argument("--checked", action="store_true")
     asked.add_argument("drawing_program")

@@ -17,7 +17,7 @@ RUNS = (
     ("scripts/program.sh", "--checked", "tracing_tree_cli", "tracing_tree_read"),
     ("scripts/ttree.sh", "tracing_tree_ttree", "tracing_tree_cli"),
     ("scripts/model.py", "crates/tracing_tree_cases/data"),
-    ("scripts/fuzz.py", "--checked", "--lines", "4000", "--calls", "4000", "--drawings", "3000", "--sizes", "-1",
+    ("scripts/fuzz.py", "--checked", "--lines", "3000", "--calls", "2000", "--drawings", "2000", "--sizes", "-1",
      "tracing_tree_cli", "tracing_tree_read"),
     ("scripts/limits.py", "--checked", "tracing_tree_cli", "tracing_tree_read", "tracing_tree_ttree"),
 )
@@ -120,9 +120,10 @@ def main():
         built = [pool.submit(build, it) for it in programs]
         counts = [it.result() for it in tested]
         are_built = [it.result() for it in built]
+        ran_by = [pool.submit(run_programs, *it) if all(are_built) else None for it in RUNS if programs]
+        counts += [it.result() if it else (0, 1) for it in ran_by]
     if programs:
         counts.append(check_claims())
-        counts += [run_programs(*it) if all(are_built) else (0, 1) for it in RUNS]
     passed, failed = (sum(it) for it in zip(*counts))
     print(f"{passed} passed, {failed} failed")
     return 1 if failed else 0
