@@ -111,6 +111,11 @@ def go_lines(count):
         return file.read() * count
 
 
+def long_output(count):
+    """A test in Go that prints a long line."""
+    return b'{"Action":"output","Package":"p","Test":"T","Output":"%s\\n"}\n' % (b"x" * count) + go_lines(1)
+
+
 # Odd lines and texts, each with what is out, what is told and the status.
 TWO_ROOTS = '{"indent_lines":true}\n{"call":"new","name":"a"}\n{"call":"new","name":"b"}\n{"call":"close","id":1}\n'
 WIDE = ('{"indent_lines":LINES,"indent_amount":9223372036854775808,"deferred_spans":true}\n{"call":"new","name":"a"}\n'

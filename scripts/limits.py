@@ -258,7 +258,7 @@ def main():
             little_memory(limits, [
                 limit_inputs.crowd(20000), limit_inputs.chain(1000), limit_inputs.long_line(10**7), limit_inputs.recorded(30000),
                 limit_inputs.deep_drawing(1500), Drawing("a long row", b"x" * 10**7 + b"\ny\n"),
-                Told("many of Go's tests", limit_inputs.go_lines(300), ttree)])
+                Told("a long output", limit_inputs.long_output(10**7), ttree)])
         print(f"limits: {limits.right} of {limits.runs} runs ended as they must")
         return 0 if limits.right == limits.runs else 1
 
