@@ -1,3 +1,4 @@
 mod Calls
 mod Closes
 mod Scopes
+mod Worked
