@@ -1,0 +1,144 @@
+//! How often a writer and a timer are asked.
+
+use crate::fakes::{Choppy, Trouble};
+use std::alloc::{AllocError, Global};
+use std::cell::Cell;
+use std::process::Abort;
+use std::test::*;
+use tracing_tree::format::{Tape, Wrap};
+use tracing_tree::layer::HierarchicalLayer;
+use tracing_tree::layered::Layered;
+use tracing_tree::style::Level;
+use tracing_tree::time::{FormatTime, Moment, TimeFault};
+use tracing_tree_for_tests::Step;
+
+// A layer that shows all that it can, over a writer that takes all.
+fn counted(alloc: Global, retrace: bool) -> Layered<Wrap<Choppy>, ()> {
+    let writer = Wrap::new(Choppy::new(alloc, usize::MAX, Trouble::NONE));
+    let layer = HierarchicalLayer::new(alloc, 2, false, writer)
+        .with_indent_lines(true)
+        .with_verbose_entry(true)
+        .with_verbose_exit(true)
+        .with_span_retrace(retrace)
+        .with_close_retrace(retrace);
+    Layered::new(alloc, layer)
+}
+
+// How many writes these calls need, of which each is accepted.
+fn writes(
+    rt: &(impl Abort + AllocGlobal),
+    retrace: bool,
+    steps: &[Step<'_>],
+) -> Result<usize, AllocError> {
+    let mut layered = counted(rt.alloc(), retrace);
+    for step in steps {
+        let answer = layered.call(step.call(rt.alloc())?);
+        assert!(rt; answer.is_ok());
+    }
+    let (_registry, layer) = layered.into_parts();
+    Ok(layer.into_writer().into_inner().writes)
+}
+
+// Two branches, events in both by turns, a record and clones, which draw nothing, and closes of which the last draws four spans.
+const STEPS: [Step<'static>; 15] = [
+    Step::New("a", None),
+    Step::New("b", Some(1)),
+    Step::New("c", Some(2)),
+    Step::New("d", Some(3)),
+    Step::New("e", None),
+    Step::Told(Level::Info, "x\ny", Some(4)),
+    Step::Told(Level::Info, "x", Some(5)),
+    Step::Record(4, "1"),
+    Step::Clone(5),
+    Step::Told(Level::Info, "x", Some(4)),
+    Step::Close(5),
+    Step::Close(1),
+    Step::Close(2),
+    Step::Close(3),
+    Step::Close(4),
+];
+
+// Five spans that open, three events, and one close.
+#[test]
+fn a_call_is_one_write_or_none(rt: HostRuntime) -> Result<(), Fail> {
+    assert_eq!(rt; writes(&rt, false, STEPS.as_slice())?, 9);
+    assert_eq!(rt; writes(&rt, true, STEPS.as_slice())?, 9);
+    Ok(())
+}
+
+// How many writes a root with a name of so many bytes needs.
+fn writes_of(rt: &(impl Abort + AllocGlobal), bytes: usize) -> Result<usize, AllocError> {
+    let name = "n".repeat(rt.alloc(), bytes)?;
+    writes(rt, false, [Step::New(name.as_str(), None)].as_slice())
+}
+
+#[test]
+fn a_text_is_one_write(rt: HostRuntime) -> Result<(), Fail> {
+    for bytes in [
+        0, 1, 70, 127, 128, 129, 4_095, 4_096, 4_097, 10_000, 65_537, 1_000_000,
+    ] {
+        assert_eq!(rt; writes_of(&rt, bytes)?, 1, "{bytes}");
+    }
+    Ok(())
+}
+
+// Shows nothing, and counts how often it is asked for a moment and for an elapsed time.
+#[derive(Drop)]
+struct Asked {
+    moments: Cell<u32>,
+    elapsed: Cell<u32>,
+}
+
+impl FormatTime for Asked {
+    ghost use Rattle.tracing_tree_base.specs.Time.Clock.{no_timer};
+
+    ghost timer = { λ _. no_timer };
+
+    fn format_time(&self, _moment: &Moment, _out: &mut String) -> Result<(), TimeFault> {
+        self.moments.set(self.moments.get().wrapping_add(1));
+        Ok(())
+    }
+
+    fn style_timestamp(
+        &self,
+        _ansi: bool,
+        _elapsed_ns: u64,
+        _out: &mut String,
+    ) -> Result<(), TimeFault> {
+        self.elapsed.set(self.elapsed.get().wrapping_add(1));
+        Ok(())
+    }
+}
+
+// How often a timer is asked for a moment and for an elapsed time while these calls are made.
+fn times_asked(alloc: Global, steps: &[Step<'_>]) -> Result<(u32, u32), AllocError> {
+    let asked = Asked {
+        moments: Cell::new(0),
+        elapsed: Cell::new(0),
+    };
+    let layer = HierarchicalLayer::new(alloc, 2, false, Tape::new(alloc))
+        .with_indent_lines(true)
+        .with_span_retrace(true)
+        .with_timer(&asked);
+    let mut layered = Layered::new(alloc, layer);
+    for step in steps {
+        let _ = layered.call(step.call(alloc)?);
+    }
+    Ok((asked.moments.get(), asked.elapsed.get()))
+}
+
+// An event outside every span has no elapsed time, and neither has one whose current span is gone.
+const OUTSIDE: [Step<'static>; 4] = [
+    Step::New("a", None),
+    Step::Close(1),
+    Step::Told(Level::Info, "x", Some(1)),
+    Step::Told(Level::Info, "x", None),
+];
+
+#[test]
+fn a_timer_is_asked_once_an_event(rt: HostRuntime) -> Result<(), Fail> {
+    assert_eq!(rt; times_asked(rt.alloc(), STEPS.as_slice())?, (3, 3));
+    assert_eq!(rt; times_asked(rt.alloc(), OUTSIDE.as_slice())?, (2, 0));
+    assert_eq!(rt; times_asked(rt.alloc(), [].as_slice())?, (0, 0));
+    Ok(())
+}

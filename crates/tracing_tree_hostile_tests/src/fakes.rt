@@ -1,0 +1,184 @@
+//! Writers and readers that meet trouble at one place.
+
+use std::alloc::Global;
+use std::io;
+use std::io::{ErrorKind, Read, Write};
+
+/// Each kind of error after which nothing is tried again.
+pub const ERRORS: [ErrorKind; 41] = [
+    ErrorKind::NotFound,
+    ErrorKind::PermissionDenied,
+    ErrorKind::ConnectionRefused,
+    ErrorKind::ConnectionReset,
+    ErrorKind::HostUnreachable,
+    ErrorKind::NetworkUnreachable,
+    ErrorKind::ConnectionAborted,
+    ErrorKind::NotConnected,
+    ErrorKind::AddrInUse,
+    ErrorKind::AddrNotAvailable,
+    ErrorKind::NetworkDown,
+    ErrorKind::BrokenPipe,
+    ErrorKind::AlreadyExists,
+    ErrorKind::WouldBlock,
+    ErrorKind::NotADirectory,
+    ErrorKind::IsADirectory,
+    ErrorKind::DirectoryNotEmpty,
+    ErrorKind::ReadOnlyFilesystem,
+    ErrorKind::FilesystemLoop,
+    ErrorKind::StaleNetworkFileHandle,
+    ErrorKind::InvalidInput,
+    ErrorKind::InvalidData,
+    ErrorKind::TimedOut,
+    ErrorKind::WriteZero,
+    ErrorKind::StorageFull,
+    ErrorKind::NotSeekable,
+    ErrorKind::QuotaExceeded,
+    ErrorKind::FileTooLarge,
+    ErrorKind::ResourceBusy,
+    ErrorKind::ExecutableFileBusy,
+    ErrorKind::Deadlock,
+    ErrorKind::CrossesDevices,
+    ErrorKind::TooManyLinks,
+    ErrorKind::InvalidFilename,
+    ErrorKind::ArgumentListTooLong,
+    ErrorKind::Unsupported,
+    ErrorKind::UnexpectedEof,
+    ErrorKind::OutOfMemory,
+    ErrorKind::InProgress,
+    ErrorKind::Other,
+    ErrorKind::Uncategorized,
+];
+
+/// Attempts from the first one's number, counted from 1, that fail with this kind, so many of them.
+#[derive(Clone, Copy, Debug)]
+pub struct Trouble {
+    pub first: usize,
+    pub times: usize,
+    pub kind: ErrorKind,
+}
+
+impl Trouble {
+    /// No attempt fails.
+    pub const NONE: Trouble = Trouble {
+        first: 0,
+        times: 0,
+        kind: ErrorKind::Other,
+    };
+
+    /// One attempt fails, and later ones do not.
+    pub fn once(first: usize, kind: ErrorKind) -> Trouble {
+        Trouble {
+            first,
+            times: 1,
+            kind,
+        }
+    }
+
+    /// So many attempts from this one on are interrupted.
+    pub fn interrupted(first: usize, times: usize) -> Trouble {
+        Trouble {
+            first,
+            times,
+            kind: ErrorKind::Interrupted,
+        }
+    }
+
+    fn meets(self, number: usize) -> io::Result<()> {
+        let past = number.wrapping_sub(self.first);
+        if past < self.times {
+            return Err(io::Error::from(self.kind));
+        }
+        Ok(())
+    }
+}
+
+/// A writer that takes at most a piece of what it is given. It counts its writes, and notes how much it had taken at each flush.
+#[derive(Drop)]
+pub struct Choppy {
+    pub taken: Vec<u8>,
+    pub writes: usize,
+    pub shown: Vec<usize>,
+    piece: usize,
+    writing: Trouble,
+    flushing: Trouble,
+}
+
+impl Choppy {
+    pub fn new(alloc: Global, piece: usize, writing: Trouble) -> Choppy {
+        Choppy {
+            taken: Vec::new(alloc),
+            writes: 0,
+            shown: Vec::new(alloc),
+            piece,
+            writing,
+            flushing: Trouble::NONE,
+        }
+    }
+
+    /// Takes all, and meets this trouble where it is flushed.
+    pub fn flushing(alloc: Global, flushing: Trouble) -> Choppy {
+        Choppy {
+            taken: Vec::new(alloc),
+            writes: 0,
+            shown: Vec::new(alloc),
+            piece: usize::MAX,
+            writing: Trouble::NONE,
+            flushing,
+        }
+    }
+}
+
+impl Write for Choppy {
+    fn write(&mut self, bytes: &[u8]) -> io::Result<usize> {
+        self.writes = self.writes.wrapping_add(1);
+        self.writing.meets(self.writes)?;
+        let count = bytes.len().min(self.piece);
+        self.taken.extend_from_slice(&bytes[..count])?;
+        Ok(count)
+    }
+
+    fn flush(&mut self) -> io::Result<()> {
+        self.shown.push(self.taken.len())?;
+        self.flushing.meets(self.shown.len())
+    }
+}
+
+/// A reader that gives so many bytes first, and then at most a piece at a time.
+#[derive(Drop)]
+pub struct Halting<'a> {
+    pub rest: &'a [u8],
+    pub first: usize,
+    pub piece: usize,
+    pub reads: usize,
+    pub trouble: Trouble,
+}
+
+impl<'a> Halting<'a> {
+    pub fn new(rest: &'a [u8], piece: usize, trouble: Trouble) -> Halting<'a> {
+        Halting {
+            rest,
+            first: 0,
+            piece,
+            reads: 0,
+            trouble,
+        }
+    }
+}
+
+impl Read for Halting<'_> {
+    fn read(&mut self, buf: &mut [u8]) -> io::Result<usize> {
+        self.reads = self.reads.wrapping_add(1);
+        self.trouble.meets(self.reads)?;
+        let most = if self.first > 0 {
+            self.first
+        } else {
+            self.piece
+        };
+        self.first = 0;
+        let count = buf.len().min(self.rest.len()).min(most);
+        let (given, rest) = self.rest.split_at(count);
+        buf[..count].copy_from_slice(given);
+        self.rest = rest;
+        Ok(count)
+    }
+}
