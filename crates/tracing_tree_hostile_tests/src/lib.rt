@@ -1,5 +1,5 @@
-//! Tests of hostile use: writers and readers that fault in every way and at every place, odd calls, texts and lines, and how often a
-//! writer and a timer are asked.
+//! Tests of hostile use: writers, readers and timers that fault in every way and at every place, odd calls, texts and lines, and how
+//! often a writer, a reader and a timer are asked.
 #![tactic(auto)]
 
 #[cfg(test)]
@@ -12,5 +12,9 @@ mod lines;
 mod odd;
 #[cfg(test)]
 mod printing;
+#[cfg(test)]
+mod stops;
+#[cfg(test)]
+mod timers;
 #[cfg(test)]
 mod wraps;

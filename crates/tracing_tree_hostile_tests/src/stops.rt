@@ -1,0 +1,280 @@
+//! A run over a writer that takes pieces and refuses one write: each size of piece, and each write.
+
+use crate::fakes::{Choppy, Trouble};
+use std::alloc::Global;
+use std::io::ErrorKind;
+use std::process::Abort;
+use std::test::*;
+use tracing_tree::format::{Id, Output, Refusal, Wrap};
+use tracing_tree::layered::Layered;
+use tracing_tree::lines::{LineCause, LineFault, run_lines};
+use tracing_tree::registry::LookupSpan;
+use tracing_tree::style::Level;
+use tracing_tree_for_tests::{Answer, Step, lined_over};
+
+// Two spans, an event, and both closed.
+const STEPS: [Step<'static>; 5] = [
+    Step::New("a", None),
+    Step::New("b", Some(1)),
+    Step::Told(Level::Warn, "x", Some(2)),
+    Step::Close(2),
+    Step::Close(1),
+];
+
+// The same as lines.
+const LINES: &[u8] = br#"{"indent_lines":true}
+{"call":"new","name":"a"}
+{"call":"new","name":"b","current":1}
+{"call":"event","level":"WARN","fields":[["message","x"]],"current":2}
+{"call":"close","id":2}
+{"call":"close","id":1}
+"#;
+
+// What they draw.
+const TREE: &str = "┐a \n└─┐b \n  ├─ WARN x\n┌─┘\n┘\n";
+
+// How many bytes each of them draws.
+const DRAWN: [usize; 5] = [6, 12, 16, 10, 4];
+
+// Every kind of call, of spans that live or not.
+const LATER: [Step<'static>; 7] = [
+    Step::New("c", None),
+    Step::Told(Level::Info, "x", None),
+    Step::Record(1, "1"),
+    Step::Clone(1),
+    Step::Clone(9),
+    Step::Close(1),
+    Step::Close(9),
+];
+
+// Which spans live, and the last span.
+#[derive(Clone, Copy)]
+struct Left {
+    first: bool,
+    second: bool,
+    last: Option<Id>,
+}
+
+// Before each call, and after the last.
+const BEFORE: [Left; 6] = [
+    Left {
+        first: false,
+        second: false,
+        last: None,
+    },
+    Left {
+        first: true,
+        second: false,
+        last: Some(Id(1)),
+    },
+    Left {
+        first: true,
+        second: true,
+        last: Some(Id(2)),
+    },
+    Left {
+        first: true,
+        second: true,
+        last: Some(Id(2)),
+    },
+    Left {
+        first: true,
+        second: false,
+        last: Some(Id(1)),
+    },
+    Left {
+        first: false,
+        second: false,
+        last: Some(Id(1)),
+    },
+];
+
+// What a run came to: how many calls were accepted, and how many bytes taken.
+#[derive(Clone, Copy, Debug, PartialEq, Eq)]
+struct End {
+    accepted: usize,
+    bytes: usize,
+}
+
+// Where this write is refused, by counting the writes that each call needs. After all of them nothing is.
+fn expected(piece: usize, stop: usize) -> End {
+    let mut left = stop;
+    let mut bytes = 0_usize;
+    for (accepted, drawn) in DRAWN.iter().enumerate() {
+        let needed = drawn.div_ceil(piece.max(1));
+        if left <= needed {
+            let taken = left.saturating_sub(1).saturating_mul(piece);
+            let bytes = bytes.saturating_add(taken);
+            return End { accepted, bytes };
+        }
+        left = left.saturating_sub(needed);
+        bytes = bytes.saturating_add(*drawn);
+    }
+    End { accepted: 5, bytes }
+}
+
+// A run over a writer that stops.
+type Stopping = Layered<Wrap<Choppy>, ()>;
+
+fn stopping(alloc: Global, piece: usize, trouble: Trouble) -> Stopping {
+    lined_over(alloc, Wrap::new(Choppy::new(alloc, piece, trouble)))
+}
+
+fn answer(alloc: Global, layered: &mut Stopping, step: Step<'_>) -> Answer {
+    let call = step.call(alloc)?;
+    layered.call(call)
+}
+
+fn lives(layered: &Stopping, id: u64) -> bool {
+    layered.registry().span(Id(id)).is_some()
+}
+
+fn last(layered: &Stopping) -> Option<Id> {
+    layered.layer().last_span()
+}
+
+// Whether these spans live, and this one is the last.
+fn is_left(layered: &Stopping, left: Left) -> bool {
+    lives(layered, 1) == left.first
+        && lives(layered, 2) == left.second
+        && last(layered) == left.last
+}
+
+// Whether the spans and the last one are as they were before the call at this place.
+fn is_before(layered: &Stopping, place: usize) -> bool {
+    match BEFORE.get(place) {
+        Some(left) => is_left(layered, *left),
+        None => false,
+    }
+}
+
+// Makes the calls up to the first that is refused, and returns how many were accepted.
+fn accepted(rt: &(impl Abort + AllocGlobal), layered: &mut Stopping) -> usize {
+    for (place, step) in STEPS.into_iter().enumerate() {
+        let answer = answer(rt.alloc(), layered, step);
+        if answer.is_err() {
+            assert!(rt; answer == Err(Refusal::Writer));
+            return place;
+        }
+    }
+    STEPS.len()
+}
+
+// Whether every later call is refused, whatever it is.
+fn has_failed(alloc: Global, layered: &mut Stopping) -> bool {
+    for step in LATER {
+        if answer(alloc, layered, step) != Err(Refusal::Failed) {
+            return false;
+        }
+    }
+    true
+}
+
+fn into_taken(layered: Stopping) -> Choppy {
+    let (_registry, layer) = layered.into_parts();
+    layer.into_writer().into_inner()
+}
+
+// After a run of which so many calls were accepted.
+fn stays(rt: &(impl Abort + AllocGlobal), layered: &mut Stopping, accepted: usize) {
+    assert!(rt; is_before(layered, accepted), "{accepted}");
+    if accepted < STEPS.len() {
+        assert!(rt; has_failed(rt.alloc(), layered), "{accepted}");
+        assert!(rt; is_before(layered, accepted), "{accepted}");
+    }
+}
+
+// The calls over this writer: what they come to.
+fn ends(rt: &(impl Abort + AllocGlobal), piece: usize, stop: usize) -> End {
+    let trouble = Trouble::once(stop, ErrorKind::BrokenPipe);
+    let mut layered = stopping(rt.alloc(), piece, trouble);
+    let accepted = accepted(rt, &mut layered);
+    stays(rt, &mut layered, accepted);
+    let bytes = beginning(rt, into_taken(layered).taken.as_slice());
+    End { accepted, bytes }
+}
+
+// How many bytes of the whole text these are.
+fn beginning(rt: &impl Abort, taken: &[u8]) -> usize {
+    assert!(rt; TREE.as_bytes().starts_with(taken), "{taken:?}");
+    taken.len()
+}
+
+// The stops go on until a run meets none.
+#[test]
+fn every_write_is_refused(rt: HostRuntime) {
+    for piece in 1..=12 {
+        for stop in 1..=49 {
+            assert_eq!(rt;
+                ends(&rt, piece, stop),
+                expected(piece, stop),
+                "{piece} {stop}"
+            );
+        }
+    }
+}
+
+// The lines over such a writer: what they come to.
+fn lines_end(rt: &(impl Abort + AllocGlobal), piece: usize, stop: usize) -> End {
+    let alloc = rt.alloc();
+    let trouble = Trouble::once(stop, ErrorKind::BrokenPipe);
+    let ran = run_lines(alloc, LINES, Wrap::new(Choppy::new(alloc, piece, trouble)));
+    let cause = LineCause::Refused(Refusal::Writer);
+    let line = ran.accepted.saturating_add(2);
+    let fault = if ran.accepted < 5 {
+        Some(LineFault { line, cause })
+    } else {
+        None
+    };
+    assert_eq!(rt; ran.fault, fault);
+    assert_eq!(rt; ran.writer.faults() == 0, ran.fault.is_none());
+    let bytes = beginning(rt, ran.writer.into_inner().taken.as_slice());
+    End {
+        accepted: ran.accepted as usize,
+        bytes,
+    }
+}
+
+#[test]
+fn every_write_of_lines_is_refused(rt: HostRuntime) {
+    for piece in 1..=12 {
+        for stop in 1..=49 {
+            assert_eq!(rt;
+                lines_end(&rt, piece, stop),
+                expected(piece, stop),
+                "{piece} {stop}"
+            );
+        }
+    }
+}
+
+const HELD_BY_A_CHILD: [Step<'static>; 3] = [
+    Step::New("a", None),
+    Step::New("b", Some(1)),
+    Step::Close(1),
+];
+
+// What the close is answered with which a root and its child go, where its write, the third, is refused.
+fn closes_both(alloc: Global, layered: &mut Stopping) -> Answer {
+    for step in HELD_BY_A_CHILD {
+        let _ = answer(alloc, layered, step);
+    }
+    answer(alloc, layered, Step::Close(2))
+}
+
+// Whether the child has its handle, with which the root goes.
+fn holds_both(alloc: Global, layered: &Stopping) -> bool {
+    match layered.registry().closing(alloc, Id(2)) {
+        Ok(closing) => closing.as_slice() == [Id(2), Id(1)].as_slice(),
+        Err(_) => false,
+    }
+}
+
+#[test]
+fn a_refused_close_takes_no_handle(rt: HostRuntime) {
+    let trouble = Trouble::once(3, ErrorKind::StorageFull);
+    let mut layered = stopping(rt.alloc(), usize::MAX, trouble);
+    assert!(rt; closes_both(rt.alloc(), &mut layered) == Err(Refusal::Writer));
+    assert!(rt; is_before(&layered, 3));
+    assert!(rt; holds_both(rt.alloc(), &layered));
+}

@@ -1,0 +1,125 @@
+//! Timers that fault at one moment.
+
+use std::alloc::Global;
+use std::test::*;
+use tracing_tree::call::{Call, Reply};
+use tracing_tree::format::{Id, Refusal, Tape};
+use tracing_tree::layer::HierarchicalLayer;
+use tracing_tree::layered::Layered;
+use tracing_tree::registry::LookupSpan;
+use tracing_tree::style::Level;
+use tracing_tree::time::{FormatTime, Moment, TimeFault};
+use tracing_tree_for_tests::{Answer, Step};
+
+// Shows nothing, and faults at this moment of the clock that only goes forward.
+#[derive(Drop)]
+struct StopAt(u64);
+
+impl FormatTime for StopAt {
+    ghost use Rattle.std.specs.Prelude.{◌==◌, [], None, Some, if◌then◌else◌};
+
+    ghost timer = { λ stop. record {
+      moment_text = λ moment. if moment.mono == stop.0 then None else Some [];
+      elapsed_text = λ ansi nanos. Some [];
+    } };
+
+    fn format_time(&self, moment: &Moment, _out: &mut String) -> Result<(), TimeFault> {
+        if moment.mono == self.0 {
+            return Err(TimeFault::Fault);
+        }
+        Ok(())
+    }
+
+    fn style_timestamp(
+        &self,
+        _ansi: bool,
+        _elapsed_ns: u64,
+        _out: &mut String,
+    ) -> Result<(), TimeFault> {
+        Ok(())
+    }
+}
+
+// The moment at which the timer faults.
+const STOP: u64 = 7;
+
+// Spans that wait for their first event, over this timer.
+fn deferring(alloc: Global, lines: bool, amount: usize) -> Layered<Tape, StopAt> {
+    let layer = HierarchicalLayer::new(alloc, amount, false, Tape::new(alloc))
+        .with_indent_lines(lines)
+        .with_deferred_spans(true)
+        .with_timer(StopAt(STOP));
+    Layered::new(alloc, layer)
+}
+
+// What a call at this moment is answered.
+fn answer(alloc: Global, layered: &mut Layered<Tape, StopAt>, step: Step<'_>, mono: u64) -> Answer {
+    let mut call = step.call(alloc)?;
+    match &mut call {
+        Call::New(_, context) | Call::Event(_, context) | Call::Close(_, context) => {
+            context.moment.mono = mono;
+        }
+        Call::Clone(_) | Call::Record(_, _) => {}
+    }
+    layered.call(call)
+}
+
+// Whether a span lives that wasn't printed.
+fn is_unprinted(layered: &Layered<Tape, StopAt>, id: u64) -> bool {
+    match layered.registry().data(Id(id)) {
+        Some(data) => !data.written,
+        None => false,
+    }
+}
+
+// Makes so many spans, each in the one before, and returns whether all were made.
+fn nests(alloc: Global, layered: &mut Layered<Tape, StopAt>, depth: u64) -> bool {
+    let mut current = None;
+    for id in 1..=depth {
+        let made = answer(alloc, layered, Step::New("a", current), STOP);
+        if made != Ok(Reply::Span(Id(id))) {
+            return false;
+        }
+        current = Some(id);
+    }
+    true
+}
+
+// Whether nothing was written or printed, and there is no last span.
+fn is_blank(layered: &Layered<Tape, StopAt>, depth: u64) -> bool {
+    for id in 1..=depth {
+        if !is_unprinted(layered, id) {
+            return false;
+        }
+    }
+    layered.layer().last_span().is_none() && layered.writer().bytes().is_empty()
+}
+
+const TOLD: Step<'static> = Step::Told(Level::Info, "x", Some(2));
+
+#[test]
+fn a_fault_of_the_timer_prints_no_span(rt: HostRuntime) {
+    let mut layered = deferring(rt.alloc(), true, 2);
+    assert!(rt; nests(rt.alloc(), &mut layered, 2));
+    assert!(rt; answer(rt.alloc(), &mut layered, TOLD, STOP) == Err(Refusal::Timer));
+    assert!(rt; is_blank(&layered, 2));
+    for step in [TOLD, Step::Clone(1), Step::Record(1, "1"), Step::Close(2)] {
+        assert!(rt; answer(rt.alloc(), &mut layered, step, 0) == Err(Refusal::Failed));
+    }
+    assert!(rt; is_blank(&layered, 2));
+}
+
+const WIDE: Step<'static> = Step::Told(Level::Info, "x", Some(3));
+
+const NARROW: Step<'static> = Step::Told(Level::Info, "y", Some(1));
+
+// All widths are tested before the timer is asked.
+#[test]
+fn a_row_too_wide_asks_no_timer(rt: HostRuntime) {
+    let mut layered = deferring(rt.alloc(), false, 1 << 63);
+    assert!(rt; nests(rt.alloc(), &mut layered, 3));
+    assert!(rt; answer(rt.alloc(), &mut layered, WIDE, STOP) == Err(Refusal::TooWide));
+    assert!(rt; is_blank(&layered, 3));
+    assert!(rt; answer(rt.alloc(), &mut layered, NARROW, 0) == Ok(Reply::Done));
+    assert!(rt; layered.writer().bytes() == b" a \n  INFO y\n".as_slice());
+}
