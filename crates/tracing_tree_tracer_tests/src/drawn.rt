@@ -1,0 +1,132 @@
+//! What a tracer draws.
+
+use crate::lined::lined;
+use jiff::Timestamp;
+use std::alloc::Global;
+use std::test::*;
+use tracing_tree_core::format::{Id, Tape};
+use tracing_tree_core::style::Level;
+use tracing_tree_core::text::Text;
+use tracing_tree_core::time::{Moment, Uptime};
+use tracing_tree_layer::{HierarchicalLayer, Layered};
+use tracing_tree_tracer::Value::{Quoted, Whole};
+use tracing_tree_tracer::{Now, SystemClock, TraceFault, Tracer, within};
+
+// The start of 1970.
+const START: Moment = Moment {
+    mono: 0,
+    wall: Timestamp::UNIX_EPOCH,
+};
+
+fn tracer(alloc: Global) -> Tracer<Tape, (), Moment> {
+    Tracer::new(alloc, lined(alloc), START)
+}
+
+fn serve(tracer: &mut Tracer<Tape, (), Moment>) -> Result<(), TraceFault> {
+    tracer.open("conn", &[("peer", Quoted("82.9.9.9"))])?;
+    tracer.info("connected", &[])?;
+    within(tracer, "query", &[("sql", Quoted("select 1"))], |tracer| {
+        tracer.warn("slow", &[("ms", Whole(271))])
+    })?;
+    tracer.close()?;
+    Ok(())
+}
+
+#[test]
+fn draws_a_connection(rt: HostRuntime) -> Result<(), Fail> {
+    let mut tracer = tracer(rt.alloc());
+    assert_eq!(rt; serve(&mut tracer), Ok(()));
+    let text =
+        "┐conn peer=\"82.9.9.9\"\n├─ INFO connected\n└─┐query sql=\"select 1\"\n  ├─ WARN slow, ms=271\n┌─┘\n┘\n";
+    assert_eq!(rt; tracer.into_layered().writer().bytes(), text.as_bytes());
+    Ok(())
+}
+
+fn levels(tracer: &mut Tracer<Tape, (), Moment>) -> Result<(), TraceFault> {
+    tracer.trace("a", &[])?;
+    tracer.debug("b", &[])?;
+    tracer.info("c", &[])?;
+    tracer.warn("d", &[])?;
+    tracer.error("e", &[])?;
+    tracer.event(Level::Info, "f", &[])
+}
+
+#[test]
+fn draws_each_level(rt: HostRuntime) -> Result<(), Fail> {
+    let mut tracer = tracer(rt.alloc());
+    assert_eq!(rt; levels(&mut tracer), Ok(()));
+    let text = "TRACE a\nDEBUG b\nINFO c\nWARN d\nERROR e\nINFO f\n";
+    assert_eq!(rt; tracer.layered().writer().bytes(), text.as_bytes());
+    Ok(())
+}
+
+#[test]
+fn the_innermost_open_span_is_the_current_one(rt: HostRuntime) -> Result<(), Fail> {
+    let mut tracer = tracer(rt.alloc());
+    assert_eq!(rt; tracer.current(), None);
+    assert_eq!(rt; tracer.open("a", &[]), Ok(Id(1)));
+    assert_eq!(rt; tracer.open("b", &[]), Ok(Id(2)));
+    assert_eq!(rt; tracer.current(), Some(Id(2)));
+    assert_eq!(rt; tracer.depth(), 2);
+    assert_eq!(rt; tracer.close(), Ok(true));
+    assert_eq!(rt; tracer.current(), Some(Id(1)));
+    assert_eq!(rt; tracer.depth(), 1);
+    Ok(())
+}
+
+fn record(tracer: &mut Tracer<Tape, (), Moment>) -> Result<(), TraceFault> {
+    tracer.open("a", &[("k", Whole(1))])?;
+    tracer.record(&[("l", Whole(2))])?;
+    tracer.info("x", &[])
+}
+
+#[test]
+fn a_deferred_span_shows_what_was_recorded(rt: HostRuntime) -> Result<(), Fail> {
+    let alloc = rt.alloc();
+    let layer = HierarchicalLayer::new(alloc, 2, false, Tape::new(alloc))
+        .with_indent_lines(true)
+        .with_deferred_spans(true);
+    let mut tracer = Tracer::new(alloc, Layered::new(alloc, layer), START);
+    assert_eq!(rt; record(&mut tracer), Ok(()));
+    let text = "┐a k=1, l=2\n├─ INFO x\n";
+    assert_eq!(rt; tracer.layered().writer().bytes(), text.as_bytes());
+    Ok(())
+}
+
+// Three seconds after the start of 1970, by both clocks.
+fn third_second() -> Moment {
+    Moment {
+        mono: 3_000_000_000,
+        wall: Timestamp::from_second(3).unwrap_or(Timestamp::UNIX_EPOCH),
+    }
+}
+
+#[test]
+fn shows_thread_target_and_moment(rt: HostRuntime) -> Result<(), Fail> {
+    let alloc = rt.alloc();
+    let layer = HierarchicalLayer::new(alloc, 2, false, Tape::new(alloc))
+        .with_indent_lines(true)
+        .with_thread_ids(true)
+        .with_thread_names(true)
+        .with_targets(true)
+        .with_timer(Uptime::from(0));
+    let mut tracer = Tracer::new(alloc, Layered::new(alloc, layer), third_second())
+        .with_target(Text::from_str(alloc, "web")?)
+        .with_thread(7, Some(Text::from_str(alloc, "main")?));
+    assert_eq!(rt; tracer.info("x", &[]), Ok(()));
+    let text = "7:main   3.000000s INFO web x\n";
+    assert_eq!(rt; tracer.layered().writer().bytes(), text.as_bytes());
+    Ok(())
+}
+
+#[test]
+fn the_clock_of_the_machine_goes_forward(rt: HostRuntime) -> Result<(), Fail> {
+    let clock = SystemClock::start(&rt)?;
+    let first = clock.now().expect(&rt, "a moment");
+    let second = clock.now().expect(&rt, "a moment");
+    assert!(rt; first.mono <= second.mono);
+    assert!(rt; Timestamp::UNIX_EPOCH < second.wall);
+    let mut tracer = Tracer::new(rt.alloc(), lined(rt.alloc()), clock);
+    assert_eq!(rt; tracer.info("x", &[]), Ok(()));
+    Ok(())
+}

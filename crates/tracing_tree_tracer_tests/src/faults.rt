@@ -1,0 +1,138 @@
+//! What a tracer does where it can't.
+
+use crate::lined::{lined, lined_over};
+use jiff::Timestamp;
+use std::alloc::Global;
+use std::io;
+use std::io::Write;
+use std::test::*;
+use tracing_tree_core::format::{Refusal, Tape, Wrap};
+use tracing_tree_core::time::Moment;
+use tracing_tree_tracer::{Now, TraceFault, Tracer, within};
+
+// The start of 1970.
+const START: Moment = Moment {
+    mono: 0,
+    wall: Timestamp::UNIX_EPOCH,
+};
+
+fn tracer(alloc: Global) -> Tracer<Tape, (), Moment> {
+    Tracer::new(alloc, lined(alloc), START)
+}
+
+#[test]
+fn nothing_is_closed_outside_spans(rt: HostRuntime) -> Result<(), Fail> {
+    let mut tracer = tracer(rt.alloc());
+    assert_eq!(rt; tracer.close(), Err(TraceFault::NoSpan));
+    assert_eq!(rt; tracer.record(&[]), Err(TraceFault::NoSpan));
+    Ok(())
+}
+
+// A clock that stands broken.
+#[derive(Drop)]
+struct Broken;
+
+impl Now for Broken {
+    ghost use Rattle.std.specs.Prelude.{⊤};
+
+    ghost may_tell = { λ clock moment. ⊤ };
+
+    fn now(&self) -> Option<Moment> {
+        None
+    }
+}
+
+#[test]
+fn without_a_moment_no_call_is_made(rt: HostRuntime) -> Result<(), Fail> {
+    let mut tracer = Tracer::new(rt.alloc(), lined(rt.alloc()), Broken);
+    assert_eq!(rt; tracer.open("a", &[]), Err(TraceFault::NoMoment));
+    assert_eq!(rt; tracer.info("x", &[]), Err(TraceFault::NoMoment));
+    assert_eq!(rt; tracer.depth(), 0);
+    assert!(rt; tracer.layered().writer().bytes().is_empty());
+    Ok(())
+}
+
+// A writer that takes so many writes and refuses each later one.
+#[derive(Drop)]
+struct Halting {
+    left: u64,
+}
+
+impl Write for Halting {
+    fn write(&mut self, bytes: &[u8]) -> io::Result<usize> {
+        if self.left == 0 {
+            return Err(io::Error::from(io::ErrorKind::BrokenPipe));
+        }
+        self.left -= 1;
+        Ok(bytes.len())
+    }
+
+    fn flush(&mut self) -> io::Result<()> {
+        Ok(())
+    }
+}
+
+#[test]
+fn a_fault_of_the_writer_leaves_the_open_spans(rt: HostRuntime) -> Result<(), Fail> {
+    let alloc = rt.alloc();
+    let writer = Wrap::new(Halting { left: 2 });
+    let mut tracer = Tracer::new(alloc, lined_over(alloc, writer), START);
+    assert!(rt; tracer.open("a", &[]).is_ok());
+    assert!(rt; tracer.open("b", &[]).is_ok());
+    assert_eq!(rt; tracer.close(), Err(TraceFault::Refused(Refusal::Writer)));
+    assert_eq!(rt; tracer.depth(), 2);
+    assert_eq!(rt;
+        tracer.open("c", &[]),
+        Err(TraceFault::Refused(Refusal::Failed))
+    );
+    assert_eq!(rt; tracer.depth(), 2);
+    Ok(())
+}
+
+// What a service has against going on.
+#[derive(Clone, Copy, Debug, PartialEq, Eq)]
+enum Trouble {
+    Trace,
+    Query,
+}
+
+impl From<TraceFault> for Trouble {
+    fn from(_fault: TraceFault) -> Trouble {
+        Trouble::Trace
+    }
+}
+
+fn fails(tracer: &mut Tracer<Tape, (), Moment>) -> Result<u8, Trouble> {
+    within(tracer, "a", &[], |tracer| {
+        tracer.open("b", &[])?;
+        tracer.info("x", &[])?;
+        Err(Trouble::Query)
+    })
+}
+
+#[test]
+fn a_span_closes_where_its_body_fails(rt: HostRuntime) -> Result<(), Fail> {
+    let mut tracer = tracer(rt.alloc());
+    assert_eq!(rt; fails(&mut tracer), Err(Trouble::Query));
+    assert_eq!(rt; tracer.depth(), 0);
+    let text = "┐a \n└─┐b \n  ├─ INFO x\n┌─┘\n┘\n";
+    assert_eq!(rt; tracer.layered().writer().bytes(), text.as_bytes());
+    Ok(())
+}
+
+fn closes_too_much(tracer: &mut Tracer<Tape, (), Moment>) -> Result<u8, TraceFault> {
+    tracer.open("a", &[])?;
+    within(tracer, "b", &[], |tracer| {
+        tracer.close()?;
+        tracer.close()?;
+        Ok(7)
+    })
+}
+
+#[test]
+fn a_body_may_close_what_is_around_it(rt: HostRuntime) -> Result<(), Fail> {
+    let mut tracer = tracer(rt.alloc());
+    assert_eq!(rt; closes_too_much(&mut tracer), Ok(7));
+    assert_eq!(rt; tracer.depth(), 0);
+    Ok(())
+}
