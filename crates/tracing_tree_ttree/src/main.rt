@@ -1,6 +1,7 @@
 //! The program `ttree`: another tool's output drawn as a tree.
 #![tactic(auto)]
 
+use clap::error::ErrorKind;
 use clap::{Arg, ArgAction, ArgMatches, Command, Error, value_parser};
 use jiff::Timestamp;
 use std::alloc::{AllocError, Global};
@@ -26,14 +27,25 @@ struct Options<'a> {
 }
 
 fn main(rt: HostRuntime) -> ExitCode {
-    let Ok(words) = words(&rt) else {
-        let _ = eprintln!(rt; "error: an argument isn't UTF-8, or memory was refused");
-        return ExitCode::from(2);
+    let words = match words(&rt) {
+        Ok(words) => words,
+        Err(error) if error.kind() == io::ErrorKind::OutOfMemory => return out_of_memory(&rt),
+        Err(_) => {
+            let _ = eprintln!(rt; "error: an argument isn't UTF-8");
+            return ExitCode::from(2);
+        }
     };
     match parse(rt.alloc(), words.as_slice()) {
         Ok(options) => open(&rt, options),
+        Err(error) if error.kind() == ErrorKind::OutOfMemory => out_of_memory(&rt),
         Err(error) => answered(&rt, &error),
     }
+}
+
+// Memory was refused before the first line.
+fn out_of_memory(rt: &impl Eprint) -> ExitCode {
+    let _ = eprintln!(rt; "ttree: line 1: memory");
+    ExitCode::FAILURE
 }
 
 // The words of the command line, the program's name first.
@@ -121,6 +133,7 @@ fn open<R: AllocGlobal + Eprint + Files + Input + Print>(rt: &R, options: Option
     };
     match fs::open(rt, path) {
         Ok(file) => draw(rt, file, options.config),
+        Err(error) if error.kind() == io::ErrorKind::OutOfMemory => out_of_memory(rt),
         Err(error) => {
             let _ = eprintln!(rt; "ttree: {path}: {error}");
             ExitCode::from(2)
@@ -136,27 +149,29 @@ fn draw<R: AllocGlobal + Eprint + Print, I: Read + Drop>(
     match try_draw(rt, input, config) {
         Ok(true) => ExitCode::SUCCESS,
         Ok(false) => ExitCode::FAILURE,
-        Err(error) => {
-            let _ = eprintln!(rt; "ttree: {error}");
-            ExitCode::FAILURE
-        }
+        Err(AllocError) => out_of_memory(rt),
     }
 }
 
-// Draws the input. Returns whether all of it was known and nothing in it failed.
+// Draws the input. Returns whether all of it was known and nothing in it failed. `AllocError` where there is no memory to begin with.
 fn try_draw<R: AllocGlobal + Eprint + Print, I: Read + Drop>(
     rt: &R,
     input: I,
     config: Config,
-) -> io::Result<bool> {
+) -> Result<bool, AllocError> {
     let alloc = rt.alloc();
-    let mut lines = BufReader::with_capacity(alloc, BLOCK, input)?;
+    let Ok(mut lines) = BufReader::with_capacity(alloc, BLOCK, input) else {
+        return Err(AllocError);
+    };
     let moment = Moment {
         mono: 0,
         wall: Timestamp::UNIX_EPOCH,
     };
     let mut source = GoTest::new(alloc, 1, moment)?;
-    let writer = Wrap::new(BufWriter::new(alloc, io::writer(rt))?);
+    let Ok(writer) = BufWriter::new(alloc, io::writer(rt)) else {
+        return Err(AllocError);
+    };
+    let writer = Wrap::new(writer);
     let mut layered = Layered::new(alloc, HierarchicalLayer::with_config(alloc, config, writer));
     let run = run_source(alloc, &mut source, &mut lines, &mut layered);
     let (_registry, layer) = layered.into_parts();
