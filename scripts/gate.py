@@ -1,6 +1,6 @@
 #!/usr/bin/env python3
 """The gate: what must not compile, every proof from nothing, every edit that the prover must refuse, the tests and the programs as they are
-proved and built, and the runs of these programs: gate.py [--sample N]
+proved and built, and the runs of these programs, some on random inputs: gate.py [--sample N]
 
 `rt ci` works on a copy of the repository without its edits, which scripts/edits.py tries beside it, many in one check and each over the
 libraries that `rt ci` has just proved. Edits take only the processor time that `rt ci` leaves. Everything that is said goes to bin/gate.log
@@ -37,15 +37,16 @@ def copy_to(room):
 class Gate:
     def __init__(self, rt, room, sample):
         self.rt, self.room = rt, room
-        self.passed, self.failed, self.proved = 0, [], 0
+        self.passed, self.failed, self.proved, self.counting = 0, [], 0, threading.Lock()
         lanes = len(os.sched_getaffinity(0))
         self.edits = edit_trials.Edits(rt, lanes, say, sample)
         self.crates = {it.name: it for it in rt.rtlib.crates_below(room)}
 
     def count(self, step, passed, failed, start):
         """Adds what a step counted."""
-        self.passed += passed
-        self.failed += failed
+        with self.counting:
+            self.passed += passed
+            self.failed += failed
         say(f"{step}: {passed} passed, {len(failed)} failed", start)
 
     def start_proving(self):
@@ -72,7 +73,8 @@ class Gate:
         """Takes a line of `rt ci`, and returns it if it counts."""
         with PRINTING, open(f"{TOP}/bin/ci.log", "a", encoding="utf-8") as log:
             print(line, file=log)
-        proved = re.fullmatch(r"rt: (\w+) proved", line)
+        # A crate is kept where an earlier run of `rt ci` on this machine proved the same files.
+        proved = re.fullmatch(r"rt: (\w+) (?:proved|is kept: .*)", line)
         if proved:
             self.proved += 1
             say(f"{proved[1]} proved, {self.proved} of {len(self.crates)} crates")
@@ -113,6 +115,14 @@ class Gate:
         failed = re.findall(r"(?m)^(program .*?): FAILED", ran.stdout) or [script] * (passed < runs or ran.returncode != 0)
         return self.count(f"runs by {script}", passed, failed, start)
 
+    def start_fuzzing(self):
+        """Compares the programs with the model on random inputs, and one quantity after another at many sizes, beside the edits."""
+        asked = ["--lines", "20000", "--calls", "20000", "--drawings", "20000", "--sizes", "16385"]
+        programs = ("scripts/fuzz.py", "tracing_tree_cli", "tracing_tree_read")
+        fuzzing = threading.Thread(target=self.programs, args=programs, kwargs={"more": asked})
+        fuzzing.start()
+        return fuzzing
+
     def faults(self):
         """Refuses programs each allocation, each read and each write of a small input in turn, where there is a C compiler."""
         compiler, shim = os.environ.get("CC", "cc"), f"{self.room}/refuse.so"
@@ -121,6 +131,7 @@ class Gate:
         made = subprocess.run([compiler, "-O1", "-shared", "-fPIC", "-o", shim, f"{TOP}/scripts/refuse.c", "-ldl"], check=False)
         if made.returncode:
             return self.count("refused calls", 0, ["scripts/refuse.c does not compile"], time.time())
+        self.programs("scripts/refuse_calls.py", "tracing_tree_refusals", more=[shim])
         self.programs("scripts/refuse.py", "tracing_tree_cli", more=[shim, f"{TOP}/examples/first.jsonl"])
         drawing = f"{TOP}/crates/tracing_tree_cases/data/first/tree.out"
         return self.programs("scripts/refuse.py", "tracing_tree_read", more=[shim, drawing])
@@ -160,7 +171,9 @@ def main():
         proving = gate.start_proving()
         gate.misuse()
         proving.join()
+        fuzzing = gate.start_fuzzing()
         gate.try_edits()
+        fuzzing.join()
         gate.programs("scripts/program.sh", "tracing_tree_cli", "tracing_tree_read")
         gate.programs("scripts/ttree.sh", "tracing_tree_ttree", "tracing_tree_cli")
         gate.faults()

@@ -1,5 +1,6 @@
 /* Preloaded into the program, this refuses the call of REFUSE_KIND (malloc, read or write) with the number REFUSE_AT, counted
- * from 1. The file REFUSE_TOLD is there from then on. */
+ * from 1: from the program's start, or from its first write to standard output that begins with REFUSE_FROM. The file REFUSE_TOLD is
+ * there from then on. */
 #define _GNU_SOURCE
 #include <dlfcn.h>
 #include <errno.h>
@@ -10,9 +11,12 @@
 #include <unistd.h>
 
 static long counted;
+static int begun;
 
 static int refused(const char *kind)
 {
+    if (!begun && getenv("REFUSE_FROM"))
+        return 0;
     const char *wanted = getenv("REFUSE_KIND");
     const char *at = getenv("REFUSE_AT");
     const char *told = getenv("REFUSE_TOLD");
@@ -47,9 +51,18 @@ ssize_t read(int file, void *bytes, size_t size)
     return refused("read") ? failed() : real(file, bytes, size);
 }
 
+static void look(const void *bytes, size_t size)
+{
+    const char *from = getenv("REFUSE_FROM");
+    if (from && size >= strlen(from) && memcmp(bytes, from, strlen(from)) == 0)
+        begun = 1;
+}
+
 ssize_t write(int file, const void *bytes, size_t size)
 {
     ssize_t (*real)(int, const void *, size_t) = dlsym(RTLD_NEXT, "write");
+    if (file == 1)
+        look(bytes, size);
     return file == 1 && refused("write") ? failed() : real(file, bytes, size);
 }
 

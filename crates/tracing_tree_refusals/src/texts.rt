@@ -1,0 +1,158 @@
+//! Texts read back, and runs by lines.
+
+ghost use Rattle.std.specs.Prelude.{◌≡◌};
+
+use crate::board::Board;
+use std::alloc::Global;
+use tracing_tree::format::Refusal;
+use tracing_tree::rows::{
+    DrawFault, EventPath, ReadFault, Row, RowCause, draw_rows, read_paths, read_rows, rows_to_json,
+};
+use tracing_tree::{LineCause, LinesRun, run_lines};
+
+const TREE: &str = "┐a \n└─┐b \n  ├─ WARN x\n┌─┘\n┘\n";
+
+const JSON: &str = "{\"shape\":\"OpenRoot\",\"level\":0,\"lines\":[\"a \"]}\n\
+    {\"shape\":\"Open\",\"verbose\":false,\"level\":1,\"lines\":[\"b \"]}\n\
+    {\"shape\":\"Event\",\"level\":2,\"lines\":[\" WARN x\"],\"ancestors\":[0,1]}\n\
+    {\"shape\":\"Close\",\"verbose\":false,\"level\":1,\"lines\":[\"\"]}\n\
+    {\"shape\":\"CloseRoot\",\"level\":0,\"lines\":[\"\"]}\n";
+
+const LINES: &str = "{\"indent_lines\":true}\n\
+    {\"call\":\"new\",\"name\":\"a\"}\n\
+    {\"call\":\"new\",\"name\":\"b\",\"current\":1}\n\
+    {\"call\":\"event\",\"level\":\"WARN\",\"fields\":[[\"message\",\"x\"]],\"current\":2}\n\
+    {\"call\":\"close\",\"id\":2}\n\
+    {\"call\":\"close\",\"id\":1}\n";
+
+// The calls stand in functions of their own, whose contracts say nothing: what is looked at here is what they return.
+
+fn read(alloc: Global, text: &str) -> Result<Vec<Row>, ReadFault> {
+    read_rows(alloc, text, 2)
+}
+
+fn drawn(alloc: Global, rows: &[Row]) -> Result<String, DrawFault> {
+    draw_rows(alloc, rows, 2)
+}
+
+fn found(alloc: Global, text: &str) -> Result<Vec<EventPath>, ReadFault> {
+    read_paths(alloc, text, 2)
+}
+
+fn told(alloc: Global, text: &[u8], board: &mut Board) -> Result<(), RowCause> {
+    rows_to_json(alloc, text, board, 2).map_err(|fault| fault.cause)
+}
+
+fn run(alloc: Global, lines: &[u8], board: Board) -> LinesRun<Board>
+    requires { board.faults ≡ 0 }
+{
+    run_lines(alloc, lines, board)
+}
+
+/// Reads a tree and draws it again. Returns how often memory was refused.
+pub fn read_and_draw(alloc: Global) -> anyhow::Result<u32> {
+    let (rows, unread) = match read(alloc, TREE) {
+        Err(ReadFault::Memory) => (read(alloc, TREE), 1u32),
+        rows => (rows, 0),
+    };
+    let Ok(rows) = rows else {
+        anyhow::bail!("a tree is not read");
+    };
+    Ok(unread.saturating_add(drawn_again(alloc, rows.as_slice())?))
+}
+
+// Draws the rows of the tree, once more where memory was refused, and returns how often that was.
+fn drawn_again(alloc: Global, rows: &[Row]) -> anyhow::Result<u32> {
+    let (text, undrawn) = match drawn(alloc, rows) {
+        Err(DrawFault::Memory) => (drawn(alloc, rows), 1u32),
+        text => (text, 0),
+    };
+    let Ok(text) = text else {
+        anyhow::bail!("rows are not drawn");
+    };
+    anyhow::ensure!(text.as_str() == TREE, "other rows are read");
+    Ok(undrawn)
+}
+
+/// Finds the ancestors of the one event of a tree. Returns how often memory was refused.
+pub fn find_paths(alloc: Global) -> anyhow::Result<u32> {
+    let (paths, refused) = match found(alloc, TREE) {
+        Err(ReadFault::Memory) => (found(alloc, TREE), 1u32),
+        paths => (paths, 0),
+    };
+    let Ok(paths) = paths else {
+        anyhow::bail!("a tree is not read");
+    };
+    let [path] = paths.as_slice() else {
+        anyhow::bail!("another number of events is found");
+    };
+    anyhow::ensure!(
+        path.event == 2 && path.ancestors.as_slice() == [Some(0), Some(1)].as_slice(),
+        "other ancestors are found"
+    );
+    Ok(refused)
+}
+
+/// Tells the rows of a tree as lines of JSON. Returns how often memory was refused.
+pub fn tell_rows(alloc: Global, mut board: Board, mut again: Board) -> anyhow::Result<u32> {
+    let Err(cause) = told(alloc, TREE.as_bytes(), &mut board) else {
+        anyhow::ensure!(board.bytes() == JSON.as_bytes(), "other rows are told");
+        return Ok(0);
+    };
+    anyhow::ensure!(
+        cause == RowCause::Memory && is_beginning(board.bytes(), JSON.as_bytes()),
+        "another beginning is told"
+    );
+    let second = told(alloc, TREE.as_bytes(), &mut again);
+    anyhow::ensure!(
+        second.is_ok() && again.bytes() == JSON.as_bytes(),
+        "other rows are told the second time"
+    );
+    Ok(1)
+}
+
+// Whether these are the first lines of a text.
+fn is_beginning(lines: &[u8], text: &[u8]) -> bool {
+    text.starts_with(lines) && lines.last().is_none_or(|last| *last == b'\n')
+}
+
+/// Draws the calls of lines. Where memory was refused, the text must be that of the lines before. Returns how often it was.
+pub fn run_by_lines(alloc: Global, board: Board, again: Board) -> anyhow::Result<u32>
+    requires first { board.faults ≡ 0 }
+    requires second { again.faults ≡ 0 }
+{
+    let first = run(alloc, LINES.as_bytes(), board);
+    let Some(fault) = first.fault else {
+        anyhow::ensure!(
+            first.writer.bytes() == TREE.as_bytes(),
+            "another text is drawn"
+        );
+        return Ok(0);
+    };
+    let is_memory = matches!(
+        &fault.cause,
+        LineCause::Memory | LineCause::Refused(Refusal::Memory)
+    );
+    let before = run(alloc, lines_before(LINES.as_bytes(), fault.line), again);
+    anyhow::ensure!(
+        is_memory && first.writer.bytes() == before.writer.bytes(),
+        "what the lines before say is not drawn"
+    );
+    Ok(1)
+}
+
+// The lines before the one of this number, from 1.
+fn lines_before(lines: &[u8], number: u64) -> &[u8] {
+    let mut left = number;
+    let mut end = 0usize;
+    for byte in lines {
+        if left <= 1 {
+            break;
+        }
+        end = end.saturating_add(1);
+        if *byte == b'\n' {
+            left = left.wrapping_sub(1);
+        }
+    }
+    lines.get(..end).unwrap_or(&[])
+}
