@@ -11,7 +11,7 @@ failed=0
 for file in "$top"/misuse/*.txt; do
     cp "$file" "$room/crates/misuse_case/src/lib.rt"
     { cat "$top/crates.txt"; echo "misuse_case: $(sed -n 's,^// deps: ,,p' "$file")"; } > "$room/crates.txt"
-    said=$(cd "$room/crates/misuse_case" && timeout 120 rt check --only= 2>&1)
+    said=$(cd "$room/crates/misuse_case" && timeout 600 rt check --only= 2>&1)
     found=$(grep -oE '^src/lib\.rt:[0-9]+:[0-9]+: error\[[^]]*\]|^[^ ]*: error\[[^]]*\]' <<<"$said" | sort -u)
     wanted=$(sed -n 's,^// expect: ,,p' "$file" | sort -u)
     name=$(basename "$file" .txt)

@@ -168,8 +168,9 @@ def main():
     with tempfile.TemporaryDirectory(prefix="gate-") as room:
         copy_to(room)
         gate = Gate(rt, room, asked.sample)
-        proving = gate.start_proving()
+        # Before the proofs take all processors: each case has a limit of time.
         gate.misuse()
+        proving = gate.start_proving()
         proving.join()
         fuzzing = gate.start_fuzzing()
         gate.try_edits()
