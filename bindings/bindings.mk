@@ -1,5 +1,5 @@
 # The library for C, C++ and Rust. Needs `rt` and a C compiler; its tests use more where it is there.
-.PHONY: bindings bindings-test install
+.PHONY: bindings bindings-test bindings-bench install
 
 # Where `make install` puts the library.
 PREFIX ?= /usr/local
@@ -11,6 +11,10 @@ bindings:
 # The last line is 'bindings: N passed, M failed'.
 bindings-test: bindings
 	@CC='$(CC)' CXX='$(CXX)' bindings/test.sh
+
+# Counts instructions of calls from C and Rust, by valgrind. It asserts nothing.
+bindings-bench: bindings
+	@CC='$(CC)' bindings/bench.sh
 
 # Installs the library, its header and its pkg-config file.
 install: bindings

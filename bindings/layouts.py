@@ -13,12 +13,12 @@ PLAIN = {"bool": (1, 1), "u32": (4, 4), "i32": (4, 4), "u64": (8, 8), "i64": (8,
 # What C and Rust call the structs, and the fields that have another name there.
 NAMES = {"Tree": ("tt_tree", "RawTree"), "FieldRef": ("tt_field", "Field"), "SettingsRef": ("tt_settings", "Settings"),
          "ContextRef": ("tt_context", "Context"), "AttributesRef": ("tt_attributes", "Attributes"),
-         "EventRef": ("tt_event_ref", "Event")}
+         "EventRef": ("tt_event_ref", "Event"), "TimeRef": ("tt_time", "Time")}
 FIELDS = {("Tree", "inner"): "inside"}
 
 HEADS = ["""// Made by bindings/layouts.py from the declarations of the proved crate. It only has to compile.
 
-use super::{Attributes, Context, Event, Field, RawTree, Settings, Text};
+use super::{Attributes, Context, Event, Field, RawTree, Settings, Text, Time};
 use std::mem::{offset_of, size_of};""", '#include "tracing_tree.h"']
 
 STRUCT = re.compile(r"#\[repr\(C\)\]\n(?:#\[[^\n]*\]\n)*pub struct (\w+)(?:<'a>)? \{\n(.*?)\n\}", re.S)

@@ -83,6 +83,9 @@ counts "the tests in C" "$room/test"
 step "the example with sanitizers" $cc -std=c99 -g -fsanitize=address,undefined -fno-sanitize-recover=all -Ibindings/c \
     $example $library -o "$room/server_sanitized"
 step "what the example draws with sanitizers" prints bindings/c/server.out "$room/server_sanitized"
+step "the tests with sanitizers" $cc -std=c99 -g -fsanitize=address,undefined -fno-sanitize-recover=all -Ibindings/c \
+    -Wl,--wrap=malloc,--wrap=realloc bindings/c/test.c $library -o "$room/test_sanitized"
+step "no test fails with sanitizers" bash -c '"$0" | grep -q "^[1-9][0-9]* 0\$"' "$room/test_sanitized"
 if has valgrind; then
     for program in server test; do
         step "$program under valgrind" valgrind -q --leak-check=full --errors-for-leak-kinds=all --error-exitcode=1 "$room/$program"
@@ -116,7 +119,7 @@ elif ! compgen -G "$crates/tracing-0.1*" > /dev/null || ! compgen -G "$crates/tr
 else
     export TRACING_TREE_LIB="$top/bin"
     cd bindings/rust
-    step "build of the Rust crate" cargo build --offline --quiet
+    step "build of the Rust crate" cargo build --offline --quiet --lib --example program
     if cargo test --offline --quiet > "$room/log" 2>&1; then
         for good in $(sed -n 's/^test result: ok. \([0-9]*\) passed.*/\1/p' "$room/log"); do passed=$((passed + good)); done
     else
@@ -125,6 +128,20 @@ else
         tail -n 40 "$room/log"
     fi
     cd "$top"
+fi
+
+# ---- the same calls, drawn by the program, in C and in Rust
+step "the program in C" $cc -std=c99 -O1 $strict -Ibindings/c bindings/c/program.c $library -o "$room/program"
+programs=("$room/program")
+[ -x bindings/rust/target/debug/examples/program ] && has cargo && programs+=(bindings/rust/target/debug/examples/program)
+drawer=${TRACING_TREE:-}
+for built in bin/tracing_tree crates/tracing_tree_cli/out/tracing_tree_cli; do
+    [ -z "$drawer" ] && [ -x "$built" ] && drawer=$built
+done
+if [ -z "$drawer" ]; then
+    left_out "the comparison with the program that draws lines, which isn't built (make build)"
+else
+    counts "the same calls in C and Rust" python3 bindings/same.py bindings/c/program.jsonl "$drawer" "${programs[@]}"
 fi
 
 echo "bindings: $passed passed, $failed failed"

@@ -35,7 +35,7 @@ static void check(bool holds, const char *what, long at) {
 
 /* ---- a script of calls */
 
-enum kind { OPEN, NEW, EVENT, RECORD, CLONE, CLOSE };
+enum kind { OPEN, NEW, EVENT, TIMED, RECORD, CLONE, CLOSE };
 
 typedef struct step {
   enum kind kind;
@@ -59,6 +59,8 @@ static const step script[] = {
     {NEW, "as deep as a short path", 5, 0, "y"},
     {NEW, "deeper than a short path", 6, 0, "y"},
     {EVENT, "second", 7, TT_WARN, "z"},
+    {TIMED, "timed", 7, TT_DEBUG, "a moment and a time of more than sixteen bytes each"},
+    {TIMED, "timed again", 2, TT_DEBUG, "other texts in place of these"},
     {CLOSE, "", 7, 0, ""},
     {CLOSE, "", 6, 0, ""},
     {CLOSE, "", 2, 0, ""},
@@ -86,18 +88,39 @@ static tt_context context(uint64_t current) {
   return made;
 }
 
+/* Which settings the script is run under. */
+static int variant;
+
+static void set_variant(tt_settings *settings) {
+  settings->targets = settings->thread_names = true;
+  settings->indent_lines = variant != 2;
+  settings->span_retrace = variant != 1;
+  settings->close_retrace = settings->verbose_exit = variant == 0;
+  settings->deferred_spans = settings->ansi = settings->verbose_entry = variant == 1;
+  settings->bracketed_fields = settings->span_modes = settings->thread_ids = variant == 2;
+  settings->timer = variant == 0 ? TT_TIMER_NONE : variant == 1 ? TT_TIMER_UPTIME : TT_TIMER_LOCAL;
+  if (variant == 2) settings->wraparound = 2;
+}
+
+/* A timer of the caller's own: it shows the text that it is passed. */
+static tt_text_ref shown(void *data, const tt_context *here) {
+  (void)here;
+  return tt_str((const char *)data);
+}
+
 static uint32_t call(tt_tree *tree, const step *s, given *out) {
+  tt_timer timer = {shown, shown, (void *)s->value};
   tt_field fields[2] = {{tt_str("message"), tt_str(s->value)}, {tt_str(s->name), tt_str("1")}};
   tt_context here = context(s->id);
   tt_settings settings = tt_default_settings();
   tt_attributes attributes = {tt_str(s->name), tt_str("a target of more than sixteen bytes"), 0, TT_CURRENT};
   tt_event_ref event = {tt_str("t"), 0, TT_CURRENT, s->level};
-  settings.indent_lines = settings.span_retrace = settings.close_retrace = settings.verbose_exit = true;
-  settings.targets = settings.thread_names = true;
+  set_variant(&settings);
   switch (s->kind) {
   case OPEN: return tt_new(tree, &settings);
   case NEW: return tt_new_span(tree, &attributes, fields, 2, &here, &out->id);
   case EVENT: return tt_event(tree, &event, fields, 2, &here);
+  case TIMED: return tt_event_timed(tree, &timer, &event, fields, 2, &here);
   case RECORD: return tt_record(tree, s->id, fields, 2);
   case CLONE: return tt_clone_span(tree, s->id);
   case CLOSE: return tt_close(tree, s->id, &here, &out->went);
@@ -145,9 +168,11 @@ static bool run(given *ample, long at) {
 
 static void refusals(void) {
   given *ample = __real_malloc(sizeof(given) * STEPS);
-  long at = 0;
-  while (run(ample, at)) at++;
-  check(at > 20, "the script asks for memory", at);
+  for (variant = 0; variant < 3; variant++) {
+    long at = 0;
+    while (run(ample, at)) at++;
+    check(at > 20, "the script asks for memory", at);
+  }
   free(ample);
 }
 
@@ -160,18 +185,18 @@ static void settings_that_are_none(void) {
   tt_tree tree = TT_NO_TREE, none = TT_NO_TREE;
   for (int i = 0; i < 8; i++) {
     tt_settings settings = tt_default_settings();
-    settings.timer = i < 4 ? TT_TIMER_NONE : TT_TIMER_LOCAL;
+    settings.timer = i < 5 ? TT_TIMER_NONE : TT_TIMER_LOCAL;
     switch (i) {
     case 0: settings.size -= 8; break;
     case 1: settings.size += 8; break;
-    case 2: settings.wraparound = 0; break;
-    case 3: settings.timer = 4; break;
-    case 4: settings.offset = 93600; break;
-    case 5: settings.offset = -93600; break;
-    case 6: settings.offset = INT32_MIN; break;
-    default: settings.size = 0;
+    case 2: settings.size = 0; break;
+    case 3: settings.wraparound = 0; break;
+    case 4: settings.timer = 4; break;
+    case 5: settings.offset = 93600; break;
+    case 6: settings.offset = -93600; break;
+    default: settings.offset = INT32_MIN;
     }
-    check(tt_new(&tree, &settings) == TT_SETTINGS, "settings that are none", i);
+    check(tt_new(&tree, &settings) == (i < 3 ? TT_SIZE : TT_SETTINGS), "settings that are none", i);
     check(!tree.there && tree.inside == none.inside, "no tree is made of settings that are none", i);
   }
   for (int i = 0; i < 2; i++) {
@@ -222,17 +247,17 @@ static void texts_that_are_none(void) {
     uint64_t id = 77;
     bool went = true;
     if (i < 6) {
-      nothing_drawn(&tree, tt_new_span(&tree, &attributes, fields, 2, &here, &id), TT_UNREAD, "a new span that can't be read", i);
+      nothing_drawn(&tree, tt_new_span(&tree, &attributes, fields, 2, &here, &id), i == 2 ? TT_UNKNOWN : TT_NOT_UTF8, "a new span that can't be read", i);
       check(id == 77, "no id is handed out", i);
     } else if (i < 11) {
-      nothing_drawn(&tree, tt_event(&tree, &event, fields, 2, &here), TT_UNREAD, "an event that can't be read", i);
+      nothing_drawn(&tree, tt_event(&tree, &event, fields, 2, &here), i < 7 || i > 9 ? TT_NOT_UTF8 : TT_UNKNOWN, "an event that can't be read", i);
     } else {
-      nothing_drawn(&tree, tt_close(&tree, 1, &here, &went), TT_UNREAD, "a close that can't be read", i);
+      nothing_drawn(&tree, tt_close(&tree, 1, &here, &went), TT_NOT_UTF8, "a close that can't be read", i);
       check(went, "nothing is said of the span", i);
     }
     if (i == 3 || i == 4) {
-      nothing_drawn(&tree, tt_event(&tree, &event, fields, 2, &NOWHERE), TT_UNREAD, "an event's field that can't be read", i);
-      nothing_drawn(&tree, tt_record(&tree, 1, fields, 2), TT_UNREAD, "a later field that can't be read", i);
+      nothing_drawn(&tree, tt_event(&tree, &event, fields, 2, &NOWHERE), TT_NOT_UTF8, "an event's field that can't be read", i);
+      nothing_drawn(&tree, tt_record(&tree, 1, fields, 2), TT_NOT_UTF8, "a later field that can't be read", i);
     }
   }
   {
@@ -272,6 +297,97 @@ static void spans_that_are_none(void) {
     check(id == 77 && went, "nothing is handed out", i);
   }
   tt_free(&tree);
+}
+
+/* Each call with each pointer and each text's address NULL, one at a time. */
+static void nulls(void) {
+  static const tt_text_ref null = {NULL, 0}, long_null = {NULL, 7};
+  tt_tree tree = started();
+  tt_attributes no_name = {null, tt_str(""), 0, TT_ROOT}, no_target = {tt_str("b"), long_null, 0, TT_ROOT};
+  tt_attributes whole = {tt_str("b"), tt_str(""), 0, TT_ROOT};
+  tt_event_ref bare = {null, 0, TT_ROOT, TT_INFO}, event = {tt_str(""), 0, TT_CURRENT, TT_INFO};
+  tt_field field = {tt_str("n"), tt_str("v")}, nameless = {null, tt_str("v")}, valueless = {tt_str("n"), long_null};
+  tt_context named = {1, 1, null, 0, 0, true}, nameless_thread = {1, 1, null, 0, 0, false};
+  tt_timer timer = {shown, shown, NULL}, no_moment = {NULL, shown, NULL}, no_elapsed = {shown, NULL, NULL};
+  tt_settings settings = tt_default_settings();
+  uint64_t id = 77;
+  bool went = true;
+  check(tt_new(NULL, &settings) == TT_NULL && tt_new(&tree, NULL) == TT_NULL && drew(&tree, "┐a \n"), "NULL to tt_new", 0);
+  const tt_attributes *attributes[] = {&whole, NULL, &no_name, &no_target, &whole, &whole, &whole, &whole, &whole};
+  const tt_field *fields[] = {&field, &field, &field, &field, NULL, &nameless, &valueless, &field, &field};
+  const tt_context *contexts[] = {&NOWHERE, &NOWHERE, &NOWHERE, &NOWHERE, &NOWHERE, &NOWHERE, &NOWHERE, NULL, &named};
+  const tt_event_ref *events[] = {&event, NULL, &bare, &bare, &event, &event, &event, &event, &event};
+  for (int i = 0; i < 9; i++) {
+    tt_tree *there = i == 0 ? NULL : &tree;
+    check(tt_clone_span(&tree, 1) == TT_OK && tt_close(&tree, 1, &NOWHERE, &went) == TT_OK && !went, "the tree goes on", i);
+    went = true;
+    check(tt_new_span(there, attributes[i], fields[i], 1, contexts[i], &id) == TT_NULL && drew(&tree, ""), "NULL to a new span", i);
+    check(tt_event(there, events[i], fields[i], 1, contexts[i]) == TT_NULL && drew(&tree, ""), "NULL to an event", i);
+    if (i == 0 || (i > 3 && i < 7)) check(tt_record(there, 1, fields[i], 1) == TT_NULL, "NULL to a record", i);
+    if (i == 0 || i > 6) check(tt_close(there, 1, contexts[i], &went) == TT_NULL, "NULL to a close", i);
+  }
+  check(tt_new_span(&tree, &whole, &field, 1, &NOWHERE, NULL) == TT_NULL, "a new span without a place for its id", 0);
+  check(tt_close(&tree, 1, &NOWHERE, NULL) == TT_NULL && tt_clone_span(NULL, 1) == TT_NULL, "NULL to a close and a clone", 0);
+  check(tt_set_time(NULL, tt_str(""), tt_str("")) == TT_NULL && tt_set_time(&tree, null, tt_str("")) == TT_NULL &&
+        tt_set_time(&tree, tt_str(""), long_null) == TT_NULL, "NULL as a time", 0);
+  check(tt_event_timed(&tree, NULL, &event, &field, 1, &NOWHERE) == TT_NULL &&
+        tt_event_timed(&tree, &no_moment, &event, &field, 1, &NOWHERE) == TT_NULL &&
+        tt_event_timed(&tree, &no_elapsed, &event, &field, 1, &NOWHERE) == TT_NULL &&
+        tt_event_timed(&tree, &timer, &event, &field, 1, NULL) == TT_NULL && drew(&tree, ""), "NULL to a timed event", 0);
+  check(id == 77 && went, "NULL hands nothing out", 0);
+  check(tt_event(&tree, &event, NULL, 0, &nameless_thread) == TT_OK && drew(&tree, "├─ INFO\n"), "no fields, and no name of a thread", 0);
+  check(tt_text(&tree, NULL, 5) == 12 && tt_text(NULL, NULL, 0) == 0, "the length of a text", 0);
+  check(tt_close(&tree, 1, &nameless_thread, &went) == TT_OK && went && drew(&tree, "┘\n"), "what was refused changed nothing", 0);
+  tt_free(NULL);
+  tt_free(&tree);
+}
+
+/* ---- timers */
+
+static void timers(void) {
+  static const struct {
+    uint32_t timer;
+    int32_t offset;
+    bool higher;
+    const char *alone, *within;
+  } cases[] = {
+      {TT_TIMER_NONE, 0, false, "INFO x\n", "├─ INFO x\n"},
+      {TT_TIMER_UPTIME, 0, false, "   2.000042s INFO x\n", "├─   2.000042s   2s  INFO x\n"},
+      {TT_TIMER_UPTIME, 0, true, "   2.000042s INFO x\n", "├─   2.000042s  2.00s  INFO x\n"},
+      {TT_TIMER_UTC, 0, false, "2000-02-29 12:34:56.05 INFO x\n", "├─2000-02-29 12:34:56.05   2s  INFO x\n"},
+      {TT_TIMER_LOCAL, 19800, true, "2000-02-29 18:04:56.05 +05:30:00 INFO x\n",
+       "├─2000-02-29 18:04:56.05 +05:30:00  2.00s  INFO x\n"},
+  };
+  for (int i = 0; i < 5; i++) {
+    tt_tree tree = TT_NO_TREE;
+    tt_settings settings = tt_default_settings();
+    tt_attributes a = {tt_str("a"), tt_str(""), 0, TT_ROOT};
+    tt_event_ref event = {tt_str(""), 0, TT_CURRENT, TT_INFO};
+    tt_field message = {tt_str("message"), tt_str("x")};
+    tt_context here = {0, 1, tt_str(""), 1000000000, INT64_C(951827694050000000), false};
+    tt_timer own = {shown, shown, (void *)"T"};
+    uint64_t id = 0;
+    settings.indent_lines = true;
+    settings.epoch = 1000000000;
+    settings.timer = cases[i].timer;
+    settings.offset = cases[i].offset;
+    settings.higher_precision = cases[i].higher;
+    check(tt_new(&tree, &settings) == TT_OK && tt_new_span(&tree, &a, NULL, 0, &here, &id) == TT_OK, "a tree with a timer", i);
+    here.mono = 3000042000;
+    here.wall = INT64_C(951827696050000000);
+    check(tt_event(&tree, &event, &message, 1, &here) == TT_OK && drew(&tree, cases[i].alone), "a timer outside a span", i);
+    here.current = id;
+    check(tt_event(&tree, &event, &message, 1, &here) == TT_OK && drew(&tree, cases[i].within), "a timer in a span", i);
+    check(tt_event_timed(&tree, &own, &event, &message, 1, &here) == TT_OK && drew(&tree, "├─T T INFO x\n"), "a timer of one's own", i);
+    check(tt_set_time(&tree, tt_str("now"), tt_str("")) == TT_OK && drew(&tree, "") &&
+          tt_event(&tree, &event, &message, 1, &here) == TT_OK && drew(&tree, "├─now  INFO x\n"), "a time that is set", i);
+    nothing_drawn(&tree, tt_set_time(&tree, tt_bytes(BAD, 2), tt_str("")), TT_NOT_UTF8, "a moment that isn't UTF-8", i);
+    nothing_drawn(&tree, tt_set_time(&tree, tt_str(""), tt_bytes(BAD, 2)), TT_NOT_UTF8, "a time that isn't UTF-8", i);
+    here.current = 0;
+    check(tt_event(&tree, &event, &message, 1, &here) == TT_OK && drew(&tree, "now INFO x\n"), "the time that was set stays", i);
+    tt_free(&tree);
+    check(tt_set_time(&tree, tt_str(""), tt_str("")) == TT_MISSING, "a time of no tree", i);
+  }
 }
 
 /* Each call on a tree that isn't. */
@@ -328,6 +444,8 @@ int main(void) {
   texts_that_are_none();
   texts_of_nothing();
   spans_that_are_none();
+  nulls();
+  timers();
   trees_that_are_none();
   rooms();
   printf("%d %d\n", passed, failed);

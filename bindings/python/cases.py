@@ -50,7 +50,7 @@ class Event(Structure):
 
 TIMERS = {"none": 0, "uptime": 1, "utc": 2, "local": 3}
 LEVELS = {"TRACE": 0, "DEBUG": 1, "INFO": 2, "WARN": 3, "ERROR": 4}
-TEXTS = {0: None, 2: "too wide", 3: "too many", 5: "timer", 6: "writer", 7: "failed"}
+TEXTS = {0: None, 2: "too wide", 3: "too many", 5: "timer", 6: "failed"}
 
 
 def present(value):
@@ -87,24 +87,24 @@ def make(library, tree, line):
     if kind == "new":
         meant, how = parent_of(call)
         attributes = Attributes(Text(call["name"]), Text(call.get("target", "")), meant, how)
-        status = library.tt_new_span(tree, byref(attributes), fields, c_size_t(len(pairs)), byref(context), byref(c_uint64()))
+        status = library.tt_raw_new_span(tree, byref(attributes), fields, c_size_t(len(pairs)), byref(context), byref(c_uint64()))
     elif kind == "event":
         meant, how = parent_of(call)
         event = Event(Text(call.get("target", "")), meant, how, LEVELS[call["level"]])
-        status = library.tt_event(tree, byref(event), fields, c_size_t(len(pairs)), byref(context))
+        status = library.tt_raw_event(tree, byref(event), fields, c_size_t(len(pairs)), byref(context))
     elif kind == "record":
-        status = library.tt_record(tree, c_uint64(meant), fields, c_size_t(len(pairs)))
+        status = library.tt_raw_record(tree, c_uint64(meant), fields, c_size_t(len(pairs)))
     elif kind == "clone":
-        status = library.tt_clone_span(tree, c_uint64(meant))
+        status = library.tt_raw_clone_span(tree, c_uint64(meant))
     else:
-        status = library.tt_close(tree, c_uint64(meant), byref(context), byref(c_bool()))
+        status = library.tt_raw_close(tree, c_uint64(meant), byref(context), byref(c_bool()))
     return "not held" if status == 1 else TEXTS.get(status, f"status {status}")
 
 
 def text_of(library, tree):
-    length = library.tt_text(tree, (ctypes.c_uint8 * 1)(), c_size_t(0))
+    length = library.tt_raw_text(tree, (ctypes.c_uint8 * 1)(), c_size_t(0))
     room = (ctypes.c_uint8 * max(length, 1))()
-    library.tt_text(tree, room, c_size_t(length))
+    library.tt_raw_text(tree, room, c_size_t(length))
     return bytes(room[:length])
 
 
@@ -112,7 +112,7 @@ def draw(library, lines):
     """The text of a run, and where and why it ended early."""
     tree = Tree()
     settings = settings_of(json.loads(lines[0]))
-    status = library.tt_new(byref(tree), byref(settings))
+    status = library.tt_raw_new(byref(tree), byref(settings))
     if status:
         return b"", f"status {status} of the settings"
     drawn, end = b"", ""
@@ -124,13 +124,13 @@ def draw(library, lines):
         if why:
             end = f"line {number}: {why}"
             break
-    library.tt_free(byref(tree))
+    library.tt_raw_free(byref(tree))
     return drawn, end
 
 
 def main():
     library = ctypes.CDLL(sys.argv[1])
-    library.tt_text.restype = c_size_t
+    library.tt_raw_text.restype = c_size_t
     passed = failed = 0
     for case in sorted(Path(sys.argv[2]).rglob("*.in")):
         told = case.with_suffix(".err")

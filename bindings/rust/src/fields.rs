@@ -5,9 +5,6 @@ use std::cell::Cell;
 use std::fmt::{self, Write as _};
 use tracing_core::field::{Field, Visit};
 
-// Most spans and events have no more fields; they are handed over without memory of their own.
-const FEW: usize = 8;
-
 thread_local! {
     // The buffers of the last call on this thread. A call takes them out, so that another call, made while a field is formatted,
     // finds none and makes its own.
@@ -33,17 +30,24 @@ impl Fields {
 
     /// Makes a call with the fields, and keeps their buffers for the next one.
     pub(crate) fn with<R>(self, then: impl FnOnce(&[sys::Field<'_>]) -> R) -> R {
-        let result = if self.ends.len() <= FEW {
-            let mut few = [sys::Field::default(); FEW];
-            for (place, field) in few.iter_mut().zip(self.iter()) {
-                *place = field;
-            }
-            then(&few[..self.ends.len()])
-        } else {
-            then(&self.iter().collect::<Vec<_>>())
+        // Most spans and events have few fields, which are handed over without memory of their own.
+        let result = match self.ends.len() {
+            0..=1 => self.few::<1, R>(then),
+            2..=4 => self.few::<4, R>(then),
+            5..=16 => self.few::<16, R>(then),
+            _ => then(&self.iter().collect::<Vec<_>>()),
         };
         let _ = SPARE.try_with(|spare| spare.set(Some(self)));
         result
+    }
+
+    // Makes a call with at most so many fields.
+    fn few<const MOST: usize, R>(&self, then: impl FnOnce(&[sys::Field<'_>]) -> R) -> R {
+        let mut few = [sys::Field::default(); MOST];
+        for (place, field) in few.iter_mut().zip(self.iter()) {
+            *place = field;
+        }
+        then(&few[..self.ends.len()])
     }
 
     fn iter(&self) -> impl Iterator<Item = sys::Field<'_>> {

@@ -7,6 +7,7 @@ use std::cell::Cell;
 use std::io::Write;
 use std::sync::{Mutex, MutexGuard, PoisonError};
 use std::thread::{self, Thread};
+use std::time::Instant;
 use tracing_core::span::{Attributes, Id, Record};
 use tracing_core::{Event, Level, Subscriber};
 use tracing_subscriber::fmt::MakeWriter;
@@ -30,6 +31,8 @@ pub(crate) struct State {
 struct Kept {
     first: (u64, u64),
     others: Vec<(u64, u64)>,
+    // When the span opened, for a layer with a timer of the caller's.
+    opened: Option<Instant>,
 }
 
 impl Kept {
@@ -38,10 +41,13 @@ impl Kept {
         all.find(|(of, _)| *of == layer).map(|(_, id)| *id)
     }
 
-    fn keep(extensions: &mut ExtensionsMut<'_>, layer: u64, id: u64) {
+    fn keep(extensions: &mut ExtensionsMut<'_>, layer: u64, id: u64, opened: Option<Instant>) {
         match extensions.get_mut::<Kept>() {
-            Some(kept) => kept.others.push((layer, id)),
-            None => extensions.insert(Kept { first: (layer, id), others: Vec::new() }),
+            Some(kept) => {
+                kept.others.push((layer, id));
+                kept.opened = kept.opened.or(opened);
+            }
+            None => extensions.insert(Kept { first: (layer, id), others: Vec::new(), opened }),
         }
     }
 }
@@ -98,6 +104,17 @@ where
     // The id that a span has here, if it was made here.
     fn id_of<'a, R: LookupSpan<'a>>(&self, span: &SpanRef<'a, R>) -> Option<u64> {
         span.extensions().get::<Kept>().and_then(|kept| kept.id(self.number))
+    }
+
+    // What the timer of the caller's shows of an event in this span.
+    fn time<'a, R: LookupSpan<'a>>(&self, within: Option<&SpanRef<'a, R>>) -> (String, String) {
+        let (mut moment, mut elapsed) = (String::new(), String::new());
+        let _ = self.timer.format_time(&mut moment);
+        let opened = within.and_then(|span| span.extensions().get::<Kept>().and_then(|kept| kept.opened));
+        if let Some(opened) = opened {
+            let _ = self.timer.style_timestamp(self.settings.ansi, opened.elapsed(), &mut elapsed);
+        }
+        (moment, elapsed)
     }
 
     // Makes a call and writes its text. A tree that can't be made, or a call that is refused, draws nothing.
@@ -170,7 +187,7 @@ where
             fields.with(|fields| self.call(|tree| tree.new_span(&attributes, fields, context)))
         });
         if let Some(id) = made {
-            Kept::keep(&mut span.extensions_mut(), self.number, id);
+            Kept::keep(&mut span.extensions_mut(), self.number, id, self.own_timer.then(Instant::now));
         }
     }
 
@@ -183,7 +200,9 @@ where
 
     fn on_event(&self, event: &Event<'_>, ctx: Context<'_, S>) {
         let Some(_in_call) = InCall::enter() else { return };
-        let current = ctx.lookup_current().and_then(|span| self.id_of(&span));
+        let within = ctx.lookup_current();
+        let current = within.as_ref().and_then(|span| self.id_of(span));
+        let time = self.own_timer.then(|| self.time(within.as_ref()));
         let named = event.parent().and_then(|id| ctx.span(id)).and_then(|span| self.id_of(&span));
         let told = sys::Event {
             target: event.metadata().target().into(),
@@ -197,7 +216,14 @@ where
         };
         let fields = Fields::of(|visit| event.record(visit));
         self.with_context(current.unwrap_or(0), |context| {
-            fields.with(|fields| self.call(|tree| tree.event(&told, fields, context)))
+            fields.with(|fields| {
+                self.call(|tree| {
+                    if let Some((moment, elapsed)) = &time {
+                        tree.set_time(&sys::Time { moment: moment.as_str().into(), elapsed: elapsed.as_str().into() })?;
+                    }
+                    tree.event(&told, fields, context)
+                })
+            })
         });
     }
 

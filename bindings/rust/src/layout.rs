@@ -1,6 +1,6 @@
 // Made by bindings/layouts.py from the declarations of the proved crate. It only has to compile.
 
-use super::{Attributes, Context, Event, Field, RawTree, Settings, Text};
+use super::{Attributes, Context, Event, Field, RawTree, Settings, Text, Time};
 use std::mem::{offset_of, size_of};
 
 const _: () = assert!(size_of::<Text>() == 16);
@@ -55,3 +55,7 @@ const _: () = assert!(offset_of!(Event, target) == 0);
 const _: () = assert!(offset_of!(Event, parent) == 16);
 const _: () = assert!(offset_of!(Event, parent_kind) == 24);
 const _: () = assert!(offset_of!(Event, level) == 28);
+
+const _: () = assert!(size_of::<Time>() == 32);
+const _: () = assert!(offset_of!(Time, moment) == 0);
+const _: () = assert!(offset_of!(Time, elapsed) == 16);

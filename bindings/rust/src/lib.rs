@@ -25,7 +25,6 @@ mod sys;
 pub mod time;
 
 use std::io::{self, IsTerminal};
-use std::marker::PhantomData;
 use std::sync::atomic::{AtomicU64, Ordering};
 use std::sync::Mutex;
 use time::FormatTime;
@@ -51,7 +50,9 @@ where
     state: Mutex<Option<layer::State>>,
     // Spans that closed while their thread was in a call of this layer.
     late: Mutex<Vec<u64>>,
-    timer: PhantomData<fn() -> FT>,
+    timer: FT,
+    // Whether the timer is none of the library's.
+    own_timer: bool,
 }
 
 impl Default for HierarchicalLayer {
@@ -74,7 +75,8 @@ impl HierarchicalLayer {
             },
             state: Mutex::new(None),
             late: Mutex::new(Vec::new()),
-            timer: PhantomData,
+            timer: (),
+            own_timer: false,
         }
     }
 }
@@ -133,7 +135,8 @@ where
             settings: self.settings,
             state: self.state,
             late: self.late,
-            timer: PhantomData,
+            timer: self.timer,
+            own_timer: self.own_timer,
         }
     }
 
@@ -149,15 +152,17 @@ where
         self
     }
 
-    /// Shows the time by this timer: `()` shows none, and [`time`] has the others.
+    /// Shows the time by this timer: `()` shows none, [`time`] has others, and any other type can implement [`FormatTime`].
     pub fn with_timer<FT2: FormatTime>(self, timer: FT2) -> HierarchicalLayer<W, FT2> {
+        let set = timer.set(self.settings);
         HierarchicalLayer {
             number: self.number,
             make_writer: self.make_writer,
-            settings: timer.set(self.settings),
+            settings: set.unwrap_or(sys::Settings { timer: 0, ..self.settings }),
             state: self.state,
             late: self.late,
-            timer: PhantomData,
+            own_timer: set.is_none(),
+            timer,
         }
     }
 }

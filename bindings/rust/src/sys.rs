@@ -123,6 +123,14 @@ pub struct Event<'a> {
     pub level: u32,
 }
 
+/// The texts of the time.
+#[repr(C)]
+#[derive(Clone, Copy)]
+pub struct Time<'a> {
+    pub moment: Text<'a>,
+    pub elapsed: Text<'a>,
+}
+
 #[repr(C)]
 struct RawTree {
     inside: *mut u8,
@@ -131,9 +139,9 @@ struct RawTree {
 
 extern "C" {
     fn tt_version() -> u32;
-    fn tt_new(tree: *mut RawTree, settings: *const Settings) -> u32;
-    fn tt_free(tree: *mut RawTree);
-    fn tt_new_span(
+    fn tt_raw_new(tree: *mut RawTree, settings: *const Settings) -> u32;
+    fn tt_raw_free(tree: *mut RawTree);
+    fn tt_raw_new_span(
         tree: *mut RawTree,
         attributes: *const Attributes<'_>,
         fields: *const Field<'_>,
@@ -141,16 +149,17 @@ extern "C" {
         context: *const Context<'_>,
         id: *mut u64,
     ) -> u32;
-    fn tt_record(tree: *mut RawTree, id: u64, fields: *const Field<'_>, count: usize) -> u32;
-    fn tt_event(
+    fn tt_raw_record(tree: *mut RawTree, id: u64, fields: *const Field<'_>, count: usize) -> u32;
+    fn tt_raw_event(
         tree: *mut RawTree,
         event: *const Event<'_>,
         fields: *const Field<'_>,
         count: usize,
         context: *const Context<'_>,
     ) -> u32;
-    fn tt_close(tree: *mut RawTree, id: u64, context: *const Context<'_>, went: *mut bool) -> u32;
-    fn tt_text(tree: *mut RawTree, room: *mut u8, size: usize) -> usize;
+    fn tt_raw_close(tree: *mut RawTree, id: u64, context: *const Context<'_>, went: *mut bool) -> u32;
+    fn tt_raw_set_time(tree: *mut RawTree, time: *const Time<'_>) -> u32;
+    fn tt_raw_text(tree: *mut RawTree, room: *mut u8, size: usize) -> usize;
 }
 
 /// Why a call was refused: a status of the header.
@@ -170,7 +179,8 @@ pub struct Tree {
     raw: RawTree,
 }
 
-// SAFETY: the tree is plain memory of its own, and `&mut` gives it to one call at a time.
+// SAFETY: that a tree may go to another thread is proved (`Handle` of crates/tracing_tree_c), and `&mut` gives it to one call at a
+// time.
 unsafe impl Send for Tree {}
 
 impl Tree {
@@ -178,7 +188,7 @@ impl Tree {
     pub fn new(settings: &Settings) -> Result<Tree, Refused> {
         let mut raw = RawTree { inside: std::ptr::null_mut(), there: false };
         // SAFETY: the tree is missing, and the settings are whole.
-        answered(unsafe { tt_new(&mut raw, settings) })?;
+        answered(unsafe { tt_raw_new(&mut raw, settings) })?;
         Ok(Tree { raw })
     }
 
@@ -192,7 +202,7 @@ impl Tree {
         let mut id = 0;
         // SAFETY: each reference is whole for the call, and a slice's address is never null.
         answered(unsafe {
-            tt_new_span(&mut self.raw, attributes, fields.as_ptr(), fields.len(), context, &mut id)
+            tt_raw_new_span(&mut self.raw, attributes, fields.as_ptr(), fields.len(), context, &mut id)
         })?;
         Ok(id)
     }
@@ -200,20 +210,26 @@ impl Tree {
     /// Puts fields at the end of a span's.
     pub fn record(&mut self, id: u64, fields: &[Field<'_>]) -> Result<(), Refused> {
         // SAFETY: as for a new span.
-        answered(unsafe { tt_record(&mut self.raw, id, fields.as_ptr(), fields.len()) })
+        answered(unsafe { tt_raw_record(&mut self.raw, id, fields.as_ptr(), fields.len()) })
     }
 
     /// Tells of an event.
     pub fn event(&mut self, event: &Event<'_>, fields: &[Field<'_>], context: &Context<'_>) -> Result<(), Refused> {
         // SAFETY: as for a new span.
-        answered(unsafe { tt_event(&mut self.raw, event, fields.as_ptr(), fields.len(), context) })
+        answered(unsafe { tt_raw_event(&mut self.raw, event, fields.as_ptr(), fields.len(), context) })
+    }
+
+    /// Shows these texts as the time from now on.
+    pub fn set_time(&mut self, time: &Time<'_>) -> Result<(), Refused> {
+        // SAFETY: as for a new span.
+        answered(unsafe { tt_raw_set_time(&mut self.raw, time) })
     }
 
     /// Takes a handle of a span away.
     pub fn close(&mut self, id: u64, context: &Context<'_>) -> Result<bool, Refused> {
         let mut went = false;
         // SAFETY: as for a new span.
-        answered(unsafe { tt_close(&mut self.raw, id, context, &mut went) })?;
+        answered(unsafe { tt_raw_close(&mut self.raw, id, context, &mut went) })?;
         Ok(went)
     }
 
@@ -223,11 +239,11 @@ impl Tree {
             room.resize(1024, 0);
         }
         // SAFETY: the room has as many bytes as are said.
-        let mut length = unsafe { tt_text(&mut self.raw, room.as_mut_ptr(), room.len()) };
+        let mut length = unsafe { tt_raw_text(&mut self.raw, room.as_mut_ptr(), room.len()) };
         if length > room.len() {
             room.resize(length, 0);
             // SAFETY: as before.
-            length = unsafe { tt_text(&mut self.raw, room.as_mut_ptr(), room.len()) };
+            length = unsafe { tt_raw_text(&mut self.raw, room.as_mut_ptr(), room.len()) };
         }
         &room[..length]
     }
@@ -236,7 +252,7 @@ impl Tree {
 impl Drop for Tree {
     fn drop(&mut self) {
         // SAFETY: the tree is no one else's.
-        unsafe { tt_free(&mut self.raw) }
+        unsafe { tt_raw_free(&mut self.raw) }
     }
 }
 

@@ -1,26 +1,88 @@
 //! Timers, which show the time of an event and how long its span has been open.
 
-use crate::sys::Settings;
+use crate::sys::{self, Settings};
+use std::fmt;
 use std::sync::OnceLock;
-use std::time::{Instant, SystemTime, UNIX_EPOCH};
+use std::time::{Duration, Instant, SystemTime, UNIX_EPOCH};
 
-mod sealed {
-    pub trait Sealed {}
-}
+/// What shows the time of an event. (`FormatTime` of `tracing-tree`.)
+///
+/// The library shows the timers of this module itself. A timer of your own has the two functions: the layer calls them once for each
+/// event, and shows what they wrote, also where they return an error. An event that they tell isn't drawn.
+pub trait FormatTime: 'static {
+    /// Writes the moment that it is now.
+    fn format_time(&self, w: &mut impl fmt::Write) -> fmt::Result;
 
-/// A timer of the library. No other type can be one: the library writes the text of the time.
-pub trait FormatTime: sealed::Sealed + 'static {
-    // The same settings with this timer.
+    /// Writes how long the current span has been open.
+    fn style_timestamp(&self, ansi: bool, elapsed: Duration, w: &mut impl fmt::Write) -> fmt::Result;
+
+    // The same settings with this timer, if it is one of the library's.
     #[doc(hidden)]
     #[allow(private_interfaces)]
-    fn set(&self, settings: Settings) -> Settings;
+    fn set(&self, settings: Settings) -> Option<Settings> {
+        let _ = settings;
+        None
+    }
+}
+
+// What the library shows at this moment with these settings: the moment, and the time since `begin`.
+fn texts(settings: Settings, begin: u64, mono: u64) -> Option<(String, String)> {
+    let event = sys::Event { target: "".into(), parent: 0, parent_kind: sys::ROOT, level: 2 };
+    let attributes = sys::Attributes { name: "".into(), target: "".into(), parent: 0, parent_kind: sys::ROOT };
+    let at = |current, mono| sys::Context {
+        current,
+        thread_id: 0,
+        thread_name: "".into(),
+        mono,
+        wall: wall(),
+        has_thread_name: false,
+    };
+    let drawn = |tree: &mut sys::Tree, context: &sys::Context<'_>| {
+        tree.event(&event, &[], context).ok()?;
+        String::from_utf8(tree.text(&mut Vec::new()).to_vec()).ok()
+    };
+    let settings = Settings { indent_lines: true, ..settings };
+    let level = drawn(&mut sys::Tree::new(&Settings { timer: 0, ..settings }).ok()?, &at(0, mono))?;
+    let mut tree = sys::Tree::new(&settings).ok()?;
+    let span = tree.new_span(&attributes, &[], &at(0, begin)).ok()?;
+    let context = at(span, mono);
+    let outside = drawn(&mut tree, &sys::Context { current: 0, ..context })?;
+    let inside = drawn(&mut tree, &context)?;
+    let moment = outside.strip_suffix(&level)?.strip_suffix(' ')?;
+    let elapsed = inside.strip_prefix(moment)?.strip_prefix(' ')?.strip_suffix(&level)?.strip_suffix(' ')?;
+    Some((moment.to_owned(), elapsed.to_owned()))
+}
+
+// The two functions of a timer that the library shows.
+macro_rules! shown_by_the_library {
+    () => {
+        fn format_time(&self, w: &mut impl fmt::Write) -> fmt::Result {
+            let now = monotonic();
+            let settings = self.set(Settings::default()).ok_or(fmt::Error)?;
+            w.write_str(&texts(settings, now, now).ok_or(fmt::Error)?.0)
+        }
+
+        fn style_timestamp(&self, ansi: bool, elapsed: Duration, w: &mut impl fmt::Write) -> fmt::Result {
+            let nanos = u64::try_from(elapsed.as_nanos()).unwrap_or(u64::MAX);
+            let settings = self.set(Settings { ansi, ..Settings::default() }).ok_or(fmt::Error)?;
+            w.write_str(&texts(settings, 0, nanos).ok_or(fmt::Error)?.1)
+        }
+    };
 }
 
 /// Shows no time.
 impl FormatTime for () {
+    fn format_time(&self, _: &mut impl fmt::Write) -> fmt::Result {
+        Ok(())
+    }
+
+    fn style_timestamp(&self, _: bool, _: Duration, _: &mut impl fmt::Write) -> fmt::Result {
+        Ok(())
+    }
+
     #[allow(private_interfaces)]
-    fn set(&self, settings: Settings) -> Settings {
-        Settings { timer: 0, ..settings }
+    fn set(&self, settings: Settings) -> Option<Settings> {
+        Some(Settings { timer: 0, ..settings })
     }
 }
 
@@ -40,9 +102,11 @@ impl Default for Uptime {
 }
 
 impl FormatTime for Uptime {
+    shown_by_the_library!();
+
     #[allow(private_interfaces)]
-    fn set(&self, settings: Settings) -> Settings {
-        Settings { timer: 1, epoch: self.epoch, higher_precision: self.higher_precision, ..settings }
+    fn set(&self, settings: Settings) -> Option<Settings> {
+        Some(Settings { timer: 1, epoch: self.epoch, higher_precision: self.higher_precision, ..settings })
     }
 }
 
@@ -54,9 +118,11 @@ pub struct UtcDateTime {
 }
 
 impl FormatTime for UtcDateTime {
+    shown_by_the_library!();
+
     #[allow(private_interfaces)]
-    fn set(&self, settings: Settings) -> Settings {
-        Settings { timer: 2, higher_precision: self.higher_precision, ..settings }
+    fn set(&self, settings: Settings) -> Option<Settings> {
+        Some(Settings { timer: 2, higher_precision: self.higher_precision, ..settings })
     }
 }
 
@@ -77,16 +143,13 @@ impl LocalDateTime {
 }
 
 impl FormatTime for LocalDateTime {
+    shown_by_the_library!();
+
     #[allow(private_interfaces)]
-    fn set(&self, settings: Settings) -> Settings {
-        Settings { timer: 3, offset: self.offset, higher_precision: self.higher_precision, ..settings }
+    fn set(&self, settings: Settings) -> Option<Settings> {
+        Some(Settings { timer: 3, offset: self.offset, higher_precision: self.higher_precision, ..settings })
     }
 }
-
-impl sealed::Sealed for () {}
-impl sealed::Sealed for Uptime {}
-impl sealed::Sealed for UtcDateTime {}
-impl sealed::Sealed for LocalDateTime {}
 
 // Nanoseconds since the first call of this function.
 pub(crate) fn monotonic() -> u64 {

@@ -1,13 +1,15 @@
 //! What a service sees of the layer: the drawing, threads, and what goes wrong in the middle of a call.
 
-use std::fmt;
+use std::fmt::{self, Write as TextWrite};
 use std::io::{self, Write};
 use std::panic::{catch_unwind, AssertUnwindSafe};
 use std::sync::{Arc, Mutex};
 use std::thread;
+use std::time::Duration;
 use tracing::{info, info_span, warn};
 use tracing_subscriber::prelude::*;
 use tracing_subscriber::Registry;
+use tracing_tree_proved::time::FormatTime;
 use tracing_tree_proved::{time, HierarchicalLayer};
 
 /// A writer into memory, which all its copies share.
@@ -97,6 +99,55 @@ fn timers() {
     assert!(lines[0].starts_with("   0.0") && lines[0].ends_with("s INFO x"), "{text}");
     assert!(lines[1].starts_with("20") && lines[1].ends_with(" INFO x") && !lines[1].contains('+'), "{text}");
     assert!(lines[2].ends_with(" +01:00:00 INFO x"), "{text}");
+}
+
+/// A timer of one's own, which logs besides.
+struct Ticks;
+
+impl time::FormatTime for Ticks {
+    fn format_time(&self, w: &mut impl TextWrite) -> fmt::Result {
+        info!("inside a timer");
+        w.write_str("tick")
+    }
+
+    fn style_timestamp(&self, ansi: bool, elapsed: Duration, w: &mut impl TextWrite) -> fmt::Result {
+        assert!(!ansi && elapsed < Duration::from_secs(60));
+        w.write_str("tock")?;
+        Err(fmt::Error)
+    }
+}
+
+#[test]
+fn a_timer_of_ones_own() {
+    let sink = Sink::default();
+    let writer = sink.clone();
+    let layer = plain().with_timer(Ticks).with_writer(move || writer.clone());
+    tracing::subscriber::with_default(Registry::default().with(layer), || {
+        info!("x");
+        info_span!("a").in_scope(|| info!("y"));
+    });
+    assert_eq!(sink.text(), "tick INFO x\n┐a \n├─tick tock INFO y\n┘\n");
+}
+
+#[test]
+fn timers_by_themselves() {
+    let shown = |ansi, timer: time::UtcDateTime| {
+        let (mut moment, mut elapsed) = (String::new(), String::new());
+        timer.format_time(&mut moment).unwrap();
+        timer.style_timestamp(ansi, Duration::from_millis(12), &mut elapsed).unwrap();
+        (moment, elapsed)
+    };
+    let (moment, elapsed) = shown(false, time::UtcDateTime::default());
+    assert!(moment.starts_with("20") && moment.contains(':'), "{moment}");
+    assert_eq!(elapsed, " 12ms");
+    assert_eq!(shown(false, time::UtcDateTime { higher_precision: true }).1, " 12.00ms");
+    assert_eq!(shown(true, time::UtcDateTime::default()).1, "\u{1b}[2m 12\u{1b}[0m\u{1b}[2mms\u{1b}[0m");
+    let mut local = String::new();
+    time::LocalDateTime::with_offset(-1800).unwrap().format_time(&mut local).unwrap();
+    assert!(local.ends_with(" -00:30:00"), "{local}");
+    let mut uptime = String::new();
+    time::Uptime::default().format_time(&mut uptime).unwrap();
+    assert!(uptime.starts_with("   0.0") && uptime.ends_with('s'), "{uptime}");
 }
 
 struct Panics;

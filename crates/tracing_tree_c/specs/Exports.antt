@@ -6,12 +6,13 @@ use Rattle.tracing_tree_base.specs.Time.Clock.{Timer}
 use Rattle.tracing_tree_layer.specs.declared.call.Call.{Call}
 use Rattle.tracing_tree_layer.specs.declared.call.Reply.TheVariants.{Span, Closed}
 use Rattle.tracing_tree_c.specs.Owned.{Kept}
-use Rattle.tracing_tree_c.specs.Trees.{Makes, seen_tree}
+use Rattle.tracing_tree_c.specs.Trees.{Makes, SetsTime, seen_tree}
 use Rattle.tracing_tree_c.specs.Settings.{CanOpen, opened, timer_of}
 use Rattle.tracing_tree_c.specs.declared.foreign.Unreadable.TheVariants as Fault
+use Rattle.tracing_tree_c.specs.declared.foreign.TimeRef.{TimeRef}
 use Rattle.tracing_tree_c.specs.declared.settings.SettingsRef.{SettingsRef}
 use Rattle.tracing_tree_c.specs.declared.tree.Opening.{Opening}
-use Rattle.tracing_tree_c.specs.declared.tree.Opening.TheVariants.{Opened, There, Unknown, Starved}
+use Rattle.tracing_tree_c.specs.declared.tree.Opening.TheVariants.{Opened, There, OtherSize, Unknown, Starved}
 use Rattle.tracing_tree_c.specs.declared.tree.Outcome.{Outcome}
 use Rattle.tracing_tree_c.specs.declared.tree.Outcome.TheVariants.{Missing, NotRead, Answered}
 
@@ -22,12 +23,13 @@ refusal_status TooWide = 2
 refusal_status TooMany = 3
 refusal_status Memory = 4
 refusal_status TimerFault = 5
-refusal_status Writer = 6
-refusal_status Failed = 7
+refusal_status Writer = 4
+refusal_status Failed = 6
 
 abbrev pub status_of : Outcome → ℕ
-status_of Missing = 8
-status_of (NotRead Fault.Unread) = 9
+status_of Missing = 7
+status_of (NotRead Fault.NotUtf8) = 8
+status_of (NotRead Fault.Unknown) = 9
 status_of (NotRead Fault.Starved) = 4
 status_of (Answered (Ok reply)) = 0
 status_of (Answered (Err refusal)) = refusal_status refusal
@@ -43,17 +45,22 @@ went_after (Answered (Ok (Closed went))) before = went
 went_after outcome before = before
 
 -- what a call answers and leaves
-abbrev pub Answers : Type 0 → Type 0 → (Call → Type 0) → ℕ → Kept → Kept → Type 0
-Answers CanRead IsSmall IsThis status old new =
+abbrev pub Answers : Type 0 → Type 0 → Type 0 → (Call → Type 0) → ℕ → Kept → Kept → Type 0
+Answers IsKnown IsText IsSmall IsThis status old new =
     (outcome : Outcome) × (status ≡ status_of outcome)
-    × Makes CanRead IsSmall IsThis outcome old new
+    × Makes IsKnown IsText IsSmall IsThis outcome old new
 
 -- the same, with the number that it hands out
-abbrev pub AnswersWith : {A : Type 0} → (Outcome → A → A) → Type 0 → Type 0 → (Call → Type 0)
-    → ℕ → A → A → Kept → Kept → Type 0
-AnswersWith after CanRead IsSmall IsThis status before later old new =
+abbrev pub AnswersWith : {A : Type 0} → (Outcome → A → A) → Type 0 → Type 0 → Type 0
+    → (Call → Type 0) → ℕ → A → A → Kept → Kept → Type 0
+AnswersWith after IsKnown IsText IsSmall IsThis status before later old new =
     (outcome : Outcome) × (status ≡ status_of outcome) × (later ≡ after outcome before)
-    × Makes CanRead IsSmall IsThis outcome old new
+    × Makes IsKnown IsText IsSmall IsThis outcome old new
+
+-- what texts of the time bring about
+abbrev pub AnswersTime : TimeRef → ℕ → Kept → Kept → Type 0
+AnswersTime given status old new =
+    (outcome : Outcome) × (status ≡ status_of outcome) × SetsTime given outcome old new
 
 abbrev pub IsOpened : SettingsRef → Kept → Type 0
 IsOpened given None = ⊥
@@ -63,15 +70,18 @@ IsOpened given (Some new) =
 abbrev pub opening_status : Opening → ℕ
 opening_status Opened = 0
 opening_status There = 10
-opening_status Unknown = 11
+opening_status OtherSize = 11
+opening_status Unknown = 12
 opening_status Starved = 4
 
--- A tree is made; or nothing has changed, since one is there already, or what is asked for is no
--- settings, or memory is refused.
+-- A tree is made; or nothing has changed, since one is there already, or the settings have another
+-- size, or what is asked for is no settings, or memory is refused.
 abbrev pub Opens : SettingsRef → Opening → Kept → Kept → Type 0
 Opens given Opened old new = (old ≡ None) × CanOpen given × IsOpened given new
 Opens given There old new = (old ≢ None) × (new ≡ old)
-Opens given Unknown old new = (old ≡ None) × (CanOpen given → ⊥) × (new ≡ None)
+Opens given OtherSize old new = (old ≡ None) × (given.size ≢ 56) × (new ≡ None)
+Opens given Unknown old new =
+    (old ≡ None) × (given.size ≡ 56) × (CanOpen given → ⊥) × (new ≡ None)
 Opens given Starved old new = (old ≡ None) × CanOpen given × (new ≡ None)
 
 abbrev pub AnswersOpening : SettingsRef → ℕ → Kept → Kept → Type 0

@@ -15,15 +15,19 @@ use Rattle.tracing_tree_c.specs.declared.foreign.AttributesRef.{AttributesRef}
 use Rattle.tracing_tree_c.specs.declared.foreign.ContextRef.{ContextRef}
 use Rattle.tracing_tree_c.specs.declared.foreign.EventRef.{EventRef}
 use Rattle.tracing_tree_c.specs.declared.foreign.FieldRef.{FieldRef}
+use Rattle.tracing_tree_c.specs.declared.foreign.TimeRef.{TimeRef}
 use Rattle.tracing_tree_c.specs.declared.foreign.Unreadable.{Unreadable}
-use Rattle.tracing_tree_c.specs.declared.foreign.Unreadable.TheVariants.{Unread, Starved}
+use Rattle.tracing_tree_c.specs.declared.foreign.Unreadable.TheVariants.{Unknown, NotUtf8, Starved}
 
--- Something was read: it is what was handed over, which can be read; or it can't be; or memory was
--- refused before that was known, which what is small never asks for.
-abbrev pub Reads : {A : Type 0} → Type 0 → Type 0 → (A → Type 0) → Result A Unreadable → Type 0
-Reads CanRead IsSmall IsThis (Ok a) = CanRead × IsThis a
-Reads CanRead IsSmall IsThis (Err Unread) = CanRead → ⊥
-Reads CanRead IsSmall IsThis (Err Starved) = IsSmall → ⊥
+-- Something was read: it is what was handed over, whose kinds are known and whose texts are UTF-8; or
+-- a kind isn't known, or a text isn't UTF-8; or memory was refused before that was known, which what
+-- is small never asks for.
+abbrev pub Reads : {A : Type 0} → Type 0 → Type 0 → Type 0 → (A → Type 0) → Result A Unreadable
+    → Type 0
+Reads IsKnown IsText IsSmall IsThis (Ok a) = IsKnown × IsText × IsThis a
+Reads IsKnown IsText IsSmall IsThis (Err Unknown) = IsKnown → ⊥
+Reads IsKnown IsText IsSmall IsThis (Err NotUtf8) = IsText → ⊥
+Reads IsKnown IsText IsSmall IsThis (Err Starved) = IsSmall → ⊥
 
 -- a text that is kept without memory
 abbrev pub IsSmallText : List ℕ → Type 0
@@ -31,8 +35,8 @@ IsSmallText bytes = length bytes ≤ 16
 
 -- ---- fields
 
-abbrev pub CanReadField : FieldRef → Type 0
-CanReadField field = IsUtf8 field.name.now × IsUtf8 field.value.now
+abbrev pub IsUtf8Field : FieldRef → Type 0
+IsUtf8Field field = IsUtf8 field.name.now × IsUtf8 field.value.now
 
 abbrev pub IsSmallField : FieldRef → Type 0
 IsSmallField field = IsSmallText field.name.now × IsSmallText field.value.now
@@ -40,14 +44,22 @@ IsSmallField field = IsSmallText field.name.now × IsSmallText field.value.now
 abbrev pub field_of : FieldRef → Field
 field_of field = record { name = field.name.now; value = field.value.now }
 
-abbrev pub CanReadFields : List FieldRef → Type 0
-CanReadFields fields = AllByRecursion CanReadField fields
+abbrev pub IsUtf8Fields : List FieldRef → Type 0
+IsUtf8Fields fields = AllByRecursion IsUtf8Field fields
 
 abbrev pub HasNoFields : List FieldRef → Type 0
 HasNoFields fields = fields ≡ []
 
 abbrev pub fields_of : List FieldRef → List Field
 fields_of fields = map field_of fields
+
+-- ---- texts of the time
+
+abbrev pub IsUtf8Time : TimeRef → Type 0
+IsUtf8Time time = IsUtf8 time.moment.now × IsUtf8 time.elapsed.now
+
+abbrev pub IsSmallTime : TimeRef → Type 0
+IsSmallTime time = IsSmallText time.moment.now × IsSmallText time.elapsed.now
 
 -- ---- kinds
 
@@ -77,8 +89,8 @@ abbrev pub thread_name_of : ContextRef → Option (List ℕ)
 thread_name_of context =
     if context.has_thread_name then Some context.thread_name.now else None
 
-abbrev pub CanReadContext : ContextRef → Type 0
-CanReadContext context = IsTrue context.has_thread_name → IsUtf8 context.thread_name.now
+abbrev pub IsUtf8Context : ContextRef → Type 0
+IsUtf8Context context = IsTrue context.has_thread_name → IsUtf8 context.thread_name.now
 
 abbrev pub IsSmallContext : ContextRef → Type 0
 IsSmallContext context = IsTrue context.has_thread_name → IsSmallText context.thread_name.now
@@ -92,13 +104,15 @@ pub record IsContextOf (given : ContextRef) (context : Context) : Type 0 where
 
 -- ---- calls
 
-pub record CanReadNew (given : AttributesRef) (fields : List FieldRef)
+abbrev pub IsKnownNew : AttributesRef → Type 0
+IsKnownNew given = IsSome (parent_of given.parent_kind given.parent)
+
+pub record IsUtf8New (given : AttributesRef) (fields : List FieldRef)
     (when : ContextRef) : Type 0 where
-  pub parent : IsSome (parent_of given.parent_kind given.parent)
   pub name : IsUtf8 given.name.now
   pub target : IsUtf8 given.target.now
-  pub fields_too : CanReadFields fields
-  pub context : CanReadContext when
+  pub fields_too : IsUtf8Fields fields
+  pub context : IsUtf8Context when
 
 pub record IsSmallNew (given : AttributesRef) (fields : List FieldRef)
     (when : ContextRef) : Type 0 where
@@ -120,13 +134,15 @@ pub record IsNewOf (given : AttributesRef) (fields : List FieldRef) (when : Cont
     fields = fields_of fields;
   }) context
 
-pub record CanReadEvent (given : EventRef) (fields : List FieldRef)
+abbrev pub IsKnownEvent : EventRef → Type 0
+IsKnownEvent given =
+    IsSome (level_of given.level) × IsSome (parent_of given.parent_kind given.parent)
+
+pub record IsUtf8Event (given : EventRef) (fields : List FieldRef)
     (when : ContextRef) : Type 0 where
-  pub level : IsSome (level_of given.level)
-  pub parent : IsSome (parent_of given.parent_kind given.parent)
   pub target : IsUtf8 given.target.now
-  pub fields_too : CanReadFields fields
-  pub context : CanReadContext when
+  pub fields_too : IsUtf8Fields fields
+  pub context : IsUtf8Context when
 
 pub record IsSmallEvent (given : EventRef) (fields : List FieldRef)
     (when : ContextRef) : Type 0 where

@@ -2,4 +2,5 @@ pub mod Exports
 pub mod Foreign
 pub mod Owned
 pub mod Settings
+pub mod Timers
 pub mod Trees

@@ -1,15 +1,23 @@
 -- What calls on a tree leave.
-use Rattle.std.specs.Prelude.{◌≡◌, true, [], None, Some, Result, Ok, Err}
-use Rattle.tracing_tree_base.specs.Time.Clock.{clock_timer}
+use Rattle.std.specs.Prelude.{◌≡◌, Bool, true, false, [], None, Some, Result, Ok, Err}
 use Rattle.tracing_tree_base.specs.declared.context.Refusal.{Refusal}
+use Rattle.tracing_tree_base.specs.declared.context.Refusal.TheVariants.{Memory, Writer}
 use Rattle.tracing_tree_layer.specs.Calls.Answered.{IsAnswered}
 use Rattle.tracing_tree_layer.specs.Calls.Seen.{Seen}
 use Rattle.tracing_tree_layer.specs.declared.call.Call.{Call}
+use Rattle.tracing_tree_layer.specs.declared.call.Call.TheVariants.{Event}
 use Rattle.tracing_tree_layer.specs.declared.call.Reply.{Reply}
+use Rattle.tracing_tree_layer.specs.declared.call.Reply.TheVariants.{Cloned, Closed, Done, Span}
+use Rattle.tracing_tree_c.specs.Foreign.{IsSmallTime, IsUtf8Time}
 use Rattle.tracing_tree_c.specs.Owned.{Kept}
+use Rattle.tracing_tree_c.specs.Timers.{tree_timer}
+use Rattle.tracing_tree_c.specs.declared.foreign.TimeRef.{TimeRef}
+use Rattle.tracing_tree_c.specs.declared.foreign.Told.{Told}
 use Rattle.tracing_tree_c.specs.declared.foreign.Unreadable.{Unreadable}
-use Rattle.tracing_tree_c.specs.declared.foreign.Unreadable.TheVariants.{Unread, Starved}
+use Rattle.tracing_tree_c.specs.declared.foreign.Unreadable.TheVariants.{Unknown, NotUtf8, Starved}
 use Rattle.tracing_tree_c.specs.declared.tree.Drawing.{Drawing}
+use Rattle.tracing_tree_c.specs.declared.timer.TreeTimer.TheVariants.{Own}
+use Rattle.tracing_tree_c.specs.declared.timer.Written.{Written}
 use Rattle.tracing_tree_c.specs.declared.tree.Outcome.{Outcome}
 use Rattle.tracing_tree_c.specs.declared.tree.Outcome.TheVariants.{Missing, NotRead, Answered}
 
@@ -17,7 +25,7 @@ use Rattle.tracing_tree_c.specs.declared.tree.Outcome.TheVariants.{Missing, NotR
 abbrev pub seen_tree : Drawing → Seen
 seen_tree drawing = let layer = drawing.layered.layer in record {
   settings = layer.settings;
-  timer = clock_timer layer.timer;
+  timer = tree_timer layer.timer;
   state = record { forest = drawing.layered.forest; last = layer.last; failed = layer.failed };
   writer = record { bytes = Some layer.writer.bytes; faults = layer.writer.faults; whole = true };
 }
@@ -30,10 +38,24 @@ blank drawing = record {
   };
 }
 
+-- the text of a call couldn't be kept
+abbrev pub is_lost : Result Reply Refusal → Bool
+is_lost (Err Writer) = true
+is_lost answer = false
+
+-- what the tree answers and is, after what the layer answered and left: a text that couldn't be kept
+-- is want of memory, of which nothing stays; else it is the layer's answer
+abbrev pub Mends : Bool → Result Reply Refusal → Seen → Seen → Result Reply Refusal → Seen → Type 0
+Mends true given before left answer now = (answer ≡ Err Memory) × (now ≡ before)
+Mends false given before left answer now = (answer ≡ given) × (now ≡ left)
+
 -- A call is answered as by a registry with a layer, whose writer then has the text of this call
 -- alone. Settings and timer stay.
 pub record IsCalled (call : Call) (answer : Result Reply Refusal) (old new : Drawing) : Type 0 where
-  pub answered : IsAnswered call answer (seen_tree (blank old)) (seen_tree new)
+  pub given : Result Reply Refusal
+  pub left : Seen
+  pub answered : IsAnswered call given (seen_tree (blank old)) left
+  pub mended : Mends (is_lost given) given (seen_tree (blank old)) left answer (seen_tree new)
   pub fixed : new.layered.layer ≡ record old.layered.layer {
     writer = new.layered.layer.writer;
     last = new.layered.layer.last;
@@ -54,14 +76,52 @@ Performs (Ok call) outcome (Some old) new =
 Performs (Err fault) outcome (Some old) new = (outcome ≡ NotRead fault) × (new ≡ Some (blank old))
 
 -- what becomes of a call that C makes
-abbrev pub Makes : Type 0 → Type 0 → (Call → Type 0) → Outcome → Kept → Kept → Type 0
-Makes CanRead IsSmall IsThis Missing old new = (old ≡ None) × (new ≡ None)
-Makes CanRead IsSmall IsThis (NotRead fault) None new = ⊥
-Makes CanRead IsSmall IsThis (NotRead Unread) (Some old) new = (CanRead → ⊥)
+abbrev pub Makes : Type 0 → Type 0 → Type 0 → (Call → Type 0) → Outcome → Kept → Kept → Type 0
+Makes IsKnown IsText IsSmall IsThis Missing old new = (old ≡ None) × (new ≡ None)
+Makes IsKnown IsText IsSmall IsThis (NotRead fault) None new = ⊥
+Makes IsKnown IsText IsSmall IsThis (NotRead Unknown) (Some old) new = (IsKnown → ⊥)
     × (new ≡ Some (blank old))
-Makes CanRead IsSmall IsThis (NotRead Starved) (Some old) new = (IsSmall → ⊥)
+Makes IsKnown IsText IsSmall IsThis (NotRead NotUtf8) (Some old) new = (IsText → ⊥)
     × (new ≡ Some (blank old))
-Makes CanRead IsSmall IsThis (Answered answer) None new = ⊥
-Makes CanRead IsSmall IsThis (Answered answer) (Some old) None = ⊥
-Makes CanRead IsSmall IsThis (Answered answer) (Some old) (Some new) =
-    CanRead × ((call : Call) × IsThis call × IsCalled call answer old new)
+Makes IsKnown IsText IsSmall IsThis (NotRead Starved) (Some old) new = (IsSmall → ⊥)
+    × (new ≡ Some (blank old))
+Makes IsKnown IsText IsSmall IsThis (Answered answer) None new = ⊥
+Makes IsKnown IsText IsSmall IsThis (Answered answer) (Some old) None = ⊥
+Makes IsKnown IsText IsSmall IsThis (Answered answer) (Some old) (Some new) =
+    IsKnown × IsText × ((call : Call) × IsThis call × IsCalled call answer old new)
+
+-- an event that was read, as a call
+abbrev pub call_of : Told → Call
+call_of told = Event told.event told.context
+
+abbrev pub read_call : Result Told Unreadable → Result Call Unreadable
+read_call (Ok told) = Ok (call_of told)
+read_call (Err fault) = Err fault
+
+-- the texts that C hands over
+abbrev pub written_of : TimeRef → Written
+written_of given = record { moment = given.moment.now; elapsed = given.elapsed.now }
+
+-- the same tree, whose last text is gone and which shows these texts as the time
+abbrev pub timed : Written → Drawing → Drawing
+timed written drawing = record {
+  layered = record (blank drawing).layered {
+    layer = record (blank drawing).layered.layer { timer = Own written };
+  };
+}
+
+-- what becomes of texts of the time that C hands over: the tree shows them from then on
+abbrev pub SetsTime : TimeRef → Outcome → Kept → Kept → Type 0
+SetsTime given Missing old new = (old ≡ None) × (new ≡ None)
+SetsTime given (NotRead fault) None new = ⊥
+SetsTime given (NotRead Unknown) (Some old) new = ⊥
+SetsTime given (NotRead NotUtf8) (Some old) new = (IsUtf8Time given → ⊥) × (new ≡ Some (blank old))
+SetsTime given (NotRead Starved) (Some old) new = (IsSmallTime given → ⊥)
+    × (new ≡ Some (blank old))
+SetsTime given (Answered (Ok Done)) None new = ⊥
+SetsTime given (Answered (Ok Done)) (Some old) new =
+    IsUtf8Time given × (new ≡ Some (timed (written_of given) old))
+SetsTime given (Answered (Ok (Span id))) old new = ⊥
+SetsTime given (Answered (Ok (Cloned id))) old new = ⊥
+SetsTime given (Answered (Ok (Closed went))) old new = ⊥
+SetsTime given (Answered (Err refusal)) old new = ⊥

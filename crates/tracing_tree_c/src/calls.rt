@@ -3,11 +3,11 @@
 ghost use Rattle.std.specs.Prelude.{◌≡◌, ◌<◌, ◌≤◌, ◌++◌, ⊤, None, drop, length};
 ghost use Rattle.tracing_tree_core.specs.Registry.Ids.{id_of};
 ghost use Rattle.tracing_tree_layer.specs.declared.call.Call.TheVariants.{Clone};
-ghost use Rattle.tracing_tree_c.specs.Foreign.{CanReadFields, CanReadContext, CanReadNew, CanReadEvent, IsSmallContext, IsSmallNew, IsSmallEvent, HasNoFields, IsNewOf, IsEventOf, IsRecordOf, IsCloseOf};
-ghost use Rattle.tracing_tree_c.specs.Exports.{Answers, AnswersOpening, AnswersWith, Copies, id_after, went_after};
+ghost use Rattle.tracing_tree_c.specs.Foreign.{IsUtf8Fields, IsUtf8Context, IsUtf8New, IsUtf8Event, IsSmallContext, IsSmallNew, IsSmallEvent, IsKnownNew, IsKnownEvent, HasNoFields, IsNewOf, IsEventOf, IsRecordOf, IsCloseOf};
+ghost use Rattle.tracing_tree_c.specs.Exports.{Answers, AnswersOpening, AnswersTime, AnswersWith, Copies, id_after, went_after};
 
 use crate::foreign::{
-    AttributesRef, ContextRef, EventRef, FieldRef, close_in, event_in, new_in, record_in,
+    AttributesRef, ContextRef, EventRef, FieldRef, TimeRef, close_in, event_in, new_in, record_in,
 };
 use crate::settings::SettingsRef;
 use crate::tree::Tree;
@@ -28,7 +28,7 @@ pub extern "C" fn tt_version() -> u32
 
 /// Makes a tree where there is none.
 #[unsafe(no_mangle)]
-pub extern "C" fn tt_new(alloc: Global, tree: &mut Tree, settings: &SettingsRef) -> u32
+pub extern "C" fn tt_raw_new(alloc: Global, tree: &mut Tree, settings: &SettingsRef) -> u32
     ensures { AnswersOpening settings.now result tree.old.inner.kept tree.new.inner.kept }
 {
     tree.open(alloc, settings).status()
@@ -36,7 +36,7 @@ pub extern "C" fn tt_new(alloc: Global, tree: &mut Tree, settings: &SettingsRef)
 
 /// Makes a span, and hands out its id.
 #[unsafe(no_mangle)]
-pub extern "C" fn tt_new_span(
+pub extern "C" fn tt_raw_new_span(
     alloc: Global,
     tree: &mut Tree,
     attributes: &AttributesRef,
@@ -44,7 +44,8 @@ pub extern "C" fn tt_new_span(
     context: &ContextRef,
     id: &mut u64,
 ) -> u32
-    ensures { AnswersWith id_after (CanReadNew attributes.now fields.now context.now)
+    ensures { AnswersWith id_after (IsKnownNew attributes.now)
+        (IsUtf8New attributes.now fields.now context.now)
         (IsSmallNew attributes.now fields.now context.now)
         (IsNewOf attributes.now fields.now context.now) result id.old id.new
         tree.old.inner.kept tree.new.inner.kept }
@@ -57,26 +58,26 @@ pub extern "C" fn tt_new_span(
 
 /// Tells of an event.
 #[unsafe(no_mangle)]
-pub extern "C" fn tt_event(
+pub extern "C" fn tt_raw_event(
     alloc: Global,
     tree: &mut Tree,
     event: &EventRef,
     fields: &[FieldRef],
     context: &ContextRef,
 ) -> u32
-    ensures { Answers (CanReadEvent event.now fields.now context.now)
+    ensures { Answers (IsKnownEvent event.now) (IsUtf8Event event.now fields.now context.now)
         (IsSmallEvent event.now fields.now context.now)
         (IsEventOf event.now fields.now context.now) result
         tree.old.inner.kept tree.new.inner.kept }
 {
     let read = event_in(alloc, event, fields, context);
-    tree.perform(alloc, read).status()
+    tree.tell(alloc, read).status()
 }
 
 /// Puts fields at the end of a span's.
 #[unsafe(no_mangle)]
-pub extern "C" fn tt_record(alloc: Global, tree: &mut Tree, id: u64, fields: &[FieldRef]) -> u32
-    ensures { Answers (CanReadFields fields.now) (HasNoFields fields.now)
+pub extern "C" fn tt_raw_record(alloc: Global, tree: &mut Tree, id: u64, fields: &[FieldRef]) -> u32
+    ensures { Answers ⊤ (IsUtf8Fields fields.now) (HasNoFields fields.now)
         (IsRecordOf id fields.now) result
         tree.old.inner.kept tree.new.inner.kept }
 {
@@ -86,8 +87,8 @@ pub extern "C" fn tt_record(alloc: Global, tree: &mut Tree, id: u64, fields: &[F
 
 /// Adds a handle to a span.
 #[unsafe(no_mangle)]
-pub extern "C" fn tt_clone_span(alloc: Global, tree: &mut Tree, id: u64) -> u32
-    ensures { Answers ⊤ ⊤ (λ call. call ≡ Clone (id_of id)) result
+pub extern "C" fn tt_raw_clone_span(alloc: Global, tree: &mut Tree, id: u64) -> u32
+    ensures { Answers ⊤ ⊤ ⊤ (λ call. call ≡ Clone (id_of id)) result
         tree.old.inner.kept tree.new.inner.kept }
 {
     tree.perform(alloc, Ok(Call::Clone(Id(id)))).status()
@@ -95,14 +96,14 @@ pub extern "C" fn tt_clone_span(alloc: Global, tree: &mut Tree, id: u64) -> u32
 
 /// Takes a handle of a span away, and says whether the span went.
 #[unsafe(no_mangle)]
-pub extern "C" fn tt_close(
+pub extern "C" fn tt_raw_close(
     alloc: Global,
     tree: &mut Tree,
     id: u64,
     context: &ContextRef,
     went: &mut bool,
 ) -> u32
-    ensures { AnswersWith went_after (CanReadContext context.now) (IsSmallContext context.now)
+    ensures { AnswersWith went_after ⊤ (IsUtf8Context context.now) (IsSmallContext context.now)
         (IsCloseOf id context.now) result
         went.old went.new tree.old.inner.kept tree.new.inner.kept }
 {
@@ -112,9 +113,17 @@ pub extern "C" fn tt_close(
     outcome.status()
 }
 
+/// Shows these texts as the time of each event from now on, in place of what the timer showed before.
+#[unsafe(no_mangle)]
+pub extern "C" fn tt_raw_set_time(alloc: Global, tree: &mut Tree, time: &TimeRef) -> u32
+    ensures { AnswersTime time.now result tree.old.inner.kept tree.new.inner.kept }
+{
+    tree.set_time(alloc, time).status()
+}
+
 /// Frees a tree. Where there is none, nothing happens.
 #[unsafe(no_mangle)]
-pub extern "C" fn tt_free(alloc: Global, tree: &mut Tree)
+pub extern "C" fn tt_raw_free(alloc: Global, tree: &mut Tree)
     ensures { tree.new.inner.kept ≡ None }
 {
     drop(tree.lift(alloc));
@@ -122,7 +131,7 @@ pub extern "C" fn tt_free(alloc: Global, tree: &mut Tree)
 
 /// Copies the text of the last call, if there is room for all of it, and says how long it is; 0 where there is no tree.
 #[unsafe(no_mangle)]
-pub extern "C" fn tt_text(alloc: Global, tree: &mut Tree, room: &mut [u8]) -> usize
+pub extern "C" fn tt_raw_text(alloc: Global, tree: &mut Tree, room: &mut [u8]) -> usize
     ensures { Copies result room.old room.new tree.old.inner.kept tree.new.inner.kept }
 {
     let Some(drawing) = tree.lift(alloc) else {

@@ -1,8 +1,10 @@
 //! What C hands over, and how it is read.
 
-ghost use Rattle.std.specs.Prelude.{◌≡◌, IsUtf8};
-ghost use Rattle.tracing_tree_c.specs.Foreign.{Reads, CanReadField, CanReadFields, CanReadContext, CanReadNew, CanReadEvent, IsSmallText, IsSmallField, IsSmallContext, IsSmallNew, IsSmallEvent, HasNoFields, IsContextOf, IsNewOf, IsEventOf, IsRecordOf, IsCloseOf, field_of, fields_of, level_of, parent_of, current_of, thread_name_of};
+ghost use Rattle.std.specs.Prelude.{◌≡◌, ⊤, IsUtf8};
+ghost use Rattle.tracing_tree_c.specs.Trees.{call_of, written_of};
+ghost use Rattle.tracing_tree_c.specs.Foreign.{Reads, IsUtf8Field, IsUtf8Fields, IsUtf8Context, IsUtf8New, IsUtf8Event, IsUtf8Time, IsSmallTime, IsSmallText, IsSmallField, IsSmallContext, IsSmallNew, IsSmallEvent, IsKnownNew, IsKnownEvent, HasNoFields, IsContextOf, IsNewOf, IsEventOf, IsRecordOf, IsCloseOf, field_of, fields_of, level_of, parent_of, current_of, thread_name_of};
 
+use crate::timer::Written;
 use jiff::Timestamp;
 use std::alloc::{AllocError, AllocFailed, Global};
 use tracing_tree_core::field::{Field, Fields};
@@ -16,8 +18,11 @@ use tracing_tree_layer::call::Call;
 /// Why what C handed over was not read.
 #[derive(Clone, Copy, Debug, PartialEq, Eq)]
 pub enum Unreadable {
-    /// A text isn't UTF-8, or a kind or a level is unknown.
-    Unread,
+    /// A kind of parent or a level is unknown.
+    Unknown,
+
+    /// A text isn't UTF-8.
+    NotUtf8,
 
     /// Memory was refused.
     Starved,
@@ -103,18 +108,29 @@ pub struct EventRef<'a> {
     pub level: u32,
 }
 
-// A text. `Unread` exactly where it isn't UTF-8.
+/// The texts of the time, as the caller's own timer wrote them.
+#[repr(C)]
+#[derive(Clone, Copy)]
+pub struct TimeRef<'a> {
+    /// The moment.
+    pub moment: &'a [u8],
+
+    /// How long the current span has been open.
+    pub elapsed: &'a [u8],
+}
+
+// A text. `NotUtf8` exactly where it isn't UTF-8.
 fn text_in(alloc: Global, bytes: &[u8]) -> Result<Text, Unreadable>
-    ensures { Reads (IsUtf8 bytes.now) (IsSmallText bytes.now) (λ text. text ≡ bytes.now) result }
+    ensures { Reads ⊤ (IsUtf8 bytes.now) (IsSmallText bytes.now) (λ text. text ≡ bytes.now) result }
 {
     match str::from_utf8(bytes) {
         Ok(text) => Ok(Text::from_str(alloc, text)?),
-        Err(_) => Err(Unreadable::Unread),
+        Err(_) => Err(Unreadable::NotUtf8),
     }
 }
 
 fn field_in(alloc: Global, given: &FieldRef) -> Result<Field, Unreadable>
-    ensures { Reads (CanReadField given.now) (IsSmallField given.now)
+    ensures { Reads ⊤ (IsUtf8Field given.now) (IsSmallField given.now)
         (λ field. field ≡ field_of given.now) result }
 {
     let name = text_in(alloc, given.name)?;
@@ -123,7 +139,7 @@ fn field_in(alloc: Global, given: &FieldRef) -> Result<Field, Unreadable>
 }
 
 fn fields_in(alloc: Global, given: &[FieldRef]) -> Result<Fields, Unreadable>
-    ensures { Reads (CanReadFields given.now) (HasNoFields given.now)
+    ensures { Reads ⊤ (IsUtf8Fields given.now) (HasNoFields given.now)
         (λ fields. fields ≡ fields_of given.now) result }
 {
     let mut fields = Vec::with_capacity(alloc, given.len())?;
@@ -167,7 +183,7 @@ fn current_in(id: u64) -> Option<Id>
 }
 
 fn thread_name_in(alloc: Global, given: &ContextRef) -> Result<Option<Text>, Unreadable>
-    ensures { Reads (CanReadContext given.now) (IsSmallContext given.now)
+    ensures { Reads ⊤ (IsUtf8Context given.now) (IsSmallContext given.now)
         (λ name. name ≡ thread_name_of given.now) result }
 {
     if !given.has_thread_name {
@@ -177,7 +193,7 @@ fn thread_name_in(alloc: Global, given: &ContextRef) -> Result<Option<Text>, Unr
 }
 
 fn context_in(alloc: Global, given: &ContextRef) -> Result<Context, Unreadable>
-    ensures { Reads (CanReadContext given.now) (IsSmallContext given.now)
+    ensures { Reads ⊤ (IsUtf8Context given.now) (IsSmallContext given.now)
         (IsContextOf given.now) result }
 {
     let thread_name = thread_name_in(alloc, given)?;
@@ -200,11 +216,11 @@ pub(crate) fn new_in(
     fields: &[FieldRef],
     when: &ContextRef,
 ) -> Result<Call, Unreadable>
-    ensures { Reads (CanReadNew given.now fields.now when.now)
+    ensures { Reads (IsKnownNew given.now) (IsUtf8New given.now fields.now when.now)
         (IsSmallNew given.now fields.now when.now)
         (IsNewOf given.now fields.now when.now) result }
 {
-    let parent = parent_in(given.parent_kind, given.parent).ok_or(Unreadable::Unread)?;
+    let parent = parent_in(given.parent_kind, given.parent).ok_or(Unreadable::Unknown)?;
     let name = text_in(alloc, given.name)?;
     let target = text_in(alloc, given.target)?;
     let fields = fields_in(alloc, fields)?;
@@ -218,19 +234,26 @@ pub(crate) fn new_in(
     Ok(Call::New(attributes, context))
 }
 
+/// An event with what goes with it. It stays where it is read, since nothing of it is kept.
+#[derive(Drop)]
+pub struct Told {
+    pub event: Event,
+    pub context: Context,
+}
+
 // An event.
 pub(crate) fn event_in(
     alloc: Global,
     given: &EventRef,
     fields: &[FieldRef],
     when: &ContextRef,
-) -> Result<Call, Unreadable>
-    ensures { Reads (CanReadEvent given.now fields.now when.now)
+) -> Result<Told, Unreadable>
+    ensures { Reads (IsKnownEvent given.now) (IsUtf8Event given.now fields.now when.now)
         (IsSmallEvent given.now fields.now when.now)
-        (IsEventOf given.now fields.now when.now) result }
+        (λ told. IsEventOf given.now fields.now when.now (call_of told)) result }
 {
-    let level = level_in(given.level).ok_or(Unreadable::Unread)?;
-    let parent = parent_in(given.parent_kind, given.parent).ok_or(Unreadable::Unread)?;
+    let level = level_in(given.level).ok_or(Unreadable::Unknown)?;
+    let parent = parent_in(given.parent_kind, given.parent).ok_or(Unreadable::Unknown)?;
     let target = text_in(alloc, given.target)?;
     let fields = fields_in(alloc, fields)?;
     let context = context_in(alloc, when)?;
@@ -240,21 +263,31 @@ pub(crate) fn event_in(
         parent,
         fields,
     };
-    Ok(Call::Event(event, context))
+    Ok(Told { event, context })
 }
 
 // Fields that come later.
 pub(crate) fn record_in(alloc: Global, id: u64, fields: &[FieldRef]) -> Result<Call, Unreadable>
-    ensures { Reads (CanReadFields fields.now) (HasNoFields fields.now)
+    ensures { Reads ⊤ (IsUtf8Fields fields.now) (HasNoFields fields.now)
         (IsRecordOf id fields.now) result }
 {
     let fields = fields_in(alloc, fields)?;
     Ok(Call::Record(Id(id), Record { fields }))
 }
 
+// Texts of the time.
+pub(crate) fn time_in(alloc: Global, given: &TimeRef) -> Result<Written, Unreadable>
+    ensures { Reads ⊤ (IsUtf8Time given.now) (IsSmallTime given.now)
+        (λ written. written ≡ written_of given.now) result }
+{
+    let moment = text_in(alloc, given.moment)?;
+    let elapsed = text_in(alloc, given.elapsed)?;
+    Ok(Written { moment, elapsed })
+}
+
 // A handle that goes.
 pub(crate) fn close_in(alloc: Global, id: u64, when: &ContextRef) -> Result<Call, Unreadable>
-    ensures { Reads (CanReadContext when.now) (IsSmallContext when.now)
+    ensures { Reads ⊤ (IsUtf8Context when.now) (IsSmallContext when.now)
         (IsCloseOf id when.now) result }
 {
     Ok(Call::Close(Id(id), context_in(alloc, when)?))

@@ -19,6 +19,9 @@ impl Model for Handle {
     ghost also_owns = { λ l. owned l.at l.kept };
 }
 
+// What it points to is no other thread's, and any thread may free it.
+unsafe impl Send for Handle {}
+
 impl Handle {
     pub(crate) fn empty() -> Handle
         ensures { result.kept ≡ None }

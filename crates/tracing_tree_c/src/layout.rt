@@ -1,6 +1,6 @@
 // The sizes of the structs that cross. `bindings/layouts.py` compares each field's place with the header.
 
-use crate::foreign::{AttributesRef, ContextRef, EventRef, FieldRef};
+use crate::foreign::{AttributesRef, ContextRef, EventRef, FieldRef, TimeRef};
 use crate::settings::{SIZE, SettingsRef};
 use crate::tree::Tree;
 use std::mem::size_of;
@@ -16,5 +16,7 @@ const _: () = prove!(size_of::<ContextRef<'static>>() == 56);
 const _: () = prove!(size_of::<AttributesRef<'static>>() == 48);
 
 const _: () = prove!(size_of::<EventRef<'static>>() == 32);
+
+const _: () = prove!(size_of::<TimeRef<'static>>() == 32);
 
 const _: () = prove!(size_of::<SettingsRef>() as u64 == SIZE);

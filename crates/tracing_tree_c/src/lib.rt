@@ -10,4 +10,5 @@ mod layout;
 pub mod lent;
 mod raw;
 pub mod settings;
+pub mod timer;
 pub mod tree;

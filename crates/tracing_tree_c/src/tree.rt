@@ -3,15 +3,16 @@
 ghost use Rattle.std.specs.Prelude.{◌≡◌, ◌<◌, Some, None, option_map};
 ghost use Rattle.std.specs.Option.{is_some};
 ghost use Rattle.tracing_tree_c.specs.Exports.{Opens, id_after, opening_status, refusal_status, status_of, went_after};
-ghost use Rattle.tracing_tree_c.specs.Trees.{IsCalled, IsLifted, Performs, blank, seen_tree};
+ghost use Rattle.tracing_tree_c.specs.Trees.{IsCalled, IsLifted, Performs, SetsTime, blank, call_of, is_lost, read_call, seen_tree, timed};
 ghost use Rattle.tracing_tree_c.specs.Settings.{opened};
 ghost use Rattle.tracing_tree_base.specs.Time.Clock.{clock_timer};
 
-use crate::foreign::Unreadable;
+use crate::foreign::{TimeRef, Told, Unreadable, time_in};
 use crate::handle::Handle;
 use crate::lent::Lent;
 use crate::raw::RawBox;
 use crate::settings::{SIZE, SettingsRef};
+use crate::timer::{TreeTimer, Written};
 use std::alloc::Global;
 use std::mem;
 use tracing_tree_core::format::Refusal;
@@ -23,7 +24,7 @@ use tracing_tree_layer::layered::Layered;
 /// A registry with a layer that keeps the text of the last call.
 #[derive(Drop)]
 pub struct Drawing {
-    pub layered: Layered<Lent, Clock<'static>>,
+    pub layered: Layered<Lent, TreeTimer>,
 }
 
 impl Drawing {
@@ -42,13 +43,51 @@ impl Drawing {
         drop(self.layered.replace_writer(before.emptied()));
     }
 
-    // Makes a call. The text of the call before is gone then.
+    // Shows these texts as the time from now on.
+    fn set_time(&mut self, alloc: Global, written: Written)
+        ensures { self.new ≡ timed written self.old }
+    {
+        self.clear(alloc);
+        drop(self.layered.replace_timer(TreeTimer::Own(written)));
+    }
+
+    // Makes a call. The text of the call before is gone then. A text that can't be kept is want of memory, and the tree is as
+    // if the call had not been made.
+    #[tactic(auto, using(crate::proofs::Makes::lost_is))]
     fn call(&mut self, alloc: Global, call: Call) -> Result<Reply, Refusal>
         ensures { IsCalled call result self.old self.new }
     {
         self.clear(alloc);
-        self.layered.call(call)
+        let answer = self.layered.call(call);
+        if !is_lost(answer) {
+            return answer;
+        }
+        drop(self.layered.recover(Lent::new(alloc)));
+        Err(Refusal::Memory)
     }
+}
+
+impl Drawing {
+    // Draws an event, as `call` makes its call, and leaves it where it is.
+    #[tactic(auto, using(crate::proofs::Makes::lost_is))]
+    fn tell(&mut self, alloc: Global, told: &Told) -> Result<Reply, Refusal>
+        ensures { IsCalled (call_of told.now) result self.old self.new }
+    {
+        self.clear(alloc);
+        let reply = self.layered.call_event(&told.event, &told.context, None);
+        if !is_lost(reply) {
+            return reply;
+        }
+        drop(self.layered.recover(Lent::new(alloc)));
+        Err(Refusal::Memory)
+    }
+}
+
+// Whether the text of a call couldn't be kept.
+fn is_lost(answer: Result<Reply, Refusal>) -> bool
+    ensures { result ≡ is_lost answer }
+{
+    matches!(answer, Err(Refusal::Writer))
 }
 
 /// What C holds: a tree, or none. All its bytes are 0 where there is none.
@@ -79,8 +118,9 @@ impl Outcome {
         ensures { result ≡ status_of self }
     {
         match self {
-            Outcome::Missing => 8,
-            Outcome::NotRead(Unreadable::Unread) => 9,
+            Outcome::Missing => 7,
+            Outcome::NotRead(Unreadable::NotUtf8) => 8,
+            Outcome::NotRead(Unreadable::Unknown) => 9,
             Outcome::NotRead(Unreadable::Starved) => 4,
             Outcome::Answered(Ok(_)) => 0,
             Outcome::Answered(Err(refusal)) => refusal_status(refusal),
@@ -97,8 +137,8 @@ fn refusal_status(refusal: Refusal) -> u32
         Refusal::TooMany => 3,
         Refusal::Memory => 4,
         Refusal::Timer => 5,
-        Refusal::Writer => 6,
-        Refusal::Failed => 7,
+        Refusal::Writer => 4,
+        Refusal::Failed => 6,
     }
 }
 
@@ -133,6 +173,9 @@ pub enum Opening {
     /// There is one already.
     There,
 
+    /// The settings have another size.
+    OtherSize,
+
     /// There are no such settings.
     Unknown,
 
@@ -148,7 +191,8 @@ impl Opening {
         match self {
             Opening::Opened => 0,
             Opening::There => 10,
-            Opening::Unknown => 11,
+            Opening::OtherSize => 11,
+            Opening::Unknown => 12,
             Opening::Starved => 4,
         }
     }
@@ -161,8 +205,15 @@ fn fresh(alloc: Global, settings: &SettingsRef, clock: Clock<'static>) -> Drawin
 {
     let layer = HierarchicalLayer::with_config(alloc, settings.config(), Lent::new(alloc));
     Drawing {
-        layered: Layered::new(alloc, layer.with_timer(clock)),
+        layered: Layered::new(alloc, layer.with_timer(TreeTimer::Library(clock))),
     }
+}
+
+// C may pass a tree from one thread to another.
+fn sent<T: Send>(value: T) -> T
+    ensures { result ≡ value }
+{
+    value
 }
 
 impl Tree {
@@ -187,7 +238,10 @@ impl Tree {
         if self.is_there(alloc) {
             return Opening::There;
         }
-        if settings.size != SIZE || settings.wraparound == 0 {
+        if settings.size != SIZE {
+            return Opening::OtherSize;
+        }
+        if settings.wraparound == 0 {
             return Opening::Unknown;
         }
         let Some(clock) = settings.clock() else {
@@ -223,10 +277,10 @@ impl Tree {
     pub(crate) fn lower(&mut self, drawing: Box<Drawing>)
         ensures { self.new.inner.kept ≡ Some drawing.value }
     {
-        *self = Tree {
+        *self = sent(Tree {
             inner: Handle::of(RawBox::of(drawing)),
             there: true,
-        };
+        });
     }
 
     // Makes a call if it was read. The text of the call before is gone then.
@@ -244,6 +298,45 @@ impl Tree {
             }
         };
         self.lower(lifted);
+        outcome
+    }
+
+    // Draws an event if it was read. The text of the call before is gone then.
+    pub(crate) fn tell(&mut self, alloc: Global, read: Result<Told, Unreadable>) -> Outcome
+        ensures { Performs (read_call read) result self.old.inner.kept self.new.inner.kept }
+    {
+        let Some(mut drawing) = self.lift(alloc) else {
+            return Outcome::Missing;
+        };
+        let outcome = match read {
+            Ok(told) => Outcome::Answered(drawing.tell(alloc, &told)),
+            Err(fault) => {
+                drawing.clear(alloc);
+                Outcome::NotRead(fault)
+            }
+        };
+        self.lower(drawing);
+        outcome
+    }
+
+    // Shows these texts as the time from now on, if they are texts. The text of the call before is gone then.
+    pub(crate) fn set_time(&mut self, alloc: Global, time: &TimeRef) -> Outcome
+        ensures { SetsTime time.now result self.old.inner.kept self.new.inner.kept }
+    {
+        let Some(mut drawing) = self.lift(alloc) else {
+            return Outcome::Missing;
+        };
+        let outcome = match time_in(alloc, time) {
+            Ok(written) => {
+                drawing.set_time(alloc, written);
+                Outcome::Answered(Ok(Reply::Done))
+            }
+            Err(fault) => {
+                drawing.clear(alloc);
+                Outcome::NotRead(fault)
+            }
+        };
+        self.lower(drawing);
         outcome
     }
 }

@@ -32,7 +32,7 @@ use tracing_tree_core::time::FormatTime;
 /// Draws spans and events as a tree into a writer. (`HierarchicalLayer` of the Rust crate.)
 ///
 /// The text of a call is built whole and then written. Once the timer or the writer has faulted the
-/// layer has failed, and refuses every further call.
+/// layer has failed, and refuses every further call until `recover`.
 #[derive(Drop)]
 pub struct HierarchicalLayer<W: Output, FT: FormatTime> {
     page: Page,
@@ -173,6 +173,27 @@ impl<W: Output, FT: FormatTime> HierarchicalLayer<W, FT> {
         ensures layer { self.new ≡ record self.old { writer = writer } }
     {
         mem::replace(&mut self.writer, writer)
+    }
+
+    /// Shows the time by this timer from now on, and returns the one before.
+    pub fn replace_timer(&mut self, timer: FT) -> FT
+        ensures before { result ≡ self.old.timer }
+        ensures layer { self.new ≡ record self.old { timer = timer } }
+    {
+        mem::replace(&mut self.timer, timer)
+    }
+
+    /// Writes to this writer from now on, and returns the one before. A layer that has failed goes on, as if the call at which it
+    /// failed had not been made. The caller must ensure that the writer has no faults.
+    pub fn recover(&mut self, writer: W) -> W
+        requires { W.fault_count writer ≡ 0 }
+        ensures before { result ≡ self.old.writer }
+        ensures layer { self.new ≡ record self.old { writer = writer; failed = false } }
+    {
+        let before = self.replace_writer(writer);
+        self.page.clear();
+        self.failed = false;
+        before
     }
 
     // Has the writer pass on what it holds back.

@@ -101,6 +101,28 @@ impl<W: Output, FT: FormatTime> Layered<W, FT> {
         self.layer.replace_writer(writer)
     }
 
+    /// Shows the time by this timer from now on, and returns the one before.
+    pub fn replace_timer(&mut self, timer: FT) -> FT
+        ensures before { result ≡ self.old.layer.timer }
+        ensures layer { self.new ≡ record self.old {
+          layer = record self.old.layer { timer = timer };
+        } }
+    {
+        self.layer.replace_timer(timer)
+    }
+
+    /// Writes to this writer from now on, and returns the one before. After `Timer` or `Writer` the layer goes on, as if the call
+    /// that was refused had not been made. The caller must ensure that the writer has no faults.
+    pub fn recover(&mut self, writer: W) -> W
+        requires { W.fault_count writer ≡ 0 }
+        ensures before { result ≡ self.old.layer.writer }
+        ensures layer { self.new ≡ record self.old {
+          layer = record self.old.layer { writer = writer; failed = false };
+        } }
+    {
+        self.layer.recover(writer)
+    }
+
     /// Has the writer pass on what it holds back (`Output::flush`). Nothing else changes.
     pub fn flush(&mut self)
         ensures { Changes (seen FT.FormatTime W.Output) Flushes self.old self.new }

@@ -1,7 +1,7 @@
 use Rattle.std.proofs.Common.{◌≡◌, List}
-use Rattle.std.specs.Prelude.{slice_index_or, []}
+use Rattle.std.specs.Prelude.{slice_index_or, [], ⊤}
 use Rattle.tracing_tree_base.specs.declared.field.Field.{Field}
-use Rattle.tracing_tree_c.specs.Foreign.{CanReadField, CanReadFields, HasNoFields, IsSmallField, field_of, fields_of}
+use Rattle.tracing_tree_c.specs.Foreign.{IsUtf8Field, IsUtf8Fields, HasNoFields, IsSmallField, field_of, fields_of}
 use Rattle.tracing_tree_c.specs.declared.foreign.FieldRef.{FieldRef}
 use Rattle.tracing_tree_c.proofs.Makes.{carried, head_of, not_empty}
 use Rattle.tracing_tree_c.proofs.foreign.fields_in.Goals as goal
@@ -11,6 +11,6 @@ returns-in-Err c =
     let given : List FieldRef = c.args.given.now in
     let none : FieldRef = record { name = record { ref_ptr = (0, 0); now = [] }; value = record { ref_ptr = (0, 0); now = [] } } in
     let at : FieldRef = slice_index_or given c.loop-field.field-index none in
-    carried Field (List Field) (CanReadField at) (IsSmallField at) (CanReadFields given) (HasNoFields given) (λ field. field ≡ field_of at) (λ fields. fields ≡ fields_of given) c.in-Err.fault
+    carried Field (List Field) ⊤ (IsUtf8Field at) (IsSmallField at) (IsUtf8Fields given) (HasNoFields given) (λ field. field ≡ field_of at) (λ fields. fields ≡ fields_of given) c.in-Err.fault
     (λ all. head_of given c.loop-field.field-index none c.loop-field-test.true (c.loop-field.invariant.2 all))
     (λ none_given. absurd (not_empty given c.loop-field.field-index c.loop-field-test.true none_given)) c.in-Err.ensures

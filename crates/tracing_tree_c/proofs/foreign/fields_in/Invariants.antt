@@ -1,6 +1,6 @@
 use Rattle.std.proofs.Common.{◌≡◌, ◌++◌, ◌+◌, ◌≤◌, drop, length, vec_len}
 use Rattle.std.specs.Prelude.{vec_capacity}
-use Rattle.tracing_tree_c.specs.Foreign.{CanReadFields, fields_of}
+use Rattle.tracing_tree_c.specs.Foreign.{IsUtf8Fields, fields_of}
 use Rattle.tracing_tree_c.proofs.foreign.fields_in.Given as goal
 
 -- what is read so far and the rest are all, all can be read exactly where the rest can, and there is
@@ -9,6 +9,6 @@ abbrev pub invariant-loop-field : goal.invariant-loop-field
 invariant-loop-field l =
     let rest = drop l.field-index l.given in
     (l.fields.items ++ fields_of rest ≡ fields_of l.given)
-    × (CanReadFields rest → CanReadFields l.given)
-    × (CanReadFields l.given → CanReadFields rest)
+    × (IsUtf8Fields rest → IsUtf8Fields l.given)
+    × (IsUtf8Fields l.given → IsUtf8Fields rest)
     × (vec_len l.fields + length rest ≤ vec_capacity l.fields)

@@ -3,6 +3,7 @@ use Rattle.tracing_tree_c.proofs.foreign.new_in.Goals as goal
 
 pub returns : goal.returns
 returns c = (
-  record { parent = search rules; name = search rules; target = search rules; fields_too = search rules; context = search rules },
+  search rules,
+  record { name = search rules; target = search rules; fields_too = search rules; context = search rules },
   record { parent = c.in_ok-parent.parent; context = c.in_ok-context.context; is_parent = search rules; is_context = search rules; is_call = search rules },
 )

@@ -1,0 +1,28 @@
+#!/bin/bash
+# Counts instructions, by valgrind's callgrind, of the calls of c/bench.c: from C, through the Rust crate, and of tracing's registry
+# alone. They are those of 1,000 rounds less those of 500, for one round. Needs what build.sh has left in bin/.
+set -eu
+cd "$(dirname "$0")/.."
+room=$(mktemp -d)
+trap 'rm -rf "$room"' EXIT
+"${CC:-cc}" -std=c99 -O2 -Ibindings/c bindings/c/bench.c bin/libtracing_tree.a -o "$room/bench"
+rust=
+if command -v cargo > /dev/null && (cd bindings/rust && TRACING_TREE_LIB=../../bin cargo build --offline --quiet --release --example bench); then
+    rust=bindings/rust/target/release/examples/bench
+fi
+
+# The instructions of one round of a command, which is passed the number of rounds first.
+round() {
+    local program=$1 few many
+    shift
+    few=$(valgrind --tool=callgrind --callgrind-out-file=/dev/null "$program" 500 "$@" 2>&1 | sed -n 's/.*Collected : //p')
+    many=$(valgrind --tool=callgrind --callgrind-out-file=/dev/null "$program" 1000 "$@" 2>&1 | sed -n 's/.*Collected : //p')
+    echo $(((many - few) / 500))
+}
+
+names=("an event, lines" "two spans and an event, lines" "an event, colours and retracing" "two spans and an event, colours and retracing")
+for kind in 0 1 2 3; do
+    line="${names[$kind]}: C $(round "$room/bench" $kind)"
+    [ -z "$rust" ] || line="$line, Rust $(round $rust $kind ours), the registry alone $(round $rust $kind none)"
+    echo "$line"
+done
