@@ -69,7 +69,13 @@ run_odd() {
     cp "$room/odd" "$room/skipped"
     printf '[1]\n{"Action":"run"}\n\377\n' >> "$room/skipped"
     run "$room/skipped"
-    count 'on lines that tell nothing' want 'ttree: lines skipped: 3, the first of them line 7' 1
+    count 'on lines that tell nothing' want 'ttree: line 7: "Action": expected a text
+ttree: line 8: "Package": expected a text
+ttree: line 9: expected UTF-8' 1
+    printf '{"Action":"output","Package":"p"}\n' > "$room/textless"
+    echo 'INFO passed=0, failed=0, skipped=0, unfinished=0' > "$room/want"
+    run "$room/textless"
+    count 'on output without a text' want 'ttree: line 1: "Output": expected a text' 1
     sed 's/$/\r/' "$top/examples/go-test.jsonl" > "$room/crlf"
     expect "$top/examples/go-test.jsonl" 's/^//'
     run "$room/crlf"
@@ -78,6 +84,83 @@ run_odd() {
     echo 'INFO passed=0, failed=0, skipped=0, unfinished=0' > "$room/want"
     run "$room/none"
     count 'on an empty file' want '' 0
+}
+
+# Lines that are skipped: the first ten are told, and then how many there are.
+run_skipped() {
+    local number notes=''
+    { cat "$room/odd"; printf '[1]\n%.0s' {1..12}; } > "$room/many"
+    for number in {7..16}; do
+        notes+="ttree: line $number: \"Action\": expected a text"$'\n'
+    done
+    expect "$room/odd" 's/^//'
+    run "$room/many"
+    count 'on twelve lines that tell nothing' want "${notes}ttree: lines skipped: 12" 1
+    { head -n 1 "$room/odd"; echo '[1]'; tail -n 2 "$room/odd"; } > "$room/strict"
+    python3 "$top/scripts/go_lines.py" < <(head -n 1 "$room/odd") | head -n -1 | "$tree" > "$room/want"
+    run --strict "$room/strict"
+    count 'with --strict' want 'ttree: line 2: "Action": expected a text' 1
+    expect "$room/odd" 's/^//'
+    run --strict "$room/odd"
+    count 'with --strict on lines that are known' want '' 1
+}
+
+# Lines of settings and calls: the first line decides, or --from.
+run_lines() {
+    local input=$top/examples/server.jsonl
+    "$tree" < "$input" > "$room/want"
+    run "$input"
+    count 'on settings and calls' want '' 0
+    run --from lines < "$input"
+    count 'with --from lines' want '' 0
+    { cat "$input"; echo '{"call":"close"}'; echo '{"call":"event","level":"INFO"}'; } > "$room/ended"
+    run "$room/ended"
+    count 'on a line that is no call' want "ttree: line $(($(wc -l < "$input") + 1)): not a call" 1
+    printf '%s\r\n' '{"indent_lines":true}' '{"call":"new","name":"a"}' > "$room/lines"
+    printf '┐a \n' > "$room/want"
+    run "$room/lines"
+    count 'on calls that end as on Windows' want '' 0
+    printf '{"indent_lines":true}\n{"call":"new","name":"a"}\n{"call":"ne' > "$room/lines"
+    run "$room/lines"
+    count 'on a call that is cut off' want 'ttree: line 3: not a call' 1
+    : > "$room/want"
+    run --from lines "$room/none"
+    count 'on an empty file with --from lines' want 'ttree: line 1: settings' 2
+    printf '{"Actions":"x"}\n' > "$room/lines"
+    run "$room/lines"
+    count 'on an object that has other keys' want 'ttree: line 1: settings' 2
+    echo 'INFO passed=0, failed=0, skipped=0, unfinished=0' > "$room/want"
+    run --from go-test "$room/lines"
+    count 'with --from go-test on an object that has other keys' want 'ttree: line 1: "Action": expected a text' 1
+    printf '[]\n' > "$room/lines"
+    run "$room/lines"
+    count 'on an array' want 'ttree: line 1: "Action": expected a text' 1
+}
+
+# Colours on a terminal, but not under NO_COLOR. A terminal ends lines with a carriage return too.
+run_terminal() {
+    local input=$top/examples/go-test.jsonl
+    expect "$input" 's/"span_retrace": true/"ansi": true, "span_retrace": true/'
+    on_terminal "$input"
+    count 'on a terminal' want '' 1
+    expect "$input" 's/^//'
+    NO_COLOR=1 on_terminal "$input"
+    count 'on a terminal under NO_COLOR' want '' 1
+    expect "$input" 's/"span_retrace": true/"ansi": true, "span_retrace": true/'
+    NO_COLOR='' on_terminal "$input"
+    count 'on a terminal under an empty NO_COLOR' want '' 1
+    expect "$input" 's/^//'
+    on_terminal --color never "$input"
+    count 'on a terminal with --color never' want '' 1
+}
+
+on_terminal() {
+    timeout 120 python3 - "$ttree" "$@" > "$room/raw" 2> "$room/err" << 'END'
+import os, pty, sys
+sys.exit(os.waitstatus_to_exitcode(pty.spawn(sys.argv[1:])))
+END
+    status=$?
+    tr -d '\r' < "$room/raw" > "$room/out"
 }
 
 run_faults() {
@@ -106,6 +189,9 @@ run_faults() {
 run_samples
 run_options
 run_odd
+run_skipped
+run_lines
+run_terminal
 run_faults
 echo "ttree: $right of $runs runs ended as they must"
 [ "$right" = "$runs" ]

@@ -12,7 +12,7 @@ use Rattle.tracing_tree.specs.Lines.Reads.{TakesLine, HasNoLine}
 use Rattle.tracing_tree.specs.Lines.Runs.{is_from_outside}
 use Rattle.tracing_tree.specs.declared.lines.LineCause.{LineCause}
 use Rattle.tracing_tree.specs.declared.lines.LineCause.TheVariants.{Settings as NoSettings, NotACall, Read, Memory, Refused}
-use Rattle.tracing_tree_sources.specs.Source.{Breaks, Heard, HearsLine, HearsNext, Makes, MakesAll, Step, StopsIn, Tells, calls_of, hear, hear_line, heard_step, nothing_heard, then_heard}
+use Rattle.tracing_tree_sources.specs.Source.{Breaks, is_quiet, Heard, HearsLine, HearsNext, Makes, MakesAll, Step, StopsIn, Tells, calls_of, hear, hear_line, heard_step, nothing_heard, then_heard}
 use Rattle.tracing_tree_sources.specs.declared.run.Judged.TheVariants.{End}
 use Rattle.tracing_tree_sources.proofs.Made.{makes_none, makes_then, makes_flushed, stops_before, stops_after, stops_more}
 
@@ -22,6 +22,20 @@ outside NotACall calls s h = cc
 outside Read calls s h = refl
 outside Memory calls s h = refl
 outside (Refused refusal) calls s h = cc
+
+quiet : (cause : LineCause) (calls : List Call) (s : Seen) → is_quiet cause ≡ true → Breaks cause calls s s
+quiet NoSettings calls s h = refl
+quiet NotACall calls s h = refl
+quiet Read calls s h = refl
+quiet Memory calls s h = refl
+quiet (Refused refusal) calls s h = cc
+
+-- a line that isn't UTF-8
+pub no_text : (line : List ℕ) → ¬ (IsUtf8 line) → is_utf8 line ≡ false
+no_text line bad = elim (is_utf8 line) as (λ b. is_utf8 line ≡ b → b ≡ false) [
+  | true ↦ (λ e. absurd (bad (IsUtf8-from_is_utf8 line e)))
+  | false ↦ (λ e. refl)
+] refl
 
 module _ {S : Type 0} (takes : S → List ℕ → Option Json → Option (Step S)) where
   -- ---- one line
@@ -38,11 +52,7 @@ module _ {S : Type 0} (takes : S → List ℕ → Option Json → Option (Step S
   -- a line that isn't UTF-8
   pub hears_no_text : (line : List ℕ) (source : S) (s : Seen) → is_skipped line ≡ false → ¬ (IsUtf8 line) → HearsLine takes line source source (Ok false) s s
   hears_no_text line source s judged bad =
-      let no_text : is_utf8 line ≡ false = elim (is_utf8 line) as (λ b. is_utf8 line ≡ b → b ≡ false) [
-        | true ↦ (λ e. absurd (bad (IsUtf8-from_is_utf8 line e)))
-        | false ↦ (λ e. refl)
-      ] refl in
-      rw (judged, no_text) (makes_none s, refl, refl)
+      rw (judged, no_text line bad) (makes_none s, refl, refl)
 
   tells_none : (told : Option (Step S)) (before after : S) (s : Seen) → Tells told before after None → heard_as (heard_step before told) after (Ok false) s s
   tells_none None before after s h = (makes_none s, h, refl)
@@ -82,6 +92,12 @@ module _ {S : Type 0} (takes : S → List ℕ → Option Json → Option (Step S
         HearsNext takes ends known left before after (Err cause) s s
     next_outside None left before after cause s h = tt
     next_outside (Some input) left before after cause s h = stops_before _ cause s (outside cause _ s h)
+
+    -- the notes end the run, or memory does
+    pub next_quiet : (known left : Option (List ℕ)) (before after : S) (cause : LineCause) (s : Seen) → is_quiet cause ≡ true →
+        HearsNext takes ends known left before after (Err cause) s s
+    next_quiet None left before after cause s h = tt
+    next_quiet (Some input) left before after cause s h = stops_before _ cause s (quiet cause _ s h)
 
     pub next_stops : (known left : Option (List ℕ)) (line : List ℕ) (before after : S) (cause : LineCause) (old new : Seen) →
         TakesLine known left line → HearsLine takes line before after (Err cause) old new → HearsNext takes ends known left before after (Err cause) old new

@@ -1,6 +1,10 @@
 -- Examples computed from the definitions of Go's tests.
-use Rattle.std.proofs.Common.{◌≡◌, true, false, Some, [], codes, refl}
-use Rattle.tracing_tree_sources.specs.GoTest.{after_mark, is_frame, leads, up_to_space}
+use Rattle.std.proofs.Common.{◌≡◌, true, false, None, Some, [], codes, refl}
+use Rattle.json.specs.Json.{boolean, string, object, member, no_members}
+use Rattle.tracing_tree_sources.specs.First.{format_of}
+use Rattle.tracing_tree_sources.specs.GoTest.{after_mark, go_lacks, is_frame, leads, up_to_space}
+use Rattle.tracing_tree_sources.specs.declared.first.Format.TheVariants.{GoTest, Lines}
+use Rattle.tracing_tree_sources.specs.declared.notes.Lack.TheVariants.{Package}
 use Rattle.tracing_tree_sources.specs.Told.{is_escaped}
 
 pub frame_of_its_own : is_frame (codes "TestSum") (codes "    --- PASS: TestSum (0.00s)") ≡ true
@@ -35,3 +39,15 @@ so_does_one_of_the_higher_controls = refl
 
 pub tabs_and_letters_stay : (is_escaped 9 ≡ false) × (is_escaped 233 ≡ false)
 tabs_and_letters_stay = (refl, refl)
+
+pub a_build_is_gos : format_of None ≡ GoTest
+a_build_is_gos = refl
+
+pub an_action_is_gos : format_of (Some (object (member (codes "Action") (string (codes "start")) no_members))) ≡ GoTest
+an_action_is_gos = refl
+
+pub settings_are_lines : format_of (Some (object (member (codes "indent_lines") (boolean true) no_members))) ≡ Lines
+settings_are_lines = refl
+
+pub an_action_without_a_package : go_lacks (Some (object (member (codes "Action") (string (codes "run")) no_members))) ≡ Package
+an_action_without_a_package = refl

@@ -1,5 +1,5 @@
 -- Go's tests: what each line of `go test -json` tells.
-use Rattle.std.specs.Prelude.{◌≡◌, ℕ, pos, ◌+◌, ◌-◌, ◌^◌, ◌==◌, ◌&&◌, ◌||◌, nat_le, min, Bool, true, false, not, if◌then◌else◌, List, [], ◌∷◌, ◌++◌, length, take, drop, slice_get, Option, Some, None, unwrap_or, option_map, option_and_then, codes, bytes_eq}
+use Rattle.std.specs.Prelude.{◌≡◌, ℕ, pos, ◌+◌, ◌-◌, ◌^◌, ◌==◌, ◌&&◌, ◌||◌, nat_le, min, Bool, true, false, not, if◌then◌else◌, List, [], ◌∷◌, ◌++◌, length, take, drop, slice_get, Option, Some, None, is_some, unwrap_or, option_map, option_and_then, codes, bytes_eq}
 use Rattle.std.specs.List.{starts_with, ends_with, position_or_len}
 use Rattle.json.specs.Json.{Json}
 use Rattle.json.specs.Find.{get, as_str, as_number}
@@ -13,6 +13,8 @@ use Rattle.tracing_tree_base.specs.declared.style.Level.TheVariants.{Info, Warn,
 use Rattle.tracing_tree_layer.specs.declared.call.Call.{Call}
 use Rattle.tracing_tree.specs.Lines.Spelled.{is_skipped}
 use Rattle.tracing_tree_sources.specs.Source.{Step}
+use Rattle.tracing_tree_sources.specs.declared.notes.Lack.{Lack}
+use Rattle.tracing_tree_sources.specs.declared.notes.Lack.TheVariants.{Object, Action, Package, Output}
 use Rattle.tracing_tree_sources.specs.Told.{close_call, event_call, message_field, span_call}
 use Rattle.tracing_tree_sources.specs.declared.go_test.Ending.{Ending}
 use Rattle.tracing_tree_sources.specs.declared.go_test.Ending.TheVariants.{Passed, Failed, Skipped, Unfinished}
@@ -383,6 +385,17 @@ handed_out s = record { calls = s.calls; source = record s { calls = [] } }
 abbrev pub go_takes : GoState → List ℕ → Option Json → Option (Step GoState)
 go_takes s line None = Some (handed_out (takes_text line s))
 go_takes s line (Some value) = option_map handed_out (takes_json value s)
+
+-- the first key that a line lacks of which nothing is known
+abbrev pub lack_in : Json → Lack
+lack_in value =
+    if not (is_some (text_at (codes "Action") value)) then Action
+    else if not (is_some (package_of value)) then Package
+    else Output
+
+abbrev pub go_lacks : Option Json → Lack
+go_lacks None = Object
+go_lacks (Some value) = lack_in value
 
 -- at the end one line counts the tests
 abbrev pub tally_fields : Tally → List Field

@@ -1,3 +1,4 @@
 pub mod Source
 pub mod Told
 pub mod GoTest
+pub mod First

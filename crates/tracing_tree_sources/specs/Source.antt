@@ -12,7 +12,9 @@ use Rattle.tracing_tree_layer.specs.declared.call.Call.{Call}
 use Rattle.tracing_tree.specs.Lines.Spelled.{input_lines, is_skipped}
 use Rattle.tracing_tree.specs.Lines.Reads.{TakesLine}
 use Rattle.tracing_tree.specs.declared.lines.LineCause.{LineCause}
-use Rattle.tracing_tree.specs.declared.lines.LineCause.TheVariants.{Refused}
+use Rattle.tracing_tree.specs.declared.lines.LineCause.TheVariants.{Settings as NoSettings, NotACall, Read, Memory, Refused}
+use Rattle.tracing_tree_sources.specs.declared.notes.Lack.{Lack}
+use Rattle.tracing_tree_sources.specs.declared.notes.Lack.TheVariants.{Utf8}
 use Rattle.tracing_tree_sources.specs.declared.run.SourceRun.{SourceRun}
 use Rattle.tracing_tree_sources.specs.declared.run.Judged.{Judged}
 use Rattle.tracing_tree_sources.specs.declared.run.Judged.TheVariants.{End, Known, Unknown}
@@ -88,6 +90,18 @@ abbrev pub Breaks : LineCause → List Call → Seen → Seen → Type 0
 Breaks (Refused refusal) [] old new = ⊥
 Breaks (Refused refusal) (call ∷ rest) old new = IsAnswered call (Err refusal) old new
 Breaks cause rest old new = new ≡ old
+
+-- what ends a run with no call to blame
+abbrev pub is_quiet : LineCause → Bool
+is_quiet NoSettings = true
+is_quiet NotACall = true
+is_quiet Read = true
+is_quiet Memory = true
+is_quiet (Refused refusal) = false
+
+-- what a line lacks of which nothing is known
+abbrev pub lack_of : (Option Json → Lack) → List ℕ → Lack
+lack_of lacks line = if is_utf8 line then lacks (document line) else Utf8
 
 -- a beginning of these calls was accepted, and then this ended the run
 pub record StopsIn (calls : List Call) (cause : LineCause) (old new : Seen) : Type 0 where

@@ -2,8 +2,9 @@
 
 ghost use Rattle.std.specs.Prelude.{◌≡◌, ◌++◌, ◌∷◌, ◌<◌, [], Bool, true, false, IfOk, IfSome, OnOk, Option, None, Some, option_map, length, bytes_eq, codes, unwrap_or};
 ghost use Rattle.json.specs.Value.{value_view};
-ghost use Rattle.tracing_tree_sources.specs.GoTest.{acted, after_mark, all_left_over, failed_by, takes_plain, takes_value_as, test_ended, told_if_ended, begun, counted, elapsed_in, ended, ends_line, ends_word, event_told, finished, frames, go_ends, held, holds, is_frame, is_package_frame, kept, is_end_frame, is_step_frame, leads, left_one, left_over, level_of, line_of, line_told, name_of, nothing_run, opened, owner, package_ended, package_of, printed, quiet_told, ran, takes_text, takes_value, test_of, text_at, up_to_space, without_line_end, without_spaces, word_of};
+ghost use Rattle.tracing_tree_sources.specs.GoTest.{acted, after_mark, all_left_over, failed_by, takes_plain, takes_value_as, test_ended, told_if_ended, begun, counted, elapsed_in, ended, ends_line, ends_word, event_told, finished, frames, go_ends, held, holds, is_frame, is_package_frame, kept, is_end_frame, is_step_frame, lack_in, leads, left_one, left_over, level_of, line_of, line_told, name_of, nothing_run, opened, owner, package_ended, package_of, printed, quiet_told, ran, takes_text, takes_value, test_of, text_at, up_to_space, without_line_end, without_spaces, word_of};
 
+use crate::notes::Lack;
 use crate::source::Source;
 use crate::told::{close_call, event_call, message_field, span_call};
 use json::Value;
@@ -507,11 +508,13 @@ impl GoTest {
 }
 
 impl Source for GoTest {
-    ghost use Rattle.tracing_tree_sources.specs.GoTest.{go_takes, go_ends};
+    ghost use Rattle.tracing_tree_sources.specs.GoTest.{go_takes, go_lacks, go_ends};
 
     ghost takes = { go_takes };
 
     ghost ends = { go_ends };
+
+    ghost lacks = { go_lacks };
 
     fn take(
         &mut self,
@@ -528,6 +531,13 @@ impl Source for GoTest {
             None => self.take_text(line)?,
         }
         Ok(Some(self.told()))
+    }
+
+    fn lack(value: Option<&Value<'_>>) -> Lack {
+        match value {
+            Some(value) => lack_in(value),
+            None => Lack::Object,
+        }
     }
 
     fn end(&mut self, alloc: Global) -> Result<Vec<Call>, AllocError> {
@@ -548,10 +558,23 @@ impl Source for GoTest {
     }
 }
 
-fn text_at<'v>(value: &'v Value<'_>, key: &str) -> Option<&'v str>
+pub(crate) fn text_at<'v>(value: &'v Value<'_>, key: &str) -> Option<&'v str>
     ensures { option_map (λ s. s.now) result ≡ text_at key.now (value_view value.now) }
 {
     value.get(key)?.as_str()
+}
+
+// The first key that a line lacks of which nothing is known.
+fn lack_in(value: &Value<'_>) -> Lack
+    ensures { result ≡ lack_in (value_view value.now) }
+{
+    if text_at(value, "Action").is_none() {
+        Lack::Action
+    } else if package_of(value).is_none() {
+        Lack::Package
+    } else {
+        Lack::Output
+    }
 }
 
 // The test of a line; a package's line has none.

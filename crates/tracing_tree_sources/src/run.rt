@@ -1,12 +1,13 @@
 //! The run of a source over an input.
 
-ghost use Rattle.std.specs.Prelude.{◌≡◌, IfOk, option_map};
+ghost use Rattle.std.specs.Prelude.{◌≡◌, true, IfErr, IfOk, option_map};
 ghost use Rattle.std.specs.Io.Buffered.{reader_remaining};
 ghost use Rattle.json.specs.Json.{document};
 ghost use Rattle.json.specs.Value.{value_view};
 ghost use Rattle.tracing_tree_layer.specs.Calls.Layers.{seen, Changes, Flushes};
-ghost use Rattle.tracing_tree_sources.specs.Source.{HearsLine, HearsNext, MakesAll, RunsSource, Tells};
+ghost use Rattle.tracing_tree_sources.specs.Source.{HearsLine, HearsNext, MakesAll, RunsSource, Tells, is_quiet, lack_of};
 
+use crate::notes::{Lack, Notes};
 use crate::source::Source;
 use json::{Error, Scratch, Value};
 use simdutf8::basic::from_utf8;
@@ -24,22 +25,21 @@ pub struct SourceRun {
     /// How many lines told nothing that is known.
     pub unknown: u64,
 
-    /// The first of them.
-    pub first_unknown: Option<u64>,
-
     /// The line that ended the run; none where the input was run to its end.
     pub fault: Option<LineFault>,
 }
 
 /// Runs the calls that a source's lines tell, and those that its end brings.
 ///
-/// A line of which nothing is known is counted and left out. The run ends early where the input can't be read, where memory is
-/// refused, and where a call is refused. What is drawn is passed on before each read of the input.
-pub fn run_source<S: Source, R: Read, W: Output, FT: FormatTime>(
+/// A line of which nothing is known is counted and left out, and what it lacks is noted. The run ends early where the input can't
+/// be read, where memory is refused, where a call is refused, and at a skipped line after which the notes end it: `NotACall` is
+/// the cause then. What is drawn is passed on before each read of the input.
+pub fn run_source<S: Source, R: Read, W: Output, FT: FormatTime, N: Notes>(
     alloc: Global,
     source: &mut S,
     lines: &mut BufReader<R>,
     layered: &mut Layered<W, FT>,
+    notes: &mut N,
 ) -> SourceRun
     ensures { Changes (seen FT.FormatTime W.Output)
         (RunsSource S.takes S.ends (reader_remaining R.remaining lines.old) source.old result)
@@ -48,32 +48,33 @@ pub fn run_source<S: Source, R: Read, W: Output, FT: FormatTime>(
     let mut line = Vec::new(alloc);
     let mut scratch = Scratch::new(alloc);
     let mut unknown = 0;
-    let mut first_unknown = None;
     for number in 1..u64::MAX {
         show_before_read(lines, layered);
         match run_next(alloc, source, lines, &mut line, &mut scratch, layered) {
             Ok(Judged::End) => {
                 return SourceRun {
                     unknown,
-                    first_unknown,
                     fault: None,
                 };
             }
             Ok(Judged::Known) => {}
             Ok(Judged::Unknown) => {
                 unknown += 1;
-                first_unknown = first_unknown.or(Some(number));
+                let lack = lack_of::<S>(alloc, line.as_slice(), &mut scratch);
+                if let Err(cause) = skip(notes, number, lack) {
+                    let fault = Some(LineFault {
+                        line: number,
+                        cause,
+                    });
+                    return SourceRun { unknown, fault };
+                }
             }
             Err(cause) => {
                 let fault = Some(LineFault {
                     line: number,
                     cause,
                 });
-                return SourceRun {
-                    unknown,
-                    first_unknown,
-                    fault,
-                };
+                return SourceRun { unknown, fault };
             }
         }
     }
@@ -81,11 +82,48 @@ pub fn run_source<S: Source, R: Read, W: Output, FT: FormatTime>(
         line: u64::MAX,
         cause: LineCause::Read,
     });
-    SourceRun {
-        unknown,
-        first_unknown,
-        fault,
+    SourceRun { unknown, fault }
+}
+
+// Has a skipped line noted. An error ends the run.
+fn skip<N: Notes>(
+    notes: &mut N,
+    number: u64,
+    lack: Result<Lack, AllocError>,
+) -> Result<(), LineCause>
+    ensures { IfErr result (λ cause. is_quiet cause ≡ true) }
+{
+    match lack {
+        Ok(lack) => {
+            if notes.note(number, lack) {
+                Ok(())
+            } else {
+                Err(LineCause::NotACall)
+            }
+        }
+        Err(AllocError) => Err(LineCause::Memory),
     }
+}
+
+// What a line lacks of which nothing is known.
+fn lack_of<S: Source>(alloc: Global, line: &[u8], scratch: &mut Scratch) -> Result<Lack, AllocError>
+    ensures { IfOk result (λ lack. lack ≡ lack_of S.lacks line.now) }
+{
+    match from_utf8(line) {
+        Ok(text) => lack_of_text::<S>(alloc, text, scratch),
+        Err(_) => Ok(Lack::Utf8),
+    }
+}
+
+fn lack_of_text<S: Source>(
+    alloc: Global,
+    text: &str,
+    scratch: &mut Scratch,
+) -> Result<Lack, AllocError>
+    ensures { IfOk result (λ lack. lack ≡ S.lacks (document text.now)) }
+{
+    let value = value_of(alloc, text, scratch)?;
+    Ok(S::lack(value.as_ref()))
 }
 
 // What became of a line.
@@ -179,7 +217,7 @@ fn hear<S: Source>(
 }
 
 // The JSON value that a text is, if it is one.
-fn value_of<'a>(
+pub(crate) fn value_of<'a>(
     alloc: Global,
     text: &'a str,
     scratch: &'a mut Scratch,

@@ -5,7 +5,9 @@ ghost use Rattle.json.specs.Json.{Json};
 ghost use Rattle.json.specs.Value.{value_view};
 ghost use Rattle.tracing_tree_sources.specs.Source.{Step, Tells};
 ghost use Rattle.tracing_tree_layer.specs.declared.call.Call.{Call};
+ghost use Rattle.tracing_tree_sources.specs.declared.notes.Lack.{Lack};
 
+use crate::notes::Lack;
 use json::Value;
 use std::alloc::{AllocError, Global};
 use tracing_tree::call::Call;
@@ -19,6 +21,9 @@ pub trait Source {
     /// The calls that the input's end brings.
     ghost ends: { Self → List Call };
 
+    /// What a line lacks of which nothing is known, by the JSON value that it is, if it is one.
+    ghost lacks: { Option Json → Lack };
+
     /// Takes a line. None where nothing is known of such a line, and nothing has changed then. `AllocError` where memory is
     /// refused; nothing is said of the source then.
     fn take(
@@ -30,6 +35,10 @@ pub trait Source {
         ensures { IfOk result (λ told. Tells
             (takes self.old line.now (option_map (λ v. value_view v.now) value.entry))
             self.old self.new (option_map (λ calls. calls.items) told)) };
+
+    /// What a line lacks of which nothing is known.
+    fn lack(value: Option<&Value<'_>>) -> Lack
+        ensures { result ≡ lacks (option_map (λ v. value_view v.now) value.entry) };
 
     /// The calls that the input's end brings. `AllocError` where memory is refused.
     fn end(&mut self, alloc: Global) -> Result<Vec<Call>, AllocError>

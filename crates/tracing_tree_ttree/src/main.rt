@@ -5,23 +5,37 @@ use clap::error::ErrorKind;
 use clap::{Arg, ArgAction, ArgMatches, Command, Error, value_parser};
 use jiff::Timestamp;
 use std::alloc::{AllocError, Global};
-use std::io::{BufReader, BufWriter, Read, Write};
+use std::io::{BufReader, BufWriter, IsTerminal, Read, Write};
 use std::process::ExitCode;
 use std::rt::{Env, Files};
-use std::{fs, io};
+use std::{env, fs, io};
 use tracing_tree::format::{Config, Wrap};
 use tracing_tree::layer::HierarchicalLayer;
 use tracing_tree::layered::Layered;
+use tracing_tree::lines::{LineCause, LineFault, read_line};
+use tracing_tree::run_lines;
 use tracing_tree::time::Moment;
-use tracing_tree_sources::{GoTest, SourceRun, run_source};
+use tracing_tree_sources::{
+    Format, GoTest, Lack, Notes, Source, SourceRun, first_format, run_source,
+};
 
 // The input is read in parts of this size.
 const BLOCK: usize = 64 * 1024;
+
+// So many skipped lines are told one by one.
+const NOTED: u64 = 10;
+
+// What `--help` says of the first line.
+const FIRST: &str =
+    "Without --from, the first line decides: a JSON object with a text at \"Action\" is of go-test, any other object of lines, and every other line of go-test.";
 
 // What the words of the command line ask for.
 #[derive(Drop)]
 struct Options<'a> {
     config: Config,
+    // The first line decides where there is none.
+    from: Option<Format>,
+    is_strict: bool,
     // Standard input where there is none.
     file: Option<&'a str>,
 }
@@ -35,10 +49,20 @@ fn main(rt: HostRuntime) -> ExitCode {
             return ExitCode::from(2);
         }
     };
-    match parse(rt.alloc(), words.as_slice()) {
+    let is_coloured = rt.stdout().is_terminal() && !is_colour_unwanted(&rt);
+    match parse(rt.alloc(), words.as_slice(), is_coloured) {
         Ok(options) => open(&rt, options),
         Err(error) if error.kind() == ErrorKind::OutOfMemory => out_of_memory(&rt),
         Err(error) => answered(&rt, &error),
+    }
+}
+
+// Whether NO_COLOR is set and not empty.
+fn is_colour_unwanted<R: AllocGlobal + Env>(rt: &R) -> bool {
+    match env::var(rt, "NO_COLOR") {
+        Ok(value) => !value.as_str().is_empty(),
+        Err(env::VarError::NotPresent) => false,
+        Err(_) => true,
     }
 }
 
@@ -53,10 +77,12 @@ fn words<R: AllocGlobal + Env>(rt: &R) -> io::Result<Vec<String>> {
     Ok(std::env::args(rt)?.collect(rt.alloc())?)
 }
 
-fn parse<'a>(alloc: Global, words: &'a [String]) -> Result<Options<'a>, Error> {
+fn parse<'a>(alloc: Global, words: &'a [String], is_coloured: bool) -> Result<Options<'a>, Error> {
     let matches = command(alloc)?.try_get_matches_from(words)?;
     Ok(Options {
-        config: config(&matches),
+        config: config(&matches, is_coloured),
+        from: format(matches.get_str("from")),
+        is_strict: matches.get_flag("strict"),
         file: matches.get_str("file"),
     })
 }
@@ -65,15 +91,14 @@ fn command<'a>(alloc: Global) -> Result<Command<'a>, AllocError> {
     let from = Arg::new(alloc, "from")
         .long("from")
         .value_name("TOOL")
-        .help("The tool whose output is read: go-test for the lines of `go test -json`")
-        .value_parser(&["go-test"][..])
-        .default_value("go-test");
+        .help("Whose output is read: go-test of `go test -json`, lines of settings and calls")
+        .value_parser(&["lines", "go-test"][..]);
     let color = Arg::new(alloc, "color")
         .long("color")
         .value_name("WHEN")
-        .help("Whether the tree is coloured")
-        .value_parser(&["always", "never"][..])
-        .default_value("never");
+        .help("Whether the tree is coloured; auto colours it on a terminal, unless NO_COLOR is set")
+        .value_parser(&["auto", "always", "never"][..])
+        .default_value("auto");
     let amount = Arg::new(alloc, "amount")
         .long("amount")
         .value_name("N")
@@ -83,6 +108,7 @@ fn command<'a>(alloc: Global) -> Result<Command<'a>, AllocError> {
     Command::new(alloc, "ttree")
         .version("0.1.0")
         .about("Draws another tool's output as a tree")
+        .after_help(FIRST)
         .arg(from)?
         .arg(color)?
         .arg(amount)?
@@ -90,13 +116,21 @@ fn command<'a>(alloc: Global) -> Result<Command<'a>, AllocError> {
         .arg(flag(
             alloc,
             "no-retrace",
-            "Shows no path again where output of another test came between",
+            "Shows no path again where the drawing comes back from another branch",
         ))?
+        .arg(flag(alloc, "strict", "Ends at the first line that can't be read"))?
         .arg(
             Arg::new(alloc, "file")
                 .value_name("FILE")
                 .help("The input; standard input without it"),
         )
+}
+
+fn format(name: Option<&str>) -> Option<Format> {
+    match name? {
+        "lines" => Some(Format::Lines),
+        _ => Some(Format::GoTest),
+    }
 }
 
 fn flag<'a>(alloc: Global, name: &'a str, help: &'a str) -> Arg<'a> {
@@ -106,10 +140,15 @@ fn flag<'a>(alloc: Global, name: &'a str, help: &'a str) -> Arg<'a> {
         .action(ArgAction::SetTrue)
 }
 
-fn config(matches: &ArgMatches<'_>) -> Config {
+fn config(matches: &ArgMatches<'_>, is_coloured: bool) -> Config {
     let is_retraced = !matches.get_flag("no-retrace");
+    let ansi = match matches.get_str("color") {
+        Some("always") => true,
+        Some("never") => false,
+        _ => is_coloured,
+    };
     Config::default()
-        .with_ansi(matches.get_str("color") == Some("always"))
+        .with_ansi(ansi)
         .with_indent_lines(!matches.get_flag("no-lines"))
         .with_indent_amount(matches.get_one::<usize>("amount").unwrap_or(2))
         .with_bracketed_fields(false)
@@ -129,10 +168,10 @@ fn answered(rt: &(impl Print + Eprint), error: &Error) -> ExitCode {
 
 fn open<R: AllocGlobal + Eprint + Files + Input + Print>(rt: &R, options: Options<'_>) -> ExitCode {
     let Some(path) = options.file else {
-        return draw(rt, rt.reader(), options.config);
+        return draw(rt, rt.reader(), options);
     };
     match fs::open(rt, path) {
-        Ok(file) => draw(rt, file, options.config),
+        Ok(file) => draw(rt, file, options),
         Err(error) if error.kind() == io::ErrorKind::OutOfMemory => out_of_memory(rt),
         Err(error) => {
             let _ = eprintln!(rt; "ttree: {path}: {error}");
@@ -141,54 +180,183 @@ fn open<R: AllocGlobal + Eprint + Files + Input + Print>(rt: &R, options: Option
     }
 }
 
+// Draws the input.
 fn draw<R: AllocGlobal + Eprint + Print, I: Read + Drop>(
     rt: &R,
     input: I,
-    config: Config,
+    options: Options<'_>,
 ) -> ExitCode {
-    match try_draw(rt, input, config) {
-        Ok(true) => ExitCode::SUCCESS,
-        Ok(false) => ExitCode::FAILURE,
+    let Options {
+        config,
+        from,
+        is_strict,
+        file: _,
+    } = options;
+    let alloc = rt.alloc();
+    let Ok(mut lines) = BufReader::with_capacity(alloc, BLOCK, input) else {
+        return out_of_memory(rt);
+    };
+    let mut first = Vec::new(alloc);
+    let from = match from {
+        Some(from) => Ok(from),
+        None => look(alloc, &mut lines, &mut first),
+    };
+    let from = match from {
+        Ok(from) => from,
+        Err(cause) => {
+            let fault = LineFault { line: 1, cause };
+            let _ = eprintln!(rt; "ttree: {fault}");
+            return ExitCode::FAILURE;
+        }
+    };
+    let input = first.as_slice().chain(lines);
+    let drawn = match from {
+        Format::Lines => draw_lines(rt, input),
+        Format::GoTest => draw_tests(rt, input, config, is_strict),
+    };
+    match drawn {
+        Ok(status) => status,
         Err(AllocError) => out_of_memory(rt),
     }
 }
 
-// Draws the input. Returns whether all of it was known and nothing in it failed. `AllocError` where there is no memory to begin with.
-fn try_draw<R: AllocGlobal + Eprint + Print, I: Read + Drop>(
+// Reads the first line, which decides whose output the input is.
+fn look<R: Read>(
+    alloc: Global,
+    lines: &mut BufReader<R>,
+    first: &mut Vec<u8>,
+) -> Result<Format, LineCause> {
+    if !read_line(lines, first)? {
+        return Ok(Format::GoTest);
+    }
+    let from = first_format(alloc, first.as_slice())?;
+    first.push(b'\n')?;
+    Ok(from)
+}
+
+// Draws lines of settings and calls.
+fn draw_lines<R: AllocGlobal + Eprint + Print, I: Read + Drop>(
+    rt: &R,
+    input: I,
+) -> Result<ExitCode, AllocError> {
+    let alloc = rt.alloc();
+    let Ok(writer) = BufWriter::new(alloc, io::writer(rt)) else {
+        return Err(AllocError);
+    };
+    let run = run_lines(alloc, input, Wrap::new(writer));
+    let is_out = is_flushed(run.writer);
+    tell(rt, &run.fault, is_out);
+    Ok(ExitCode::from(tracing_tree::status(&run.fault, is_out)))
+}
+
+// Draws the lines of Go's tests. The status is 1 where one failed, too.
+fn draw_tests<R: AllocGlobal + Eprint + Print, I: Read + Drop>(
     rt: &R,
     input: I,
     config: Config,
+    is_strict: bool,
+) -> Result<ExitCode, AllocError> {
+    let mut source = GoTest::new(rt.alloc(), 1, some_moment())?;
+    let is_whole = draw_source(rt, input, &mut source, config, is_strict)?;
+    Ok(status(is_whole && !source.has_failed()))
+}
+
+fn status(is_right: bool) -> ExitCode {
+    if is_right {
+        ExitCode::SUCCESS
+    } else {
+        ExitCode::FAILURE
+    }
+}
+
+fn some_moment() -> Moment {
+    Moment {
+        mono: 0,
+        wall: Timestamp::UNIX_EPOCH,
+    }
+}
+
+// Whether the last text went out, and no flush was refused before.
+fn is_flushed<W: Write + Drop>(writer: Wrap<W>) -> bool {
+    let is_stuck = writer.is_stuck();
+    writer.into_inner().flush().is_ok() && !is_stuck
+}
+
+// Draws what a source says of the input. Returns whether each line was known and nothing went wrong. `AllocError` where there is no
+// memory to begin with.
+fn draw_source<R: AllocGlobal + Eprint + Print, I: Read + Drop, S: Source>(
+    rt: &R,
+    input: I,
+    source: &mut S,
+    config: Config,
+    is_strict: bool,
 ) -> Result<bool, AllocError> {
     let alloc = rt.alloc();
     let Ok(mut lines) = BufReader::with_capacity(alloc, BLOCK, input) else {
         return Err(AllocError);
     };
-    let moment = Moment {
-        mono: 0,
-        wall: Timestamp::UNIX_EPOCH,
-    };
-    let mut source = GoTest::new(alloc, 1, moment)?;
     let Ok(writer) = BufWriter::new(alloc, io::writer(rt)) else {
         return Err(AllocError);
     };
     let writer = Wrap::new(writer);
     let mut layered = Layered::new(alloc, HierarchicalLayer::with_config(alloc, config, writer));
-    let run = run_source(alloc, &mut source, &mut lines, &mut layered);
+    let mut notes = Told {
+        rt,
+        is_strict,
+        count: 0,
+    };
+    let run = run_source(alloc, source, &mut lines, &mut layered, &mut notes);
+    notes.tell_rest();
     let (_registry, layer) = layered.into_parts();
-    let writer = layer.into_writer();
-    let is_stuck = writer.is_stuck();
-    let is_out = writer.into_inner().flush().is_ok() && !is_stuck;
-    tell(rt, &run, is_out);
-    Ok(is_out && run.unknown == 0 && run.fault.is_none() && !source.has_failed())
+    let is_out = is_flushed(layer.into_writer());
+    tell_run(rt, &run, is_out);
+    Ok(is_out && run.unknown == 0 && run.fault.is_none())
 }
 
-// Puts what went wrong on standard error. A fault of standard error itself changes nothing.
-fn tell(rt: &impl Eprint, run: &SourceRun, is_out: bool) {
-    if let Some(first) = run.first_unknown {
-        let unknown = run.unknown;
-        let _ = eprintln!(rt; "ttree: lines skipped: {unknown}, the first of them line {first}");
+// Tells skipped lines on standard error. A fault of standard error itself changes nothing.
+#[derive(Drop)]
+struct Told<'a, R> {
+    rt: &'a R,
+    is_strict: bool,
+    count: u64,
+}
+
+impl<R: Eprint> Notes for Told<'_, R> {
+    fn note(&mut self, line: u64, lack: Lack) -> bool {
+        if self.count < NOTED {
+            let _ = eprintln!(self.rt; "ttree: line {line}: {lack}");
+        }
+        self.count = self.count.saturating_add(1);
+        !self.is_strict
     }
-    if let Some(fault) = &run.fault {
+}
+
+impl<R: Eprint> Told<'_, R> {
+    // Tells how many lines were skipped, where not all of them were told.
+    fn tell_rest(&self) {
+        let count = self.count;
+        if count > NOTED {
+            let _ = eprintln!(self.rt; "ttree: lines skipped: {count}");
+        }
+    }
+}
+
+// Tells how a run ended; a line that may not be skipped was told already.
+fn tell_run(rt: &impl Eprint, run: &SourceRun, is_out: bool) {
+    match run.fault {
+        Some(
+            LineFault {
+                line: _,
+                cause: LineCause::NotACall,
+            },
+        ) => {}
+        fault => tell(rt, &fault, is_out),
+    }
+}
+
+// Puts what went wrong on standard error.
+fn tell(rt: &impl Eprint, fault: &Option<LineFault>, is_out: bool) {
+    if let Some(fault) = fault {
         let _ = eprintln!(rt; "ttree: {fault}");
     } else if !is_out {
         let _ = eprintln!(rt; "ttree: end: writer");

@@ -4,8 +4,8 @@ use Rattle.tracing_tree_layer.specs.Calls.Layers.{seen}
 use Rattle.tracing_tree_layer.proofs.Runs.{change_then}
 use Rattle.tracing_tree.specs.declared.lines.LineCause.TheVariants.{Read}
 use Rattle.tracing_tree_sources.specs.declared.run.Judged.TheVariants.{Known, Unknown}
-use Rattle.tracing_tree_sources.proofs.Heard.{starts, flushed, more, stops, finishes, next_outside}
-use Rattle.tracing_tree_sources.proofs.run.run_source.Goals.{in-Ok-Known, in-Ok-Unknown}
+use Rattle.tracing_tree_sources.proofs.Heard.{starts, flushed, more, stops, finishes, next_outside, next_quiet}
+use Rattle.tracing_tree_sources.proofs.run.run_source.Goals.{in-Ok-Known, in-Ok-Unknown+in_default}
 use Rattle.tracing_tree_sources.proofs.run.run_source.Goals as goal
 
 pub loop-number-init : goal.loop-number-init
@@ -42,6 +42,27 @@ returns-in-Err g c =
     change_then see (stops takes g.S.Source.ends known middle left c.args.source.now c.loop-number.source c.run_next.new.source c.loop-number.unknown c.in-Err.cause)
     c.args.layered.now c.show_before_read.new.layered c.run_next.new.layered shown c.in-Err.ensures
 
+pub returns-in-Err-skip : goal.returns-in-Err-skip
+returns-in-Err-skip g c =
+    let takes = g.S.Source.takes in
+    let known = reader_remaining g.R.Read.remaining c.args.lines.now in
+    let middle = reader_remaining g.R.Read.remaining c.loop-number.lines in
+    let left = reader_remaining g.R.Read.remaining c.run_next.new.lines in
+    let see = seen g.FT.FormatTime g.W.Output in
+    let shown = change_then see (flushed takes known middle c.args.source.now c.loop-number.source c.loop-number.unknown)
+    c.args.layered.now c.loop-number.layered c.show_before_read.new.layered c.loop-number.invariant.change c.show_before_read.ensures in
+    let is : c.run_next.result ≡ Ok Unknown = cc in
+    let next = rw is at c.run_next.ensures in
+    let after = change_then see (more takes known middle left c.args.source.now c.loop-number.source c.run_next.new.source c.loop-number.unknown (c.loop-number.unknown + 1) false refl)
+    c.args.layered.now c.show_before_read.new.layered c.run_next.new.layered shown next in
+    let now = see c.run_next.new.layered in
+    record {
+      changed = stops takes g.S.Source.ends known left left c.args.source.now c.run_next.new.source c.run_next.new.source (c.loop-number.unknown + 1) c.in-Err-skip.cause
+          (see c.args.layered.now) now now after.changed
+          (next_quiet takes g.S.Source.ends left left c.run_next.new.source c.run_next.new.source c.in-Err-skip.cause now c.in-Err-skip.ensures);
+      fixed = after.fixed;
+    }
+
 pub loop-number-preserved : goal.loop-number-preserved
 loop-number-preserved g c =
     let takes = g.S.Source.takes in
@@ -60,7 +81,7 @@ loop-number-preserved g c =
             change = rw w.unknown-is (change_then see (more takes known middle left c.args.source.now c.loop-number.source c.run_next.new.source c.loop-number.unknown c.loop-number.unknown true (omega arith))
                 c.args.layered.now c.show_before_read.new.layered c.run_next.new.layered shown next);
           }
-      | in-Ok-Unknown w ↦
+      | in-Ok-Unknown+in_default w ↦
           let is : c.run_next.result ≡ Ok Unknown = cc in
           let next = rw is at c.run_next.ensures in
           record {

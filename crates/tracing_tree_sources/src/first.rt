@@ -1,0 +1,72 @@
+//! The first line of an input, which tells whose output it is.
+
+ghost use Rattle.std.specs.Prelude.{◌≡◌, IfOk, is_some, option_map};
+ghost use Rattle.json.specs.Find.{as_object};
+ghost use Rattle.json.specs.Json.{document};
+ghost use Rattle.json.specs.Value.{value_view};
+ghost use Rattle.tracing_tree_sources.specs.First.{format_of, format_of_line, format_of_value};
+
+use crate::go_test::text_at;
+use crate::run::value_of;
+use json::{Scratch, Value};
+use simdutf8::basic::from_utf8;
+use std::alloc::{AllocError, Global};
+
+/// Whose output an input is.
+#[derive(Clone, Copy, Debug, PartialEq, Eq)]
+pub enum Format {
+    /// Lines of settings and calls.
+    Lines,
+
+    /// `go test -json`.
+    GoTest,
+}
+
+/// Whose output begins with this line. An object with a text at `Action` is Go's, and any other object has
+/// settings. All else is Go's, whose builds print lines that aren't JSON. `AllocError` where memory is refused.
+pub fn first_format(alloc: Global, line: &[u8]) -> Result<Format, AllocError>
+    ensures { IfOk result (λ format. format ≡ format_of_line line.now) }
+{
+    match from_utf8(line) {
+        Ok(text) => format_of_text(alloc, text),
+        Err(_) => Ok(Format::GoTest),
+    }
+}
+
+fn format_of_text(alloc: Global, text: &str) -> Result<Format, AllocError>
+    ensures { IfOk result (λ format. format ≡ format_of (document text.now)) }
+{
+    let mut scratch = Scratch::new(alloc);
+    let value = value_of(alloc, text, &mut scratch)?;
+    Ok(format_of(value.as_ref()))
+}
+
+fn format_of(value: Option<&Value<'_>>) -> Format
+    ensures { result ≡ format_of (option_map (λ v. value_view v.now) value.entry) }
+{
+    match value {
+        Some(value) => format_of_value(value),
+        None => Format::GoTest,
+    }
+}
+
+fn format_of_value(value: &Value<'_>) -> Format
+    ensures { result ≡ format_of_value (value_view value.now) }
+{
+    if text_at(value, "Action").is_some() {
+        Format::GoTest
+    } else if is_object(value) {
+        Format::Lines
+    } else {
+        Format::GoTest
+    }
+}
+
+fn is_object(value: &Value<'_>) -> bool
+    ensures { result ≡ is_some (as_object (value_view value.now)) }
+{
+    match value {
+        Value::Object(_) => true,
+        _ => false,
+    }
+}

@@ -1,0 +1,33 @@
+//! Notes of lines that are skipped.
+
+use thiserror::Error;
+
+/// What a line lacks that each line of its tool has. It is shown as the key and what was expected there.
+#[derive(Clone, Copy, Debug, PartialEq, Eq, Error)]
+pub enum Lack {
+    /// The line isn't UTF-8.
+    #[error("expected UTF-8")]
+    Utf8,
+
+    /// The line isn't a JSON object.
+    #[error("expected a JSON object")]
+    Object,
+
+    /// No text at `Action`.
+    #[error("\"Action\": expected a text")]
+    Action,
+
+    /// No text at `Package`, and none at `ImportPath`.
+    #[error("\"Package\": expected a text")]
+    Package,
+
+    /// No text at `Output`, which the line's action needs.
+    #[error("\"Output\": expected a text")]
+    Output,
+}
+
+/// Who is told of skipped lines.
+pub trait Notes {
+    /// Takes note of a line that is skipped, by its number from 1 on. Returns whether the run goes on.
+    fn note(&mut self, line: u64, lack: Lack) -> bool;
+}
