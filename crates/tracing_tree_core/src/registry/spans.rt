@@ -20,6 +20,11 @@ use tracing_tree_base::field::Fields;
 ///
 /// Each span is kept with its path and with the number of its children. So a path is there at once, and a close looks at no
 /// span but those on the path of the span that closes.
+///
+/// Paths aren't shared, so they cost memory by their depth. One of at most five spans lies in the span's record, which takes 256
+/// bytes; a longer one takes eight bytes more for each of its spans: 80 at depth 10, 800 at depth 100, 8,000 at depth 1,000. The
+/// list of records doubles where it grows. So 100,000 live spans take 34 MB up to depth 5, 400 MB more at depth 500, and 800 MB
+/// more at depth 1,000.
 #[derive(Drop)]
 pub struct Registry {
     nodes: Nodes,
