@@ -25,29 +25,29 @@ module _ {W FT : Type 0} (see : LayeredView W FT → Seen) where
       subst ByOld is_old (subst ByAnswer is_answer (subst ByCall is_call made))
 
   -- the same at a moment that was told
-  pub made_at : (may_tell : Moment → Type 0) (call : Moment → Call) (moment : Moment) → may_tell moment
+  pub made_at : (tells : Option Moment → Type 0) (call : Moment → Call) (moment : Moment) → tells (Some moment)
       → (given : Call) → given ≡ call moment → (result answer : Result Reply Refusal) → result ≡ answer
       → (inside old new : LayeredView W FT) → inside ≡ old → Changes see (IsAnswered given result) inside new
-      → MadeAt see may_tell call old new answer
-  made_at may_tell call moment told given is_call result answer is_answer inside old new is_old made =
+      → MadeAt see tells call old new answer
+  made_at tells call moment told given is_call result answer is_answer inside old new is_old made =
       (moment, told, made_as given (call moment) is_call result answer is_answer inside old new is_old made)
 
 -- a call that was refused is all that a method makes
 pub leaves_refused : {W FT N A : Type 0}
-    (MadeFrom : LayeredView W FT → LayeredView W FT → Result Reply Refusal → Type 0)
+    (MadeFrom : LayeredView W FT → LayeredView W FT → Result Reply Refusal → Type 0) (Silent : Type 0)
     (after : Result A TraceFault → List Id) (reply : A → Reply) (old new : TracerView W FT N) (refusal : Refusal)
     (result : Result A TraceFault) → result ≡ Err (Refused refusal)
     → MadeFrom old.layered new.layered (Err refusal)
     → new ≡ record old { layered = new.layered; spans = after (Err (Refused refusal)) }
-    → Leaves MadeFrom (after result) (reply_as reply result) old new
-leaves_refused {A = A} MadeFrom after reply old new refusal result is_refused made left =
-    let ByResult : Result A TraceFault → Type 0 = λ one. Leaves MadeFrom (after one) (reply_as reply one) old new in
+    → Leaves MadeFrom Silent (after result) (reply_as reply result) old new
+leaves_refused {A = A} MadeFrom Silent after reply old new refusal result is_refused made left =
+    let ByResult : Result A TraceFault → Type 0 = λ one. Leaves MadeFrom Silent (after one) (reply_as reply one) old new in
     subst ByResult (sym is_refused) (record { made = made; left = left })
 
 -- the span that was closed is the current one
-pub closed_as : {W FT N : Type 0} (see : LayeredView W FT → Seen) (may_tell : N → Moment → Type 0) (found : Option Id)
+pub closed_as : {W FT N : Type 0} (see : LayeredView W FT → Seen) (tells : N → Option Moment → Type 0) (found : Option Id)
     (id : Id) → found ≡ Some id → (answer : Result Bool TraceFault) (old new : TracerView W FT N)
-    → IsClosedAs see may_tell (Some id) answer old new → IsClosedAs see may_tell found answer old new
-closed_as see may_tell found id is_found answer old new closed =
-    let ByFound : Option Id → Type 0 = λ one. IsClosedAs see may_tell one answer old new in
+    → IsClosedAs see tells (Some id) answer old new → IsClosedAs see tells found answer old new
+closed_as see tells found id is_found answer old new closed =
+    let ByFound : Option Id → Type 0 = λ one. IsClosedAs see tells one answer old new in
     subst ByFound (sym is_found) closed

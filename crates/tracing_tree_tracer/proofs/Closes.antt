@@ -13,33 +13,33 @@ use Rattle.tracing_tree_tracer.specs.Tracers.{TracerView, AreClosed, AreClosedTo
 pub length-outer : (spans : List Id) → length (outer_of spans) ≡ length spans - 1
 length-outer spans = grind (arith, common_steps)
 
-module _ {W FT N : Type 0} (see : LayeredView W FT → Seen) (may_tell : N → Moment → Type 0) where
+module _ {W FT N : Type 0} (see : LayeredView W FT → Seen) (tells : N → Option Moment → Type 0) where
   -- an accepted close leaves the spans around the current one
   pub spans-closed : (found : Option Id) (went : Bool) (old new : TracerView W FT N)
-      → IsClosedAs see may_tell found (Ok went) old new → new.spans ≡ outer_of old.spans
+      → IsClosedAs see tells found (Ok went) old new → new.spans ≡ outer_of old.spans
   spans-closed None went old new (never, same) = cc
   spans-closed (Some id) went old new closed = ap (λ tracer. tracer.spans) closed.left
 
   -- one was closed, and then the others
   pub closed-more : (depth : ℕ) (old between new : TracerView W FT N) (given : Result Bool TraceFault) (went : Bool)
       → given ≡ Ok went → (answer : Result (Unit {0}) TraceFault) → depth < length old.spans
-      → IsClosed see may_tell given old between → AreClosedTo see may_tell depth answer between new
-      → AreClosedTo see may_tell depth answer old new
+      → IsClosed see tells given old between → AreClosedTo see tells depth answer between new
+      → AreClosedTo see tells depth answer old new
   closed-more depth old between new given went is_given answer is_deep given_closed others =
-      let ByGiven : Result Bool TraceFault → Type 0 = λ one. IsClosed see may_tell one old between in
+      let ByGiven : Result Bool TraceFault → Type 0 = λ one. IsClosed see tells one old between in
       let closed = subst ByGiven is_given given_closed in
       let left : length between.spans ≡ length old.spans - 1
       = ap length (spans-closed (current_of old.spans) went old between closed) ∙ length-outer old.spans in
       let count : suc (length between.spans - depth) ≡ length old.spans - depth = omega arith in
-      let Closed : ℕ → Type 0 = λ n. AreClosed see may_tell n answer old new in
+      let Closed : ℕ → Type 0 = λ n. AreClosed see tells n answer old new in
       subst Closed count (Ok went, between, closed, others)
 
   -- the first couldn't be closed
   pub closed-none : (depth : ℕ) (old new : TracerView W FT N) (given : Result Bool TraceFault) (fault : TraceFault)
       → given ≡ Err fault → (answer : Result (Unit {0}) TraceFault) → answer ≡ Err fault → depth < length old.spans
-      → IsClosed see may_tell given old new → AreClosedTo see may_tell depth answer old new
+      → IsClosed see tells given old new → AreClosedTo see tells depth answer old new
   closed-none depth old new given fault is_given answer is_answer is_deep given_closed =
-      let ByGiven : Result Bool TraceFault → Type 0 = λ one. IsClosed see may_tell one old new in
+      let ByGiven : Result Bool TraceFault → Type 0 = λ one. IsClosed see tells one old new in
       let count : suc (length old.spans - depth - 1) ≡ length old.spans - depth = omega arith in
-      let Closed : ℕ → Type 0 = λ n. AreClosed see may_tell n answer old new in
+      let Closed : ℕ → Type 0 = λ n. AreClosed see tells n answer old new in
       subst Closed count (Err fault, new, subst ByGiven is_given given_closed, (is_answer, refl))

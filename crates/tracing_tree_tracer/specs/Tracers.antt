@@ -93,55 +93,58 @@ reply_as reply (Err fault) = Err fault
 abbrev pub done : Unit {0} → Reply
 done nothing = Done
 
--- a call was made and answered so, or none was made
-abbrev pub CameOf : (Result Reply Refusal → Type 0) → Type 0 → Result Reply TraceFault → Type 0
-CameOf MadeWith Unmade (Ok reply) = MadeWith (Ok reply)
-CameOf MadeWith Unmade (Err (Refused refusal)) = MadeWith (Err refusal)
-CameOf MadeWith Unmade (Err NoSpan) = ⊥
-CameOf MadeWith Unmade (Err NoMoment) = Unmade
-CameOf MadeWith Unmade (Err Memory) = Unmade
+-- a call was made and answered so, or none was made: for want of a moment, only where none may
+-- have been told, or of memory
+abbrev pub CameOf : (Result Reply Refusal → Type 0) → Type 0 → Type 0 → Result Reply TraceFault
+    → Type 0
+CameOf MadeWith Silent Unmade (Ok reply) = MadeWith (Ok reply)
+CameOf MadeWith Silent Unmade (Err (Refused refusal)) = MadeWith (Err refusal)
+CameOf MadeWith Silent Unmade (Err NoSpan) = ⊥
+CameOf MadeWith Silent Unmade (Err NoMoment) = Silent × Unmade
+CameOf MadeWith Silent Unmade (Err Memory) = Unmade
 
 module _ {W FT : Type 0} (see : LayeredView W FT → Seen) where
   -- this call was made and answered so
   abbrev pub Made : Call → LayeredView W FT → LayeredView W FT → Result Reply Refusal → Type 0
   Made call old new answer = Changes see (IsAnswered call answer) old new
 
-  -- the call of one of these moments was made and answered so
-  abbrev pub MadeAt : (Moment → Type 0) → (Moment → Call) → LayeredView W FT → LayeredView W FT
-      → Result Reply Refusal → Type 0
-  MadeAt may_tell call old new answer =
-      (moment : Moment) × may_tell moment × Made (call moment) old new answer
+  -- the call of a moment that may be told was made and answered so
+  abbrev pub MadeAt : (Option Moment → Type 0) → (Moment → Call) → LayeredView W FT
+      → LayeredView W FT → Result Reply Refusal → Type 0
+  MadeAt tells call old new answer =
+      (moment : Moment) × tells (Some moment) × Made (call moment) old new answer
 
 module _ {W FT N : Type 0} where
   -- what a method leaves that makes one call: these open spans, and nothing else changed if it
   -- made none
   pub record Leaves (MadeFrom : LayeredView W FT → LayeredView W FT → Result Reply Refusal → Type 0)
-      (spans : List Id) (answer : Result Reply TraceFault) (old new : TracerView W FT N) : Type 0 where
-    pub made : CameOf (MadeFrom old.layered new.layered) (new.layered ≡ old.layered) answer
+      (Silent : Type 0) (spans : List Id) (answer : Result Reply TraceFault)
+      (old new : TracerView W FT N) : Type 0 where
+    pub made : CameOf (MadeFrom old.layered new.layered) Silent (new.layered ≡ old.layered) answer
     pub left : new ≡ record old { layered = new.layered; spans = spans }
 
-module _ {W FT N : Type 0} (see : LayeredView W FT → Seen) (may_tell : N → Moment → Type 0) where
+module _ {W FT N : Type 0} (see : LayeredView W FT → Seen) (tells : N → Option Moment → Type 0) where
   -- a span was opened
   abbrev pub IsOpened : List ℕ → List Field → Result Id TraceFault → TracerView W FT N
       → TracerView W FT N → Type 0
   IsOpened name fields answer old new =
-      Leaves (MadeAt see (may_tell old.clock) (open_call old.teller old.spans name fields))
-      (after_open old.spans answer) (reply_as Span answer) old new
+      Leaves (MadeAt see (tells old.clock) (open_call old.teller old.spans name fields))
+      (tells old.clock None) (after_open old.spans answer) (reply_as Span answer) old new
 
   -- an event was told
   abbrev pub IsTold : Level → List ℕ → List Field → Result (Unit {0}) TraceFault
       → TracerView W FT N → TracerView W FT N → Type 0
   IsTold level message fields answer old new =
-      Leaves (MadeAt see (may_tell old.clock) (event_call old.teller old.spans level message fields))
-      old.spans (reply_as done answer) old new
+      Leaves (MadeAt see (tells old.clock) (event_call old.teller old.spans level message fields))
+      (tells old.clock None) old.spans (reply_as done answer) old new
 
   -- this span, which is the current one, was closed, if there is one
   abbrev pub IsClosedAs : Option Id → Result Bool TraceFault → TracerView W FT N
       → TracerView W FT N → Type 0
   IsClosedAs None answer old new = (answer ≡ Err NoSpan) × (new ≡ old)
   IsClosedAs (Some id) answer old new =
-      Leaves (MadeAt see (may_tell old.clock) (close_call old.teller old.spans id))
-      (after_close old.spans answer) (reply_as Closed answer) old new
+      Leaves (MadeAt see (tells old.clock) (close_call old.teller old.spans id))
+      (tells old.clock None) (after_close old.spans answer) (reply_as Closed answer) old new
 
   abbrev pub IsClosed : Result Bool TraceFault → TracerView W FT N → TracerView W FT N → Type 0
   IsClosed answer old new = IsClosedAs (current_of old.spans) answer old new
@@ -171,7 +174,7 @@ abbrev pub IsRecordedAs : {W FT N : Type 0} → (LayeredView W FT → Seen) → 
     → Result (Unit {0}) TraceFault → TracerView W FT N → TracerView W FT N → Type 0
 IsRecordedAs see fields None answer old new = (answer ≡ Err NoSpan) × (new ≡ old)
 IsRecordedAs see fields (Some id) answer old new =
-    Leaves (Made see (record_call fields id)) old.spans (reply_as done answer) old new
+    Leaves (Made see (record_call fields id)) ⊥ old.spans (reply_as done answer) old new
 
 abbrev pub IsRecorded : {W FT N : Type 0} → (LayeredView W FT → Seen) → List Field
     → Result (Unit {0}) TraceFault → TracerView W FT N → TracerView W FT N → Type 0

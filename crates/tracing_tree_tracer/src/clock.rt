@@ -1,6 +1,6 @@
 //! Clocks, which tell the moment of each call.
 
-ghost use Rattle.std.specs.Prelude.{◌≡◌, Some, IfSome};
+ghost use Rattle.std.specs.Prelude.{◌≡◌, Some};
 
 use jiff::Timestamp;
 use std::io;
@@ -9,21 +9,22 @@ use tracing_tree_core::time::Moment;
 
 /// A clock of a tracer.
 pub trait Now: Drop {
+    ghost use Rattle.std.specs.Prelude.{Option};
     ghost use Rattle.tracing_tree_base.specs.declared.context.Moment.{Moment};
 
-    /// The moments that it may tell.
-    ghost may_tell: { Self → Moment → Type 0 };
+    /// What it may tell: a moment, or none.
+    ghost tells: { Self → Option Moment → Type 0 };
 
     /// The moment that it is now. `None` where it can't be told.
     fn now(&self) -> Option<Moment>
-        ensures { IfSome result (may_tell self.now) };
+        ensures { tells self.now result };
 }
 
 /// A clock that stands still at this moment: for tests, and where nothing shows times.
 impl Now for Moment {
-    ghost use Rattle.std.specs.Prelude.{◌≡◌};
+    ghost use Rattle.std.specs.Prelude.{◌≡◌, Some};
 
-    ghost may_tell = { λ still moment. moment ≡ still };
+    ghost tells = { λ still told. told ≡ Some still };
 
     fn now(&self) -> Option<Moment>
         ensures { result ≡ Some self.now }
@@ -51,7 +52,7 @@ impl<'a, R: Clock> SystemClock<'a, R> {
 impl<R: Clock> Now for SystemClock<'_, R> {
     ghost use Rattle.std.specs.Prelude.{⊤};
 
-    ghost may_tell = { λ clock moment. ⊤ };
+    ghost tells = { λ clock told. ⊤ };
 
     fn now(&self) -> Option<Moment> {
         let since = self.started.elapsed(self.rt).ok()?;

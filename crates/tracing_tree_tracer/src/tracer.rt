@@ -1,6 +1,6 @@
 //! A tracer: a registry with a layer, the spans in which a service is, and what each call is handed.
 
-ghost use Rattle.std.specs.Prelude.{◌≡◌, ◌≢◌, [], IfOk, MatchResult, length};
+ghost use Rattle.std.specs.Prelude.{◌≡◌, [], Some, None, IfOk, MatchResult, length};
 ghost use Rattle.tracing_tree_layer.specs.Calls.Layers.{seen};
 ghost use Rattle.tracing_tree_tracer.specs.Values.{fields_of};
 ghost use Rattle.tracing_tree_tracer.specs.Tracers.{current_of, context_in, open_call, event_call, close_call, AreClosedTo, IsOpened, IsTold, IsClosed, IsRecorded};
@@ -26,7 +26,7 @@ pub enum TraceFault {
     #[error("no span is open")]
     NoSpan,
 
-    /// The clock told no moment.
+    /// The clock told no moment. Never with a clock that stands still.
     #[error("no moment")]
     NoMoment,
 
@@ -156,7 +156,7 @@ impl<W: Output, FT: FormatTime, N: Now> Tracer<W, FT, N> {
 
     /// Opens a span with these fields in the current one, and returns its id. From now on it is the current one.
     pub fn open(&mut self, name: &str, fields: &[(&str, Value<'_>)]) -> Result<Id, TraceFault>
-        ensures { IsOpened (seen FT.FormatTime W.Output) N.may_tell name.now (fields_of fields.now)
+        ensures { IsOpened (seen FT.FormatTime W.Output) N.tells name.now (fields_of fields.now)
             result self.old self.new }
     {
         let moment = self.moment()?;
@@ -174,7 +174,7 @@ impl<W: Output, FT: FormatTime, N: Now> Tracer<W, FT, N> {
     ///
     /// `NoSpan` where no span is open.
     pub fn close(&mut self) -> Result<bool, TraceFault>
-        ensures { IsClosed (seen FT.FormatTime W.Output) N.may_tell result self.old self.new }
+        ensures { IsClosed (seen FT.FormatTime W.Output) N.tells result self.old self.new }
     {
         let Some(id) = self.current() else {
             return Err(TraceFault::NoSpan);
@@ -195,7 +195,7 @@ impl<W: Output, FT: FormatTime, N: Now> Tracer<W, FT, N> {
         message: &str,
         fields: &[(&str, Value<'_>)],
     ) -> Result<(), TraceFault>
-        ensures { IsTold (seen FT.FormatTime W.Output) N.may_tell level message.now
+        ensures { IsTold (seen FT.FormatTime W.Output) N.tells level message.now
             (fields_of fields.now) result self.old self.new }
     {
         let moment = self.moment()?;
@@ -208,7 +208,7 @@ impl<W: Output, FT: FormatTime, N: Now> Tracer<W, FT, N> {
 
     /// Tells an event of level TRACE, as `event` does.
     pub fn trace(&mut self, message: &str, fields: &[(&str, Value<'_>)]) -> Result<(), TraceFault>
-        ensures { IsTold (seen FT.FormatTime W.Output) N.may_tell Level.Trace message.now
+        ensures { IsTold (seen FT.FormatTime W.Output) N.tells Level.Trace message.now
             (fields_of fields.now) result self.old self.new }
     {
         self.event(Level::Trace, message, fields)
@@ -216,7 +216,7 @@ impl<W: Output, FT: FormatTime, N: Now> Tracer<W, FT, N> {
 
     /// Tells an event of level DEBUG, as `event` does.
     pub fn debug(&mut self, message: &str, fields: &[(&str, Value<'_>)]) -> Result<(), TraceFault>
-        ensures { IsTold (seen FT.FormatTime W.Output) N.may_tell Level.Debug message.now
+        ensures { IsTold (seen FT.FormatTime W.Output) N.tells Level.Debug message.now
             (fields_of fields.now) result self.old self.new }
     {
         self.event(Level::Debug, message, fields)
@@ -224,7 +224,7 @@ impl<W: Output, FT: FormatTime, N: Now> Tracer<W, FT, N> {
 
     /// Tells an event of level INFO, as `event` does.
     pub fn info(&mut self, message: &str, fields: &[(&str, Value<'_>)]) -> Result<(), TraceFault>
-        ensures { IsTold (seen FT.FormatTime W.Output) N.may_tell Level.Info message.now
+        ensures { IsTold (seen FT.FormatTime W.Output) N.tells Level.Info message.now
             (fields_of fields.now) result self.old self.new }
     {
         self.event(Level::Info, message, fields)
@@ -232,7 +232,7 @@ impl<W: Output, FT: FormatTime, N: Now> Tracer<W, FT, N> {
 
     /// Tells an event of level WARN, as `event` does.
     pub fn warn(&mut self, message: &str, fields: &[(&str, Value<'_>)]) -> Result<(), TraceFault>
-        ensures { IsTold (seen FT.FormatTime W.Output) N.may_tell Level.Warn message.now
+        ensures { IsTold (seen FT.FormatTime W.Output) N.tells Level.Warn message.now
             (fields_of fields.now) result self.old self.new }
     {
         self.event(Level::Warn, message, fields)
@@ -240,7 +240,7 @@ impl<W: Output, FT: FormatTime, N: Now> Tracer<W, FT, N> {
 
     /// Tells an event of level ERROR, as `event` does.
     pub fn error(&mut self, message: &str, fields: &[(&str, Value<'_>)]) -> Result<(), TraceFault>
-        ensures { IsTold (seen FT.FormatTime W.Output) N.may_tell Level.Error message.now
+        ensures { IsTold (seen FT.FormatTime W.Output) N.tells Level.Error message.now
             (fields_of fields.now) result self.old self.new }
     {
         self.event(Level::Error, message, fields)
@@ -250,9 +250,8 @@ impl<W: Output, FT: FormatTime, N: Now> Tracer<W, FT, N> {
     ///
     /// `NoSpan` where no span is open.
     pub fn record(&mut self, fields: &[(&str, Value<'_>)]) -> Result<(), TraceFault>
-        ensures recorded { IsRecorded (seen FT.FormatTime W.Output) (fields_of fields.now) result
-            self.old self.new }
-        ensures moment { result ≢ Err TraceFault.NoMoment }
+        ensures { IsRecorded (seen FT.FormatTime W.Output) (fields_of fields.now) result self.old
+            self.new }
     {
         let Some(id) = self.current() else {
             return Err(TraceFault::NoSpan);
@@ -266,7 +265,7 @@ impl<W: Output, FT: FormatTime, N: Now> Tracer<W, FT, N> {
 
     /// Closes spans, innermost first, until no more than so many are open. At the first that can't be closed it ends.
     pub fn close_to(&mut self, depth: usize) -> Result<(), TraceFault>
-        ensures { AreClosedTo (seen FT.FormatTime W.Output) N.may_tell depth result self.old self.new }
+        ensures { AreClosedTo (seen FT.FormatTime W.Output) N.tells depth result self.old self.new }
     {
         if self.depth() <= depth {
             return Ok(());
@@ -276,8 +275,8 @@ impl<W: Output, FT: FormatTime, N: Now> Tracer<W, FT, N> {
     }
 
     fn moment(&self) -> Result<Moment, TraceFault>
-        ensures { MatchResult result (N.may_tell self.now.clock)
-            (λ fault. fault ≡ TraceFault.NoMoment) }
+        ensures { MatchResult result (λ moment. N.tells self.now.clock (Some moment))
+            (λ fault. (fault ≡ TraceFault.NoMoment) × N.tells self.now.clock None) }
     {
         self.clock.now().ok_or(TraceFault::NoMoment)
     }
@@ -354,9 +353,9 @@ impl<W: Output, FT: FormatTime, N: Now> Spans for Tracer<W, FT, N> {
 
     ghost depth_of = { λ tracer. length tracer.spans };
 
-    ghost opens = { IsOpened (seen FT.FormatTime W.Output) N.may_tell };
+    ghost opens = { IsOpened (seen FT.FormatTime W.Output) N.tells };
 
-    ghost closes_to = { AreClosedTo (seen FT.FormatTime W.Output) N.may_tell };
+    ghost closes_to = { AreClosedTo (seen FT.FormatTime W.Output) N.tells };
 
     fn depth(&self) -> usize {
         self.depth()

@@ -1,6 +1,7 @@
 //! What a tracer draws.
 
 use crate::lined::lined;
+use crate::steps::{Given, Line, Step, first_unlike};
 use jiff::Timestamp;
 use std::alloc::Global;
 use std::test::*;
@@ -42,35 +43,39 @@ fn draws_a_connection(rt: HostRuntime) -> Result<(), Fail> {
     Ok(())
 }
 
-fn levels(tracer: &mut Tracer<Tape, (), Moment>) -> Result<(), TraceFault> {
-    tracer.trace("a", &[])?;
-    tracer.debug("b", &[])?;
-    tracer.info("c", &[])?;
-    tracer.warn("d", &[])?;
-    tracer.error("e", &[])?;
-    tracer.event(Level::Info, "f", &[])
-}
+const LEVELS: [Line<'static>; 6] = [
+    (Step::Tell(Level::Trace, "a"), Ok(Given::Done), 0),
+    (Step::Tell(Level::Debug, "b"), Ok(Given::Done), 0),
+    (Step::Tell(Level::Info, "c"), Ok(Given::Done), 0),
+    (Step::Tell(Level::Warn, "d"), Ok(Given::Done), 0),
+    (Step::Tell(Level::Error, "e"), Ok(Given::Done), 0),
+    (Step::Event(Level::Info, "f"), Ok(Given::Done), 0),
+];
 
 #[test]
 fn draws_each_level(rt: HostRuntime) -> Result<(), Fail> {
     let mut tracer = tracer(rt.alloc());
-    assert_eq!(rt; levels(&mut tracer), Ok(()));
+    assert_eq!(rt; first_unlike(&mut tracer, LEVELS.as_slice()), None);
     let text = "TRACE a\nDEBUG b\nINFO c\nWARN d\nERROR e\nINFO f\n";
     assert_eq!(rt; tracer.layered().writer().bytes(), text.as_bytes());
     Ok(())
 }
 
+const OPENS: [Line<'static>; 2] = [
+    (Step::Open("a"), Ok(Given::Span(1)), 1),
+    (Step::Open("b"), Ok(Given::Span(2)), 2),
+];
+
+const CLOSES: [Line<'static>; 1] = [(Step::Close, Ok(Given::Closed(true)), 1)];
+
 #[test]
 fn the_innermost_open_span_is_the_current_one(rt: HostRuntime) -> Result<(), Fail> {
     let mut tracer = tracer(rt.alloc());
     assert_eq!(rt; tracer.current(), None);
-    assert_eq!(rt; tracer.open("a", &[]), Ok(Id(1)));
-    assert_eq!(rt; tracer.open("b", &[]), Ok(Id(2)));
+    assert_eq!(rt; first_unlike(&mut tracer, OPENS.as_slice()), None);
     assert_eq!(rt; tracer.current(), Some(Id(2)));
-    assert_eq!(rt; tracer.depth(), 2);
-    assert_eq!(rt; tracer.close(), Ok(true));
+    assert_eq!(rt; first_unlike(&mut tracer, CLOSES.as_slice()), None);
     assert_eq!(rt; tracer.current(), Some(Id(1)));
-    assert_eq!(rt; tracer.depth(), 1);
     Ok(())
 }
 

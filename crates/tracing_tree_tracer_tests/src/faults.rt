@@ -1,12 +1,14 @@
 //! What a tracer does where it can't.
 
 use crate::lined::{lined, lined_over};
+use crate::steps::{Given, Line, Step, first_unlike};
 use jiff::Timestamp;
 use std::alloc::Global;
 use std::io;
 use std::io::Write;
 use std::test::*;
 use tracing_tree_core::format::{Refusal, Tape, Wrap};
+use tracing_tree_core::style::Level;
 use tracing_tree_core::time::Moment;
 use tracing_tree_tracer::{Now, TraceFault, Tracer, within};
 
@@ -20,11 +22,15 @@ fn tracer(alloc: Global) -> Tracer<Tape, (), Moment> {
     Tracer::new(alloc, lined(alloc), START)
 }
 
+const OUTSIDE: [Line<'static>; 2] = [
+    (Step::Close, Err(TraceFault::NoSpan), 0),
+    (Step::Record, Err(TraceFault::NoSpan), 0),
+];
+
 #[test]
 fn nothing_is_closed_outside_spans(rt: HostRuntime) -> Result<(), Fail> {
     let mut tracer = tracer(rt.alloc());
-    assert_eq!(rt; tracer.close(), Err(TraceFault::NoSpan));
-    assert_eq!(rt; tracer.record(&[]), Err(TraceFault::NoSpan));
+    assert_eq!(rt; first_unlike(&mut tracer, OUTSIDE.as_slice()), None);
     Ok(())
 }
 
@@ -33,21 +39,24 @@ fn nothing_is_closed_outside_spans(rt: HostRuntime) -> Result<(), Fail> {
 struct Broken;
 
 impl Now for Broken {
-    ghost use Rattle.std.specs.Prelude.{⊤};
+    ghost use Rattle.std.specs.Prelude.{◌≡◌, None};
 
-    ghost may_tell = { λ clock moment. ⊤ };
+    ghost tells = { λ clock told. told ≡ None };
 
     fn now(&self) -> Option<Moment> {
         None
     }
 }
 
+const TIMELESS: [Line<'static>; 2] = [
+    (Step::Open("a"), Err(TraceFault::NoMoment), 0),
+    (Step::Tell(Level::Info, "x"), Err(TraceFault::NoMoment), 0),
+];
+
 #[test]
 fn without_a_moment_no_call_is_made(rt: HostRuntime) -> Result<(), Fail> {
     let mut tracer = Tracer::new(rt.alloc(), lined(rt.alloc()), Broken);
-    assert_eq!(rt; tracer.open("a", &[]), Err(TraceFault::NoMoment));
-    assert_eq!(rt; tracer.info("x", &[]), Err(TraceFault::NoMoment));
-    assert_eq!(rt; tracer.depth(), 0);
+    assert_eq!(rt; first_unlike(&mut tracer, TIMELESS.as_slice()), None);
     assert!(rt; tracer.layered().writer().bytes().is_empty());
     Ok(())
 }
@@ -72,20 +81,23 @@ impl Write for Halting {
     }
 }
 
+const HALTED: [Line<'static>; 4] = [
+    (Step::Open("a"), Ok(Given::Span(1)), 1),
+    (Step::Open("b"), Ok(Given::Span(2)), 2),
+    (Step::Close, Err(TraceFault::Refused(Refusal::Writer)), 2),
+    (
+        Step::Open("c"),
+        Err(TraceFault::Refused(Refusal::Failed)),
+        2,
+    ),
+];
+
 #[test]
 fn a_fault_of_the_writer_leaves_the_open_spans(rt: HostRuntime) -> Result<(), Fail> {
     let alloc = rt.alloc();
     let writer = Wrap::new(Halting { left: 2 });
     let mut tracer = Tracer::new(alloc, lined_over(alloc, writer), START);
-    assert!(rt; tracer.open("a", &[]).is_ok());
-    assert!(rt; tracer.open("b", &[]).is_ok());
-    assert_eq!(rt; tracer.close(), Err(TraceFault::Refused(Refusal::Writer)));
-    assert_eq!(rt; tracer.depth(), 2);
-    assert_eq!(rt;
-        tracer.open("c", &[]),
-        Err(TraceFault::Refused(Refusal::Failed))
-    );
-    assert_eq!(rt; tracer.depth(), 2);
+    assert_eq!(rt; first_unlike(&mut tracer, HALTED.as_slice()), None);
     Ok(())
 }
 

@@ -5,6 +5,9 @@
 mod drawn;
 #[cfg(test)]
 mod faults;
-pub mod lined;
+#[cfg(test)]
+mod lined;
+#[cfg(test)]
+mod steps;
 #[cfg(test)]
 mod values;

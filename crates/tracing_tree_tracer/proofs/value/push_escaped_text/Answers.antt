@@ -4,9 +4,6 @@ use Rattle.std.proofs.StrCases.{chars_of_empty}
 use Rattle.tracing_tree_tracer.specs.Values.{escaped_char, escaped_text}
 use Rattle.tracing_tree_tracer.proofs.value.push_escaped_text.Goals as goal
 
-pub loop-c-init : goal.loop-c-init
-loop-c-init c = search rules
-
 pub loop-c-preserved : goal.loop-c-preserved
 loop-c-preserved c =
     let held = c.loop-c.invariant in

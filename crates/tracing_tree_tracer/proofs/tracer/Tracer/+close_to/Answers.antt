@@ -5,10 +5,10 @@ use Rattle.tracing_tree_tracer.proofs.tracer.Tracer.+close_to.Goals as goal
 
 pub returns-in_err-close : goal.returns-in_err-close
 returns-in_err-close g t c =
-    closed-none (seen g.FT.FormatTime g.W.Output) g.N.Now.may_tell c.args.depth c.args.self.now c.close.new.self
-    c.close.result c.in_err-close.field-0.0 (search rules) c.from_residual.result (search rules) (search rules) c.close.ensures
+    closed-none (seen g.FT.FormatTime g.W.Output) g.N.Now.tells c.args.depth c.args.self.now _
+    _ c.in_err-close.field-0.0 (search rules) _ (search rules) (search rules) c.close.ensures
 
 pub returns : goal.returns
 returns g t c =
-    closed-more (seen g.FT.FormatTime g.W.Output) g.N.Now.may_tell c.args.depth c.args.self.now c.close.new.self c.close_to.new.self
-    c.close.result c.in_ok-close.field-0 (search rules) c.close_to.result (search rules) c.close.ensures c.close_to.ensures
+    closed-more (seen g.FT.FormatTime g.W.Output) g.N.Now.tells c.args.depth c.args.self.now _ _
+    _ c.in_ok-close.field-0 (search rules) _ (search rules) c.close.ensures c.close_to.ensures

@@ -8,25 +8,25 @@ use Rattle.tracing_tree_tracer.proofs.tracer.Tracer.close.Goals as goal
 pub returns-in_err-went : goal.returns-in_err-went
 returns-in_err-went g c =
     let self = c.args.self.now in
-    closed_as (seen g.FT.FormatTime g.W.Output) g.N.Now.may_tell (current_of self.spans) c.in-Some.id (search rules) _ self _
-    (leaves_refused _ (after_close self.spans) (λ went. Closed went) self _ c.in_err-went.field-0.0
+    closed_as (seen g.FT.FormatTime g.W.Output) g.N.Now.tells (current_of self.spans) c.in-Some.id (search rules) _ self _
+    (leaves_refused _ _ (after_close self.spans) (λ went. Closed went) self _ c.in_err-went.field-0.0
     c.from_residual-in_err-went.result (search rules)
-    (made_at (seen g.FT.FormatTime g.W.Output) (g.N.Now.may_tell self.clock)
+    (made_at (seen g.FT.FormatTime g.W.Output) (g.N.Now.tells self.clock)
     (close_call self.teller self.spans c.in-Some.id)
-    c.in_ok-moment.moment (search rules) c.in_ok-call.call (search rules)
-    c.call.result (Err c.in_err-went.field-0.0) (search rules)
+    c.in_ok-moment.moment (search rules) _ (search rules)
+    _ (Err c.in_err-went.field-0.0) (search rules)
     _ self.layered _ (search rules) c.call.ensures.answered)
     (search rules))
 
 pub returns : goal.returns
 returns g c =
     let self = c.args.self.now in
-    closed_as (seen g.FT.FormatTime g.W.Output) g.N.Now.may_tell (current_of self.spans) c.in-Some.id (search rules) _ self _
+    closed_as (seen g.FT.FormatTime g.W.Output) g.N.Now.tells (current_of self.spans) c.in-Some.id (search rules) _ self _
     (record {
-      made = made_at (seen g.FT.FormatTime g.W.Output) (g.N.Now.may_tell self.clock)
+      made = made_at (seen g.FT.FormatTime g.W.Output) (g.N.Now.tells self.clock)
           (close_call self.teller self.spans c.in-Some.id)
-          c.in_ok-moment.moment (search rules) c.in_ok-call.call (search rules)
-          c.call.result (Ok (Closed c.in-Closed.went)) (search rules)
+          c.in_ok-moment.moment (search rules) _ (search rules)
+          _ (Ok (Closed c.in-Closed.went)) (search rules)
           _ self.layered _ (search rules) c.call.ensures.answered;
       left = search rules;
     })

@@ -9,11 +9,11 @@ use Rattle.tracing_tree_tracer.proofs.tracer.Tracer.event.Goals as goal
 pub returns-in_err-call-2 : goal.returns-in_err-call-2
 returns-in_err-call-2 g c =
     let self = c.args.self.now in
-    leaves_refused _ (λ result. self.spans) done self _ c.in_err-call-2.field-0.0 c.from_residual-in_err-call-2.result (search rules)
-    (made_at (seen g.FT.FormatTime g.W.Output) (g.N.Now.may_tell self.clock)
+    leaves_refused _ _ (λ result. self.spans) done self _ c.in_err-call-2.field-0.0 c.from_residual-in_err-call-2.result (search rules)
+    (made_at (seen g.FT.FormatTime g.W.Output) (g.N.Now.tells self.clock)
     (event_call self.teller self.spans c.args.level c.args.message.now (fields_of c.args.fields.now))
-    c.in_ok-moment.moment (search rules) c.in_ok-call.call (search rules)
-    c.call.result (Err c.in_err-call-2.field-0.0) (search rules)
+    c.in_ok-moment.moment (search rules) _ (search rules)
+    _ (Err c.in_err-call-2.field-0.0) (search rules)
     _ self.layered _ (search rules) c.call.ensures.answered)
     (search rules)
 
@@ -21,10 +21,10 @@ pub returns : goal.returns
 returns g c =
     let self = c.args.self.now in
     record {
-      made = made_at (seen g.FT.FormatTime g.W.Output) (g.N.Now.may_tell self.clock)
+      made = made_at (seen g.FT.FormatTime g.W.Output) (g.N.Now.tells self.clock)
           (event_call self.teller self.spans c.args.level c.args.message.now (fields_of c.args.fields.now))
-          c.in_ok-moment.moment (search rules) c.in_ok-call.call (search rules)
-          c.call.result (Ok Done) (search rules)
+          c.in_ok-moment.moment (search rules) _ (search rules)
+          _ (Ok Done) (search rules)
           _ self.layered _ (search rules) c.call.ensures.answered;
       left = search rules;
     }

@@ -9,11 +9,11 @@ use Rattle.tracing_tree_tracer.proofs.tracer.Tracer.open.Goals as goal
 pub returns-in_err-id : goal.returns-in_err-id
 returns-in_err-id g c =
     let self = c.args.self.now in
-    leaves_refused _ (after_open self.spans) (λ id. Span id) self _ c.in_err-id.field-0.0 c.from_residual-in_err-id.result (search rules)
-    (made_at (seen g.FT.FormatTime g.W.Output) (g.N.Now.may_tell self.clock)
+    leaves_refused _ _ (after_open self.spans) (λ id. Span id) self _ c.in_err-id.field-0.0 c.from_residual-in_err-id.result (search rules)
+    (made_at (seen g.FT.FormatTime g.W.Output) (g.N.Now.tells self.clock)
     (open_call self.teller self.spans c.args.name.now (fields_of c.args.fields.now))
-    c.in_ok-moment.moment (search rules) c.in_ok-call.call (search rules)
-    c.call-2.result (Err c.in_err-id.field-0.0) (search rules)
+    c.in_ok-moment.moment (search rules) _ (search rules)
+    _ (Err c.in_err-id.field-0.0) (search rules)
     _ self.layered _ (search rules) c.call-2.ensures.answered)
     (search rules)
 
@@ -21,10 +21,10 @@ pub returns : goal.returns
 returns g c =
     let self = c.args.self.now in
     record {
-      made = made_at (seen g.FT.FormatTime g.W.Output) (g.N.Now.may_tell self.clock)
+      made = made_at (seen g.FT.FormatTime g.W.Output) (g.N.Now.tells self.clock)
           (open_call self.teller self.spans c.args.name.now (fields_of c.args.fields.now))
-          c.in_ok-moment.moment (search rules) c.in_ok-call.call (search rules)
-          c.call-2.result (Ok (Span c.in-Span.id)) (search rules)
+          c.in_ok-moment.moment (search rules) _ (search rules)
+          _ (Ok (Span c.in-Span.id)) (search rules)
           _ self.layered _ (search rules) c.call-2.ensures.answered;
       left = search rules;
     }
