@@ -5,6 +5,7 @@ ghost use Rattle.tracing_tree_shared.specs.Kept.{KeepsReplay, seen_on_tape, IsAp
 
 use crate::draft::{Draft, Refused};
 use std::alloc::Global;
+use std::boxed::Box;
 use std::marker::Model;
 use tracing_tree_core::format::{Config, Id, Refusal, Tape};
 use tracing_tree_core::time::FormatTime;
@@ -15,7 +16,8 @@ use tracing_tree_layer::call::{Call, Reply};
 #[derive(Debug, Drop)]
 pub struct Receipt {
     place: usize,
-    entry: (Call, Reply),
+    call: Box<Call, Global>,
+    reply: Reply,
 }
 
 impl Model for Receipt {
@@ -23,7 +25,7 @@ impl Model for Receipt {
 
     ghost Value = { Slip };
 
-    ghost view = { λ r. record { place = r.place; entry = r.entry } };
+    ghost view = { λ r. record { place = r.place; entry = (r.call.value, r.reply) } };
 }
 
 impl Receipt {
@@ -38,14 +40,14 @@ impl Receipt {
     pub fn call(&self) -> &Call
         ensures { result.now ≡ self.now.entry.0 }
     {
-        &self.entry.0
+        self.call.as_ref()
     }
 
     /// Its reply.
     pub fn reply(&self) -> Reply
         ensures { result ≡ self.now.entry.1 }
     {
-        self.entry.1
+        self.reply
     }
 }
 
@@ -137,7 +139,8 @@ impl<FT: FormatTime> Book<FT> {
                 self.history.push_reserved((kept, reply));
                 Ok(Receipt {
                     place,
-                    entry: (draft.into_call(), reply),
+                    call: draft.into_call(),
+                    reply,
                 })
             }
             Err(cause) => {

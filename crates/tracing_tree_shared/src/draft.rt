@@ -6,6 +6,7 @@ ghost use Rattle.tracing_tree_shared.specs.Drafts.{IsTailOf, tail_under, tail_te
 ghost use Rattle.tracing_tree_shared.specs.Kept.{IsAnsweredOrLacks};
 
 use std::alloc::{AllocError, Global};
+use std::boxed::Box;
 use std::marker::Model;
 use tracing_tree_core::format::{Config, Output, Refusal};
 use tracing_tree_core::time::FormatTime;
@@ -33,20 +34,23 @@ impl Model for Tail {
 /// A call on its way. Of an event, level, target and fields are drawn already: its tail.
 #[derive(Debug, Drop)]
 pub struct Draft {
-    call: Call,
+    // In a box, as the copy: a draft and its receipt are handed on under the lock.
+    call: Box<Call, Global>,
     tail: Option<Tail>,
     // The copy that a history will keep, where it was made before the lock was taken.
-    copy: Option<Call>,
+    copy: Option<Box<Call, Global>>,
 }
 
 impl Model for Draft {
+    ghost use Rattle.std.specs.Prelude.{option_map};
     ghost use Rattle.tracing_tree_shared.specs.Drafts.{DraftView, KeepsTail, IsCopyOf};
 
     ghost Value = { DraftView };
 
-    ghost view = { λ d. record { call = d.call; tail = d.tail } };
+    ghost view = { λ d. record { call = d.call.value; tail = d.tail } };
 
-    ghost invariant = { λ d. KeepsTail d.call d.tail × IsCopyOf d.call d.copy };
+    ghost invariant = { λ d. KeepsTail d.call.value d.tail
+        × IsCopyOf d.call.value (option_map (λ copy. copy.value) d.copy) };
 }
 
 impl Draft {
@@ -58,17 +62,17 @@ impl Draft {
     {
         let tail = drawn_tail(alloc, config, &call)?;
         Ok(Draft {
-            call,
+            call: Box::new(alloc, call)?,
             tail,
             copy: None,
         })
     }
 
     // The same draft with a copy of its call, so that `take_copy` needs no memory.
-    pub(crate) fn with_copy(self) -> Result<Draft, AllocError>
+    pub(crate) fn with_copy(self, alloc: Global) -> Result<Draft, AllocError>
         ensures { IfOk result (λ draft. draft ≡ self) }
     {
-        let copy = Some(self.call.copied()?);
+        let copy = Some(Box::new(alloc, self.call.copied()?)?);
         let Draft {
             call,
             tail,
@@ -83,7 +87,7 @@ impl Draft {
         ensures same { self.new ≡ self.old }
     {
         match self.copy.take() {
-            Some(copy) => Ok(copy),
+            Some(copy) => Ok(Box::into_inner(copy)),
             None => self.call.copied(),
         }
     }
@@ -92,7 +96,7 @@ impl Draft {
     pub fn call(&self) -> &Call
         ensures { result.now ≡ self.now.call }
     {
-        &self.call
+        self.call.as_ref()
     }
 
     /// The tail of an event; none of another call.
@@ -127,7 +131,7 @@ impl Draft {
             (seen FT.FormatTime W.Output layered.old) (seen FT.FormatTime W.Output layered.new) }
     {
         let tail = self.tail_under(layered.layer().config());
-        match &self.call {
+        match self.call.as_ref() {
             Call::Event(event, context) => layered.call_event(event, context, tail),
             call => {
                 let Ok(told) = call.copied() else {
@@ -139,8 +143,8 @@ impl Draft {
     }
 
     // The call alone.
-    pub(crate) fn into_call(self) -> Call
-        ensures { result ≡ self.call }
+    pub(crate) fn into_call(self) -> Box<Call, Global>
+        ensures { result.value ≡ self.call }
     {
         self.call
     }

@@ -188,7 +188,7 @@ impl<FT: FormatTime + Drop, L: Ledger> SharedLayer<FT, L> {
         ensures memory { IfErr result (λ refusal. refusal ≡ Refusal.Memory) }
     {
         match Draft::new(alloc, &self.config, call) {
-            Ok(draft) => draft.with_copy().map_err(|_| Refusal::Memory),
+            Ok(draft) => draft.with_copy(alloc).map_err(|_| Refusal::Memory),
             Err(_) => Err(Refusal::Memory),
         }
     }

@@ -3,6 +3,7 @@
 ghost use Rattle.std.specs.Prelude.{◌≡◌};
 
 use crate::opened::{lined, timed};
+use crate::plain::{apply, draft, drafted, make, text};
 use std::alloc::{AllocError, Global};
 use std::marker::Brand;
 use std::sync::Wait;
@@ -40,27 +41,28 @@ fn a_draft_under_other_settings_is_drawn_again(rt: HostRuntime) -> Result<(), Fa
     let draft = Draft::new(alloc, &settings, warning(alloc)?)?;
     assert_eq!(rt; draft.tail(), Some("WARN t x"));
     let mut book = Book::new(alloc, lined(alloc));
-    assert!(rt; book.apply(draft).is_ok());
-    assert_eq!(rt; book.output().bytes(), "WARN x\n".as_bytes());
+    assert!(rt; apply(&mut book, draft).is_ok());
+    assert_eq!(rt; text(&book), "WARN x\n".as_bytes());
     Ok(())
 }
 
 #[test]
 fn only_an_event_has_a_tail(rt: HostRuntime) -> Result<(), Fail> {
-    let draft = Draft::new(rt.alloc(), &Config::new(2, false), closed(1))?;
+    let draft = drafted(rt.alloc(), closed(1))?;
     assert_eq!(rt; draft.tail(), None);
     Ok(())
 }
 
-// How many turns a thread counts before it gives up.
-const LIMIT: u64 = 100_000_000;
+// How often a thread looks before it gives up: for seconds, also where it has a processor of its own.
+const LIMIT: u64 = 20_000_000;
 
-// Whether the flag was seen before the limit.
+// Whether the flag was seen before the limit. The other thread may wait for this one's processor.
 fn is_seen(flag: &AtomicBool) -> bool {
     for _ in 0..LIMIT {
         if flag.load(Ordering::SeqCst) {
             return true;
         }
+        thread::yield_now();
     }
     false
 }
@@ -103,13 +105,10 @@ fn submits<L: Ledger, R: Wait>(
     layer: &SharedLayer<Watch<'_>, L>,
     mut pass: Pass<L>,
 ) -> bool {
-    let Ok(call) = told(alloc, Level::Info, "x", None) else {
-        return false;
-    };
-    let Ok(draft) = layer.draft(alloc, call) else {
-        return false;
-    };
-    layer.submit(rt, &mut pass, draft).is_ok()
+    match told(alloc, Level::Info, "x", None) {
+        Ok(call) => make(rt, alloc, layer, &mut pass, call).is_some(),
+        Err(_) => false,
+    }
 }
 
 // Drafts an event once the timer is under the lock.
@@ -122,15 +121,17 @@ fn drafts<L: Ledger>(
     if !is_seen(entered) {
         return false;
     }
-    let Ok(call) = warning(alloc) else {
-        return false;
-    };
-    let Ok(draft) = layer.draft(alloc, call) else {
-        return false;
-    };
-    let drawn = draft.tail() == Some("WARN x");
+    let drawn = is_drafted(alloc, layer);
     drafted.store(true, Ordering::SeqCst);
     drawn
+}
+
+// Drafts a warning, and returns whether its tail is drawn.
+fn is_drafted<L: Ledger>(alloc: Global, layer: &SharedLayer<Watch<'_>, L>) -> bool {
+    match warning(alloc) {
+        Ok(call) => draft(alloc, layer, call).is_some_and(|draft| draft.tail() == Some("WARN x")),
+        Err(_) => false,
+    }
 }
 
 fn locked_with<L: Ledger + Send + Sync, R: Threads + Wait + Sync>(

@@ -3,7 +3,10 @@
 
 #[cfg(test)]
 mod drafts;
-pub mod opened;
+#[cfg(test)]
+mod opened;
+#[cfg(test)]
+mod plain;
 #[cfg(test)]
 mod refusals;
 #[cfg(test)]

@@ -3,12 +3,13 @@
 ghost use Rattle.std.specs.Prelude.{◌≡◌};
 
 use crate::opened::{lined, timed, wide};
+use crate::plain::{apply, draft, drafted, finish, submit, text};
 use std::alloc::{AllocError, Global};
 use std::marker::Brand;
 use std::sync::Wait;
 use std::sync::ledger::{Blank, Ledger};
 use std::test::*;
-use tracing_tree_core::format::{Config, Context, Refusal};
+use tracing_tree_core::format::{Context, Refusal};
 use tracing_tree_core::style::Level;
 use tracing_tree_core::time::{FormatTime, Moment, TimeFault};
 use tracing_tree_for_tests::{closed, made, told};
@@ -76,22 +77,14 @@ fn stopped_with<L: Ledger, R: Wait>(
     let mut pass = passes.pop().unwrap();
     let mut answers = Vec::new(alloc);
     for mono in 1..=3u64 {
-        let Ok(draft) = layer.draft(alloc, event_at(alloc, mono)?) else {
+        let Some(draft) = draft(alloc, &layer, event_at(alloc, mono)?) else {
             return Ok(None);
         };
-        let answer = match layer.submit(rt, &mut pass, draft) {
-            Ok(_) => None,
-            Err(refused) => Some(refused.cause),
-        };
-        answers.push(answer)?;
+        let answer = submit(rt, &layer, &mut pass, draft);
+        answers.push(answer.err().map(|refused| refused.cause))?;
     }
     passes.push(pass)?;
-    Ok(
-        layer
-            .finish(passes)
-            .ok()
-            .map(|finished| (answers, finished.accepted)),
-    )
+    Ok(finish(layer, passes).map(|finished| (answers, finished.accepted)))
 }
 
 #[test]
@@ -110,38 +103,32 @@ fn a_timers_fault_is_the_last_but_failed(rt: HostRuntime) -> Result<(), Fail> {
 fn a_refused_draft_comes_back(rt: HostRuntime) -> Result<(), Fail> {
     let alloc = rt.alloc();
     let mut book = Book::new(alloc, lined(alloc));
-    let draft = Draft::new(alloc, &Config::new(2, false), closed(7))?;
-    let Err(refused) = book.apply(draft) else {
-        return Err(Fail::from("accepted"));
-    };
+    let answer = apply(&mut book, drafted(alloc, closed(7))?);
+    let refused = answer.err().expect(&rt, "a refusal");
     assert_eq!(rt;
         refused.cause,
         Refusal::NotHeld(tracing_tree_core::format::Id(7))
     );
     assert_eq!(rt; *refused.draft.call(), closed(7));
     assert_eq!(rt; book.history().len(), 0);
-    assert_eq!(rt; book.output().bytes(), "".as_bytes());
+    assert_eq!(rt; text(&book), "".as_bytes());
     Ok(())
 }
 
 #[test]
 fn a_draft_that_memory_was_refused_to_is_applied_again(rt: HostRuntime) -> Result<(), Fail> {
     let alloc = rt.alloc();
-    let config = Config::new(2, false);
     let mut book = Book::new(alloc, wide(alloc));
-    let root = Draft::new(alloc, &config, made(alloc, "a", None)?)?;
-    assert!(rt; book.apply(root).is_ok());
-    let event = told(alloc, Level::Info, "x", Some(1))?;
-    let Err(refused) = book.apply(Draft::new(alloc, &config, event)?) else {
-        return Err(Fail::from("accepted"));
-    };
+    let root = drafted(alloc, made(alloc, "a", None)?)?;
+    assert!(rt; apply(&mut book, root).is_ok());
+    let event = drafted(alloc, told(alloc, Level::Info, "x", Some(1))?)?;
+    let refused = apply(&mut book, event).err().expect(&rt, "a refusal");
     assert_eq!(rt; refused.cause, Refusal::Memory);
     assert_eq!(rt; book.history().len(), 1);
-    assert_eq!(rt; book.output().bytes(), "┐a \n".as_bytes());
-    let close = Draft::new(alloc, &config, closed(1))?;
-    assert!(rt; book.apply(close).is_ok());
-    assert!(rt; book.apply(refused.draft).is_ok());
-    assert_eq!(rt; book.output().bytes(), "┐a \n┘\nINFO x\n".as_bytes());
+    assert_eq!(rt; text(&book), "┐a \n".as_bytes());
+    assert!(rt; apply(&mut book, drafted(alloc, closed(1))?).is_ok());
+    assert!(rt; apply(&mut book, refused.draft).is_ok());
+    assert_eq!(rt; text(&book), "┐a \n┘\nINFO x\n".as_bytes());
     Ok(())
 }
 
@@ -153,31 +140,24 @@ fn submitted<L: Ledger, R: Wait>(
     draft: Draft,
 ) -> bool {
     let before = pass.receipts().len();
-    match layer.submit(rt, pass, draft) {
+    match submit(rt, layer, pass, draft) {
         Ok(_) => true,
         Err(refused) => {
             refused.cause == Refusal::Memory
                 && pass.receipts().len() == before
-                && layer.submit(rt, pass, refused.draft).is_ok()
+                && submit(rt, layer, pass, refused.draft).is_ok()
         }
     }
 }
 
-// A draft of a root or of an event, once more where memory was refused.
-fn drafted<L: Ledger>(alloc: Global, layer: &SharedLayer<(), L>, is_event: bool) -> Option<Draft> {
-    for _ in 0..2 {
-        let call = if is_event {
-            told(alloc, Level::Info, "x", Some(1))
-        } else {
-            made(alloc, "a", None)
-        };
-        if let Ok(call) = call
-            && let Ok(draft) = layer.draft(alloc, call)
-        {
-            return Some(draft);
-        }
-    }
-    None
+// A draft of a root or of an event. None where memory was refused.
+fn grown<L: Ledger>(alloc: Global, layer: &SharedLayer<(), L>, is_event: bool) -> Option<Draft> {
+    let call = if is_event {
+        told(alloc, Level::Info, "x", Some(1))
+    } else {
+        made(alloc, "a", None)
+    };
+    draft(alloc, layer, call.ok()?)
 }
 
 // A root and twenty events in it. Returns whether all were accepted.
@@ -188,7 +168,9 @@ fn grow<L: Ledger, R: Wait>(
     pass: &mut Pass<L>,
 ) -> bool {
     for number in 0..21u64 {
-        let Some(draft) = drafted(alloc, layer, number > 0) else {
+        // Once more where memory was refused.
+        let draft = grown(alloc, layer, number > 0).or_else(|| grown(alloc, layer, number > 0));
+        let Some(draft) = draft else {
             return false;
         };
         if !submitted(rt, layer, pass, draft) {
@@ -213,7 +195,7 @@ fn grown_with<L: Ledger, R: Wait>(
             return Ok(None);
         }
     }
-    Ok(layer.finish(passes).ok())
+    Ok(finish(layer, passes))
 }
 
 // Also run with each request for memory refused in turn (`rt try --test --fail-alloc`).

@@ -1,6 +1,7 @@
 //! A layer for several threads that keeps no history.
 
 use crate::opened::lined;
+use crate::plain::stream;
 use std::alloc::Global;
 use std::sync::Wait;
 use std::test::*;
@@ -17,16 +18,13 @@ fn events<R: Wait>(rt: &R, alloc: Global, layer: &StreamingLayer<Tape, ()>, coun
         let Ok(call) = told(alloc, Level::Info, "x", None) else {
             return false;
         };
-        let Ok(draft) = layer.draft(alloc, call) else {
+        let Some(number) = stream(rt, alloc, layer, call) else {
             return false;
         };
-        let Ok(numbered) = layer.submit(rt, draft) else {
-            return false;
-        };
-        if numbered.number < least {
+        if number < least {
             return false;
         }
-        least = numbered.number.saturating_add(1);
+        least = number.saturating_add(1);
     }
     true
 }

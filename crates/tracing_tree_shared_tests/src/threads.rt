@@ -3,6 +3,7 @@
 ghost use Rattle.std.specs.Prelude.{◌≡◌};
 
 use crate::opened::{lined, retracing};
+use crate::plain::{finish, make};
 use std::alloc::{AllocError, Global};
 use std::marker::Brand;
 use std::sync::Wait;
@@ -11,24 +12,12 @@ use std::test::*;
 use std::thread::Threads;
 use std::{str, thread};
 use tracing_tree::rows::{Row, read_paths, read_rows};
-use tracing_tree_core::format::{Id, Tape};
+use tracing_tree_core::format::{Id, Refusal, Tape};
 use tracing_tree_core::style::Level;
 use tracing_tree_for_tests::{closed, made, told};
 use tracing_tree_layer::Layered;
 use tracing_tree_layer::call::{Call, Reply};
 use tracing_tree_shared::{FinishFault, Finished, Pass, SharedLayer};
-
-// Submits a call, and gives the reply out.
-fn submit<L: Ledger, R: Wait>(
-    rt: &R,
-    alloc: Global,
-    layer: &SharedLayer<(), L>,
-    pass: &mut Pass<L>,
-    call: Call,
-) -> Option<Reply> {
-    let draft = layer.draft(alloc, call).ok()?;
-    layer.submit(rt, pass, draft).ok()
-}
 
 // So many events outside every span.
 fn events<L: Ledger, R: Wait>(
@@ -42,7 +31,7 @@ fn events<L: Ledger, R: Wait>(
         let Ok(call) = told(alloc, Level::Info, "x", None) else {
             return;
         };
-        submit(rt, alloc, layer, pass, call);
+        make(rt, alloc, layer, pass, call);
     }
 }
 
@@ -57,16 +46,16 @@ fn tree<L: Ledger, R: Wait>(
     let Ok(call) = made(alloc, name, None) else {
         return;
     };
-    let Some(Reply::Span(Id(root))) = submit(rt, alloc, layer, pass, call) else {
+    let Some(Reply::Span(Id(root))) = make(rt, alloc, layer, pass, call) else {
         return;
     };
     for _ in 0..50 {
         let Ok(call) = told(alloc, Level::Info, name, Some(root)) else {
             return;
         };
-        submit(rt, alloc, layer, pass, call);
+        make(rt, alloc, layer, pass, call);
     }
-    submit(rt, alloc, layer, pass, closed(root));
+    make(rt, alloc, layer, pass, closed(root));
 }
 
 // The name of a thread's root.
@@ -97,7 +86,7 @@ fn two_threads_with<L: Ledger + Send + Sync, R: Threads + Wait + Sync>(
         2,
         &|_, pass| { events(rt, alloc, &layer, pass, 100) },
     );
-    Ok(layer.finish(passes).ok())
+    Ok(finish(layer, passes))
 }
 
 fn four_threads_with<L: Ledger + Send + Sync, R: Threads + Wait + Sync>(
@@ -116,13 +105,17 @@ fn four_threads_with<L: Ledger + Send + Sync, R: Threads + Wait + Sync>(
         4,
         &|at, pass| { tree(rt, alloc, &layer, pass, name_of(at)) },
     );
-    Ok(layer.finish(passes).ok())
+    Ok(finish(layer, passes))
+}
+
+fn answer(layered: &mut Layered<Tape, ()>, call: Call) -> Result<Reply, Refusal> {
+    layered.call(call)
 }
 
 // Makes the calls of a history, and gives out whether each is answered as it was and the text is the same.
 fn is_replayed(mut layered: Layered<Tape, ()>, finished: Finished) -> bool {
     for (call, reply) in finished.history {
-        if layered.call(call) != Ok(reply) {
+        if answer(&mut layered, call) != Ok(reply) {
             return false;
         }
     }
@@ -195,7 +188,7 @@ fn no_passes_with<L: Ledger>(alloc: Global, blank: Blank) -> Session
     requires one { L.parts ≡ 1 }
 {
     let (layer, passes) = SharedLayer::<(), L>::open(alloc, blank, lined(alloc), 0)?;
-    Ok(layer.finish(passes).ok())
+    Ok(finish(layer, passes))
 }
 
 #[test]

@@ -1,0 +1,79 @@
+//! Calls of the crate in functions that promise nothing, so that a test that makes them is soon proved.
+
+ghost use Rattle.std.specs.Prelude.{◌≡◌, ◌+◌};
+
+use std::alloc::{AllocError, Global};
+use std::sync::Wait;
+use std::sync::ledger::Ledger;
+use tracing_tree_core::format::{Config, Tape};
+use tracing_tree_core::time::FormatTime;
+use tracing_tree_layer::call::{Call, Reply};
+use tracing_tree_shared::{
+    Book, Draft, Finished, Pass, Receipt, Refused, SharedLayer, StreamingLayer,
+};
+
+/// A draft of a call, under settings with an amount of 2 and no colours.
+pub fn drafted(alloc: Global, call: Call) -> Result<Draft, AllocError> {
+    Draft::new(alloc, &Config::new(2, false), call)
+}
+
+pub fn apply(book: &mut Book<()>, draft: Draft) -> Result<Receipt, Refused> {
+    book.apply(draft)
+}
+
+/// What was written.
+pub fn text(book: &Book<()>) -> &[u8] {
+    book.output().bytes()
+}
+
+/// A draft by a layer with a history. None where memory is refused.
+pub fn draft<FT: FormatTime + Drop, L: Ledger>(
+    alloc: Global,
+    layer: &SharedLayer<FT, L>,
+    call: Call,
+) -> Option<Draft> {
+    layer.draft(alloc, call).ok()
+}
+
+pub fn submit<FT: FormatTime + Drop, L: Ledger, R: Wait>(
+    rt: &R,
+    layer: &SharedLayer<FT, L>,
+    pass: &mut Pass<L>,
+    draft: Draft,
+) -> Result<Reply, Refused> {
+    layer.submit(rt, pass, draft)
+}
+
+/// Drafts and submits a call. None where either is refused.
+pub fn make<FT: FormatTime + Drop, L: Ledger, R: Wait>(
+    rt: &R,
+    alloc: Global,
+    layer: &SharedLayer<FT, L>,
+    pass: &mut Pass<L>,
+    call: Call,
+) -> Option<Reply> {
+    let draft = draft(alloc, layer, call)?;
+    submit(rt, layer, pass, draft).ok()
+}
+
+/// What all passes show. None where one is missing or strange.
+pub fn finish<FT: FormatTime + Drop, L: Ledger>(
+    layer: SharedLayer<FT, L>,
+    passes: Vec<Pass<L>>,
+) -> Option<Finished>
+    requires { layer.passes + 1 ≡ L.parts }
+{
+    layer.finish(passes).ok()
+}
+
+/// Drafts and submits a call to a layer without a history, and returns its number. None where either is refused.
+pub fn stream<R: Wait>(
+    rt: &R,
+    alloc: Global,
+    layer: &StreamingLayer<Tape, ()>,
+    call: Call,
+) -> Option<u64> {
+    let draft = layer.draft(alloc, call).ok()?;
+    let numbered = layer.submit(rt, draft).ok()?;
+    Some(numbered.number)
+}
