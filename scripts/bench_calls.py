@@ -38,7 +38,7 @@ def requests(program, counter, work, rounds, *idle):
     """How often the program asks for memory."""
     environment = dict(os.environ, LD_PRELOAD=os.path.abspath(counter))
     run = subprocess.run([program, work, str(rounds), *idle], stdout=subprocess.PIPE, stderr=subprocess.PIPE, env=environment, check=True)
-    return int(run.stderr)
+    return int(run.stderr.split()[0])
 
 
 def taken(program, counter, work, rounds, calls):

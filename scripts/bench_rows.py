@@ -40,7 +40,7 @@ def main():
         ("lines of 10^6 columns", (" " * 1_000_000 + "├─x\n").encode() * 50),
     ):
         print(f"{name}, {len(text) / 1e6:.1f} MB:", flush=True)
-        print(subprocess.run([timing], input=text, stdout=subprocess.PIPE, check=True).stdout.decode(), end="", flush=True)
+        print(subprocess.run([timing, "reading"], input=text, stdout=subprocess.PIPE, check=True).stdout.decode(), end="", flush=True)
 
 
 main()

@@ -22,7 +22,7 @@ WORKS = {
 
 def timed(program, work, threads, fields):
     """Nanoseconds an event."""
-    out = subprocess.run([program, work, str(threads), str(EVENTS), str(fields)], stdout=subprocess.PIPE, check=True).stdout.decode()
+    out = subprocess.run([program, "threads", work, str(threads), str(EVENTS), str(fields)], stdout=subprocess.PIPE, check=True).stdout.decode()
     told, nanos = map(int, re.fullmatch(r"\S+: \d+ threads, (\d+) events, (\d+) ns an event\n", out).groups())
     if told != threads * EVENTS:
         sys.exit(f"{work}: {threads * EVENTS - told} events were refused")

@@ -1,19 +1,60 @@
-/* Preloaded into a program, this counts its calls of malloc and realloc, and tells how many there were on standard error when it
- * ends. */
+/* Preloaded into a program, this counts its calls of malloc and realloc and the bytes that they ask for, and how many bytes it holds at
+ * most at once. It tells these three numbers on standard error when the program ends. */
 #define _GNU_SOURCE
 #include <dlfcn.h>
+#include <stdint.h>
 #include <stdio.h>
 #include <stdlib.h>
 
+/* The blocks that are held, each in the place that its address leads to, or in one after that. Few enough of these stay for all to
+ * find room. */
+#define PLACES (1UL << 22)
+static struct { uintptr_t at; size_t size; } blocks[PLACES];
+static const uintptr_t FREED = 1;
+
 static long counted;
+static size_t asked, held, most;
+
+static size_t place_of(uintptr_t at)
+{
+    return (at >> 4) * 0x9E3779B97F4A7C15UL >> 42;
+}
+
+static void *taken(void *block, size_t size)
+{
+    counted++;
+    asked += size;
+    if (!block)
+        return block;
+    size_t place = place_of((uintptr_t)block);
+    while (blocks[place].at > FREED)
+        place = (place + 1) % PLACES;
+    blocks[place].at = (uintptr_t)block;
+    blocks[place].size = size;
+    held += size;
+    if (held > most)
+        most = held;
+    return block;
+}
+
+/* Blocks that came from elsewhere are not known here. */
+static void given_back(void *block)
+{
+    size_t place = place_of((uintptr_t)block);
+    for (; block && blocks[place].at; place = (place + 1) % PLACES)
+        if (blocks[place].at == (uintptr_t)block) {
+            held -= blocks[place].size;
+            blocks[place].at = FREED;
+            return;
+        }
+}
 
 void *malloc(size_t size)
 {
     static void *(*real)(size_t);
     if (!real)
         real = dlsym(RTLD_NEXT, "malloc");
-    counted++;
-    return real(size);
+    return taken(real(size), size);
 }
 
 void *realloc(void *old, size_t size)
@@ -21,11 +62,26 @@ void *realloc(void *old, size_t size)
     static void *(*real)(void *, size_t);
     if (!real)
         real = dlsym(RTLD_NEXT, "realloc");
-    counted++;
-    return real(old, size);
+    given_back(old);
+    return taken(real(old, size), size);
+}
+
+/* Looking up the next `free` may free something itself, which is then left. */
+void free(void *block)
+{
+    static void (*real)(void *);
+    static int looking;
+    if (!real && looking++ == 0)
+        real = dlsym(RTLD_NEXT, "free");
+    if (!real)
+        return;
+    given_back(block);
+    real(block);
 }
 
 __attribute__((destructor)) static void tell(void)
 {
-    fprintf(stderr, "%ld\n", counted);
+    long requests = counted;
+    size_t bytes = asked, highest = most;
+    fprintf(stderr, "%ld %zu %zu\n", requests, bytes, highest);
 }

@@ -35,6 +35,11 @@ impl Calls {
         self.alloc
     }
 
+    // The id that the next span will have.
+    pub fn next(&self) -> u64 {
+        self.next
+    }
+
     // The calls so far, which the list then lacks.
     pub fn take(&mut self) -> Vec<Call> {
         mem::replace(&mut self.list, Vec::new(self.alloc))

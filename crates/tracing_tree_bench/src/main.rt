@@ -1,16 +1,26 @@
-//! Times calls on the library itself, without lines of JSON.
+//! Times the library's works.
 //!
-//! The arguments are a work, how many rounds of it, and optionally `idle`, with which the calls are made and dropped. It prints
-//! how many calls were timed, what one took, and how many bytes they wrote. Without arguments it prints the names of the works.
+//! Of calls, the arguments are a work, how many rounds of it, and optionally `idle`, with which the calls are made and dropped, or
+//! `marked`, with which a line `begin` stands before each batch of calls and a line `end` after it. It prints how many calls were
+//! timed, what one took, and how many bytes they wrote. Where the first argument is `retraced` or `deferred`, waves of calls are made
+//! under these settings, as many as the second says, and it prints what the calls of each wave took, and the longest of them.
+//!
+//! `threads` and then a work times events through the layers for several threads, and `reading` the reading of a drawing: the
+//! modules of these names say how. Without arguments it prints the names of the works.
 #![tactic(auto)]
 
 mod calls;
+mod reading;
 mod sink;
+mod soak;
+mod threads;
 mod works;
 
 use calls::Calls;
 use sink::Sink;
 use std::rt::{Clock as MachineClock, Env};
+use std::sync::Wait;
+use std::thread::Threads;
 use std::time::Instant;
 use tracing_tree::layered::Layered;
 use tracing_tree::time::Clock;
@@ -24,22 +34,78 @@ fn main(rt: HostRuntime) -> anyhow::Result<()> {
     let Some(name) = words.next() else {
         return list(&rt);
     };
-    let Some(work) = Work::named(name.as_str()) else {
-        anyhow::bail!("no such work");
-    };
-    let rounds = match words.next() {
-        Some(word) => word.as_str().parse::<u32>()?,
-        None => BATCH,
-    };
-    let idle = words.next().is_some();
-    measure(&rt, work, rounds, idle)
+    match name.as_str() {
+        "reading" => reading::run(&rt),
+        "threads" => time_threads(&rt, words),
+        name => time_calls(&rt, name, words),
+    }
 }
 
 fn list(rt: &impl Print) -> anyhow::Result<()> {
     for work in Work::ALL {
         println!(rt; "{}", work.name())?;
     }
+    for work in threads::Work::ALL {
+        println!(rt; "threads {}", work.name())?;
+    }
+    println!(rt; "reading")?;
     Ok(())
+}
+
+fn time_threads<R: AllocGlobal + Threads + Wait + MachineClock + Print + Sync>(
+    rt: &R,
+    mut words: impl Iterator<Item = String>,
+) -> anyhow::Result<()> {
+    let Some(name) = words.next() else {
+        anyhow::bail!("no work of threads is named");
+    };
+    let Some(work) = threads::Work::named(name.as_str()) else {
+        anyhow::bail!("no such work of threads");
+    };
+    threads::run(rt, work, words)
+}
+
+fn time_calls<R: AllocGlobal + MachineClock + Print>(
+    rt: &R,
+    name: &str,
+    mut words: impl Iterator<Item = String>,
+) -> anyhow::Result<()> {
+    let rounds = match words.next() {
+        Some(word) => word.as_str().parse::<u32>()?,
+        None => BATCH,
+    };
+    if matches!(name, "retraced" | "deferred") {
+        return soak::run(rt, rounds, name == "deferred");
+    }
+    let Some(work) = Work::named(name) else {
+        anyhow::bail!("no such work");
+    };
+    let way = match words.next() {
+        Some(word) => Way::named(word.as_str())?,
+        None => Way::Timed,
+    };
+    measure(rt, work, rounds, way)
+}
+
+// What is done with the calls of a batch.
+#[derive(Clone, Copy, PartialEq, Eq)]
+enum Way {
+    // They are made and timed.
+    Timed,
+    // They are dropped.
+    Idle,
+    // They are made between two lines.
+    Marked,
+}
+
+impl Way {
+    fn named(name: &str) -> anyhow::Result<Way> {
+        match name {
+            "idle" => Ok(Way::Idle),
+            "marked" => Ok(Way::Marked),
+            _ => anyhow::bail!("no such way"),
+        }
+    }
 }
 
 // What was measured so far.
@@ -55,7 +121,7 @@ fn measure<R: AllocGlobal + MachineClock + Print>(
     rt: &R,
     work: Work,
     rounds: u32,
-    idle: bool,
+    way: Way,
 ) -> anyhow::Result<()> {
     let mut layered = Layered::new(rt.alloc(), work.layer(rt.alloc()));
     let mut calls = Calls::new(rt.alloc());
@@ -69,7 +135,7 @@ fn measure<R: AllocGlobal + MachineClock + Print>(
     };
     for from in (0..rounds).step_by(BATCH as usize) {
         work.fill(&mut calls, batch_at(from, rounds))?;
-        time(rt, &mut layered, &mut calls, idle, &mut measured)?;
+        time(rt, &mut layered, &mut calls, way, &mut measured)?;
     }
     report(
         rt,
@@ -89,25 +155,35 @@ fn batch_at(from: u32, of: u32) -> Batch {
 }
 
 // Runs the calls, unless they are only made and dropped, and adds what that took.
-fn time<R: AllocGlobal + MachineClock>(
+fn time<R: AllocGlobal + MachineClock + Print>(
     rt: &R,
     layered: &mut Layered<Sink, Clock<'static>>,
     calls: &mut Calls,
-    idle: bool,
+    way: Way,
     measured: &mut Measured,
 ) -> anyhow::Result<()> {
     let batch = calls.take();
-    if idle {
+    if way == Way::Idle {
         return Ok(());
     }
     measured.calls = measured.calls.wrapping_add(batch.len() as u64);
     let start = Instant::now(rt)?;
+    mark(rt, way, "begin")?;
     let answers = layered.run(rt.alloc(), batch)?;
+    mark(rt, way, "end")?;
     let took = start.elapsed(rt)?;
     let nanos = u64::try_from(took.as_nanos()).unwrap_or(u64::MAX);
     measured.nanos = measured.nanos.saturating_add(nanos);
     let refused = answers.iter().filter(|answer| answer.is_err()).count();
     measured.refused = measured.refused.wrapping_add(refused as u64);
+    Ok(())
+}
+
+// Prints this line, if the calls are marked.
+fn mark(rt: &impl Print, way: Way, line: &str) -> anyhow::Result<()> {
+    if way == Way::Marked {
+        println!(rt; "{line}")?;
+    }
     Ok(())
 }
 

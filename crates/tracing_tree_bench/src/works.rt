@@ -71,10 +71,28 @@ pub enum Work {
 
     // Events with a message of a megabyte.
     LongText,
+
+    // Records onto one span.
+    Records,
+
+    // A thousand roots, of which four hundred close, oldest first, and roots that open then.
+    Gaps,
+
+    // Clones spread over ten live spans.
+    Clone10,
+
+    // The same over a hundred thousand.
+    Clone100000,
+
+    // Clones spread over the oldest spans, where of a thousand one in ten was left, and as many opened as close the gaps.
+    CloneOld1000,
+
+    // The same of a hundred thousand.
+    CloneOld100000,
 }
 
 impl Work {
-    pub const ALL: [Work; 19] = [
+    pub const ALL: [Work; 25] = [
         Work::Nested,
         Work::NestedStyled,
         Work::NestedRetraced,
@@ -94,6 +112,12 @@ impl Work {
         Work::EventUptime,
         Work::CloseLeaf,
         Work::LongText,
+        Work::Records,
+        Work::Gaps,
+        Work::Clone10,
+        Work::Clone100000,
+        Work::CloneOld1000,
+        Work::CloneOld100000,
     ];
 
     pub fn name(self) -> &'static str {
@@ -117,6 +141,12 @@ impl Work {
             Work::EventUptime => "event-uptime",
             Work::CloseLeaf => "close-leaf",
             Work::LongText => "long-text",
+            Work::Records => "records",
+            Work::Gaps => "gaps",
+            Work::Clone10 => "clone-10",
+            Work::Clone100000 => "clone-100000",
+            Work::CloneOld1000 => "clone-old-1000",
+            Work::CloneOld100000 => "clone-old-100000",
         }
     }
 
@@ -163,10 +193,18 @@ impl Work {
             Work::CloseOldest | Work::CloseNewest | Work::CloseShuffled => roots(calls, rounds),
             Work::Below10 => chain(calls, 10),
             Work::Chain => chain(calls, rounds),
-            Work::Spread1000 => roots(calls, 1_000),
+            Work::Spread1000 | Work::Gaps => roots(calls, 1_000),
             Work::Spread1000000 => roots(calls, 1_000_000),
-            Work::Event | Work::EventUtc | Work::EventLocal | Work::EventUptime | Work::LongText =>
-                { roots(calls, 1) }
+            Work::Clone10 => roots(calls, 10),
+            Work::Clone100000 => roots(calls, 100_000),
+            Work::CloneOld1000 => few_old(calls, 1_000),
+            Work::CloneOld100000 => few_old(calls, 100_000),
+            Work::Event
+            | Work::EventUtc
+            | Work::EventLocal
+            | Work::EventUptime
+            | Work::LongText
+            | Work::Records => roots(calls, 1),
             Work::CloseLeaf => leaves_of_one(calls, rounds),
             Work::Nested | Work::NestedStyled | Work::NestedRetraced => Ok(()),
         }
@@ -198,6 +236,12 @@ impl Work {
             }
             Work::CloseLeaf => calls.close(round.wrapping_add(2)),
             Work::LongText => long_event(calls),
+            Work::Records => calls.record(1),
+            Work::Gaps => open_after_closes(calls, round),
+            Work::Clone10 => calls.clone_span(shuffled(round, 10)),
+            Work::Clone100000 => calls.clone_span(shuffled(round, 100_000)),
+            Work::CloneOld1000 => calls.clone_span(old(shuffled(round, 100))),
+            Work::CloneOld100000 => calls.clone_span(old(shuffled(round, 10_000))),
         }
     }
 }
@@ -237,6 +281,22 @@ fn roots(calls: &mut Calls, spans: u32) -> Result<(), AllocError> {
         calls.open(None)?;
     }
     Ok(())
+}
+
+// So many roots, of which one in ten stays, and half as many again. Among these the list of spans is full once, which closes the gaps.
+fn few_old(calls: &mut Calls, spans: u32) -> Result<(), AllocError> {
+    roots(calls, spans)?;
+    for id in 1..=u64::from(spans) {
+        if id % 10 != 0 {
+            calls.close(id)?;
+        }
+    }
+    roots(calls, spans / 2)
+}
+
+// The oldest spans that stay there, from 1.
+fn old(place: u64) -> u64 {
+    place.wrapping_mul(10)
 }
 
 fn leaves_of_one(calls: &mut Calls, spans: u32) -> Result<(), AllocError> {
@@ -282,6 +342,15 @@ fn shuffled(round: u64, of: u64) -> u64 {
 fn open_and_close(calls: &mut Calls) -> Result<(), AllocError> {
     let id = calls.open(Some(10))?;
     calls.close(id)
+}
+
+// The close of one of the four hundred oldest roots, and after these a new root.
+fn open_after_closes(calls: &mut Calls, round: u64) -> Result<(), AllocError> {
+    if round < 400 {
+        return calls.close(round.wrapping_add(1));
+    }
+    calls.open(None)?;
+    Ok(())
 }
 
 fn spread(calls: &mut Calls, id: u64) -> Result<(), AllocError> {

@@ -1,6 +1,5 @@
-//! Times the reading of a drawing: reads it from standard input, whole, and prints how many megabytes a second `read_rows` and
-//! `read_paths` take of it, the best of five runs each. Of no drawing it prints nothing.
-#![tactic(auto)]
+//! Times the reading of a drawing, which is read from standard input, whole: prints how many megabytes a second `read_rows` and
+//! `read_paths` take of it, the best of five runs each.
 
 use std::alloc::Global;
 use std::io::Read;
@@ -32,20 +31,18 @@ impl Timing {
     }
 }
 
-fn main(rt: HostRuntime) -> anyhow::Result<()> {
+/// Reads a drawing from standard input, times its reading, and prints the best runs.
+pub fn run<R: AllocGlobal + Clock + Input + Print>(rt: &R) -> anyhow::Result<()> {
     let mut text = String::new(rt.alloc());
     rt.reader().read_to_string(&mut text)?;
-    if text.is_empty() {
-        return Ok(());
-    }
-    let mut rows = time_rows(&rt, text.as_str())?;
-    let mut paths = time_paths(&rt, text.as_str())?;
+    let mut rows = time_rows(rt, text.as_str())?;
+    let mut paths = time_paths(rt, text.as_str())?;
     for _run in 1..RUNS {
-        rows = rows.or_shorter(time_rows(&rt, text.as_str())?);
-        paths = paths.or_shorter(time_paths(&rt, text.as_str())?);
+        rows = rows.or_shorter(time_rows(rt, text.as_str())?);
+        paths = paths.or_shorter(time_paths(rt, text.as_str())?);
     }
-    report(&rt, "read_rows", text.len(), rows)?;
-    report(&rt, "read_paths", text.len(), paths)
+    report(rt, "read_rows", text.len(), rows)?;
+    report(rt, "read_paths", text.len(), paths)
 }
 
 fn time_rows<R: AllocGlobal + Clock>(rt: &R, text: &str) -> anyhow::Result<Timing> {

@@ -2,8 +2,8 @@
 
 ghost use Rattle.std.specs.Prelude.{◌≡◌, ◌+◌, ◌≤◌, [], None, false};
 
-use crate::desk::{Alone, Desk, Locked, Nowhere, Streamed, UnderLock, WithPass};
-use crate::hand::{Hand, Work, hands};
+use super::desk::{Alone, Desk, Locked, Nowhere, Streamed, UnderLock, WithPass};
+use super::hand::{Hand, Work, event};
 use std::alloc::{AllocError, Global};
 use std::rt::Clock;
 use std::sync::ledger::{Blank, Ledger};
@@ -44,20 +44,18 @@ struct Seat<D: Desk> {
 }
 
 impl<D: Desk> Seat<D> {
-    // The events, as drafts under these settings if there are some.
-    fn new(
-        alloc: Global,
-        desk: D,
-        size: Size,
-        drafted: Option<&Config>,
-    ) -> Result<Seat<D>, AllocError>
+    fn new(alloc: Global, desk: D, size: Size) -> anyhow::Result<Seat<D>>
     where
         D: Drop,
     {
+        let mut hands = Vec::new(alloc);
+        for _ in 0..size.events {
+            hands.push(desk.hand(alloc, event(alloc, size.fields)?)?)?;
+        }
         Ok(Seat {
             alloc,
             desk,
-            hands: hands(alloc, size.events, size.fields, drafted)?,
+            hands,
             told: 0,
         })
     }
@@ -106,21 +104,12 @@ fn rooted(alloc: Global) -> Result<Layered<Tape, ()>, AllocError> {
     Ok(layered)
 }
 
-// The settings of the layers, or others under which an event is drawn otherwise.
-fn drafted_under(work: Work) -> Option<Config> {
-    match work {
-        _ if !work.is_drafted() => None,
-        Work::CountedAnew => Some(Config::new(2, true)),
-        _ => Some(Config::new(2, false)),
-    }
-}
-
 pub fn idle<R: AllocGlobal + Threads + Wait + Clock + Sync>(
     rt: &R,
     size: Size,
 ) -> anyhow::Result<Timed> {
     let alloc = rt.alloc();
-    let seat = Seat::new(alloc, Nowhere, size, None)?;
+    let seat = Seat::new(alloc, Nowhere, size)?;
     time(rt, vec![in alloc; seat]?)
 }
 
@@ -132,7 +121,7 @@ pub fn alone<R: AllocGlobal + Threads + Wait + Clock + Sync>(
     let desk = Alone {
         layered: rooted(alloc)?,
     };
-    let seat = Seat::new(alloc, desk, size, None)?;
+    let seat = Seat::new(alloc, desk, size)?;
     time(rt, vec![in alloc; seat]?)
 }
 
@@ -144,7 +133,7 @@ pub fn locked<R: AllocGlobal + Threads + Wait + Clock + Sync>(
     let lock = Mutex::new(rooted(alloc)?);
     let mut seats = Vec::new(alloc);
     for _ in 0..size.threads {
-        seats.push(Seat::new(alloc, Locked { lock: &lock }, size, None)?)?;
+        seats.push(Seat::new(alloc, Locked { lock: &lock }, size)?)?;
     }
     time(rt, seats)
 }
@@ -160,15 +149,15 @@ pub fn shared<L: Ledger + Send + Sync, R: AllocGlobal + Threads + Wait + Clock +
     requires count { L.parts ≡ size.threads + 1 }
 {
     let alloc = rt.alloc();
-    let drafted = drafted_under(work);
     let (layer, passes) = SharedLayer::<(), L>::open(alloc, blank, fresh(alloc), size.threads)?;
     let mut seats = Vec::new(alloc);
     for pass in passes {
         let desk = WithPass {
             layer: &layer,
             pass,
+            drafts: work == Work::SharedDrafted,
         };
-        seats.push(Seat::new(alloc, desk, size, drafted.as_ref())?)?;
+        seats.push(Seat::new(alloc, desk, size)?)?;
     }
     let root = Hand::Call(made(alloc, "span", None)?);
     if let Some(seat) = seats.first_mut() {
@@ -183,12 +172,14 @@ pub fn streaming<R: AllocGlobal + Threads + Wait + Clock + Sync>(
     size: Size,
 ) -> anyhow::Result<Timed> {
     let alloc = rt.alloc();
-    let drafted = drafted_under(work);
     let layer = StreamingLayer::new(rooted(alloc)?);
     let mut seats = Vec::new(alloc);
     for _ in 0..size.threads {
-        let desk = Streamed { layer: &layer };
-        seats.push(Seat::new(alloc, desk, size, drafted.as_ref())?)?;
+        let desk = Streamed {
+            layer: &layer,
+            drafts: work == Work::StreamingDrafted,
+        };
+        seats.push(Seat::new(alloc, desk, size)?)?;
     }
     time(rt, seats)
 }
@@ -201,8 +192,9 @@ pub fn counted<R: AllocGlobal + Threads + Wait + Clock + Sync>(
     let alloc = rt.alloc();
     let desk = UnderLock {
         counted: Counted::new(rooted(alloc)?),
+        // Under colours the layer's own settings differ, and it draws each event anew.
+        config: Config::new(2, work == Work::CountedAnew),
     };
-    let drafted = drafted_under(work);
-    let seat = Seat::new(alloc, desk, size, drafted.as_ref())?;
+    let seat = Seat::new(alloc, desk, size)?;
     time(rt, vec![in alloc; seat]?)
 }

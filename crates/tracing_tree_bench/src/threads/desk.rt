@@ -1,14 +1,20 @@
 //! Where events are handed in.
 
-use crate::hand::Hand;
+use super::hand::Hand;
 use std::alloc::Global;
 use std::sync::ledger::Ledger;
 use std::sync::{Mutex, Wait};
 use tracing_tree::Layered;
-use tracing_tree::format::Tape;
-use tracing_tree_shared::{Counted, Pass, SharedLayer, StreamingLayer};
+use tracing_tree::call::Call;
+use tracing_tree::format::{Config, Refusal, Tape};
+use tracing_tree_shared::{Counted, Draft, Pass, SharedLayer, StreamingLayer};
 
 pub trait Desk {
+    // An event as it will be handed in: a draft, where drafts are made before the time is taken.
+    fn hand(&self, _alloc: Global, call: Call) -> Result<Hand, Refusal> {
+        Ok(Hand::Call(call))
+    }
+
     // Whether the event is accepted.
     fn tell<R: Wait>(&mut self, rt: &R, alloc: Global, hand: Hand) -> bool;
 }
@@ -54,9 +60,18 @@ impl Desk for Locked<'_> {
 pub struct WithPass<'a, L: Ledger> {
     pub layer: &'a SharedLayer<(), L>,
     pub pass: Pass<L>,
+    pub drafts: bool,
 }
 
 impl<L: Ledger> Desk for WithPass<'_, L> {
+    fn hand(&self, alloc: Global, call: Call) -> Result<Hand, Refusal> {
+        if self.drafts {
+            Ok(Hand::Draft(self.layer.draft(alloc, call)?))
+        } else {
+            Ok(Hand::Call(call))
+        }
+    }
+
     fn tell<R: Wait>(&mut self, rt: &R, alloc: Global, hand: Hand) -> bool {
         let draft = match hand {
             Hand::Call(call) => self.layer.draft(alloc, call),
@@ -72,9 +87,18 @@ impl<L: Ledger> Desk for WithPass<'_, L> {
 #[derive(Drop)]
 pub struct Streamed<'a> {
     pub layer: &'a StreamingLayer<Tape, ()>,
+    pub drafts: bool,
 }
 
 impl Desk for Streamed<'_> {
+    fn hand(&self, alloc: Global, call: Call) -> Result<Hand, Refusal> {
+        if self.drafts {
+            Ok(Hand::Draft(self.layer.draft(alloc, call)?))
+        } else {
+            Ok(Hand::Call(call))
+        }
+    }
+
     fn tell<R: Wait>(&mut self, rt: &R, alloc: Global, hand: Hand) -> bool {
         let draft = match hand {
             Hand::Call(call) => self.layer.draft(alloc, call),
@@ -90,9 +114,15 @@ impl Desk for Streamed<'_> {
 #[derive(Drop)]
 pub struct UnderLock {
     pub counted: Counted<Tape, ()>,
+    // The settings of the drafts.
+    pub config: Config,
 }
 
 impl Desk for UnderLock {
+    fn hand(&self, alloc: Global, call: Call) -> Result<Hand, Refusal> {
+        Ok(Hand::Draft(Draft::new(alloc, &self.config, call)?))
+    }
+
     fn tell<R: Wait>(&mut self, _rt: &R, _alloc: Global, hand: Hand) -> bool {
         match hand {
             Hand::Draft(draft) => self.counted.apply(draft).is_ok(),

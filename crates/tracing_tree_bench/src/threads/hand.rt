@@ -3,7 +3,6 @@
 use std::alloc::{AllocError, Global};
 use tracing_tree::call::Call;
 use tracing_tree::field::{Field, Fields};
-use tracing_tree::format::Config;
 use tracing_tree::registry::{Event, Parent};
 use tracing_tree::style::Level;
 use tracing_tree::text::Text;
@@ -70,13 +69,6 @@ impl Work {
     pub fn named(name: &str) -> Option<Work> {
         Work::ALL.iter().copied().find(|work| work.name() == name)
     }
-
-    pub fn is_drafted(self) -> bool {
-        matches!(
-            self,
-            Work::SharedDrafted | Work::StreamingDrafted | Work::Counted | Work::CountedAnew
-        )
-    }
 }
 
 // A call, or its draft that was made before.
@@ -99,22 +91,4 @@ pub fn event(alloc: Global, count: usize) -> Result<Call, AllocError> {
         fields: Fields::from(fields),
     };
     Ok(Call::Event(event, at(Some(1))))
-}
-
-// So many events, as drafts under these settings if there are some.
-pub fn hands(
-    alloc: Global,
-    events: usize,
-    fields: usize,
-    drafted: Option<&Config>,
-) -> Result<Vec<Hand>, AllocError> {
-    let mut hands = Vec::new(alloc);
-    for _ in 0..events {
-        let call = event(alloc, fields)?;
-        hands.push(match drafted {
-            Some(config) => Hand::Draft(Draft::new(alloc, config, call)?),
-            None => Hand::Call(call),
-        })?;
-    }
-    Ok(hands)
 }

@@ -1,8 +1,7 @@
 //! Times events through the layers for several threads, beside a layer of one thread and a plain lock round it.
 //!
 //! The arguments are a work, how many threads, how many events each of them tells, and how many fields an event has. It prints what
-//! an event took, by the time in which all threads were done. Without arguments it prints the names of the works.
-#![tactic(auto)]
+//! an event took, by the time in which all threads were done.
 
 ghost use Rattle.std.specs.Prelude.{◌≡◌, ◌<◌, ◌≤◌};
 
@@ -10,9 +9,9 @@ mod desk;
 mod hand;
 mod works;
 
-use hand::Work;
+pub use hand::Work;
 use std::marker::Brand;
-use std::rt::{Clock, Env};
+use std::rt::Clock;
 use std::sync::Wait;
 use std::sync::ledger::Blank;
 use std::thread::Threads;
@@ -21,14 +20,12 @@ use works::{Size, Timed, alone, counted, idle, locked, shared, streaming};
 // How many threads there are at most.
 const MOST: usize = 64;
 
-fn main(rt: HostRuntime) -> anyhow::Result<()> {
-    let mut words = std::env::args(&rt)?.skip(1);
-    let Some(name) = words.next() else {
-        return list(&rt);
-    };
-    let Some(work) = Work::named(name.as_str()) else {
-        anyhow::bail!("no such work");
-    };
+/// Times a work with these numbers, of which each counts as one where it is missing, and prints what an event took.
+pub fn run<R: AllocGlobal + Threads + Wait + Clock + Print + Sync>(
+    rt: &R,
+    work: Work,
+    words: impl Iterator<Item = String>,
+) -> anyhow::Result<()> {
     let mut numbers = [1usize, 1, 1];
     for (number, word) in numbers.iter_mut().zip(words) {
         *number = word.as_str().parse::<usize>()?;
@@ -40,14 +37,7 @@ fn main(rt: HostRuntime) -> anyhow::Result<()> {
         events,
         fields,
     };
-    report(&rt, work, size, timed(&rt, work, size)?)
-}
-
-fn list(rt: &impl Print) -> anyhow::Result<()> {
-    for work in Work::ALL {
-        println!(rt; "{}", work.name())?;
-    }
-    Ok(())
+    report(rt, work, size, timed(rt, work, size)?)
 }
 
 fn timed<R: AllocGlobal + Threads + Wait + Clock + Sync>(

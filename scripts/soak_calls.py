@@ -1,0 +1,67 @@
+#!/usr/bin/env python3
+"""Runs many calls on the library itself, and looks at memory, speed and the longest call: soak_calls.py PROGRAM [CALLS]
+
+PROGRAM (crates/tracing_tree_bench) makes waves of calls that open and close the same spans, 100,000 of them at once, branches in turn, and
+a span whose fields and handles grow, and times each call by itself. Half of CALLS (10^7) are made under settings that retrace, and half
+with deferred spans besides. No call may be refused. The most memory that was kept may not grow past what it was in the second wave by more
+than a twentieth and 1 MiB, and a call may take at most 1.5 times as long in the last tenth of the waves as in the first. The last line is
+'soak: N of M runs ended as they must'.
+"""
+import os, re, subprocess, sys
+
+
+def most_kept(process):
+    """The most that the process has kept in memory so far, in KiB."""
+    with open(f"/proc/{process}/status", encoding="utf-8") as file:
+        return next(int(it.split()[1]) for it in file if it.startswith("VmHWM:"))
+
+
+def waves_of(program, settings, waves):
+    """Of each wave its calls, their nanoseconds, the longest call's, how many were refused, and the KiB kept at most until then."""
+    seen = []
+    with subprocess.Popen([program, settings, str(waves)], stdout=subprocess.PIPE, text=True) as ran:
+        for line in ran.stdout:
+            told = re.fullmatch(r"wave \d+: (\d+) calls, (\d+) ns, the longest (\d+) ns, (\d+) refused\n", line)
+            if not told:
+                return seen, 1
+            try:
+                kept = most_kept(ran.pid)
+            except (OSError, StopIteration):
+                kept = seen[-1][4]
+            seen.append((*(int(it) for it in told.groups()), kept))
+    return seen, ran.returncode
+
+
+def is_steady(program, settings, count):
+    """Runs so many calls under these settings, prints the figures, and returns whether they are as they must be."""
+    first, status = waves_of(program, settings, 1)
+    if status or not first:
+        print(f"soak: {settings}: FAILED: the first wave ended with status {status}")
+        return False
+    waves = max(10, -(-count // first[0][0]))
+    seen, status = waves_of(program, settings, waves)
+    if status or len(seen) != waves or any(it[3] for it in seen):
+        print(f"soak: {settings}: FAILED: {len(seen)} waves of {waves}, status {status}, {sum(it[3] for it in seen)} calls refused")
+        return False
+    tenth = waves // 10
+    took = [sum(it[1] for it in part) / sum(it[0] for it in part) for part in (seen[:tenth], seen[-tenth:])]
+    before, after = seen[1][4], seen[-1][4]
+    print(f"soak: {settings}: {sum(it[0] for it in seen):,} calls in {waves} waves; KiB kept at most in the first wave {seen[0][4]:,}, in"
+          f" two {before:,}, in all {after:,}; calls a second at the start {1e9 / took[0]:,.0f}, at the end {1e9 / took[1]:,.0f}; the"
+          f" longest call {max(it[2] for it in seen) / 1e6:.2f} ms", flush=True)
+    is_right = after <= before * 1.05 + 1024 and took[1] <= took[0] * 1.5
+    print("" if is_right else f"soak: {settings}: FAILED: it grew or became slow\n", end="")
+    return is_right
+
+
+def main():
+    if len(sys.argv) not in (2, 3):
+        sys.exit(__doc__)
+    count = int(sys.argv[2]) if len(sys.argv) == 3 else 10**7
+    right = [is_steady(os.path.abspath(sys.argv[1]), settings, count // 2) for settings in ("retraced", "deferred")]
+    print(f"soak: {sum(right)} of {len(right)} runs ended as they must")
+    return 0 if all(right) else 1
+
+
+if __name__ == "__main__":
+    sys.exit(main())
