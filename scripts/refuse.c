@@ -1,16 +1,17 @@
 /* Preloaded into the program, this refuses the call of REFUSE_KIND (malloc, read or write) with the number REFUSE_AT, counted
  * from 1: from the program's start, or from its first write to standard output that begins with REFUSE_FROM. The file REFUSE_TOLD is
- * there from then on. */
+ * there from then on. How many blocks of memory are held when the program ends goes to the file REFUSE_HELD. */
 #define _GNU_SOURCE
 #include <dlfcn.h>
 #include <errno.h>
 #include <fcntl.h>
+#include <stdio.h>
 #include <stdlib.h>
 #include <string.h>
 #include <sys/types.h>
 #include <unistd.h>
 
-static long counted;
+static long counted, held;
 static int begun;
 
 static int refused(const char *kind)
@@ -30,13 +31,41 @@ static int refused(const char *kind)
 void *malloc(size_t size)
 {
     void *(*real)(size_t) = dlsym(RTLD_NEXT, "malloc");
-    return refused("malloc") ? NULL : real(size);
+    void *block = refused("malloc") ? NULL : real(size);
+    held += block != NULL;
+    return block;
 }
 
 void *realloc(void *old, size_t size)
 {
     void *(*real)(void *, size_t) = dlsym(RTLD_NEXT, "realloc");
-    return refused("malloc") ? NULL : real(old, size);
+    void *block = refused("malloc") ? NULL : real(old, size);
+    held += !old && block;
+    return block;
+}
+
+/* Looking up the next `free` may free something itself, which is then left. */
+void free(void *block)
+{
+    static void (*real)(void *);
+    static int looking;
+    if (!real && looking++ == 0)
+        real = dlsym(RTLD_NEXT, "free");
+    if (!real)
+        return;
+    held -= block != NULL;
+    real(block);
+}
+
+/* Takes no memory, which would count. */
+__attribute__((destructor)) static void tell(void)
+{
+    const char *path = getenv("REFUSE_HELD");
+    int file = path ? open(path, O_CREAT | O_WRONLY, 0600) : -1;
+    if (file >= 0) {
+        dprintf(file, "%ld\n", held);
+        close(file);
+    }
 }
 
 static ssize_t failed(void)

@@ -2,8 +2,9 @@
 """Refuses a program that makes calls each request for memory in turn, work by work.
 
 The program (crates/tracing_tree_refusals) makes what a work needs, prints `begin NAME`, does the work, and prints how often memory was
-refused. It looks itself at what a refusal left, and asks once more; it ends with an error where that isn't as it must be. The last line
-is 'N of M runs ended as they must', where each run in which a request was refused counts.
+refused. It looks itself at what a refusal left, and asks once more; it ends with an error where that isn't as it must be. When it ends it
+must hold no more blocks of memory than without a refusal. The last line is 'N of M runs ended as they must', where each run in which a
+request was refused counts.
 
 usage: refuse_calls.py PROGRAM SHIM
 """
@@ -11,18 +12,19 @@ import os
 import re
 import subprocess
 import sys
+import tempfile
 
 # how many runs in a row without a refusal end a work
 QUIET = 3
 
 
-def run(program, work, shim=None, at=0):
-    """The status, the output and the error of a run of a work, in which the request of this number is refused."""
-    env = dict(os.environ)
-    if shim:
-        env.update(LD_PRELOAD=shim, REFUSE_KIND="malloc", REFUSE_AT=str(at), REFUSE_FROM="begin ")
-    done = subprocess.run([program, work], stdin=subprocess.DEVNULL, capture_output=True, env=env, timeout=60, check=False)
-    return done.returncode, done.stdout.decode(), done.stderr.decode()
+def run(program, shim, work, at=0):
+    """The status, the output and the error of a run of a work, in which the request of this number is refused, from 1, and how many blocks
+    it holds when it ends."""
+    with tempfile.NamedTemporaryFile("r", prefix="held-") as held:
+        env = dict(os.environ, LD_PRELOAD=shim, REFUSE_KIND="malloc", REFUSE_AT=str(at), REFUSE_FROM="begin ", REFUSE_HELD=held.name)
+        done = subprocess.run([program, work], stdin=subprocess.DEVNULL, capture_output=True, env=env, timeout=60, check=False)
+        return done.returncode, done.stdout.decode(), done.stderr.decode(), int(held.read() or 0)
 
 
 def works_of(program):
@@ -34,12 +36,15 @@ def works_of(program):
 def refuse_all(program, shim, work):
     """How many requests of a work were refused, and what went wrong."""
     refused, wrong, quiet, at = 0, [], 0, 0
+    kept = run(program, shim, work)[3]
     while quiet < QUIET:
         at += 1
-        status, said, told = run(program, work, shim, at)
+        status, said, told, held = run(program, shim, work, at)
         ended = re.fullmatch(rf"begin {work}\nend {work}: (\d+) refused\n", said)
         if status or not ended:
             wrong.append(f"{work}: request {at}: status {status}, {said!r}, {told!r}")
+        elif held > kept:
+            wrong.append(f"{work}: request {at}: {held} blocks are held at the end, and {kept} without a refusal")
         elif ended[1] == "0":
             quiet += 1
             continue

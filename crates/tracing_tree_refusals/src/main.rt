@@ -46,6 +46,8 @@ enum Work {
     Tape,
     // A text read back, and drawn again.
     Rows,
+    // The same line by line.
+    Reader,
     // The ancestors of events.
     Paths,
     // Rows as lines of JSON.
@@ -57,7 +59,7 @@ enum Work {
 }
 
 impl Work {
-    const ALL: [Work; 13] = [
+    const ALL: [Work; 14] = [
         Work::Calls(Script::Deferred),
         Work::Calls(Script::Closes),
         Work::Calls(Script::Interleaved),
@@ -67,6 +69,7 @@ impl Work {
         Work::Run,
         Work::Tape,
         Work::Rows,
+        Work::Reader,
         Work::Paths,
         Work::Json,
         Work::Lines,
@@ -79,6 +82,7 @@ impl Work {
             Work::Run => "run",
             Work::Tape => "tape",
             Work::Rows => "rows",
+            Work::Reader => "reader",
             Work::Paths => "paths",
             Work::Json => "json",
             Work::Lines => "lines",
@@ -100,6 +104,7 @@ fn done<R: AllocGlobal + Print + Wait>(rt: &R, work: Work) -> anyhow::Result<u32
             begin(rt, work)?;
             texts::read_and_draw(rt.alloc())
         }
+        Work::Reader => read_by_lines(rt, work),
         Work::Paths => {
             begin(rt, work)?;
             texts::find_paths(rt.alloc())
@@ -131,6 +136,13 @@ fn make_on_tape<R: AllocGlobal + Print>(rt: &R, work: Work) -> anyhow::Result<u3
     let prepared = OnTape::new(rt.alloc(), Script::Concurrent)?;
     begin(rt, work)?;
     prepared.make()
+}
+
+fn read_by_lines<R: AllocGlobal + Print>(rt: &R, work: Work) -> anyhow::Result<u32> {
+    let alloc = rt.alloc();
+    let rows = Vec::with_capacity(alloc, texts::ROWS)?;
+    begin(rt, work)?;
+    texts::read_by_lines(alloc, rows)
 }
 
 fn tell_rows<R: AllocGlobal + Print>(rt: &R, work: Work) -> anyhow::Result<u32> {

@@ -27,7 +27,7 @@ pub enum Script {
     /// Deferred spans with verbose entry, and events in both.
     Interleaved,
 
-    /// A field recorded before the span is shown.
+    /// Fields recorded before the span is shown, more than a list of fields begins with room for.
     Recorded,
 
     /// Two trees whose calls alternate, retraced.
@@ -46,19 +46,19 @@ pub enum Step {
     Close(u64),
 }
 
-const CONCURRENT: &str = "1:main┐concurrent_eager::spawn_fut key=\"a\"\n\
-    1:main┐concurrent_eager::spawn_fut key=\"b\"\n\
-    1:main┐concurrent_eager::spawn_fut key=\"a\"\n\
-    1:main└───┐concurrent_eager::a \n\
-    1:main┐concurrent_eager::spawn_fut key=\"b\"\n\
-    1:main└───┐concurrent_eager::b \n\
-    1:main┐concurrent_eager::spawn_fut key=\"a\"\n\
-    1:main└───┐concurrent_eager::a \n\
-    1:main    ├─── INFO concurrent_eager a\n\
+const CONCURRENT: &str = "1:main┐concurrent_eagerly::spawn_fut key=\"a\"\n\
+    1:main┐concurrent_eagerly::spawn_fut key=\"b\"\n\
+    1:main┐concurrent_eagerly::spawn_fut key=\"a\"\n\
+    1:main└───┐concurrent_eagerly::a \n\
+    1:main┐concurrent_eagerly::spawn_fut key=\"b\"\n\
+    1:main└───┐concurrent_eagerly::b \n\
+    1:main┐concurrent_eagerly::spawn_fut key=\"a\"\n\
+    1:main└───┐concurrent_eagerly::a \n\
+    1:main    ├─── INFO concurrent_eagerly a\n\
     1:main┌───┘\n\
-    1:main┐concurrent_eager::spawn_fut key=\"b\"\n\
-    1:main└───┐concurrent_eager::b \n\
-    1:main    ├─── INFO concurrent_eager b\n\
+    1:main┐concurrent_eagerly::spawn_fut key=\"b\"\n\
+    1:main└───┐concurrent_eagerly::b \n\
+    1:main    ├─── INFO concurrent_eagerly b\n\
     1:main┌───┘\n\
     1:main┘\n\
     1:main┘\n";
@@ -99,7 +99,7 @@ impl Script {
             Script::Deferred => "┐a \n└─┐b \n  ├─ INFO x\n",
             Script::Closes => "┐a \n└───┐b \n  ┌─┘b \n┌─┘a \n┘a \n",
             Script::Interleaved => { "┐a \n├─── INFO x\n└─┐a \n  └─┐b \n    ├─── INFO y\n" }
-            Script::Recorded => "┐a k=1\n├─ INFO x\n",
+            Script::Recorded => "┐a key=0, k=1, k=2, k=3, k=4\n├─ INFO x\n",
             Script::Concurrent => CONCURRENT,
             Script::Deep => DEEP,
         }
@@ -167,9 +167,12 @@ const INTERLEAVED: &[(Step, Answer)] = &[
 ];
 
 const RECORDED: &[(Step, Answer)] = &[
-    (Step::New("a", "", None), Ok(Reply::Span(Id(1)))),
+    (Step::New("a", "0", None), Ok(Reply::Span(Id(1)))),
     (Step::Record(1, "1"), Ok(Reply::Done)),
     (Step::Record(9, "1"), Ok(Reply::Done)),
+    (Step::Record(1, "2"), Ok(Reply::Done)),
+    (Step::Record(1, "3"), Ok(Reply::Done)),
+    (Step::Record(1, "4"), Ok(Reply::Done)),
     (Step::Told("x", Some(1)), Ok(Reply::Done)),
 ];
 
@@ -275,7 +278,7 @@ impl Step {
 }
 
 fn target(alloc: Global) -> Result<Text, AllocError> {
-    Text::from_str(alloc, "concurrent_eager")
+    Text::from_str(alloc, "concurrent_eagerly")
 }
 
 fn field(alloc: Global, name: &str, value: &str) -> Result<Fields, AllocError> {

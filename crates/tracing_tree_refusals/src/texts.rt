@@ -3,27 +3,41 @@
 ghost use Rattle.std.specs.Prelude.{◌≡◌};
 
 use crate::board::Board;
-use std::alloc::Global;
+use std::alloc::{AllocError, Global};
 use tracing_tree::format::Refusal;
 use tracing_tree::rows::{
-    DrawFault, EventPath, ReadFault, Row, RowCause, draw_rows, read_paths, read_rows, rows_to_json,
+    DrawFault, EventPath, ReadFault, Reader, Row, RowCause, Taken, draw_rows, read_paths,
+    read_rows, rows_to_json,
 };
 use tracing_tree::{LineCause, LinesRun, run_lines};
 
-const TREE: &str = "┐a \n└─┐b \n  ├─ WARN x\n┌─┘\n┘\n";
+const TREE: &str = "┐a \n└─┐b \n  ├─ WARN x\n  │  y\n┌─┘\n┘\n";
+
+/// How many rows the tree has.
+pub const ROWS: usize = 5;
 
 const JSON: &str = "{\"shape\":\"OpenRoot\",\"level\":0,\"lines\":[\"a \"]}\n\
     {\"shape\":\"Open\",\"verbose\":false,\"level\":1,\"lines\":[\"b \"]}\n\
-    {\"shape\":\"Event\",\"level\":2,\"lines\":[\" WARN x\"],\"ancestors\":[0,1]}\n\
+    {\"shape\":\"Event\",\"level\":2,\"lines\":[\" WARN x\",\"y\"],\"ancestors\":[0,1]}\n\
     {\"shape\":\"Close\",\"verbose\":false,\"level\":1,\"lines\":[\"\"]}\n\
     {\"shape\":\"CloseRoot\",\"level\":0,\"lines\":[\"\"]}\n";
 
-const LINES: &str = "{\"indent_lines\":true}\n\
-    {\"call\":\"new\",\"name\":\"a\"}\n\
-    {\"call\":\"new\",\"name\":\"b\",\"current\":1}\n\
-    {\"call\":\"event\",\"level\":\"WARN\",\"fields\":[[\"message\",\"x\"]],\"current\":2}\n\
+// A text of more than 16 bytes takes memory.
+const LINES: &str =
+    "{\"indent_lines\":true,\"deferred_spans\":true,\"targets\":true,\"thread_names\":true}\n\
+    {\"call\":\"new\",\"name\":\"the first of two spans\",\"target\":\"a target of a span\"}\n\
+    {\"call\":\"new\",\"name\":\"b\",\"current\":1,\"fields\":[[\"the name of a field\",\"1\"]]}\n\
+    {\"call\":\"record\",\"id\":2,\"fields\":[[\"k\",\"a value that is long\"]]}\n\
+    {\"call\":\"event\",\"level\":\"WARN\",\"target\":\"a target of an event\",\"current\":2,\
+    \"thread_name\":\"a thread with a name\",\"fields\":[[\"message\",\"a message that is long\"]]}\n\
     {\"call\":\"close\",\"id\":2}\n\
     {\"call\":\"close\",\"id\":1}\n";
+
+const DRAWN: &str = "a thread with a name┐a target of a span::the first of two spans \n\
+    a thread with a name└─┐::b the name of a field=1, k=a value that is long\n\
+    a thread with a name  ├─ WARN a target of an event a message that is long\n\
+    ┌─┘\n\
+    ┘\n";
 
 // The calls stand in functions of their own, whose contracts say nothing: what is looked at here is what they return.
 
@@ -72,6 +86,32 @@ fn drawn_again(alloc: Global, rows: &[Row]) -> anyhow::Result<u32> {
     };
     anyhow::ensure!(text.as_str() == TREE, "other rows are read");
     Ok(undrawn)
+}
+
+/// Reads a tree line by line, each again where memory was refused, into a list with room for all rows, and draws it again. Returns
+/// how often it was refused.
+pub fn read_by_lines(alloc: Global, mut rows: Vec<Row>) -> anyhow::Result<u32> {
+    let mut reader = Reader::new(2);
+    let mut refused = 0u32;
+    for line in TREE.lines() {
+        let (taken, untaken) = take_twice(alloc, &mut reader, line)?;
+        refused = refused.saturating_add(untaken);
+        if let Taken::First(Some(row)) = taken {
+            rows.push(row)?;
+        }
+    }
+    if let Some(row) = reader.finish() {
+        rows.push(row)?;
+    }
+    Ok(refused.saturating_add(drawn_again(alloc, rows.as_slice())?))
+}
+
+// Takes a line, once more where memory was refused, and returns how often that was.
+fn take_twice(alloc: Global, reader: &mut Reader, line: &str) -> Result<(Taken, u32), AllocError> {
+    match reader.take(alloc, line) {
+        Ok(taken) => Ok((taken, 0)),
+        Err(_) => Ok((reader.take(alloc, line)?, 1)),
+    }
 }
 
 /// Finds the ancestors of the one event of a tree. Returns how often memory was refused.
@@ -124,7 +164,7 @@ pub fn run_by_lines(alloc: Global, board: Board, again: Board) -> anyhow::Result
     let first = run(alloc, LINES.as_bytes(), board);
     let Some(fault) = first.fault else {
         anyhow::ensure!(
-            first.writer.bytes() == TREE.as_bytes(),
+            first.writer.bytes() == DRAWN.as_bytes(),
             "another text is drawn"
         );
         return Ok(0);

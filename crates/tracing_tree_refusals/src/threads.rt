@@ -127,8 +127,8 @@ fn draft_twice<L: Ledger>(
     }
 }
 
-// Submits a draft, once more where memory was refused, and returns how often that was. A fault of the output is the last answer but
-// `Failed`.
+// Submits a draft, once more where memory was refused, and returns how often that was. The draft comes back whole then. A fault of the
+// output is the last answer but `Failed`.
 fn submit_twice<L: Ledger, R: Wait>(
     rt: &R,
     layer: &SharedLayer<(), L>,
@@ -137,10 +137,15 @@ fn submit_twice<L: Ledger, R: Wait>(
     wanted: Answer,
 ) -> anyhow::Result<u32> {
     let before = pass.receipts().len();
+    let tail = tail_length(&drafted);
     let (first, back) = submit(rt, layer, pass, drafted);
     let stays = pass.receipts().len() == before;
     match back {
         Some(drafted) if first == Err(Refusal::Memory) && stays => {
+            anyhow::ensure!(
+                tail_length(&drafted) == tail,
+                "a draft comes back otherwise"
+            );
             let (second, _) = submit(rt, layer, pass, drafted);
             judged(second, wanted, 1)
         }
@@ -149,6 +154,10 @@ fn submit_twice<L: Ledger, R: Wait>(
             judged(first, wanted, 0)
         }
     }
+}
+
+fn tail_length(draft: &Draft) -> Option<usize> {
+    draft.tail().map(|tail| tail.len())
 }
 
 fn judged(given: Answer, wanted: Answer, refused: u32) -> anyhow::Result<u32> {

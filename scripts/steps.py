@@ -1,0 +1,50 @@
+#!/usr/bin/env python3
+"""Counts the instructions of calls that look spans up, among few live spans and among many, and compares the two.
+
+PROGRAM is crates/tracing_tree_bench, and COUNTER is scripts/steps.c. No contract says how many places a look-up reads. While no gap
+between a span and the newest was closed, it is one: so calls among 100,000 live spans take as many instructions as among ten. Where gaps
+were closed that are alike, it is some six places, however many spans there are. A search by halving alone, and more so one from end to end,
+would pass the bounds. Where the processor tells no instructions, nothing is compared, and a line says so. The last line is
+'N of M runs ended as they must'.
+
+usage: steps.py PROGRAM COUNTER
+"""
+import os, re, subprocess, sys
+
+ROUNDS = 64
+# A work among few spans, the same among many, and how many times as many instructions that may take.
+PAIRS = (("clone-10", "clone-100000", 1.05), ("clone-old-1000", "clone-old-100000", 1.15))
+
+
+def counted(program, counter, work):
+    """The instructions of a work's calls: 0 where the processor tells none, and None where the work went wrong."""
+    how = {"env": {"LD_PRELOAD": counter}, "stdout": subprocess.PIPE, "stderr": subprocess.PIPE, "timeout": 120}
+    try:
+        run = subprocess.run([program, work, str(ROUNDS), "marked"], check=False, **how)
+    except subprocess.TimeoutExpired:
+        return None
+    done = re.fullmatch(rb"begin\nend\n\S+: %d calls, .* 0 refused\n" % ROUNDS, run.stdout)
+    if not done or run.returncode or not re.fullmatch(rb"none\n|[1-9]\d*\n", run.stderr):
+        return None
+    return 0 if run.stderr == b"none\n" else int(run.stderr)
+
+
+def main():
+    program, counter = os.path.abspath(sys.argv[1]), os.path.abspath(sys.argv[2])
+    runs = wrong = 0
+    for few, many, most in PAIRS:
+        among_few, among_many = (counted(program, counter, it) for it in (few, many))
+        if 0 in (among_few, among_many):
+            print("steps: left out: this processor doesn't stop after each instruction")
+            continue
+        runs += 1
+        print(f"steps: {ROUNDS} calls: {few} {among_few} instructions, {many} {among_many}", flush=True)
+        if None in (among_few, among_many) or among_many > most * among_few:
+            print(f"program steps on {many}: FAILED: {among_many} instructions, and {among_few} among few spans")
+            wrong += 1
+    print(f"{runs - wrong} of {runs} runs ended as they must")
+    return 1 if wrong else 0
+
+
+if __name__ == "__main__":
+    sys.exit(main())
