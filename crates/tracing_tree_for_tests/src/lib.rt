@@ -1,6 +1,8 @@
 //! Short names for what the tests hand in.
 #![tactic(auto)]
 
+pub mod tree;
+
 ghost use Rattle.std.specs.Prelude.{◌≡◌};
 
 use jiff::Timestamp;
@@ -13,7 +15,7 @@ use tracing_tree::layered::Layered;
 use tracing_tree::registry::{Attributes, Event, Parent, Record};
 use tracing_tree::style::Level;
 use tracing_tree::text::Text;
-use tracing_tree::time::Moment;
+use tracing_tree::time::{FormatTime, Moment};
 
 /// A layered over memory, with lines and an amount of 2, whose first id is this.
 pub fn lined_from(alloc: Global, first: u64) -> Layered<Tape, ()> {
@@ -185,6 +187,15 @@ pub fn calls(alloc: Global, steps: &[Step<'_>]) -> Result<Vec<Call>, AllocError>
 
 /// What a call is answered.
 pub type Answer = Result<Reply, Refusal>;
+
+/// Runs the calls. It has no clause, so that a test that runs some is soon proved.
+pub fn run<W: Output, FT: FormatTime>(
+    alloc: Global,
+    layered: &mut Layered<W, FT>,
+    calls: Vec<Call>,
+) -> Result<Vec<Answer>, AllocError> {
+    layered.run(alloc, calls)
+}
 
 /// Makes the calls up to the first that is not answered as it stands beside it: returns that call's place and its answer.
 pub fn first_unlike(

@@ -4,15 +4,13 @@ use std::alloc::{AllocError, Global};
 use std::process::Abort;
 use std::test::*;
 use tracing_tree::call::Reply;
-use tracing_tree::format::{Id, Refusal, Tape};
-use tracing_tree::layer::HierarchicalLayer;
-use tracing_tree::layered::Layered;
+use tracing_tree::format::{Id, Refusal};
 use tracing_tree::registry::{Data, LookupSpan, Parent, Registry};
-use tracing_tree_for_tests::{Answer, Step, at, attributes, calls, first_unlike, lined, recorded};
+use tracing_tree_for_tests::tree::{LINED, Settings, Tree};
+use tracing_tree_for_tests::{Answer, Step, at, attributes, recorded};
 
 // A root `a` and its child `b`, with the ids 1 and 2. A child of a span that isn't there is refused.
-fn root_and_child(rt: &(impl Abort + AllocGlobal)) -> Result<Registry, Fail> {
-    let alloc = rt.alloc();
+fn root_and_child(alloc: Global) -> Result<Registry, Fail> {
     let mut registry = Registry::new(alloc);
     for (name, parent, wanted) in [
         ("a", Parent::Root, Ok(Id(1))),
@@ -20,14 +18,16 @@ fn root_and_child(rt: &(impl Abort + AllocGlobal)) -> Result<Registry, Fail> {
         ("c", Parent::Of(Id(9)), Err(Refusal::NotHeld(Id(9)))),
     ] {
         let span = attributes(alloc, name, parent)?;
-        assert_eq!(rt; registry.new_span(span, &at(None)), wanted);
+        if registry.new_span(span, &at(None)) != wanted {
+            return Err(Fail::from("a new span is answered otherwise"));
+        }
     }
     Ok(registry)
 }
 
 #[test]
 fn keeps_spans(rt: HostRuntime) -> Result<(), Fail> {
-    let registry = root_and_child(&rt)?;
+    let registry = root_and_child(rt.alloc())?;
     let look = registry.span(Id(2)).ok_or("no span")?;
     assert_eq!(rt; look.id(), Id(2));
     assert_eq!(rt; look.name(), "b");
@@ -39,7 +39,7 @@ fn keeps_spans(rt: HostRuntime) -> Result<(), Fail> {
 
 #[test]
 fn lists_a_path_both_ways(rt: HostRuntime) -> Result<(), Fail> {
-    let registry = root_and_child(&rt)?;
+    let registry = root_and_child(rt.alloc())?;
     let path = registry.path(rt.alloc(), Id(2))?;
     assert_eq!(rt; path.as_slice(), [Id(1), Id(2)].as_slice());
     let scope = registry.scope(rt.alloc(), Id(2))?;
@@ -49,7 +49,7 @@ fn lists_a_path_both_ways(rt: HostRuntime) -> Result<(), Fail> {
 
 #[test]
 fn closes_a_parent_with_its_last_child(rt: HostRuntime) -> Result<(), Fail> {
-    let mut registry = root_and_child(&rt)?;
+    let mut registry = root_and_child(rt.alloc())?;
     assert_eq!(rt; registry.try_close(Id(1)), Ok(false));
     let Ok(closing) = registry.closing(rt.alloc(), Id(2)) else {
         return Err(Fail::from("refused"));
@@ -88,38 +88,6 @@ fn makes_data(rt: HostRuntime) -> Result<(), Fail> {
     Ok(())
 }
 
-// Each of these calls is answered as it stands beside it, and they draw this.
-fn draws(
-    rt: &(impl Abort + AllocGlobal),
-    steps: &[(Step<'_>, Answer)],
-    text: &str,
-) -> Result<(), Fail> {
-    let alloc = rt.alloc();
-    let mut layered = lined(alloc);
-    assert_eq!(rt; first_unlike(alloc, &mut layered, steps)?, None);
-    assert_eq!(rt; layered.writer().bytes(), text.as_bytes());
-    Ok(())
-}
-
-// The same of a run, with verbose closes or without.
-fn runs(
-    rt: &(impl Abort + AllocGlobal),
-    verbose: bool,
-    steps: &[Step<'_>],
-    answers: &[Answer],
-    text: &str,
-) -> Result<(), Fail> {
-    let alloc = rt.alloc();
-    let layer = HierarchicalLayer::new(alloc, 2, false, Tape::new(alloc))
-        .with_indent_lines(true)
-        .with_verbose_exit(verbose);
-    let mut layered = Layered::new(alloc, layer);
-    let answered = layered.run(alloc, calls(alloc, steps)?)?;
-    assert_eq!(rt; answered.as_slice(), answers);
-    assert_eq!(rt; layered.writer().bytes(), text.as_bytes());
-    Ok(())
-}
-
 const CLONED: [Step<'static>; 6] = [
     Step::New("a", None),
     Step::New("b", Some(1)),
@@ -141,13 +109,12 @@ const CLONED_ANSWERS: [Answer; 6] = [
 #[test]
 fn a_clone_keeps_a_span(rt: HostRuntime) -> Result<(), Fail> {
     let text = "┐a \n└─┐b \n┌─┘\n┘\n";
-    runs(
-        &rt,
-        false,
-        CLONED.as_slice(),
-        CLONED_ANSWERS.as_slice(),
-        text,
-    )
+    let alloc = rt.alloc();
+    let mut tree = Tree::new(alloc, LINED);
+    let answers = tree.run(alloc, CLONED.as_slice())?;
+    assert_eq!(rt; answers.as_slice(), CLONED_ANSWERS.as_slice());
+    assert_eq!(rt; tree.text(), text.as_bytes());
+    Ok(())
 }
 
 const HELD_BY_A_CHILD: [(Step<'static>, Answer); 5] = [
@@ -160,7 +127,11 @@ const HELD_BY_A_CHILD: [(Step<'static>, Answer); 5] = [
 
 #[test]
 fn a_span_held_by_its_child_is_cloned(rt: HostRuntime) -> Result<(), Fail> {
-    draws(&rt, HELD_BY_A_CHILD.as_slice(), "┐a \n└─┐b \n┌─┘\n")
+    let alloc = rt.alloc();
+    let mut tree = Tree::new(alloc, LINED);
+    assert_eq!(rt; tree.first_unlike(alloc, HELD_BY_A_CHILD.as_slice())?, None);
+    assert_eq!(rt; tree.text(), "┐a \n└─┐b \n┌─┘\n".as_bytes());
+    Ok(())
 }
 
 const NAMED_PARENTS: [(Step<'static>, Answer); 6] = [
@@ -184,7 +155,11 @@ const NAMED_PARENTS: [(Step<'static>, Answer); 6] = [
 #[test]
 fn parents_are_named(rt: HostRuntime) -> Result<(), Fail> {
     let text = "┐a \n┐b \n└─┐c \n  ├─ INFO x\n INFO x\n";
-    draws(&rt, NAMED_PARENTS.as_slice(), text)
+    let alloc = rt.alloc();
+    let mut tree = Tree::new(alloc, LINED);
+    assert_eq!(rt; tree.first_unlike(alloc, NAMED_PARENTS.as_slice())?, None);
+    assert_eq!(rt; tree.text(), text.as_bytes());
+    Ok(())
 }
 
 const RECORDS: [Step<'static>; 5] = [
@@ -206,13 +181,16 @@ const RECORDS_ANSWERS: [Answer; 5] = [
 #[test]
 fn fields_are_recorded(rt: HostRuntime) -> Result<(), Fail> {
     let text = "┐a \n┘a k=1, k=2\n";
-    runs(
-        &rt,
-        true,
-        RECORDS.as_slice(),
-        RECORDS_ANSWERS.as_slice(),
-        text,
-    )
+    let alloc = rt.alloc();
+    let settings = Settings {
+        verbose_exit: true,
+        ..LINED
+    };
+    let mut tree = Tree::new(alloc, settings);
+    let answers = tree.run(alloc, RECORDS.as_slice())?;
+    assert_eq!(rt; answers.as_slice(), RECORDS_ANSWERS.as_slice());
+    assert_eq!(rt; tree.text(), text.as_bytes());
+    Ok(())
 }
 
 // Each call that needs a live span, here this one, which isn't live.
@@ -242,5 +220,9 @@ fn odd_steps(alloc: Global) -> Result<Vec<(Step<'static>, Answer)>, AllocError> 
 #[test]
 fn odd_ids_are_not_held(rt: HostRuntime) -> Result<(), Fail> {
     let steps = odd_steps(rt.alloc())?;
-    draws(&rt, steps.as_slice(), "┐a \n┘\n┐b \n")
+    let alloc = rt.alloc();
+    let mut tree = Tree::new(alloc, LINED);
+    assert_eq!(rt; tree.first_unlike(alloc, steps.as_slice())?, None);
+    assert_eq!(rt; tree.text(), "┐a \n┘\n┐b \n".as_bytes());
+    Ok(())
 }

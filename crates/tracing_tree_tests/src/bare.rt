@@ -16,7 +16,7 @@ use tracing_tree::layered::Layered;
 use tracing_tree::registry::{Attributes, Event, LookupSpan, Parent, Record, Registry, Walked};
 use tracing_tree::style::Level;
 use tracing_tree::text::Text;
-use tracing_tree_for_tests::{at, calls, recorded};
+use tracing_tree_for_tests::{at, calls, recorded, run};
 
 // What both registries can do.
 trait Keeps: LookupSpan {
@@ -108,7 +108,7 @@ fn draws_over<S: Keeps + Drop>(
 fn draws_as_a_run(rt: &impl Abort, alloc: Global, case: Case) -> Result<(), Fail> {
     let calls = case.calls(alloc)?;
     let mut layered = Layered::new(alloc, case.layer(alloc));
-    let answers = layered.run(alloc, calls)?;
+    let answers = run(alloc, &mut layered, calls)?;
     assert_eq!(rt; answers.iter().all(|answer| answer.is_ok()), true);
     assert_eq!(rt; layered.writer().bytes(), case.text().as_bytes());
     Ok(())
@@ -326,26 +326,54 @@ fn draws_concurrent_jobs(rt: HostRuntime) -> Result<(), Fail> {
     draws_everywhere(&rt, rt.alloc(), Case::Concurrent)
 }
 
+// A call on a layer alone, by the number of its span.
+#[derive(Clone, Copy)]
+enum Told {
+    New(u64),
+    Record(u64),
+    Close(u64),
+}
+
+// Tells it to a layer over the registry of one root.
+fn tell(
+    alloc: Global,
+    layer: &mut HierarchicalLayer<Tape, ()>,
+    lone: &mut Lone,
+    told: Told,
+) -> Result<(), Refusal> {
+    match told {
+        Told::New(id) => layer.on_new_span(Id(id), lone, &at(None)),
+        Told::Close(id) => layer.on_close(Id(id), lone, &at(None)),
+        Told::Record(id) => {
+            let values = Record {
+                fields: recorded(alloc, "k", "1")?,
+            };
+            layer.on_record(Id(id), &values, lone)
+        }
+    }
+}
+
+// What is told in turn, and how it is answered.
+const OF_ONE_ROOT: [(Told, Result<(), Refusal>); 7] = [
+    (Told::New(1), Ok(())),
+    (Told::Record(1), Ok(())),
+    (Told::Record(9), Ok(())),
+    (Told::Close(9), Err(Refusal::NotHeld(Id(9)))),
+    (Told::New(9), Err(Refusal::NotHeld(Id(9)))),
+    (Told::Close(1), Ok(())),
+    (Told::Close(1), Ok(())),
+];
+
 #[test]
 fn draws_over_a_registry_of_ones_own(rt: HostRuntime) -> Result<(), Fail> {
     let alloc = rt.alloc();
     let mut lone = Lone::new(alloc, "a")?;
-    let mut layer = layer(alloc, 2);
+    let mut layer = layer(alloc, 2).with_verbose_exit(true);
     assert_eq!(rt; layer.is_fresh(), true);
-    assert_eq!(rt; layer.on_new_span(Id(1), &mut lone, &at(None)), Ok(()));
-    assert_eq!(rt; layer.is_fresh(), false);
-    let values = Record {
-        fields: recorded(alloc, "k", "1")?,
-    };
-    for id in [Id(1), Id(9)] {
-        assert_eq!(rt; layer.on_record(id, &values, &mut lone), Ok(()));
+    for (told, wanted) in OF_ONE_ROOT {
+        assert_eq!(rt; tell(alloc, &mut layer, &mut lone, told), wanted);
+        assert_eq!(rt; layer.is_fresh(), false);
     }
-    let refused = Err(Refusal::NotHeld(Id(9)));
-    assert_eq!(rt; layer.on_close(Id(9), &mut lone, &at(None)), refused);
-    assert_eq!(rt; layer.on_new_span(Id(9), &mut lone, &at(None)), refused);
-    let mut layer = layer.with_verbose_exit(true);
-    assert_eq!(rt; layer.on_close(Id(1), &mut lone, &at(None)), Ok(()));
-    assert_eq!(rt; layer.on_close(Id(1), &mut lone, &at(None)), Ok(()));
     assert_eq!(rt; layer.writer().bytes(), "┐a \n┘a k=1\n┘a k=1\n".as_bytes());
     Ok(())
 }
@@ -355,9 +383,9 @@ fn writes_to_another_writer(rt: HostRuntime) -> Result<(), Fail> {
     let alloc = rt.alloc();
     let mut lone = Lone::new(alloc, "a")?;
     let mut layer = layer(alloc, 2);
-    assert_eq!(rt; layer.on_new_span(Id(1), &mut lone, &at(None)), Ok(()));
+    assert_eq!(rt; tell(alloc, &mut layer, &mut lone, Told::New(1)), Ok(()));
     let mut layer = layer.with_writer(Tape::new(alloc));
-    assert_eq!(rt; layer.on_close(Id(1), &mut lone, &at(None)), Ok(()));
+    assert_eq!(rt; tell(alloc, &mut layer, &mut lone, Told::Close(1)), Ok(()));
     assert_eq!(rt; layer.writer().bytes(), "┘\n".as_bytes());
     Ok(())
 }

@@ -1,13 +1,12 @@
 //! Calls on a layered, with their answers and their text.
 
 use std::alloc::{AllocError, Global};
-use std::process::Abort;
 use std::test::*;
-use tracing_tree::call::{Call, Reply};
-use tracing_tree::format::{Id, Refusal, Tape};
-use tracing_tree::layered::Layered;
+use tracing_tree::call::Reply;
+use tracing_tree::format::{Id, Refusal};
 use tracing_tree::style::Level;
-use tracing_tree_for_tests::{Answer, Step, calls, closed, first_unlike, lined, lined_from, made};
+use tracing_tree_for_tests::tree::{LINED, Tree, drawn};
+use tracing_tree_for_tests::{Answer, Step};
 
 /// Two spans, an event, and both closed.
 pub const TREE: [Step<'static>; 5] = [
@@ -29,61 +28,43 @@ const TREE_ANSWERS: [Answer; 5] = [
 #[test]
 fn draws_a_tree(rt: HostRuntime) -> Result<(), Fail> {
     let alloc = rt.alloc();
-    let calls = calls(alloc, TREE.as_slice())?;
-    let mut layered = lined(alloc);
-    let answers = layered.run(alloc, calls)?;
+    let mut tree = Tree::new(alloc, LINED);
+    let answers = tree.run(alloc, TREE.as_slice())?;
     assert_eq!(rt; answers.as_slice(), TREE_ANSWERS.as_slice());
-    assert_eq!(rt;
-        layered.writer().bytes(),
-        "┐a \n└─┐b \n  ├─ WARN x\n┌─┘\n┘\n".as_bytes()
-    );
+    let text = "┐a \n└─┐b \n  ├─ WARN x\n┌─┘\n┘\n";
+    assert_eq!(rt; tree.text(), text.as_bytes());
     Ok(())
 }
 
 // So many roots, which live at once, and close again in the order in which they were made.
-fn roots(alloc: Global, count: u64) -> Result<Vec<Call>, AllocError> {
-    let mut calls = Vec::new(alloc);
+fn roots(alloc: Global, count: u64) -> Result<Vec<Step<'static>>, AllocError> {
+    let mut steps = Vec::new(alloc);
     for _ in 0..count {
-        calls.push(made(alloc, "a", None)?)?;
+        steps.push(Step::New("a", None))?;
     }
     for id in 1..=count {
-        calls.push(closed(id))?;
+        steps.push(Step::Close(id))?;
     }
-    Ok(calls)
+    Ok(steps)
 }
 
 #[test]
 fn draws_many_spans(rt: HostRuntime) -> Result<(), Fail> {
     let alloc = rt.alloc();
-    let calls = roots(alloc, 3_000)?;
+    let steps = roots(alloc, 3_000)?;
     let opened = "┐a \n".repeat(alloc, 3_000)?;
     let closed = "┘\n".repeat(alloc, 3_000)?;
     let wanted = format!(in alloc; "{opened}{closed}")?;
-    let mut layered = lined(alloc);
-    let answers = layered.run(alloc, calls)?;
-    assert_eq!(rt; answers.iter().all(|answer| answer.is_ok()), true);
-    assert_eq!(rt; layered.writer().bytes(), wanted.as_bytes());
+    let text = drawn(alloc, LINED, steps.as_slice())?;
+    assert_eq!(rt; text.as_str(), wanted.as_str());
     Ok(())
 }
 
 #[test]
 fn runs_no_calls(rt: HostRuntime) -> Result<(), Fail> {
     let alloc = rt.alloc();
-    let mut layered = lined(alloc);
-    let answers = layered.run(alloc, Vec::new(alloc))?;
-    assert_eq!(rt; answers.is_empty(), true);
-    Ok(())
-}
-
-// Each of these calls is answered as it stands beside it, and they draw this.
-fn draws(
-    rt: &(impl Abort + AllocGlobal),
-    layered: &mut Layered<Tape, ()>,
-    steps: &[(Step<'_>, Answer)],
-    text: &str,
-) -> Result<(), Fail> {
-    assert_eq!(rt; first_unlike(rt.alloc(), layered, steps)?, None);
-    assert_eq!(rt; layered.writer().bytes(), text.as_bytes());
+    let mut tree = Tree::new(alloc, LINED);
+    assert_eq!(rt; tree.run(alloc, &[])?.is_empty(), true);
     Ok(())
 }
 
@@ -94,8 +75,14 @@ const PAST_THE_LAST_ID: [(Step<'static>, Answer); 2] = [
 
 #[test]
 fn gives_out_the_greatest_id(rt: HostRuntime) -> Result<(), Fail> {
-    let mut layered = lined_from(rt.alloc(), u64::MAX);
-    draws(&rt, &mut layered, PAST_THE_LAST_ID.as_slice(), "┐a \n")
+    let alloc = rt.alloc();
+    let mut tree = Tree::starting_at(alloc, u64::MAX, LINED);
+    assert_eq!(rt;
+        tree.first_unlike(alloc, PAST_THE_LAST_ID.as_slice())?,
+        None
+    );
+    assert_eq!(rt; tree.text(), "┐a \n".as_bytes());
+    Ok(())
 }
 
 const NOT_HELD: [(Step<'static>, Answer); 3] = [
@@ -106,8 +93,11 @@ const NOT_HELD: [(Step<'static>, Answer); 3] = [
 
 #[test]
 fn refuses_what_is_not_held(rt: HostRuntime) -> Result<(), Fail> {
-    let mut layered = lined(rt.alloc());
-    draws(&rt, &mut layered, NOT_HELD.as_slice(), "INFO x\n")
+    let alloc = rt.alloc();
+    let mut tree = Tree::new(alloc, LINED);
+    assert_eq!(rt; tree.first_unlike(alloc, NOT_HELD.as_slice())?, None);
+    assert_eq!(rt; tree.text(), "INFO x\n".as_bytes());
+    Ok(())
 }
 
 const CLOSED_TOGETHER: [(Step<'static>, Answer); 5] = [
@@ -120,9 +110,10 @@ const CLOSED_TOGETHER: [(Step<'static>, Answer); 5] = [
 
 #[test]
 fn closes_a_parent_with_its_child(rt: HostRuntime) -> Result<(), Fail> {
-    let mut layered = lined(rt.alloc());
-    let text = "┐a \n└─┐b \n┌─┘\n┘\n";
-    draws(&rt, &mut layered, CLOSED_TOGETHER.as_slice(), text)?;
-    assert_eq!(rt; layered.layer().last_span(), Some(Id(1)));
+    let alloc = rt.alloc();
+    let mut tree = Tree::new(alloc, LINED);
+    assert_eq!(rt; tree.first_unlike(alloc, CLOSED_TOGETHER.as_slice())?, None);
+    assert_eq!(rt; tree.text(), "┐a \n└─┐b \n┌─┘\n┘\n".as_bytes());
+    assert_eq!(rt; tree.last_span(), Some(Id(1)));
     Ok(())
 }

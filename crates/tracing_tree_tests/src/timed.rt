@@ -11,7 +11,7 @@ use tracing_tree::layer::HierarchicalLayer;
 use tracing_tree::layered::Layered;
 use tracing_tree::style::Level;
 use tracing_tree::time::{FormatTime, Moment, Uptime, UtcDateTime};
-use tracing_tree_for_tests::{Answer, Step, told};
+use tracing_tree_for_tests::{Answer, Step, run, told};
 
 // A layered over memory, with lines and this timer.
 fn timed<FT: FormatTime + Drop>(alloc: Global, timer: FT) -> Layered<Tape, FT> {
@@ -41,7 +41,7 @@ fn draws<FT: FormatTime + Drop>(
     wanted: &str,
 ) -> Result<bool, AllocError> {
     let mut layered = timed(alloc, timer);
-    let answers = layered.run(alloc, calls)?;
+    let answers = run(alloc, &mut layered, calls)?;
     let accepted = answers.iter().all(|answer| answer.is_ok());
     Ok(accepted && layered.writer().bytes() == wanted.as_bytes())
 }
@@ -161,7 +161,7 @@ fn asks_the_timer_once_an_event(rt: HostRuntime) -> Result<(), Fail> {
         .with_timer(&asked);
     let mut layered = Layered::new(alloc, layer);
     for (step, times) in ASKING {
-        layered.call(step.call(alloc)?)?;
+        run(alloc, &mut layered, vec![in alloc; step.call(alloc)?]?)?;
         assert_eq!(rt; asked.times.get(), times);
     }
     Ok(())
@@ -183,7 +183,7 @@ const TIMED_OUT_ANSWERS: [Answer; 3] = [
 fn fails(alloc: Global, timer: StopAt) -> Result<bool, AllocError> {
     let mut layered = timed(alloc, timer);
     let calls = calls_at(alloc, TIMED_OUT.as_slice())?;
-    let answers = layered.run(alloc, calls)?;
+    let answers = run(alloc, &mut layered, calls)?;
     let layer = layered.layer();
     Ok(
         answers.as_slice() == TIMED_OUT_ANSWERS.as_slice()
