@@ -1,6 +1,6 @@
-# Every target needs the kit's command `rt` and Python 3; `bench`, `faults` and `soak` need a C compiler besides, `memcheck` valgrind.
+# Every target needs the kit's command `rt` and Python 3; `bench`, `counts`, `faults` and `soak` need a C compiler besides, `memcheck` valgrind.
 # README says what each takes.
-.PHONY: demo test prove gate edits claim build jobs laws stress bench faults fuzz soak memcheck limits
+.PHONY: demo test prove gate edits claim build jobs laws stress bench faults fuzz soak memcheck limits counts
 
 # Draws the example, within a minute from a clean clone.
 demo:
@@ -58,12 +58,12 @@ stress: bin/tracing_tree_stress
 	@timeout 1800 bin/tracing_tree_stress 10000 20261124
 
 # Times the library by its own calls, the program on inputs that are made here, and the reading of drawings. It asserts nothing.
-bench: need-python need-cc build bin/tracing_tree_bench bin/tracing_tree_rows_bench bin/tracing_tree_shared_bench
+bench: need-python need-cc build bin/tracing_tree_bench
 	@$(CC) -O1 -shared -fPIC -o bin/count.so scripts/count.c -ldl
 	@python3 scripts/bench_calls.py bin/tracing_tree_bench bin/count.so
-	@python3 scripts/bench_shared.py bin/tracing_tree_shared_bench
+	@python3 scripts/bench_shared.py bin/tracing_tree_bench
 	@python3 scripts/bench.py bin/tracing_tree
-	@python3 scripts/bench_rows.py bin/tracing_tree bin/tracing_tree_rows_bench
+	@python3 scripts/bench_rows.py bin/tracing_tree bin/tracing_tree_bench
 
 # Inputs of worked cases that refusals are tried on too: with retracing, with clocks, with a fault of the settings and of a call.
 DATA = crates/tracing_tree_cases/data
@@ -84,6 +84,7 @@ CALLS = 300000
 DRAWN = 300000
 SEED = 1
 SOAKED = 100000000
+SOAKED_CALLS = 10000000
 
 # Outside the gate: so many random lines, calls and lines of drawings through the programs. A model that is written from the docs alone says
 # what is right; first it must agree with the worked cases. Each failure is left below bin/fuzz, to be run again.
@@ -91,10 +92,17 @@ fuzz: need-python build
 	@python3 scripts/model.py $(DATA)
 	@python3 scripts/fuzz.py --lines $(LINES) --calls $(CALLS) --drawings $(DRAWN) --seed $(SEED) bin/tracing_tree bin/tracing_tree_read
 
-# Outside the gate: so many calls through the program, and what it keeps and how fast it is at the start and at the end.
-soak: need-python need-cc build
+# Outside the gate: so many calls through the program, and so many on the library itself: what is kept, and how fast it is at the start and
+# at the end.
+soak: need-python need-cc build bin/tracing_tree_bench
 	@$(CC) -O2 -o bin/soak scripts/soak.c
 	@python3 scripts/soak.py bin/tracing_tree bin/soak $(SOAKED)
+	@python3 scripts/soak_calls.py bin/tracing_tree_bench $(SOAKED_CALLS)
+
+# Outside the gate: writes the figures anew that the gate compares with what the library takes of memory.
+counts: need-python need-cc bin/tracing_tree_bench
+	@$(CC) -O1 -shared -fPIC -o bin/count.so scripts/count.c -ldl
+	@python3 scripts/counts.py bin/tracing_tree_bench bin/count.so --write
 
 # Outside the gate: the programs under valgrind, on all worked cases and some drawings.
 memcheck: need-python build

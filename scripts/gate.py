@@ -5,7 +5,7 @@ proved and built, and the runs of these programs, some on random inputs: gate.py
 `rt ci` works on a copy of the repository without its edits, which scripts/edits.py tries beside it, many in one check and each over the
 libraries that `rt ci` has just proved. Edits take only the processor time that `rt ci` leaves. Everything that is said goes to bin/gate.log
 too. The last line is 'N passed, M failed'."""
-import argparse, os, re, shutil, subprocess, sys, tempfile, threading, time
+import argparse, concurrent.futures, os, re, shutil, subprocess, sys, tempfile, threading, time
 
 import edits as edit_trials
 
@@ -87,7 +87,7 @@ class Gate:
 
     def misuse(self):
         start = time.time()
-        ran = subprocess.run([f"{TOP}/misuse/run.sh"], stdin=subprocess.DEVNULL, stdout=subprocess.PIPE, stderr=subprocess.STDOUT, text=True)
+        ran = subprocess.run([f"{TOP}/misuse/run.py"], stdin=subprocess.DEVNULL, stdout=subprocess.PIPE, stderr=subprocess.STDOUT, text=True)
         lines = [it for it in ran.stdout.split("\n") if it.startswith("misuse ")]
         failed = [it for it in lines if "refused, as it must be" not in it] or ["misuse"] * bool(ran.returncode)
         for it in lines:
@@ -115,24 +115,32 @@ class Gate:
         failed = re.findall(r"(?m)^(program .*?): FAILED", ran.stdout) or [script] * (passed < runs or ran.returncode != 0)
         return self.count(f"runs by {script}", passed, failed, start)
 
-    def start_fuzzing(self):
-        """Compares the programs with the model on random inputs, and one quantity after another at many sizes, beside the edits."""
+    def run_programs(self):
+        """Compares the programs with the model on random inputs, and one quantity after another at many sizes. Then the programs' own runs,
+        refused memory, reads and writes, and the library for C."""
         asked = ["--lines", "20000", "--calls", "20000", "--drawings", "20000", "--sizes", "16385"]
-        programs = ("scripts/fuzz.py", "tracing_tree_cli", "tracing_tree_read")
-        fuzzing = threading.Thread(target=self.programs, args=programs, kwargs={"more": asked})
-        fuzzing.start()
-        return fuzzing
+        self.programs("scripts/fuzz.py", "tracing_tree_cli", "tracing_tree_read", more=asked)
+        self.programs("scripts/program.sh", "tracing_tree_cli", "tracing_tree_read")
+        self.programs("scripts/ttree.sh", "tracing_tree_ttree", "tracing_tree_cli")
+        self.faults()
+        self.bindings()
 
     def faults(self):
-        """Refuses programs each allocation, each read and each write of a small input in turn, where there is a C compiler."""
-        compiler, shim = os.environ.get("CC", "cc"), f"{self.room}/refuse.so"
+        """Refuses programs each allocation, each read and each write of a small input in turn, and counts what fixed works of the library
+        take of memory and of instructions, where there is a C compiler."""
+        compiler = os.environ.get("CC", "cc")
         if not shutil.which(compiler):
-            return say(f"left out: refused allocations, reads and writes, since the C compiler {compiler} is not on the PATH")
-        made = subprocess.run([compiler, "-O1", "-shared", "-fPIC", "-o", shim, f"{TOP}/scripts/refuse.c", "-ldl"], check=False)
-        if made.returncode:
-            return self.count("refused calls", 0, ["scripts/refuse.c does not compile"], time.time())
+            return say(f"left out: refused allocations, reads and writes, and counted memory and instructions: the C compiler {compiler} is not on the PATH")
+        shim, counter, stepper = (f"{self.room}/{it}.so" for it in ("refuse", "count", "steps"))
+        for source, made in (("refuse.c", shim), ("count.c", counter), ("steps.c", stepper)):
+            compiled = subprocess.run([compiler, "-O1", "-shared", "-fPIC", "-o", made, f"{TOP}/scripts/{source}", "-ldl"], check=False)
+            if compiled.returncode:
+                return self.count("refused calls", 0, [f"scripts/{source} does not compile"], time.time())
+        self.programs("scripts/counts.py", "tracing_tree_bench", more=[counter])
+        self.programs("scripts/steps.py", "tracing_tree_bench", more=[stepper])
         self.programs("scripts/refuse_calls.py", "tracing_tree_refusals", more=[shim])
         self.programs("scripts/refuse.py", "tracing_tree_cli", more=[shim, f"{TOP}/examples/first.jsonl"])
+        self.programs("scripts/refuse.py", "tracing_tree_ttree", more=[shim, f"{TOP}/examples/go-test.jsonl"])
         drawing = f"{TOP}/crates/tracing_tree_cases/data/first/tree.out"
         return self.programs("scripts/refuse.py", "tracing_tree_read", more=[shim, drawing])
 
@@ -168,17 +176,15 @@ def main():
     with tempfile.TemporaryDirectory(prefix="gate-") as room:
         copy_to(room)
         gate = Gate(rt, room, asked.sample)
-        # Before the proofs take all processors: each case has a limit of time.
+        # First, since it takes seconds.
         gate.misuse()
         proving = gate.start_proving()
         proving.join()
-        fuzzing = gate.start_fuzzing()
-        gate.try_edits()
-        fuzzing.join()
-        gate.programs("scripts/program.sh", "tracing_tree_cli", "tracing_tree_read")
-        gate.programs("scripts/ttree.sh", "tracing_tree_ttree", "tracing_tree_cli")
-        gate.faults()
-        gate.bindings()
+        # Beside the edits, which leave a processor idle now and then.
+        with concurrent.futures.ThreadPoolExecutor(1) as pool:
+            running = pool.submit(gate.run_programs)
+            gate.try_edits()
+            running.result()
     for it in gate.failed:
         say(f"FAILED: {it}")
     print(f"{gate.passed} passed, {len(gate.failed)} failed")
