@@ -1,10 +1,12 @@
 #!/usr/bin/env python3
 """The gate: what must not compile, every proof from nothing, every edit that the prover must refuse, the tests and the programs as they are
-proved and built, and the runs of these programs, some on random inputs: gate.py [--sample N]
+proved and built, and the runs of these programs, some on random inputs: gate.py [--sample N] [--anew]
 
 `rt ci` works on a copy of the repository without its edits, which scripts/edits.py tries beside it, many in one check and each over the
 libraries that `rt ci` has just proved. Edits take only the processor time that `rt ci` leaves. Everything that is said goes to bin/gate.log
-too. The last line is 'N passed, M failed'."""
+too. The last line is 'N passed, M failed'.
+
+What an earlier run of `rt ci` on this machine proved of the same files is not proved again, unless --anew is given."""
 import argparse, concurrent.futures, os, re, shutil, subprocess, sys, tempfile, threading, time
 
 import edits as edit_trials
@@ -35,8 +37,9 @@ def copy_to(room):
 
 
 class Gate:
-    def __init__(self, rt, room, sample):
+    def __init__(self, rt, room, sample, is_anew):
         self.rt, self.room = rt, room
+        self.proving = ["rt", "ci", *["--anew"] * is_anew]
         self.passed, self.failed, self.proved, self.counting = 0, [], 0, threading.Lock()
         lanes = len(os.sched_getaffinity(0))
         self.edits = edit_trials.Edits(rt, lanes, say, sample)
@@ -52,7 +55,7 @@ class Gate:
     def start_proving(self):
         """Starts `rt ci` on the copy. All that this process starts from then on takes only the processor time that it leaves."""
         how = {"cwd": self.room, "stdin": subprocess.DEVNULL, "stdout": subprocess.PIPE, "stderr": subprocess.STDOUT, "text": True}
-        ran = subprocess.Popen([*self.rt.rtlib.guarded(), "rt", "ci"], errors="replace", **how)
+        ran = subprocess.Popen([*self.rt.rtlib.guarded(), *self.proving], errors="replace", **how)
         os.nice(15)
         reading = threading.Thread(target=self.prove, args=(ran,))
         reading.start()
@@ -164,6 +167,7 @@ class Gate:
 def main():
     asked = argparse.ArgumentParser(description=__doc__, formatter_class=argparse.RawDescriptionHelpFormatter)
     asked.add_argument("--sample", type=int, default=5)
+    asked.add_argument("--anew", action="store_true")
     asked = asked.parse_args()
     for word in ("rt", "bash", "git"):
         if not shutil.which(word):
@@ -175,7 +179,7 @@ def main():
     rt.rtlib.guarded()
     with tempfile.TemporaryDirectory(prefix="gate-") as room:
         copy_to(room)
-        gate = Gate(rt, room, asked.sample)
+        gate = Gate(rt, room, asked.sample, asked.anew)
         # First, since it takes seconds.
         gate.misuse()
         proving = gate.start_proving()

@@ -98,13 +98,11 @@ fn a_deferred_span_shows_what_was_recorded(rt: HostRuntime) -> Result<(), Fail> 
     Ok(())
 }
 
-// Three seconds after the start of 1970, by both clocks.
-fn third_second() -> Moment {
-    Moment {
-        mono: 3_000_000_000,
-        wall: Timestamp::from_second(3).unwrap_or(Timestamp::UNIX_EPOCH),
-    }
-}
+// Three seconds later, by the clock that only goes forward.
+const THIRD_SECOND: Moment = Moment {
+    mono: 3_000_000_000,
+    wall: Timestamp::UNIX_EPOCH,
+};
 
 #[test]
 fn shows_thread_target_and_moment(rt: HostRuntime) -> Result<(), Fail> {
@@ -115,7 +113,7 @@ fn shows_thread_target_and_moment(rt: HostRuntime) -> Result<(), Fail> {
         .with_thread_names(true)
         .with_targets(true)
         .with_timer(Uptime::from(0));
-    let mut tracer = Tracer::new(alloc, Layered::new(alloc, layer), third_second())
+    let mut tracer = Tracer::new(alloc, Layered::new(alloc, layer), THIRD_SECOND)
         .with_target(Text::from_str(alloc, "web")?)
         .with_thread(7, Some(Text::from_str(alloc, "main")?));
     assert_eq!(rt; tracer.info("x", &[]), Ok(()));
