@@ -44,6 +44,7 @@ class Gate:
         lanes = len(os.sched_getaffinity(0))
         self.edits = edit_trials.Edits(rt, lanes, say, sample)
         self.crates = {it.name: it for it in rt.rtlib.crates_below(room)}
+        self.handed_in = set()
 
     def count(self, step, passed, failed, start):
         """Adds what a step counted."""
@@ -57,12 +58,23 @@ class Gate:
         how = {"cwd": self.room, "stdin": subprocess.DEVNULL, "stdout": subprocess.PIPE, "stderr": subprocess.STDOUT, "text": True}
         ran = subprocess.Popen([*self.rt.rtlib.guarded(), *self.proving], errors="replace", **how)
         os.nice(15)
+        # Processors are idle while the first crates are proved, each over the one before. These edits need no proved crate below.
+        for crate in self.crates.values():
+            if not crate.deps:
+                self.hand_in(crate)
         reading = threading.Thread(target=self.prove, args=(ran,))
         reading.start()
         return reading
 
+    def hand_in(self, crate):
+        """Has a crate's edits tried, once."""
+        folder = edit_trials.folder_of(crate)
+        if crate.name not in self.handed_in and os.path.isdir(folder):
+            self.handed_in.add(crate.name)
+            self.edits.take(crate, folder)
+
     def prove(self, ran):
-        """Reads what `rt ci` says to its end, and hands each crate's edits in once the crate is proved."""
+        """Reads what `rt ci` says to its end, and has each crate's edits tried once the crate is proved."""
         start, last, names = time.time(), "", []
         for line in ran.stdout:
             last = self.heard(line.rstrip("\n")) or last
@@ -81,9 +93,7 @@ class Gate:
         if proved:
             self.proved += 1
             say(f"{proved[1]} proved, {self.proved} of {len(self.crates)} crates")
-            folder = edit_trials.folder_of(self.crates[proved[1]])
-            if os.path.isdir(folder):
-                self.edits.take(self.crates[proved[1]], folder)
+            self.hand_in(self.crates[proved[1]])
         elif re.match(r"rt: |test .*FAILED|\S+:\d+:\d+: error|error", line):
             say(line)
         return line if re.fullmatch(r"\d+ passed, \d+ failed", line) else None
