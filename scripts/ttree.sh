@@ -10,6 +10,7 @@ tree=$(realpath "$2")
 top=$(cd "$(dirname "$0")/.." && pwd)
 room=$(mktemp -d)
 trap 'rm -rf "$room"' EXIT
+. "$top/scripts/ttree_tracing.sh"
 runs=0
 right=0
 
@@ -193,5 +194,6 @@ run_skipped
 run_lines
 run_terminal
 run_faults
+run_tracing
 echo "ttree: $right of $runs runs ended as they must"
 [ "$right" = "$runs" ]

@@ -1,11 +1,13 @@
--- Examples computed from the definitions of Go's tests.
-use Rattle.std.proofs.Common.{◌≡◌, true, false, None, Some, [], codes, refl}
+-- Examples computed from the definitions of Go's tests and of tracing's lines.
+use Rattle.std.proofs.Common.{◌≡◌, true, false, None, Some, [], ◌∷◌, codes, refl}
 use Rattle.json.specs.Json.{boolean, string, object, member, no_members}
 use Rattle.tracing_tree_sources.specs.First.{format_of}
 use Rattle.tracing_tree_sources.specs.GoTest.{after_mark, go_lacks, is_frame, leads, up_to_space}
-use Rattle.tracing_tree_sources.specs.declared.first.Format.TheVariants.{GoTest, Lines}
+use Rattle.tracing_tree_sources.specs.declared.first.Format.TheVariants.{GoTest, Lines, Tracing}
 use Rattle.tracing_tree_sources.specs.declared.notes.Lack.TheVariants.{Package}
 use Rattle.tracing_tree_sources.specs.Told.{is_escaped}
+use Rattle.tracing_tree_sources.specs.TracingLine.{kind_of, level_in}
+use Rattle.tracing_tree_sources.specs.declared.tracing.line.Kind.TheVariants.{Event, Enter, New}
 
 pub frame_of_its_own : is_frame (codes "TestSum") (codes "    --- PASS: TestSum (0.00s)") ≡ true
 frame_of_its_own = refl
@@ -51,3 +53,23 @@ settings_are_lines = refl
 
 pub an_action_without_a_package : go_lacks (Some (object (member (codes "Action") (string (codes "run")) no_members))) ≡ Package
 an_action_without_a_package = refl
+
+-- ---- tracing
+
+pub a_level_and_a_target_are_of_tracing : format_of (Some (object (member (codes "level") (string (codes "WARN")) (member (codes "target") (string (codes "shop")) no_members)))) ≡ Tracing
+a_level_and_a_target_are_of_tracing = refl
+
+pub a_level_alone_is_settings : format_of (Some (object (member (codes "level") (string (codes "WARN")) no_members))) ≡ Lines
+a_level_alone_is_settings = refl
+
+pub levels_are_in_capitals : level_in (object (member (codes "level") (string (codes "warn")) no_members)) ≡ None
+levels_are_in_capitals = refl
+
+pub new_opens_a_span : kind_of (record { name = codes "message"; value = codes "new" } ∷ []) false ≡ New
+new_opens_a_span = refl
+
+pub new_by_chance : kind_of (record { name = codes "message"; value = codes "new" } ∷ []) true ≡ Event
+new_by_chance = refl
+
+pub enter_is_told_in_the_span : kind_of (record { name = codes "message"; value = codes "enter" } ∷ []) true ≡ Enter
+enter_is_told_in_the_span = refl

@@ -1,4 +1,6 @@
 pub mod Source
 pub mod Told
 pub mod GoTest
+pub mod TracingLine
+pub mod Tracing
 pub mod First

@@ -1,13 +1,13 @@
 //! The first line of an input, which tells whose output it is.
 
-ghost use Rattle.std.specs.Prelude.{◌≡◌, IfOk, is_some, option_map};
-ghost use Rattle.json.specs.Find.{as_object};
+ghost use Rattle.std.specs.Prelude.{◌≡◌, IfOk, option_map};
 ghost use Rattle.json.specs.Json.{document};
 ghost use Rattle.json.specs.Value.{value_view};
-ghost use Rattle.tracing_tree_sources.specs.First.{format_of, format_of_line, format_of_value};
+ghost use Rattle.tracing_tree_sources.specs.First.{format_of, format_of_line, format_of_value, is_of_tracing};
 
 use crate::go_test::text_at;
 use crate::run::value_of;
+use crate::tracing::{is_object, level_in};
 use json::{Scratch, Value};
 use simdutf8::basic::from_utf8;
 use std::alloc::{AllocError, Global};
@@ -20,10 +20,14 @@ pub enum Format {
 
     /// `go test -json`.
     GoTest,
+
+    /// The JSON format of Rust's tracing-subscriber.
+    Tracing,
 }
 
-/// Whose output begins with this line. An object with a text at `Action` is Go's, and any other object has
-/// settings. All else is Go's, whose builds print lines that aren't JSON. `AllocError` where memory is refused.
+/// Whose output begins with this line. An object with a text at `Action` is Go's. Another with one of the five levels at `level`, and
+/// anything at `fields` or at `target`, is tracing's. Any other object has settings. All else is Go's, whose builds print lines
+/// that aren't JSON. `AllocError` where memory is refused.
 pub fn first_format(alloc: Global, line: &[u8]) -> Result<Format, AllocError>
     ensures { IfOk result (λ format. format ≡ format_of_line line.now) }
 {
@@ -55,6 +59,8 @@ fn format_of_value(value: &Value<'_>) -> Format
 {
     if text_at(value, "Action").is_some() {
         Format::GoTest
+    } else if is_of_tracing(value) {
+        Format::Tracing
     } else if is_object(value) {
         Format::Lines
     } else {
@@ -62,11 +68,9 @@ fn format_of_value(value: &Value<'_>) -> Format
     }
 }
 
-fn is_object(value: &Value<'_>) -> bool
-    ensures { result ≡ is_some (as_object (value_view value.now)) }
+// Whether a value has what tells a line of tracing.
+fn is_of_tracing(value: &Value<'_>) -> bool
+    ensures { result ≡ is_of_tracing (value_view value.now) }
 {
-    match value {
-        Value::Object(_) => true,
-        _ => false,
-    }
+    level_in(value).is_some() && (value.get("fields").is_some() || value.get("target").is_some())
 }

@@ -24,6 +24,10 @@ pub enum Lack {
     /// No text at `Output`, which the line's action needs.
     #[error("\"Output\": expected a text")]
     Output,
+
+    /// None of the five levels at `level`.
+    #[error("\"level\": expected a level")]
+    Level,
 }
 
 /// Who is told of skipped lines.

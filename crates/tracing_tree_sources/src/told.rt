@@ -48,7 +48,7 @@ fn push_shown(out: &mut String, c: char) -> Result<(), AllocError>
 }
 
 // A text with control characters as escapes, so that no input moves a terminal's cursor or changes its colour.
-fn shown(alloc: Global, text: &str) -> Result<Text, AllocError>
+pub(crate) fn shown(alloc: Global, text: &str) -> Result<Text, AllocError>
     ensures { IfOk result (λ made. made ≡ shown text.now) }
 {
     let mut out = String::new(alloc);

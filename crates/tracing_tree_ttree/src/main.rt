@@ -16,7 +16,7 @@ use tracing_tree::lines::{LineCause, LineFault, read_line};
 use tracing_tree::run_lines;
 use tracing_tree::time::Moment;
 use tracing_tree_sources::{
-    Format, GoTest, Lack, Notes, Source, SourceRun, first_format, run_source,
+    Format, GoTest, Lack, Notes, Source, SourceRun, Tracing, first_format, run_source,
 };
 
 // The input is read in parts of this size.
@@ -27,7 +27,7 @@ const NOTED: u64 = 10;
 
 // What `--help` says of the first line.
 const FIRST: &str =
-    "Without --from, the first line decides: a JSON object with a text at \"Action\" is of go-test, any other object of lines, and every other line of go-test.";
+    "Without --from, the first line decides: a JSON object with a text at \"Action\" is of go-test, one with TRACE, DEBUG, INFO, WARN or ERROR at \"level\" and anything at \"fields\" or \"target\" of tracing, any other object of lines, and every other line of go-test.";
 
 // What the words of the command line ask for.
 #[derive(Drop)]
@@ -91,8 +91,10 @@ fn command<'a>(alloc: Global) -> Result<Command<'a>, AllocError> {
     let from = Arg::new(alloc, "from")
         .long("from")
         .value_name("TOOL")
-        .help("Whose output is read: go-test of `go test -json`, lines of settings and calls")
-        .value_parser(&["lines", "go-test"][..]);
+        .help(
+            "Whose output is read: go-test of `go test -json`, tracing of the JSON format of Rust's tracing-subscriber, lines of settings and calls",
+        )
+        .value_parser(&["lines", "go-test", "tracing"][..]);
     let color = Arg::new(alloc, "color")
         .long("color")
         .value_name("WHEN")
@@ -129,6 +131,7 @@ fn command<'a>(alloc: Global) -> Result<Command<'a>, AllocError> {
 fn format(name: Option<&str>) -> Option<Format> {
     match name? {
         "lines" => Some(Format::Lines),
+        "tracing" => Some(Format::Tracing),
         _ => Some(Format::GoTest),
     }
 }
@@ -213,6 +216,7 @@ fn draw<R: AllocGlobal + Eprint + Print, I: Read + Drop>(
     let drawn = match from {
         Format::Lines => draw_lines(rt, input),
         Format::GoTest => draw_tests(rt, input, config, is_strict),
+        Format::Tracing => draw_tracing(rt, input, config, is_strict),
     };
     match drawn {
         Ok(status) => status,
@@ -259,6 +263,18 @@ fn draw_tests<R: AllocGlobal + Eprint + Print, I: Read + Drop>(
     let mut source = GoTest::new(rt.alloc(), 1, some_moment())?;
     let is_whole = draw_source(rt, input, &mut source, config, is_strict)?;
     Ok(status(is_whole && !source.has_failed()))
+}
+
+// Draws the lines of Rust's tracing.
+fn draw_tracing<R: AllocGlobal + Eprint + Print, I: Read + Drop>(
+    rt: &R,
+    input: I,
+    config: Config,
+    is_strict: bool,
+) -> Result<ExitCode, AllocError> {
+    let mut source = Tracing::new(rt.alloc(), 1, some_moment());
+    let is_whole = draw_source(rt, input, &mut source, config, is_strict)?;
+    Ok(status(is_whole))
 }
 
 fn status(is_right: bool) -> ExitCode {

@@ -1,0 +1,185 @@
+-- What one line of tracing's JSON says.
+use Rattle.std.specs.Prelude.{ℕ, ◌-◌, ◌&&◌, ◌||◌, Bool, true, false, not, if◌then◌else◌, List, [], ◌∷◌, ◌++◌, length, slice_get, Option, Some, None, is_some, unwrap_or, option_map, option_and_then, codes, bytes_eq}
+use Rattle.std.specs.List.{list_any}
+use Rattle.json.specs.Json.{Json, null, boolean, number, string, array, object, Items, no_items, item, Members, no_members, member}
+use Rattle.json.specs.Find.{get, as_array, as_object}
+use Rattle.tracing_tree_base.specs.Equal.{field_eq, fields_eq}
+use Rattle.tracing_tree_base.specs.declared.field.Field.{Field}
+use Rattle.tracing_tree_base.specs.declared.style.Level.{Level}
+use Rattle.tracing_tree_base.specs.declared.style.Level.TheVariants.{Trace, Debug, Info, Warn, Error}
+use Rattle.tracing_tree_sources.specs.GoTest.{text_at}
+use Rattle.tracing_tree_sources.specs.Told.{shown}
+use Rattle.tracing_tree_sources.specs.declared.tracing.line.Listed.{Listed}
+use Rattle.tracing_tree_sources.specs.declared.tracing.line.Kind.{Kind}
+use Rattle.tracing_tree_sources.specs.declared.tracing.line.Kind.TheVariants.{Event as AnEvent, New, Enter, Exit, Close}
+use Rattle.tracing_tree_sources.specs.declared.tracing.line.Part.{Part}
+use Rattle.tracing_tree_sources.specs.declared.tracing.line.Part.TheVariants.{Event, Span, Line}
+
+-- ---- values and fields
+
+-- a value as it is drawn
+abbrev pub text_of : Json → List ℕ
+text_of null = codes "null"
+text_of (boolean b) = if b then codes "true" else codes "false"
+text_of (number text) = text
+text_of (string text) = shown text
+text_of (array _) = codes "[..]"
+text_of (object _) = codes "{..}"
+
+-- a line has these keys beside its event's fields
+abbrev pub is_line_key : List ℕ → Bool
+is_line_key key =
+    bytes_eq key (codes "timestamp") || bytes_eq key (codes "level")
+    || bytes_eq key (codes "target") || bytes_eq key (codes "filename")
+    || bytes_eq key (codes "line_number") || bytes_eq key (codes "span")
+    || bytes_eq key (codes "spans") || bytes_eq key (codes "threadId")
+    || bytes_eq key (codes "threadName")
+
+-- a member of such an object is no field
+abbrev pub is_left_out : Part → List ℕ → Bool
+is_left_out Event key = false
+is_left_out Span key = bytes_eq key (codes "name")
+is_left_out Line key = is_line_key key
+
+abbrev pub member_fields : Part → List ℕ → Json → List Field
+member_fields part key value =
+    if is_left_out part key then []
+    else (record { name = shown key; value = text_of value }) ∷ []
+
+abbrev pub members_fields : Part → Members → List Field
+members_fields part no_members = []
+members_fields part (member key value others) =
+    member_fields part key value ++ members_fields part others
+
+-- an object's members as fields
+abbrev pub fields_of : Part → Json → List Field
+fields_of part value = members_fields part (unwrap_or (as_object value) no_members)
+
+abbrev pub object_at : List ℕ → Json → Option Json
+object_at key value = if_object (get key value) where
+  if_object : Option Json → Option Json
+  if_object None = None
+  if_object (Some found) = if is_some (as_object found) then Some found else None
+
+abbrev pub array_at : List ℕ → Json → Option Items
+array_at key value = option_and_then as_array (get key value)
+
+-- the fields of a line's event: those at `fields`, else all but the line's own keys
+abbrev pub line_fields : Json → List Field
+line_fields value = at_fields (object_at (codes "fields") value) where
+  at_fields : Option Json → List Field
+  at_fields (Some fields) = fields_of Event fields
+  at_fields None = fields_of Line value
+
+abbrev pub level_of_word : List ℕ → Option Level
+level_of_word word =
+    if bytes_eq word (codes "TRACE") then Some Trace
+    else if bytes_eq word (codes "DEBUG") then Some Debug
+    else if bytes_eq word (codes "INFO") then Some Info
+    else if bytes_eq word (codes "WARN") then Some Warn
+    else if bytes_eq word (codes "ERROR") then Some Error
+    else None
+
+abbrev pub level_in : Json → Option Level
+level_in value = option_and_then level_of_word (text_at (codes "level") value)
+
+-- the thread of a line, empty where the line doesn't tell it
+abbrev pub thread_in : Json → List ℕ
+thread_in value =
+    unwrap_or (text_at (codes "threadId") value)
+    (unwrap_or (text_at (codes "threadName") value) [])
+
+-- ---- spans
+
+abbrev pub listed_of : Json → Listed
+listed_of value = record {
+  name = unwrap_or (text_at (codes "name") value) [];
+  fields = fields_of Span value;
+}
+
+abbrev pub items_listed : Items → List Listed
+items_listed no_items = []
+items_listed (item value others) = listed_of value ∷ items_listed others
+
+-- the current span of a line
+abbrev pub span_in : Json → Option Listed
+span_in value = option_map listed_of (object_at (codes "span") value)
+
+-- the spans that a line lists, the root first
+abbrev pub spans_in : Json → Option (List Listed)
+spans_in value = option_map items_listed (array_at (codes "spans") value)
+
+abbrev pub lists_same : Listed → Listed → Bool
+lists_same one other = bytes_eq one.name other.name && fields_eq one.fields other.fields
+
+-- each of the first fields is among the second
+abbrev pub fields_within : List Field → List Field → Bool
+fields_within [] fields = true
+fields_within (field ∷ others) fields =
+    list_any (λ f. field_eq f field) fields && fields_within others fields
+
+-- an entry may be the span that was first listed as the other: a field may have come, and none has gone
+abbrev pub may_be : Listed → Listed → Bool
+may_be entry first =
+    bytes_eq entry.name first.name && fields_within first.fields entry.fields
+
+abbrev pub is_last : Option Listed → Listed → Bool
+is_last None span = false
+is_last (Some last) span = lists_same last span
+
+-- the current span is the last of those that are listed
+abbrev pub is_current : Json → Bool
+is_current value = among (span_in value) (spans_in value) where
+  among : Option Listed → Option (List Listed) → Bool
+  among (Some span) (Some spans) = is_last (slice_get spans (length spans - 1)) span
+  among (Some span) None = false
+  among None spans = false
+
+abbrev pub names_span : Json → Bool
+names_span value =
+    is_some (object_at (codes "span") value) || is_some (array_at (codes "spans") value)
+
+-- ---- kinds of lines
+
+abbrev pub is_message : Field → List ℕ → Bool
+is_message field text = bytes_eq field.name (codes "message") && bytes_eq field.value text
+
+-- the fields with which a span's close is told
+abbrev pub is_timed_close : List Field → Bool
+is_timed_close (message ∷ busy ∷ idle ∷ []) =
+    is_message message (codes "close") && bytes_eq busy.name (codes "time.busy")
+    && bytes_eq idle.name (codes "time.idle")
+is_timed_close _ = false
+
+abbrev pub kind_of_message : Field → Bool → Kind
+kind_of_message message current =
+    if is_message message (codes "enter") then Enter
+    else if current then AnEvent
+    else if is_message message (codes "new") then New
+    else if is_message message (codes "exit") then Exit
+    else if is_message message (codes "close") then Close
+    else AnEvent
+
+abbrev pub kind_of : List Field → Bool → Kind
+kind_of (message ∷ []) current = kind_of_message message current
+kind_of _ current = AnEvent
+
+-- What a line tells, of which these are the event's fields. Where the current span is the last that is
+-- listed, the span that opens, closes or is left isn't named, so the line is an event of the current one.
+abbrev pub kind_in : List Field → Json → Kind
+kind_in fields value =
+    if not (names_span value) then AnEvent
+    else if is_timed_close fields then Close
+    else kind_of fields (is_current value)
+
+-- the spans that a line stands in, the root first: those that are listed, else the current one
+abbrev pub path_in : Kind → Json → List Listed
+path_in kind value = listed_or_current (spans_in value) where
+  current : Kind → Option Listed → List Listed
+  current AnEvent (Some span) = span ∷ []
+  current Enter (Some span) = span ∷ []
+  current _ _ = []
+
+  listed_or_current : Option (List Listed) → List Listed
+  listed_or_current (Some spans) = spans
+  listed_or_current None = current kind (span_in value)

@@ -1,0 +1,290 @@
+# The runs of ttree on lines of Rust's tracing, for scripts/ttree.sh. Each tree is made by hand of what docs/FORMATS.md says.
+
+# Counts the run of this name on this file, which must end with this status and this text on standard error. The tree comes on standard
+# input.
+tree_of() {
+    cat > "$room/want"
+    run "$2"
+    count "$1" want "$4" "$3"
+}
+
+# The run of this name on lines and the tree that they make: both come on standard input, with a line `--` between.
+lines_of() {
+    cat > "$room/both"
+    sed '/^--$/,$d' "$room/both" > "$room/tracing"
+    sed '1,/^--$/d' "$room/both" > "$room/want"
+    run "$room/tracing"
+    count "$1" want "${3-}" "${2-0}"
+}
+
+# Parts of what tracing-subscriber wrote.
+run_tracing_samples() {
+    tree_of 'on tracing without span events' "$top/examples/tracing-plain.jsonl" 0 '' << 'END_OF_TREE'
+INFO open
+┐order id=1
+├─ INFO received
+└─┐check item=tea
+  ├─ DEBUG in stock, left=4
+┌─┘
+└─┐check item=cups
+  ├─ DEBUG in stock, left=1
+├─ INFO shipped
+┌─┘
+┘
+┐order id=2
+├─ INFO received
+└─┐check item=tea
+  ├─ DEBUG in stock, left=4
+┌─┘
+└─┐check item=cups
+  ├─ WARN sold out
+├─ INFO shipped
+┌─┘
+┘
+┐order id=3
+├─ INFO received
+└─┐check item=tea
+  ├─ DEBUG in stock, left=4
+┌─┘
+└─┐check item=cups
+  ├─ DEBUG in stock, left=1
+├─ INFO shipped
+INFO closed
+┌─┘
+┘
+END_OF_TREE
+    head -n 17 "$top/examples/tracing-full.jsonl" > "$room/part"
+    tree_of 'on tracing with all span events' "$room/part" 0 '' << 'END_OF_TREE'
+INFO open
+┐order id=1
+├─ INFO received
+└─┐check item=tea
+  ├─ DEBUG in stock, left=4
+  ├─ INFO close, time.busy=22.6µs, time.idle=21.7µs
+┌─┘
+└─┐check item=cups
+  ├─ DEBUG in stock, left=1
+  ├─ INFO close, time.busy=20.6µs, time.idle=17.8µs
+┌─┘
+├─ INFO shipped
+├─ INFO close, time.busy=157µs, time.idle=33.4µs
+┘
+END_OF_TREE
+    head -n 11 "$top/examples/tracing-flat.jsonl" > "$room/part"
+    tree_of 'on tracing with flattened events' "$room/part" 0 '' << 'END_OF_TREE'
+INFO open
+┐order id=1
+├─ INFO received
+└─┐check item=tea
+  ├─ DEBUG in stock, left=4
+  ├─ INFO close, time.busy=9.33µs, time.idle=6.89µs
+┌─┘
+└─┐check item=cups
+  ├─ DEBUG in stock, left=1
+  ├─ INFO close, time.busy=24.9µs, time.idle=5.82µs
+┌─┘
+├─ INFO shipped
+├─ INFO close, time.busy=92.4µs, time.idle=8.39µs
+┘
+END_OF_TREE
+    grep -v 'ThreadId([24])' "$top/examples/tracing.jsonl" > "$room/part"
+    tree_of 'on tracing with a field that is recorded late' "$room/part" 0 '' << 'END_OF_TREE'
+┐server port=8080
+├─ INFO starting
+└─┐fetch id=2
+  ├─ INFO fetched, bytes=512
+  └─┐parse 
+    ├─ DEBUG parsing
+    ├─ WARN slow
+    │  answer, kind=late
+    ├─ INFO close, time.busy=147µs, time.idle=56.6µs
+  ┌─┘
+  ├─ INFO close, time.busy=377µs, time.idle=109µs
+┌─┘
+├─ ERROR lost, code=7, ok=true, ratio=0.5
+├─ INFO close, time.busy=719µs, time.idle=398µs
+┘
+END_OF_TREE
+}
+
+# Spans that threads and tasks share.
+run_tracing_threads() {
+    lines_of 'on two threads of tracing without span events' << 'END_OF_LINES'
+{"level":"INFO","fields":{"message":"a"},"target":"t","spans":[{"name":"s"},{"id":1,"name":"r"}],"threadId":"ThreadId(1)"}
+{"level":"INFO","fields":{"message":"b"},"target":"t","spans":[{"name":"s"},{"id":2,"name":"r"}],"threadId":"ThreadId(2)"}
+{"level":"INFO","fields":{"message":"c"},"target":"t","spans":[{"name":"s"},{"id":1,"name":"r"}],"threadId":"ThreadId(1)"}
+{"level":"INFO","fields":{"message":"d"},"target":"t","spans":[{"name":"s"},{"id":3,"name":"r"}],"threadId":"ThreadId(2)"}
+--
+┐s 
+└─┐r id=1
+  ├─ INFO a
+└─┐r id=2
+  ├─ INFO b
+└─┐r id=1
+  ├─ INFO c
+┌─┘
+└─┐r id=3
+  ├─ INFO d
+┌─┘
+┌─┘
+┘
+END_OF_LINES
+    lines_of 'on tasks of tracing that take turns' << 'END_OF_LINES'
+{"level":"INFO","fields":{"message":"a"},"target":"t","span":{"id":1,"name":"r"},"spans":[{"id":1,"name":"r"}]}
+{"level":"INFO","fields":{"message":"b"},"target":"t","span":{"id":2,"name":"r"},"spans":[{"id":2,"name":"r"}]}
+{"level":"INFO","fields":{"message":"c"},"target":"t","span":{"id":1,"name":"r"},"spans":[{"id":1,"name":"r"}]}
+--
+┐r id=1
+├─ INFO a
+┘
+┐r id=2
+├─ INFO b
+┘
+┐r id=1
+├─ INFO c
+┘
+END_OF_LINES
+    lines_of 'on two alike spans of tracing' << 'END_OF_LINES'
+{"level":"INFO","fields":{"message":"new"},"target":"t","span":{"name":"r"},"spans":[]}
+{"level":"INFO","fields":{"message":"new"},"target":"t","span":{"name":"r"},"spans":[]}
+{"level":"INFO","fields":{"message":"a"},"target":"t","span":{"name":"r"},"spans":[{"name":"r"}]}
+{"level":"INFO","fields":{"message":"close","time.busy":"1ms","time.idle":"2ms"},"target":"t","span":{"name":"r"},"spans":[]}
+{"level":"INFO","fields":{"message":"b"},"target":"t","span":{"name":"r"},"spans":[{"name":"r"}]}
+{"level":"INFO","fields":{"message":"close","time.busy":"3ms","time.idle":"4ms"},"target":"t","span":{"name":"r"},"spans":[]}
+--
+┐r 
+┐r 
+├─ INFO a
+├─ INFO close, time.busy=1ms, time.idle=2ms
+┘
+┐r 
+├─ INFO b
+├─ INFO close, time.busy=3ms, time.idle=4ms
+┘
+END_OF_LINES
+    lines_of 'on a span of tracing that closes elsewhere' << 'END_OF_LINES'
+{"level":"INFO","fields":{"message":"a"},"target":"t","span":{"id":1,"name":"r"},"spans":[{"name":"s"},{"id":1,"name":"r"}]}
+{"level":"INFO","fields":{"message":"close"},"target":"t","span":{"id":1,"name":"r"},"spans":[]}
+{"level":"INFO","fields":{"message":"b"},"target":"t","span":{"name":"s"},"spans":[{"name":"s"}]}
+--
+┐s 
+└─┐r id=1
+  ├─ INFO a
+┌─┘
+├─ INFO b
+┘
+END_OF_LINES
+}
+
+# Messages, names and ends of spans that look alike.
+run_tracing_events() {
+    lines_of 'on messages of tracing that read as span events' << 'END_OF_LINES'
+{"level":"INFO","fields":{"message":"new"},"target":"t"}
+{"level":"INFO","fields":{"message":"new"},"target":"t","span":{"name":"s"},"spans":[]}
+{"level":"INFO","fields":{"message":"new"},"target":"t","span":{"name":"s"},"spans":[{"name":"s"}]}
+{"level":"INFO","fields":{"message":"close","door":3},"target":"t","span":{"name":"s"},"spans":[{"name":"s"}]}
+{"level":"INFO","fields":{"message":"close"},"target":"t","span":{"name":"s"},"spans":[{"name":"s"}]}
+{"level":"INFO","fields":{"message":"news"},"target":"t","span":{"name":"s"},"spans":[]}
+--
+INFO new
+┐s 
+├─ INFO new
+├─ INFO close, door=3
+├─ INFO close
+INFO news
+┘
+END_OF_LINES
+    lines_of 'on spans of tracing with one name' << 'END_OF_LINES'
+{"level":"INFO","fields":{"message":"new"},"target":"t","span":{"id":1,"name":"r"},"spans":[]}
+{"level":"INFO","fields":{"message":"new"},"target":"t","span":{"id":2,"name":"r"},"spans":[{"id":1,"name":"r"}]}
+{"level":"INFO","fields":{"message":"a"},"target":"t","span":{"id":2,"name":"r"},"spans":[{"id":1,"name":"r"},{"id":2,"name":"r"}]}
+{"level":"INFO","fields":{"message":"close"},"target":"t","span":{"id":2,"name":"r"},"spans":[{"id":1,"name":"r"}]}
+{"level":"INFO","fields":{"message":"b"},"target":"t","span":{"id":1,"name":"r"},"spans":[{"id":1,"name":"r"}]}
+--
+┐r id=1
+└─┐r id=2
+  ├─ INFO a
+┌─┘
+├─ INFO b
+┘
+END_OF_LINES
+    lines_of 'on closes of tracing without their opening' << 'END_OF_LINES'
+{"level":"DEBUG","fields":{"message":"close","time.busy":"1ms","time.idle":"2ms"},"target":"t","span":{"id":1,"name":"r"},"spans":[{"name":"s"}]}
+{"level":"INFO","message":"close","time.busy":"1ms","time.idle":"2ms","target":"t","spans":[{"name":"s"}]}
+{"level":"INFO","fields":{"message":"a"},"target":"t","span":{"name":"s"},"spans":[{"name":"s"}]}
+--
+┐s 
+└─┐r id=1
+  ├─ DEBUG close, time.busy=1ms, time.idle=2ms
+┌─┘
+├─ INFO a
+┘
+END_OF_LINES
+    lines_of 'on late fields of tracing without span events' << 'END_OF_LINES'
+{"level":"INFO","fields":{"message":"a"},"target":"t","span":{"id":1,"name":"r"},"spans":[{"id":1,"name":"r"}]}
+{"level":"INFO","fields":{"message":"b"},"target":"t","span":{"id":1,"rows":3,"name":"r"},"spans":[{"id":1,"rows":3,"name":"r"}]}
+{"level":"INFO","fields":{"message":"c"},"target":"t","span":{"rows":3,"name":"r"},"spans":[{"rows":3,"name":"r"}]}
+--
+┐r id=1
+├─ INFO a
+├─ INFO b
+┘
+┐r rows=3
+├─ INFO c
+┘
+END_OF_LINES
+    lines_of 'on tracing that names the current span alone' << 'END_OF_LINES'
+{"level":"INFO","fields":{"message":"new"},"target":"t","span":{"id":1,"name":"r"}}
+{"level":"INFO","fields":{"message":"a"},"target":"t","span":{"id":1,"name":"r"}}
+{"level":"INFO","fields":{"message":"close","time.busy":"1ms","time.idle":"2ms"},"target":"t","span":{"id":1,"name":"r"}}
+--
+┐r id=1
+├─ INFO a
+├─ INFO close, time.busy=1ms, time.idle=2ms
+┘
+END_OF_LINES
+}
+
+# Values, and lines that can't be read.
+run_tracing_lines() {
+    lines_of 'on values of tracing' << 'END_OF_LINES'
+{"level":"TRACE","fields":{"message":"a\u001b[31m","text":"b c","n":-1.50,"yes":true,"no":false,"none":null,"some":[1],"more":{"x":1}},"target":"t"}
+{"timestamp":"never","level":"WARN","code":7,"target":"t","filename":"a.rs","line_number":3,"threadName":"main"}
+--
+TRACE a\u{1b}[31m, text=b c, n=-1.50, yes=true, no=false, none=null, some=[..], more={..}
+WARN code=7
+END_OF_LINES
+    lines_of 'on lines of tracing that are cut off or lack a level' 1 'ttree: line 2: "level": expected a level
+ttree: line 3: expected a JSON object
+ttree: line 4: "level": expected a level
+ttree: line 5: expected a JSON object' << 'END_OF_LINES'
+{"level":"INFO","fields":{"message":"a"},"target":"t","spans":[{"name":"s"}]}
+{"fields":{"message":"b"},"target":"t"}
+panicked at src/main.rs:1
+{"level":"info","fields":{"message":"c"},"target":"t"}
+{"level":"INFO","fields":{"mess
+--
+┐s 
+├─ INFO a
+┘
+END_OF_LINES
+    sed 's/$/\r/' "$top/examples/tracing-full.jsonl" > "$room/crlf"
+    run --from tracing "$top/examples/tracing-full.jsonl"
+    mv "$room/out" "$room/want"
+    run "$room/crlf"
+    count 'on lines of tracing that end as on Windows' want '' 0
+    printf '{"fields":{"message":"a"}}\n' > "$room/part"
+    : > "$room/want"
+    run --from tracing "$room/part"
+    count 'with --from tracing' want 'ttree: line 1: "level": expected a level' 1
+    printf '{"level":"INFO","msg":"a"}\n' > "$room/part"
+    run "$room/part"
+    count 'on an object with a level alone' want 'ttree: line 1: settings' 2
+}
+
+run_tracing() {
+    run_tracing_samples
+    run_tracing_threads
+    run_tracing_events
+    run_tracing_lines
+}
