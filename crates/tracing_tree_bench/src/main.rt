@@ -30,8 +30,8 @@ use works::{Batch, Work};
 const BATCH: u32 = 64;
 
 fn main(rt: HostRuntime) -> anyhow::Result<()> {
-    let mut words = std::env::args(&rt)?.skip(1);
-    let Some(name) = words.next() else {
+    let words = words(&rt)?;
+    let Some((name, words)) = words.as_slice().split_first() else {
         return list(&rt);
     };
     match name.as_str() {
@@ -39,6 +39,15 @@ fn main(rt: HostRuntime) -> anyhow::Result<()> {
         "threads" => time_threads(&rt, words),
         name => time_calls(&rt, name, words),
     }
+}
+
+// The words after the program's name.
+fn words<R: AllocGlobal + Env>(rt: &R) -> anyhow::Result<Vec<String>> {
+    let mut words = Vec::new(rt.alloc());
+    for word in std::env::args(rt)?.skip(1) {
+        words.push(word)?;
+    }
+    Ok(words)
 }
 
 fn list(rt: &impl Print) -> anyhow::Result<()> {
@@ -54,23 +63,23 @@ fn list(rt: &impl Print) -> anyhow::Result<()> {
 
 fn time_threads<R: AllocGlobal + Threads + Wait + MachineClock + Print + Sync>(
     rt: &R,
-    mut words: impl Iterator<Item = String>,
+    words: &[String],
 ) -> anyhow::Result<()> {
-    let Some(name) = words.next() else {
+    let Some((name, numbers)) = words.split_first() else {
         anyhow::bail!("no work of threads is named");
     };
     let Some(work) = threads::Work::named(name.as_str()) else {
         anyhow::bail!("no such work of threads");
     };
-    threads::run(rt, work, words)
+    threads::run(rt, work, numbers)
 }
 
 fn time_calls<R: AllocGlobal + MachineClock + Print>(
     rt: &R,
     name: &str,
-    mut words: impl Iterator<Item = String>,
+    words: &[String],
 ) -> anyhow::Result<()> {
-    let rounds = match words.next() {
+    let rounds = match words.first() {
         Some(word) => word.as_str().parse::<u32>()?,
         None => BATCH,
     };
@@ -80,7 +89,7 @@ fn time_calls<R: AllocGlobal + MachineClock + Print>(
     let Some(work) = Work::named(name) else {
         anyhow::bail!("no such work");
     };
-    let way = match words.next() {
+    let way = match words.get(1) {
         Some(word) => Way::named(word.as_str())?,
         None => Way::Timed,
     };

@@ -24,10 +24,10 @@ const MOST: usize = 64;
 pub fn run<R: AllocGlobal + Threads + Wait + Clock + Print + Sync>(
     rt: &R,
     work: Work,
-    words: impl Iterator<Item = String>,
+    words: &[String],
 ) -> anyhow::Result<()> {
     let mut numbers = [1usize, 1, 1];
-    for (number, word) in numbers.iter_mut().zip(words) {
+    for (number, word) in numbers.iter_mut().zip(words.iter()) {
         *number = word.as_str().parse::<usize>()?;
     }
     let [threads, events, fields] = numbers;
