@@ -6,6 +6,8 @@
 #include <stdio.h>
 #include <stdlib.h>
 
+#include "at_end.h"
+
 /* The blocks that are held, each in the place that its address leads to, or in one after that. Few enough of these stay for all to
  * find room. */
 #define PLACES (1UL << 22)
@@ -79,7 +81,7 @@ void free(void *block)
     real(block);
 }
 
-__attribute__((destructor)) static void tell(void)
+static void tell(void)
 {
     long requests = counted;
     size_t bytes = asked, highest = most;

@@ -9,6 +9,8 @@
 #include <sys/types.h>
 #include <ucontext.h>
 
+#include "at_end.h"
+
 /* More than this isn't counted: it would take long. */
 static const long MOST = 2000000;
 
@@ -72,7 +74,7 @@ ssize_t __write(int file, const void *bytes, size_t size)
     return write(file, bytes, size);
 }
 
-__attribute__((destructor)) static void tell(void)
+static void tell(void)
 {
     if (tells)
         fprintf(stderr, "%ld\n", steps);
