@@ -84,7 +84,7 @@ CALLS = 300000
 DRAWN = 300000
 SEED = 1
 SOAKED = 100000000
-SOAKED_CALLS = 10000000
+SOAKED_CALLS = 100000000
 
 # Outside the gate: so many random lines, calls and lines of drawings through the programs. A model that is written from the docs alone says
 # what is right; first it must agree with the worked cases. Each failure is left below bin/fuzz, to be run again.

@@ -2,7 +2,7 @@
 """Runs many calls on the library itself, and looks at memory, speed and the longest call: soak_calls.py PROGRAM [CALLS]
 
 PROGRAM (crates/tracing_tree_bench) makes waves of calls that open and close the same spans, 100,000 of them at once, branches in turn, and
-a span whose fields and handles grow, and times each call by itself. Half of CALLS (10^7) are made under settings that retrace, and half
+a span whose fields and handles grow, and times each call by itself. Half of CALLS (10^8) are made under settings that retrace, and half
 with deferred spans besides. No call may be refused. The most memory that was kept may not grow past what it was in the second wave by more
 than a twentieth and 1 MiB, and a call may take at most 1.5 times as long in the last tenth of the waves as in the first. The last line is
 'soak: N of M runs ended as they must'.
@@ -27,7 +27,8 @@ def waves_of(program, settings, waves):
             try:
                 kept = most_kept(ran.pid)
             except (OSError, StopIteration):
-                kept = seen[-1][4]
+                # It has ended.
+                kept = seen[-1][4] if seen else 0
             seen.append((*(int(it) for it in told.groups()), kept))
     return seen, ran.returncode
 
@@ -57,7 +58,7 @@ def is_steady(program, settings, count):
 def main():
     if len(sys.argv) not in (2, 3):
         sys.exit(__doc__)
-    count = int(sys.argv[2]) if len(sys.argv) == 3 else 10**7
+    count = int(sys.argv[2]) if len(sys.argv) == 3 else 10**8
     right = [is_steady(os.path.abspath(sys.argv[1]), settings, count // 2) for settings in ("retraced", "deferred")]
     print(f"soak: {sum(right)} of {len(right)} runs ended as they must")
     return 0 if all(right) else 1
