@@ -475,12 +475,14 @@ class Tree:
         return wrapped + (1 if self.settings.indent_lines and is_above(row.kind) else 0)
 
     def draw(self, rows, context):
-        amount = self.settings.amount
-        widest = max(self.used(row) * amount for row in rows)
-        if widest > MOST:
-            raise Refused("too wide")
-        if widest > COLUMNS:
-            raise Refused("memory") if widest > TOO_MANY_COLUMNS else Unsure
+        # The row of an event is looked at before all others, and again in its turn.
+        own = [row for row in rows if row.kind == EVENT and self.used(row) * self.settings.amount > MOST]
+        for row in own + rows:
+            width = self.used(row) * self.settings.amount
+            if width > MOST:
+                raise Refused("too wide")
+            if width > COLUMNS:
+                raise Refused("memory") if width > TOO_MANY_COLUMNS else Unsure
         prefix = self.prefix(context)
         return "".join(f"{prefix}{line}\n" for row in rows for line in self.picture(row))
 
