@@ -97,7 +97,7 @@ def functions_of(path):
         head = re.sub(r"^\s*<[^>]*(?:<[^>]*>[^>]*)*>", "", head)
         kind = re.match(r"\s*(?:[\w:]+(?:<[^>]*>)?\s+for\s+)?&?(\w+)", head)
         name = f"{kind[1]}::{fn['name']}" if kind else fn["name"]
-        above = re.search(r"(?:^[ \t]*(?:///|//|#\[)[^\n]*\n)*\Z", text[: fn.start()], re.M)
+        above = re.search(r"(?:^[ \t]*(?://|#\[)[^\n]*\n)*\Z", text[: fn.start()], re.M)
         found.append(Function(name, path, text[above.start() : end].rstrip("\n "), imports))
     return found
 

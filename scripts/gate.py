@@ -6,7 +6,8 @@ proved and built, and the runs of these programs, some on random inputs: gate.py
 libraries that `rt ci` has just proved. Edits take only the processor time that `rt ci` leaves. Everything that is said goes to bin/gate.log
 too. The last line is 'N passed, M failed'.
 
-What an earlier run of `rt ci` on this machine proved of the same files is not proved again, unless --anew is given."""
+Some kits' `rt ci` doesn't prove again what an earlier run of it on the machine proved of the same files, unless --anew is given. The others
+prove all from nothing each time."""
 import argparse, concurrent.futures, os, re, shutil, subprocess, sys, tempfile, threading, time
 
 import edits as edit_trials
@@ -39,7 +40,9 @@ def copy_to(room):
 class Gate:
     def __init__(self, rt, room, sample, is_anew):
         self.rt, self.room = rt, room
-        self.proving = ["rt", "ci", *["--anew"] * is_anew]
+        # Only a kit whose `rt ci` keeps proofs knows the word.
+        knows_anew = b"--anew" in edit_trials.read(shutil.which("rt"))
+        self.proving = ["rt", "ci", *["--anew"] * (is_anew and knows_anew)]
         self.passed, self.failed, self.proved, self.counting = 0, [], 0, threading.Lock()
         lanes = len(os.sched_getaffinity(0))
         self.edits = edit_trials.Edits(rt, lanes, say, sample)

@@ -21,7 +21,11 @@ RUNS = (
      "tracing_tree_cli", "tracing_tree_read"),
     ("scripts/limits.py", "--checked", "tracing_tree_cli", "tracing_tree_read", "tracing_tree_ttree"),
 )
-
+# What compares the docs with the sources.
+DOCS = (
+    ("sizes of the claims", "scripts/claim.py", "--check"),
+    ("examples of the docs", "scripts/examples.py"),
+)
 
 # How many of the steps have ended, and how many there are.
 STEPS = {"done": 0, "all": 0}
@@ -93,12 +97,12 @@ def run_programs(*words):
     return passed, max(runs - passed, 1 if status else 0)
 
 
-def check_claims():
-    """Compares the counts of docs/PROVED.md, and returns how many are as they stand there and how many are not."""
-    _, said = ran(sys.executable, "scripts/claim.py", "--check")
+def check_docs(what, *words):
+    """Compares the docs with the sources by a script, and returns how many places are as they stand there and how many are not."""
+    _, said = ran(sys.executable, *words)
     print(said, end="", flush=True)
-    ended("sizes of the claims")
-    found = re.search(r"claims: (\d+) passed, (\d+) failed", said)
+    ended(what)
+    found = re.search(r"(?m)^\w+: (\d+) passed, (\d+) failed$", said)
     return (int(found[1]), int(found[2])) if found else (0, 1)
 
 
@@ -113,7 +117,7 @@ def main():
         sys.exit(f"test: no crate with tests is named {', '.join(sorted(unknown))}")
     wanted = [it for it in crates if not sys.argv[1:] or it in sys.argv[1:]]
     programs = [] if sys.argv[1:] else [*PROGRAMS]
-    STEPS["all"] = len(wanted) + len(programs) + (1 + len(RUNS) if programs else 0)
+    STEPS["all"] = len(wanted) + len(programs) + (len(RUNS) + len(DOCS) if programs else 0)
     say(f"{len(wanted)} crates with tests and {len(programs)} programs, compiled without their proofs")
     with concurrent.futures.ThreadPoolExecutor(len(os.sched_getaffinity(0))) as pool:
         tested = [pool.submit(run_tests, it) for it in wanted]
@@ -123,7 +127,7 @@ def main():
         ran_by = [pool.submit(run_programs, *it) if all(are_built) else None for it in RUNS if programs]
         counts += [it.result() if it else (0, 1) for it in ran_by]
     if programs:
-        counts.append(check_claims())
+        counts += [check_docs(what, *words) for what, *words in DOCS]
     passed, failed = (sum(it) for it in zip(*counts))
     print(f"{passed} passed, {failed} failed")
     return 1 if failed else 0

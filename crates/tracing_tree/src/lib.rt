@@ -1,4 +1,15 @@
 //! Spans and events drawn as a tree.
+//!
+//! Which type to pick:
+//!
+//! - [`tracer::Tracer`] for a service that opens spans and tells events in them. It knows the current span, the thread, the clock and
+//!   the target.
+//! - [`Layered`] for calls by hand: each names its span and its moment, and is drawn whole or refused with a reason.
+//! - [`shared::StreamingLayer`] for several threads that write one tree, and [`shared::SharedLayer`] where their history is wanted too.
+//! - [`HierarchicalLayer`] alone for a service that keeps its spans itself, over any [`registry::LookupSpan`].
+//! - [`run_lines`] for calls that are spelled as lines of JSON, and [`rows::read_rows`] for the text of a drawing.
+//!
+//! [`format::Tape`] keeps what is drawn in memory, and [`format::Wrap`] writes it to any `std::io::Write`.
 #![tactic(auto)]
 
 pub mod lines;

@@ -5,6 +5,8 @@ ghost use Rattle.tracing_tree_base.specs.Drawing.Texts.{style_code, styled, leve
 
 use std::alloc::{AllocError, Global};
 use std::fmt;
+use std::str::FromStr;
+use thiserror::Error;
 
 /// A style of text on a terminal.
 #[derive(Clone, Copy, Debug, PartialEq, Eq)]
@@ -64,14 +66,15 @@ pub fn push_styled(out: &mut String, ansi: bool, style: Style, text: &str) -> Re
     out.push_str("\x1b[0m")
 }
 
-/// How much an event matters.
-#[derive(Clone, Copy, Debug, PartialEq, Eq)]
+/// How much an event matters. As in `tracing`, the more verbose level is the greater one: `Error` is the least, `Trace` the
+/// greatest.
+#[derive(Clone, Copy, Debug, PartialEq, Eq, PartialOrd, Ord, Hash)]
 pub enum Level {
-    Trace,
-    Debug,
-    Info,
-    Warn,
     Error,
+    Warn,
+    Info,
+    Debug,
+    Trace,
 }
 
 impl Level {
@@ -85,6 +88,46 @@ impl Level {
             Level::Info => "INFO",
             Level::Warn => "WARN",
             Level::Error => "ERROR",
+        }
+    }
+}
+
+/// Shows a level's name, padded as the format asks.
+impl fmt::Display for Level {
+    ghost use Rattle.std.specs.Prelude.{Some};
+    ghost use Rattle.std.specs.Fmt.{padded};
+    ghost use Rattle.tracing_tree_base.specs.Drawing.Texts.{level_text};
+
+    ghost output = { λ level. Some (level_text level) };
+
+    ghost styled_output = { λ level spec. Some (padded spec (level_text level)) };
+
+    fn fmt<W: fmt::Write>(&self, f: &mut fmt::Formatter<W>) -> fmt::Result {
+        f.pad(self.as_str())
+    }
+}
+
+/// A text is no level's name.
+#[derive(Clone, Copy, Debug, PartialEq, Eq, Error)]
+#[error("expected TRACE, DEBUG, INFO, WARN or ERROR")]
+pub struct ParseLevelError;
+
+/// Reads a level's name, as `as_str` shows it. `ParseLevelError` where the text is another, in small letters too.
+impl FromStr for Level {
+    ghost use Rattle.tracing_tree_base.specs.Drawing.Texts.{ReadsLevel};
+
+    type Err = ParseLevelError;
+
+    ghost from_str_gives = { ReadsLevel };
+
+    fn from_str(text: &str) -> Result<Level, ParseLevelError> {
+        match text {
+            "TRACE" => Ok(Level::Trace),
+            "DEBUG" => Ok(Level::Debug),
+            "INFO" => Ok(Level::Info),
+            "WARN" => Ok(Level::Warn),
+            "ERROR" => Ok(Level::Error),
+            _ => Err(ParseLevelError),
         }
     }
 }

@@ -44,6 +44,31 @@ impl From<TimeFault> for Refusal {
 }
 
 /// A timer: what it writes at a moment, and after an elapsed time. (`FormatTime` of the Rust crate.)
+///
+/// A timer that shows a star before each event:
+/// ```rust
+/// impl FormatTime for Star {
+///     ghost use Rattle.std.specs.Prelude.{[], Some, codes};
+///
+///     ghost timer = { λ _. record {
+///       moment_text = λ moment. Some (codes "*");
+///       elapsed_text = λ ansi nanos. Some [];
+///     } };
+///
+///     fn format_time(&self, _moment: &Moment, out: &mut String) -> Result<(), TimeFault> {
+///         out.push_str("*").map_err(|_: AllocError| TimeFault::Memory)
+///     }
+///
+///     fn style_timestamp(
+///         &self,
+///         _ansi: bool,
+///         _nanos: u64,
+///         _out: &mut String,
+///     ) -> Result<(), TimeFault> {
+///         Ok(())
+///     }
+/// }
+/// ```
 pub trait FormatTime {
     /// The texts that it states, and where it faults.
     ghost timer: { Self → Timer };

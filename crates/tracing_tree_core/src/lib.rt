@@ -1,4 +1,7 @@
-//! Spans, their texts and their drawing: the base of `tracing_tree`.
+//! Live spans, and what a call is made of: the base of `tracing_tree`.
+//!
+//! [`registry::Registry`] keeps spans with their paths, so that a path is there at once. [`registry::Walked`] keeps parents alone, and
+//! walks up for each path: the same calls and answers, for comparison. Any other [`registry::LookupSpan`] will do for a layer alone.
 #![tactic(auto)]
 
 pub mod registry;

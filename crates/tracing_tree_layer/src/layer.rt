@@ -33,6 +33,17 @@ use tracing_tree_core::time::FormatTime;
 ///
 /// The text of a call is built whole and then written. Once the timer or the writer has faulted the
 /// layer has failed, and refuses every further call until `recover`.
+///
+/// A service that keeps its spans itself calls the layer alone. A `Layered` makes these calls for it:
+/// ```rust
+/// let layer = HierarchicalLayer::new(alloc, 2, false, Tape::new(alloc));
+/// let mut layer = layer.with_indent_lines(true);
+/// let mut spans = Registry::new(alloc);
+/// let id = spans.new_span(root, here)?;
+/// layer.on_new_span(id, &mut spans, here)?;
+/// layer.on_close(id, &mut spans, here)?;
+/// spans.try_close(id)?;
+/// ```
 #[derive(Drop)]
 pub struct HierarchicalLayer<W: Output, FT: FormatTime> {
     page: Page,

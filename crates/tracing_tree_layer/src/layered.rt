@@ -21,6 +21,15 @@ use tracing_tree_core::time::FormatTime;
 /// A registry with a layer. An accepted call changes both and writes its text. A refused one leaves the spans, their marks and the
 /// last span as they were; after `Timer` and `Writer` the layer has failed besides, and after `Writer` a beginning of the text may
 /// be out.
+///
+/// A root span that opens and closes; its attributes and the contexts come from the caller:
+/// ```rust
+/// let layer = HierarchicalLayer::new(alloc, 2, false, Tape::new(alloc)).with_indent_lines(true);
+/// let mut layered = Layered::new(alloc, layer);
+/// if let Reply::Span(id) = layered.call(Call::New(root, here))? {
+///     layered.call(Call::Close(id, later))?;
+/// }
+/// ```
 #[derive(Drop)]
 pub struct Layered<W: Output, FT: FormatTime> {
     registry: Registry,

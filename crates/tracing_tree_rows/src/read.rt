@@ -386,6 +386,10 @@ impl<'a> TextReader<'a> {
 /// The rows of a drawing. The caller must ensure that the amount is 2 or more.
 ///
 /// `Line` where a line is no line of a row, or the last line has no line end; `Memory` where memory is refused.
+///
+/// ```rust
+/// read_rows(alloc, "┐a\n├─ INFO x\n┘\n", 2) // `OpenRoot`, `Event` of level 1, `CloseRoot`
+/// ```
 pub fn read_rows(alloc: Global, text: &str, amount: usize) -> Result<Vec<Row>, ReadFault>
     requires { 2 ≤ amount }
     ensures rows { IfOk result (λ rows. IsOnlyReading amount text.now rows.items) }

@@ -3,10 +3,10 @@ use Rattle.std.specs.Prelude.{ℕ, ◌-◌, ◌&&◌, ◌||◌, Bool, true, fals
 use Rattle.std.specs.List.{list_any}
 use Rattle.json.specs.Json.{Json, null, boolean, number, string, array, object, Items, no_items, item, Members, no_members, member}
 use Rattle.json.specs.Find.{get, as_array, as_object}
+use Rattle.tracing_tree_base.specs.Drawing.Texts.{level_named}
 use Rattle.tracing_tree_base.specs.Equal.{field_eq, fields_eq}
 use Rattle.tracing_tree_base.specs.declared.field.Field.{Field}
 use Rattle.tracing_tree_base.specs.declared.style.Level.{Level}
-use Rattle.tracing_tree_base.specs.declared.style.Level.TheVariants.{Trace, Debug, Info, Warn, Error}
 use Rattle.tracing_tree_sources.specs.GoTest.{text_at}
 use Rattle.tracing_tree_sources.specs.Told.{shown}
 use Rattle.tracing_tree_sources.specs.declared.tracing.line.Listed.{Listed}
@@ -71,17 +71,8 @@ line_fields value = at_fields (object_at (codes "fields") value) where
   at_fields (Some fields) = fields_of Event fields
   at_fields None = fields_of Line value
 
-abbrev pub level_of_word : List ℕ → Option Level
-level_of_word word =
-    if bytes_eq word (codes "TRACE") then Some Trace
-    else if bytes_eq word (codes "DEBUG") then Some Debug
-    else if bytes_eq word (codes "INFO") then Some Info
-    else if bytes_eq word (codes "WARN") then Some Warn
-    else if bytes_eq word (codes "ERROR") then Some Error
-    else None
-
 abbrev pub level_in : Json → Option Level
-level_in value = option_and_then level_of_word (text_at (codes "level") value)
+level_in value = option_and_then level_named (text_at (codes "level") value)
 
 -- the thread of a line, empty where the line doesn't tell it
 abbrev pub thread_in : Json → List ℕ

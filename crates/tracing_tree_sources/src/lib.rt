@@ -1,4 +1,7 @@
 //! Other tools' output drawn as a tree.
+//!
+//! [`run_source`] draws the lines of any [`Source`]: [`GoTest`] for `go test -json`, [`Tracing`] for the JSON lines of Rust's
+//! tracing-subscriber. [`first_format`] tells by the first line which of them an input is.
 #![tactic(auto)]
 
 pub mod first;

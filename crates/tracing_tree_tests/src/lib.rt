@@ -8,6 +8,10 @@ mod calls;
 #[cfg(test)]
 mod difference;
 #[cfg(test)]
+mod examples;
+#[cfg(test)]
+mod levels;
+#[cfg(test)]
 mod lone;
 #[cfg(test)]
 mod readme;

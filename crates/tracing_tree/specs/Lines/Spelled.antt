@@ -8,6 +8,7 @@ use Rattle.serde_json.specs.Find.{get, as_bool, as_str, as_number, as_u64, as_i6
 use Rattle.serde_json.specs.Read.{read}
 use Rattle.serde_json.specs.Written.{has_float}
 use Rattle.tracing_tree_base.specs.Drawing.Settings.{Settings, default_settings}
+use Rattle.tracing_tree_base.specs.Drawing.Texts.{level_named}
 use Rattle.tracing_tree_core.specs.Registry.Ids.{id_of}
 use Rattle.tracing_tree_base.specs.Drawing.Picture.{parts_of}
 use Rattle.tracing_tree_base.specs.Time.Clock.{Timer, no_timer, utc_timer, local_timer, uptime_timer}
@@ -17,7 +18,6 @@ use Rattle.tracing_tree_base.specs.declared.field.Field.{Field}
 use Rattle.tracing_tree_core.specs.declared.registry.Parent.{Parent}
 use Rattle.tracing_tree_core.specs.declared.registry.Parent.TheVariants.{Root, Current, Of}
 use Rattle.tracing_tree_base.specs.declared.style.Level.{Level}
-use Rattle.tracing_tree_base.specs.declared.style.Level.TheVariants.{Trace, Debug, Info, Warn, Error}
 use Rattle.tracing_tree_base.specs.declared.context.Moment.{Moment}
 use Rattle.tracing_tree_layer.specs.declared.call.Call.{Call}
 use Rattle.tracing_tree_layer.specs.declared.call.Call.TheVariants.{New, Clone, Record, Event, Close}
@@ -252,10 +252,7 @@ SpellsSettings line settings timer = IsUtf8 line × (line_settings line ≡ Some
 -- ---- calls
 
 abbrev pub level_value : Data → Option Level
-level_value value = option_and_then (chosen (
-    (codes "TRACE", Trace) ∷ (codes "DEBUG", Debug) ∷ (codes "INFO", Info) ∷ (codes "WARN", Warn)
-    ∷ (codes "ERROR", Error) ∷ []))
-    (as_str value)
+level_value value = option_and_then level_named (as_str value)
 
 -- `"root"`, `"current"` or an id
 abbrev pub parent_value : Data → Option Parent

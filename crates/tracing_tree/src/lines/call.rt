@@ -165,18 +165,11 @@ fn fields_in(alloc: Global, value: &Value<'_>) -> Result<Fields, LineCause>
     }
 }
 
-// One of the five levels.
+// A level by its name. None where the value names none.
 fn level_value(value: &Value<'_>) -> Option<Level>
     ensures { result ≡ level_value (borrowed_data value.now) }
 {
-    match as_str(value)? {
-        "TRACE" => Some(Level::Trace),
-        "DEBUG" => Some(Level::Debug),
-        "INFO" => Some(Level::Info),
-        "WARN" => Some(Level::Warn),
-        "ERROR" => Some(Level::Error),
-        _ => None,
-    }
+    as_str(value)?.parse().ok()
 }
 
 // `root`, `current` or a span's number.

@@ -1,11 +1,13 @@
 -- The texts of styles, levels, labels, fields and prefixes.
-use Rattle.std.specs.Prelude.{◌≡◌, ℕ, ◌-◌, ◌==◌, ◌||◌, nat_lt, nat_eq, ℤ, Bool, true, false, not, if◌then◌else◌, List, [], ◌∷◌, ◌++◌, length, map, filter, flat_map, replicate, Option, Some, None, decimal, codes, bytes_eq}
+use Rattle.std.specs.Prelude.{◌≡◌, ℕ, ◌-◌, ◌==◌, ◌||◌, nat_lt, nat_eq, ℤ, Bool, true, false, not, if◌then◌else◌, List, [], ◌∷◌, ◌++◌, length, map, filter, flat_map, replicate, Option, Some, None, decimal, codes, bytes_eq, find, Result}
 use Rattle.std.specs.List.{starts_with}
+use Rattle.std.specs.Result.{result_ok}
 use Rattle.std.specs.Fmt.{digits, signed_decimal}
 use Rattle.tracing_tree_base.specs.Drawing.Settings.{Settings}
 use Rattle.tracing_tree_base.specs.declared.style.Style.{Style}
 use Rattle.tracing_tree_base.specs.declared.style.Style.TheVariants.{Plain, Dimmed, BoldGreen, BoldPurple, BoldBlue, BoldWarn, BoldRed}
 use Rattle.tracing_tree_base.specs.declared.style.Level.{Level}
+use Rattle.tracing_tree_base.specs.declared.style.ParseLevelError.{ParseLevelError}
 use Rattle.tracing_tree_base.specs.declared.style.Level.TheVariants.{Trace, Debug, Info, Warn, Error}
 use Rattle.tracing_tree_base.specs.declared.format.SpanMode.{SpanMode}
 use Rattle.tracing_tree_base.specs.declared.format.SpanMode.TheVariants.{PreOpen, Open, Close, Retrace, PostClose, Event}
@@ -50,6 +52,15 @@ level_text Debug = codes "DEBUG"
 level_text Info = codes "INFO"
 level_text Warn = codes "WARN"
 level_text Error = codes "ERROR"
+
+-- the level that has this name, if one has it
+abbrev pub level_named : List ℕ → Option Level
+level_named name =
+    find (λ level. bytes_eq (level_text level) name) (Trace ∷ Debug ∷ Info ∷ Warn ∷ Error ∷ [])
+
+-- a text was read as the level that has this name
+abbrev pub ReadsLevel : List ℕ → Result Level ParseLevelError → Type 0
+ReadsLevel name result = result_ok result ≡ level_named name
 
 -- a level in its colour, right in five places
 abbrev pub color_level_text : Level → List ℕ

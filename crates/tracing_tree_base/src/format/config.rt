@@ -12,6 +12,14 @@ use std::marker::Model;
 
 /// The settings of a layer, under the names of the Rust crate. `Config::default` has ansi on, two columns a level, no
 /// wraparound below `usize::MAX`, and all else off.
+///
+/// A layer with lines, four columns a level and targets:
+/// ```rust
+/// let config = Config::new(4, false)
+///     .with_indent_lines(true)
+///     .with_targets(true);
+/// HierarchicalLayer::with_config(alloc, config, Tape::new(alloc))
+/// ```
 #[derive(Drop)]
 pub struct Config {
     ansi: bool,

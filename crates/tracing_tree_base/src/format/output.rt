@@ -13,6 +13,30 @@ use std::marker::Model;
 pub struct OutputFault;
 
 /// Something that takes bytes and counts its faults.
+///
+/// One that counts the bytes and keeps none:
+/// ```rust
+/// impl Output for Counter {
+///     ghost use Rattle.std.specs.Prelude.{None, true};
+///
+///     ghost contents = { λ _. None };
+///
+///     ghost fault_count = { λ _. 0 };
+///
+///     ghost WHOLE = { true };
+///
+///     const WHOLE: bool = true;
+///
+///     fn write(&mut self, bytes: &[u8]) -> Result<usize, OutputFault> {
+///         self.bytes = self.bytes.saturating_add(bytes.len());
+///         Ok(bytes.len())
+///     }
+///
+///     fn faults(&self) -> u64 {
+///         0
+///     }
+/// }
+/// ```
 pub trait Output {
     /// The bytes that it has taken, where they are known.
     ghost contents: { Self → Option (List ℕ) };

@@ -25,6 +25,15 @@ use tracing_tree_base::field::Fields;
 /// bytes; a longer one takes eight bytes more for each of its spans: 80 at depth 10, 800 at depth 100, 8,000 at depth 1,000. The
 /// list of records doubles where it grows. So 100,000 live spans take 34 MB up to depth 5, 400 MB more at depth 500, and 800 MB
 /// more at depth 1,000.
+///
+/// A child keeps its parent live:
+/// ```rust
+/// let mut spans = Registry::new(alloc);
+/// let parent = spans.new_span(root, here)?;
+/// let id = spans.new_span(child, here)?; // below `Parent::Of(parent)`
+/// spans.try_close(parent)?; // false: the child is live
+/// spans.try_close(id)?; // true: both are gone
+/// ```
 #[derive(Drop)]
 pub struct Registry {
     nodes: Nodes,

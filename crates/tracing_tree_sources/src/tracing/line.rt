@@ -42,14 +42,7 @@ enum Part {
 pub(crate) fn level_in(value: &Value<'_>) -> Option<Level>
     ensures { result ≡ level_in (value_view value.now) }
 {
-    match text_at(value, "level")? {
-        "TRACE" => Some(Level::Trace),
-        "DEBUG" => Some(Level::Debug),
-        "INFO" => Some(Level::Info),
-        "WARN" => Some(Level::Warn),
-        "ERROR" => Some(Level::Error),
-        _ => None,
-    }
+    text_at(value, "level")?.parse().ok()
 }
 
 // The thread of a line, empty where the line doesn't tell it.
