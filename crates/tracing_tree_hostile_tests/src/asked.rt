@@ -12,8 +12,10 @@ use tracing_tree::style::Level;
 use tracing_tree::time::{FormatTime, Moment, TimeFault};
 use tracing_tree_for_tests::Step;
 
+type Counted = Layered<Wrap<Choppy>, ()>;
+
 // A layer that shows all that it can, over a writer that takes all.
-fn counted(alloc: Global, retrace: bool) -> Layered<Wrap<Choppy>, ()> {
+fn counted(alloc: Global, retrace: bool) -> Counted {
     let writer = Wrap::new(Choppy::new(alloc, usize::MAX, Trouble::NONE));
     let layer = HierarchicalLayer::new(alloc, 2, false, writer)
         .with_indent_lines(true)
@@ -24,6 +26,22 @@ fn counted(alloc: Global, retrace: bool) -> Layered<Wrap<Choppy>, ()> {
     Layered::new(alloc, layer)
 }
 
+// Makes these calls, and returns whether each is accepted.
+fn accepts(alloc: Global, layered: &mut Counted, steps: &[Step<'_>]) -> Result<bool, AllocError> {
+    for step in steps {
+        let call = step.call(alloc)?;
+        if layered.call(call).is_err() {
+            return Ok(false);
+        }
+    }
+    Ok(true)
+}
+
+fn into_writes(layered: Counted) -> usize {
+    let (_registry, layer) = layered.into_parts();
+    layer.into_writer().into_inner().writes
+}
+
 // How many writes these calls need, of which each is accepted.
 fn writes(
     rt: &(impl Abort + AllocGlobal),
@@ -31,12 +49,9 @@ fn writes(
     steps: &[Step<'_>],
 ) -> Result<usize, AllocError> {
     let mut layered = counted(rt.alloc(), retrace);
-    for step in steps {
-        let answer = layered.call(step.call(rt.alloc())?);
-        assert!(rt; answer.is_ok());
-    }
-    let (_registry, layer) = layered.into_parts();
-    Ok(layer.into_writer().into_inner().writes)
+    let accepted = accepts(rt.alloc(), &mut layered, steps)?;
+    assert!(rt; accepted, "a call is refused");
+    Ok(into_writes(layered))
 }
 
 // Two branches, events in both by turns, a record and clones, which draw nothing, and closes of which the last draws four spans.
@@ -61,8 +76,10 @@ const STEPS: [Step<'static>; 15] = [
 // Five spans that open, three events, and one close.
 #[test]
 fn a_call_is_one_write_or_none(rt: HostRuntime) -> Result<(), Fail> {
-    assert_eq!(rt; writes(&rt, false, STEPS.as_slice())?, 9);
-    assert_eq!(rt; writes(&rt, true, STEPS.as_slice())?, 9);
+    for retrace in [false, true] {
+        let writes = writes(&rt, retrace, STEPS.as_slice())?;
+        assert_eq!(rt; writes, 9, "retrace {retrace}");
+    }
     Ok(())
 }
 
@@ -77,7 +94,8 @@ fn a_text_is_one_write(rt: HostRuntime) -> Result<(), Fail> {
     for bytes in [
         0, 1, 70, 127, 128, 129, 4_095, 4_096, 4_097, 10_000, 65_537, 1_000_000,
     ] {
-        assert_eq!(rt; writes_of(&rt, bytes)?, 1, "{bytes}");
+        let writes = writes_of(&rt, bytes)?;
+        assert_eq!(rt; writes, 1, "{bytes}");
     }
     Ok(())
 }
@@ -127,6 +145,17 @@ fn times_asked(alloc: Global, steps: &[Step<'_>]) -> Result<(u32, u32), AllocErr
     Ok((asked.moments.get(), asked.elapsed.get()))
 }
 
+// These calls ask a timer so often.
+fn asks(
+    rt: &(impl Abort + AllocGlobal),
+    steps: &[Step<'_>],
+    wanted: (u32, u32),
+) -> Result<(), AllocError> {
+    let asked = times_asked(rt.alloc(), steps)?;
+    assert_eq!(rt; asked, wanted, "{} calls", steps.len());
+    Ok(())
+}
+
 // An event outside every span has no elapsed time, and neither has one whose current span is gone.
 const OUTSIDE: [Step<'static>; 4] = [
     Step::New("a", None),
@@ -137,8 +166,8 @@ const OUTSIDE: [Step<'static>; 4] = [
 
 #[test]
 fn a_timer_is_asked_once_an_event(rt: HostRuntime) -> Result<(), Fail> {
-    assert_eq!(rt; times_asked(rt.alloc(), STEPS.as_slice())?, (3, 3));
-    assert_eq!(rt; times_asked(rt.alloc(), OUTSIDE.as_slice())?, (2, 0));
-    assert_eq!(rt; times_asked(rt.alloc(), [].as_slice())?, (0, 0));
+    asks(&rt, STEPS.as_slice(), (3, 3))?;
+    asks(&rt, OUTSIDE.as_slice(), (2, 0))?;
+    asks(&rt, [].as_slice(), (0, 0))?;
     Ok(())
 }

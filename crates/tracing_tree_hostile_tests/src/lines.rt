@@ -6,7 +6,7 @@ use std::io::ErrorKind;
 use std::process::Abort;
 use std::test::*;
 use tracing_tree::format::{Refusal, Tape, Wrap};
-use tracing_tree::lines::{LineCause, LineFault, LinesRun, run_lines};
+use tracing_tree::lines::{LineCause, LineFault, run_lines};
 
 // Settings and three calls, a line each.
 const LINES: [&str; 4] = [
@@ -49,12 +49,6 @@ fn ended(line: usize, cause: LineCause) -> End {
 
 const WHOLE: End = (None, 3, 32);
 
-// A byte a read, so that the reads of a line are known: the first is one past the bytes before it.
-fn by_bytes(alloc: Global, first: usize, times: usize, kind: ErrorKind) -> End {
-    let trouble = Trouble { first, times, kind };
-    read_by(alloc, Halting::new(INPUT.as_bytes(), 1, trouble))
-}
-
 // The number of the first read of each line, of one in its middle, and of the one that finds its end; the last line is the end of the
 // input.
 fn reads(alloc: Global) -> Result<Vec<(usize, usize)>, AllocError> {
@@ -71,17 +65,23 @@ fn reads(alloc: Global) -> Result<Vec<(usize, usize)>, AllocError> {
     Ok(reads)
 }
 
+// Over a reader that gives a byte a read, so that the reads of a line are known, and meets this trouble, the run ends so.
+fn reads_end(rt: &(impl Abort + AllocGlobal), trouble: Trouble, wanted: End) {
+    let end = read_by(rt.alloc(), Halting::new(INPUT.as_bytes(), 1, trouble));
+    assert_eq!(rt; end, wanted, "{trouble:?}");
+}
+
+// One read of this line, which has this number, fails in each way.
+fn reads_fail(rt: &(impl Abort + AllocGlobal), line: usize, first: usize) {
+    for kind in ERRORS {
+        reads_end(rt, Trouble::once(first, kind), ended(line, LineCause::Read));
+    }
+}
+
 #[test]
 fn reads_fail_in_each_line_and_way(rt: HostRuntime) -> Result<(), Fail> {
     for (line, first) in reads(rt.alloc())? {
-        for kind in ERRORS {
-            let end = by_bytes(rt.alloc(), first, 1, kind);
-            assert_eq!(rt;
-                end,
-                ended(line, LineCause::Read),
-                "{line} {first} {kind:?}"
-            );
-        }
+        reads_fail(&rt, line, first);
     }
     Ok(())
 }
@@ -89,37 +89,44 @@ fn reads_fail_in_each_line_and_way(rt: HostRuntime) -> Result<(), Fail> {
 #[test]
 fn reads_are_interrupted_in_each_line(rt: HostRuntime) -> Result<(), Fail> {
     for (line, first) in reads(rt.alloc())? {
-        let eight = by_bytes(rt.alloc(), first, 8, ErrorKind::Interrupted);
-        assert_eq!(rt; eight, WHOLE, "{line} {first}");
-        let nine = by_bytes(rt.alloc(), first, 9, ErrorKind::Interrupted);
-        assert_eq!(rt; nine, ended(line, LineCause::Read), "{line} {first}");
+        reads_end(&rt, Trouble::interrupted(first, 8), WHOLE);
+        let failed = ended(line, LineCause::Read);
+        reads_end(&rt, Trouble::interrupted(first, 9), failed);
     }
     Ok(())
 }
 
-// A line of spaces that is skipped, a byte a read.
-fn is_skipped(alloc: Global, spaces: usize) -> Result<bool, AllocError> {
-    let mut input = String::from_str(alloc, "{}\n")?;
+// This text, and so many spaces after it.
+fn spaced(alloc: Global, text: &str, spaces: usize) -> Result<String, AllocError> {
+    let mut input = String::from_str(alloc, text)?;
     input.push_str(" ".repeat(alloc, spaces)?.as_str())?;
-    let reader = Halting::new(input.as_bytes(), 1, Trouble::NONE);
-    Ok(read_by(alloc, reader) == (None, 0, 0))
+    Ok(input)
 }
 
+// A line of spaces that is skipped, a byte a read.
 #[test]
 fn a_line_comes_in_many_parts(rt: HostRuntime) -> Result<(), Fail> {
-    assert!(rt; is_skipped(rt.alloc(), 200_000)?);
+    let input = spaced(rt.alloc(), "{}\n", 200_000)?;
+    let end = read_by(rt.alloc(), Halting::new(input.as_bytes(), 1, Trouble::NONE));
+    assert_eq!(rt; end, (None, 0, 0));
     Ok(())
+}
+
+// The lines up to a call.
+const BEGINNING: &str = "{\"indent_lines\":true}\n{\"call\":\"new\",\"name\":\"a\"}\n";
+
+// How much is shown at each flush of a run over this reader.
+fn shown_by(alloc: Global, reader: Halting<'_>) -> Vec<usize> {
+    let writer = Wrap::new(Choppy::new(alloc, usize::MAX, Trouble::NONE));
+    run_lines(alloc, reader, writer).writer.into_inner().shown
 }
 
 // The lines up to a call, and as many bytes of the next line, come with the first read. How much is shown before each read after it.
 fn shown(alloc: Global, begun: usize) -> Result<Vec<usize>, AllocError> {
-    let whole = "{\"indent_lines\":true}\n{\"call\":\"new\",\"name\":\"a\"}\n";
-    let mut input = String::from_str(alloc, whole)?;
-    input.push_str(" ".repeat(alloc, begun.saturating_add(10))?.as_str())?;
+    let input = spaced(alloc, BEGINNING, begun.saturating_add(10))?;
     let mut reader = Halting::new(input.as_bytes(), usize::MAX, Trouble::NONE);
-    reader.first = whole.len().saturating_add(begun);
-    let writer = Wrap::new(Choppy::new(alloc, usize::MAX, Trouble::NONE));
-    Ok(run_lines(alloc, reader, writer).writer.into_inner().shown)
+    reader.first = BEGINNING.len().saturating_add(begun);
+    Ok(shown_by(alloc, reader))
 }
 
 // One read gives the rest, and one finds the end.
@@ -132,91 +139,99 @@ fn a_line_that_has_begun_holds_nothing_back(rt: HostRuntime) -> Result<(), Fail>
     Ok(())
 }
 
-fn ran_over(alloc: Global, writer: Choppy) -> LinesRun<Wrap<Choppy>> {
-    run_lines(alloc, INPUT.as_bytes(), Wrap::new(writer))
+// A call, and the line that it is.
+const CALLS: [(usize, usize); 3] = [(1, 2), (2, 3), (3, 4)];
+
+// A run whose writer refuses what the call in this line draws.
+fn refused(line: usize) -> End {
+    ended(line, LineCause::Refused(Refusal::Writer))
 }
 
 // A run over a writer that is asked once a call: how it ended, and how often the writer was asked.
 fn written_by(alloc: Global, writer: Choppy) -> (End, usize) {
-    let ran = ran_over(alloc, writer);
+    let ran = run_lines(alloc, INPUT.as_bytes(), Wrap::new(writer));
     let (fault, accepted) = (ran.fault, ran.accepted);
     let writer = ran.writer.into_inner();
     ((fault, accepted, writer.taken.len()), writer.writes)
 }
 
+// Over a writer that meets this trouble the run ends so, and asks the writer so often.
+fn writes_end(rt: &(impl Abort + AllocGlobal), trouble: Trouble, wanted: (End, usize)) {
+    let writer = Choppy::new(rt.alloc(), usize::MAX, trouble);
+    assert_eq!(rt; written_by(rt.alloc(), writer), wanted, "{trouble:?}");
+}
+
+// The write of this call fails in each way.
+fn writes_fail(rt: &(impl Abort + AllocGlobal), call: usize, line: usize) {
+    for kind in ERRORS {
+        writes_end(rt, Trouble::once(call, kind), (refused(line), call));
+    }
+}
+
 #[test]
 fn writes_fail_in_each_line_and_way(rt: HostRuntime) {
-    for (call, line) in [(1_usize, 2), (2, 3), (3, 4)] {
-        for kind in ERRORS {
-            let writer = Choppy::new(rt.alloc(), usize::MAX, Trouble::once(call, kind));
-            let wanted = (ended(line, LineCause::Refused(Refusal::Writer)), call);
-            assert_eq!(rt; written_by(rt.alloc(), writer), wanted, "{line} {kind:?}");
-        }
+    for (call, line) in CALLS {
+        writes_fail(&rt, call, line);
     }
 }
 
 #[test]
 fn writes_are_interrupted_in_each_line(rt: HostRuntime) {
-    for (call, line) in [(1_usize, 2), (2, 3), (3, 4)] {
-        let eight = Choppy::new(rt.alloc(), usize::MAX, Trouble::interrupted(call, 8));
-        assert_eq!(rt; written_by(rt.alloc(), eight), (WHOLE, 11));
-        let nine = Choppy::new(rt.alloc(), usize::MAX, Trouble::interrupted(call, 9));
-        let wanted = ended(line, LineCause::Refused(Refusal::Writer));
-        assert_eq!(rt;
-            written_by(rt.alloc(), nine),
-            (wanted, call.saturating_add(8))
-        );
+    for (call, line) in CALLS {
+        writes_end(&rt, Trouble::interrupted(call, 8), (WHOLE, 11));
+        let failed = (refused(line), call.saturating_add(8));
+        writes_end(&rt, Trouble::interrupted(call, 9), failed);
     }
 }
 
 #[test]
 fn no_write_takes_anything(rt: HostRuntime) {
     let writer = Choppy::new(rt.alloc(), 0, Trouble::NONE);
-    let wanted = ended(2, LineCause::Refused(Refusal::Writer));
-    assert_eq!(rt; written_by(rt.alloc(), writer), (wanted, 1));
+    assert_eq!(rt; written_by(rt.alloc(), writer), (refused(2), 1));
 }
 
 // A run, a byte a read, over a writer that meets this trouble where it is flushed: how it ended, and whether the output is stuck.
-fn flushed_by(alloc: Global, trouble: Trouble) -> (End, bool) {
-    let reader = Halting::new(INPUT.as_bytes(), 1, Trouble::NONE);
+fn flushed_by(alloc: Global, input: &[u8], trouble: Trouble) -> (End, bool) {
+    let reader = Halting::new(input, 1, Trouble::NONE);
     let ran = run_lines(alloc, reader, Wrap::new(Choppy::flushing(alloc, trouble)));
     let (fault, accepted, stuck) = (ran.fault, ran.accepted, ran.writer.is_stuck());
     let bytes = ran.writer.into_inner().taken.len();
     ((fault, accepted, bytes), stuck)
 }
 
+// Over a writer that meets this trouble where it is flushed the run ends so.
+fn flushes_end(rt: &(impl Abort + AllocGlobal), trouble: Trouble, wanted: (End, bool)) {
+    let end = flushed_by(rt.alloc(), INPUT.as_bytes(), trouble);
+    assert_eq!(rt; end, wanted, "{trouble:?}");
+}
+
+// The flush of this number fails in each way.
+fn flushes_fail(rt: &(impl Abort + AllocGlobal), flush: usize, wanted: (End, bool)) {
+    for kind in ERRORS {
+        flushes_end(rt, Trouble::once(flush, kind), wanted);
+    }
+}
+
 // The writer is flushed once before each line but the first, and the last time before the end of the input. A flush that is refused
 // is told of the next call that draws, though later flushes are not refused.
 #[test]
 fn flushes_fail_before_each_line_and_in_each_way(rt: HostRuntime) {
-    for (flush, line) in [(1_usize, 2), (2, 3), (3, 4)] {
-        let wanted = (ended(line, LineCause::Refused(Refusal::Writer)), true);
-        for kind in ERRORS {
-            let end = flushed_by(rt.alloc(), Trouble::once(flush, kind));
-            assert_eq!(rt; end, wanted, "{line} {kind:?}");
-        }
-        let nine = flushed_by(rt.alloc(), Trouble::interrupted(flush, 9));
-        assert_eq!(rt; nine, wanted);
-        let eight = flushed_by(rt.alloc(), Trouble::interrupted(flush, 8));
-        assert_eq!(rt; eight, (WHOLE, false));
+    for (flush, line) in CALLS {
+        let wanted = (refused(line), true);
+        flushes_fail(&rt, flush, wanted);
+        flushes_end(&rt, Trouble::interrupted(flush, 9), wanted);
+        flushes_end(&rt, Trouble::interrupted(flush, 8), (WHOLE, false));
     }
-    for kind in ERRORS {
-        assert_eq!(rt;
-            flushed_by(rt.alloc(), Trouble::once(4, kind)),
-            (WHOLE, true)
-        );
-    }
+    flushes_fail(&rt, 4, (WHOLE, true));
 }
 
 // A line that is skipped, and so a second flush, comes before the first call that draws.
 #[test]
 fn a_refused_flush_is_told_after_a_skipped_line(rt: HostRuntime) {
-    let alloc = rt.alloc();
     let input = b"{}\n\n{\"call\":\"new\",\"name\":\"a\"}\n".as_slice();
-    let reader = Halting::new(input, 1, Trouble::NONE);
     let trouble = Trouble::once(1, ErrorKind::BrokenPipe);
-    let ran = run_lines(alloc, reader, Wrap::new(Choppy::flushing(alloc, trouble)));
+    let ((fault, accepted, _bytes), _stuck) = flushed_by(rt.alloc(), input, trouble);
     let cause = LineCause::Refused(Refusal::Writer);
-    assert_eq!(rt; ran.fault, Some(LineFault { line: 3, cause }));
-    assert_eq!(rt; ran.accepted, 0);
+    assert_eq!(rt; fault, Some(LineFault { line: 3, cause }));
+    assert_eq!(rt; accepted, 0);
 }

@@ -2,36 +2,33 @@
 
 use std::alloc::{AllocError, Global};
 use std::process::Abort;
-use std::str;
 use std::test::*;
 use tracing_tree::call::Reply;
 use tracing_tree::format::{Id, Refusal, Tape};
-use tracing_tree::layer::HierarchicalLayer;
-use tracing_tree::layered::Layered;
 use tracing_tree::lines::{run_lines, status};
 use tracing_tree::registry::Parent;
-use tracing_tree::rows::{Shape, read_rows};
+use tracing_tree::rows::{Row, Shape, read_rows};
 use tracing_tree::style::Level;
-use tracing_tree_for_tests::{Answer, Step, first_unlike};
+use tracing_tree_for_tests::tree::{LINED, Settings, Tree, drawn};
+use tracing_tree_for_tests::{Answer, Step};
 
-// A layered over memory, without a timer.
-fn layered(alloc: Global, lines: bool, amount: usize, deferred: bool) -> Layered<Tape, ()> {
-    let layer = HierarchicalLayer::new(alloc, amount, false, Tape::new(alloc))
-        .with_indent_lines(lines)
-        .with_deferred_spans(deferred);
-    Layered::new(alloc, layer)
-}
+// No lines, and an amount of 2.
+const PLAIN: Settings = Settings {
+    lines: false,
+    ..LINED
+};
 
 // Each of these calls is answered as it stands beside it, and they draw this.
 fn draws(
     rt: &(impl Abort + AllocGlobal),
-    mut layered: Layered<Tape, ()>,
+    settings: Settings,
     steps: &[(Step<'_>, Answer)],
     text: &str,
 ) -> Result<(), AllocError> {
-    assert_eq!(rt; first_unlike(rt.alloc(), &mut layered, steps)?, None);
-    assert_eq!(rt; layered.writer().bytes(), text.as_bytes());
-    assert!(rt; !layered.layer().failed());
+    let mut tree = Tree::new(rt.alloc(), settings);
+    assert_eq!(rt; tree.first_unlike(rt.alloc(), steps)?, None);
+    assert_eq!(rt; tree.text(), text.as_bytes());
+    assert!(rt; !tree.failed());
     Ok(())
 }
 
@@ -53,12 +50,7 @@ const AFTER_A_CLOSE: [(Step<'static>, Answer); 10] = [
 #[test]
 fn a_closed_span_is_not_held(rt: HostRuntime) -> Result<(), Fail> {
     let text = "┐a \n┐b \n┘\nINFO x\nINFO y\n";
-    draws(
-        &rt,
-        layered(rt.alloc(), true, 2, false),
-        AFTER_A_CLOSE.as_slice(),
-        text,
-    )?;
+    draws(&rt, LINED, AFTER_A_CLOSE.as_slice(), text)?;
     Ok(())
 }
 
@@ -84,16 +76,18 @@ const REFUSED_PARENTS: [(Step<'static>, Answer); 4] = [
 
 #[test]
 fn a_parent_that_is_named_may_be_current_or_not(rt: HostRuntime) -> Result<(), Fail> {
-    draws(
-        &rt,
-        layered(rt.alloc(), true, 2, false),
-        REFUSED_PARENTS.as_slice(),
-        "┐a \n└─┐b \n",
-    )?;
+    draws(&rt, LINED, REFUSED_PARENTS.as_slice(), "┐a \n└─┐b \n")?;
     Ok(())
 }
 
-// An event at level 3, with an amount of 2^63.
+// Spans that wait for their first event, and an amount of 2^63.
+const WIDE: Settings = Settings {
+    amount: 1 << 63,
+    deferred_spans: true,
+    ..LINED
+};
+
+// An event at level 3.
 const TOO_WIDE: [(Step<'static>, Answer); 5] = [
     (Step::New("a", None), Ok(Reply::Span(Id(1)))),
     (Step::New("b", Some(1)), Ok(Reply::Span(Id(2)))),
@@ -107,52 +101,47 @@ const TOO_WIDE: [(Step<'static>, Answer); 5] = [
 
 #[test]
 fn a_row_with_lines_is_too_wide(rt: HostRuntime) -> Result<(), Fail> {
-    draws(
-        &rt,
-        layered(rt.alloc(), true, 1 << 63, true),
-        TOO_WIDE.as_slice(),
-        "INFO y\n",
-    )?;
+    draws(&rt, WIDE, TOO_WIDE.as_slice(), "INFO y\n")?;
     Ok(())
 }
 
-// What one call draws: a root of this name, or an event with this message.
-fn drawn(alloc: Global, lines: bool, step: Step<'_>) -> Result<Vec<u8>, AllocError> {
-    let mut layered = layered(alloc, lines, 2, false);
-    let call = step.call(alloc)?;
-    if layered.call(call).is_err() {
-        return Ok(Vec::new(alloc));
-    }
-    layered.writer().bytes().to_vec(alloc)
+// An event outside every span with this message draws this.
+fn tells(
+    rt: &(impl Abort + AllocGlobal),
+    settings: Settings,
+    message: &str,
+    text: &str,
+) -> Result<(), AllocError> {
+    let step = Step::Told(Level::Info, message, None);
+    let drawn = drawn(rt.alloc(), settings, [step].as_slice())?;
+    assert_eq!(rt; drawn.as_str(), text, "{message:?}");
+    Ok(())
 }
 
-fn message(text: &'static str) -> Step<'static> {
-    Step::Told(Level::Info, text, None)
-}
+// Messages, each with what an event with it draws with lines, and without.
+const MESSAGES: [(&str, &str, &str); 9] = [
+    ("x", "INFO x\n", " INFO x\n"),
+    ("", "INFO \n", " INFO \n"),
+    ("x\r", "INFO x\n", " INFO x\r\n"),
+    ("x\n", "INFO x\n\n", " INFO x\n"),
+    ("x\r\ny", "INFO x\ny\n", " INFO x\n   y\n"),
+    ("x\r\r\ny", "INFO x\r\ny\n", " INFO x\r\n   y\n"),
+    ("x\ry", "INFO x\ry\n", " INFO x\ry\n"),
+    ("\n\n", "INFO \n\n\n", " INFO \n   \n"),
+    (
+        "\u{b}\u{85}\u{2028}",
+        "INFO \u{b}\u{85}\u{2028}\n",
+        " INFO \u{b}\u{85}\u{2028}\n",
+    ),
+];
 
 // A line end takes the carriage return right before it along. What follows the last one keeps its own without lines; with lines a line
 // end is put after it.
 #[test]
 fn texts_with_line_ends_are_drawn(rt: HostRuntime) -> Result<(), Fail> {
-    for (text, lined, plain) in [
-        ("x", "INFO x\n", " INFO x\n"),
-        ("", "INFO \n", " INFO \n"),
-        ("x\r", "INFO x\n", " INFO x\r\n"),
-        ("x\n", "INFO x\n\n", " INFO x\n"),
-        ("x\r\ny", "INFO x\ny\n", " INFO x\n   y\n"),
-        ("x\r\r\ny", "INFO x\r\ny\n", " INFO x\r\n   y\n"),
-        ("x\ry", "INFO x\ry\n", " INFO x\ry\n"),
-        ("\n\n", "INFO \n\n\n", " INFO \n   \n"),
-        (
-            "\u{b}\u{85}\u{2028}",
-            "INFO \u{b}\u{85}\u{2028}\n",
-            " INFO \u{b}\u{85}\u{2028}\n",
-        ),
-    ] {
-        let drawn_lined = drawn(rt.alloc(), true, message(text))?;
-        assert_eq!(rt; drawn_lined.as_slice(), lined.as_bytes(), "{text:?}");
-        let drawn_plain = drawn(rt.alloc(), false, message(text))?;
-        assert_eq!(rt; drawn_plain.as_slice(), plain.as_bytes(), "{text:?}");
+    for (message, lined, plain) in MESSAGES {
+        tells(&rt, LINED, message, lined)?;
+        tells(&rt, PLAIN, message, plain)?;
     }
     Ok(())
 }
@@ -164,49 +153,59 @@ const TWO_LINES: [(Step<'static>, Answer); 2] = [
 
 #[test]
 fn a_carriage_return_goes_with_its_line_end(rt: HostRuntime) -> Result<(), Fail> {
-    draws(
-        &rt,
-        layered(rt.alloc(), true, 2, false),
-        TWO_LINES.as_slice(),
-        "┐a \n├─ INFO x\n│  y\n",
-    )?;
+    draws(&rt, LINED, TWO_LINES.as_slice(), "┐a \n├─ INFO x\n│  y\n")?;
     Ok(())
 }
 
-// Each row of the text with its shape, level and lines, or nothing where it isn't read.
-fn read(alloc: Global, text: &[u8]) -> Result<String, AllocError> {
+// A row as a line: its shape, its level, and each of its lines after a bar.
+fn push_row(out: &mut String, row: &Row) -> Result<(), AllocError> {
+    let (shape, level): (Shape, usize) = (row.shape(), row.level());
+    write!(out, "{shape:?} {level}")?;
+    for line in row.lines().as_slice() {
+        write!(out, "|{line}")?;
+    }
+    out.push_str("\n")
+}
+
+// Each row of the text, or nothing where it isn't read.
+fn read(alloc: Global, text: &str) -> Result<String, AllocError> {
     let mut out = String::new(alloc);
-    let Ok(text) = str::from_utf8(text) else {
-        return Ok(out);
-    };
     let Ok(rows) = read_rows(alloc, text, 2) else {
         return Ok(out);
     };
     for row in &rows {
-        let (shape, level): (Shape, usize) = (row.shape(), row.level());
-        write!(out, "{shape:?} {level}")?;
-        for line in row.lines().as_slice() {
-            write!(out, "|{line}")?;
-        }
-        out.push_str("\n")?;
+        push_row(&mut out, row)?;
     }
     Ok(out)
 }
 
-// Roots whose names look like corners.
+// A root of this name draws this text, which is read as these rows.
+fn is_read_back(
+    rt: &(impl Abort + AllocGlobal),
+    name: &str,
+    text: &str,
+    rows: &str,
+) -> Result<(), AllocError> {
+    let drawn = drawn(rt.alloc(), LINED, [Step::New(name, None)].as_slice())?;
+    assert_eq!(rt; drawn.as_str(), text, "{name:?}");
+    let read = read(rt.alloc(), drawn.as_str())?;
+    assert_eq!(rt; read.as_str(), rows, "{name:?}");
+    Ok(())
+}
+
+// Roots whose names look like corners, with what they draw and the rows that are read of it.
+const NAMES: [(&str, &str, &str); 5] = [
+    ("┐", "┐┐ \n", "OpenRoot 0|┐ \n"),
+    ("a\n┐b", "┐a\n┐┐b \n", "OpenRoot 0|a\nOpenRoot 0|┐b \n"),
+    ("┘", "┐┘ \n", "OpenRoot 0|┘ \n"),
+    ("", "┐ \n", "OpenRoot 0| \n"),
+    ("\u{1b}[2J", "┐\u{1b}[2J \n", "OpenRoot 0|\u{1b}[2J \n"),
+];
+
 #[test]
 fn odd_names_are_read_back(rt: HostRuntime) -> Result<(), Fail> {
-    for (name, text, rows) in [
-        ("┐", "┐┐ \n", "OpenRoot 0|┐ \n"),
-        ("a\n┐b", "┐a\n┐┐b \n", "OpenRoot 0|a\nOpenRoot 0|┐b \n"),
-        ("┘", "┐┘ \n", "OpenRoot 0|┘ \n"),
-        ("", "┐ \n", "OpenRoot 0| \n"),
-        ("\u{1b}[2J", "┐\u{1b}[2J \n", "OpenRoot 0|\u{1b}[2J \n"),
-    ] {
-        let drawn = drawn(rt.alloc(), true, Step::New(name, None))?;
-        assert_eq!(rt; drawn.as_slice(), text.as_bytes(), "{name:?}");
-        let read = read(rt.alloc(), drawn.as_slice())?;
-        assert_eq!(rt; read.as_str(), rows, "{name:?}");
+    for (name, text, rows) in NAMES {
+        is_read_back(&rt, name, text, rows)?;
     }
     Ok(())
 }
@@ -219,6 +218,27 @@ fn ends(alloc: Global, input: &[u8]) -> Result<(String, u8), AllocError> {
         Some(fault) => Ok((format!(in alloc; "{fault}")?, status)),
         None => Ok((String::new(alloc), status)),
     }
+}
+
+// How a run over this input after that one ends.
+fn ends_after(alloc: Global, before: &[u8], input: &[u8]) -> Result<(String, u8), AllocError> {
+    let mut whole = before.to_vec(alloc)?;
+    whole.extend_from_slice(input)?;
+    ends(alloc, whole.as_slice())
+}
+
+// After the input before it, a run over each of these inputs ends with this text of a fault, or nothing, and this status.
+fn each_ends(
+    rt: &(impl Abort + AllocGlobal),
+    before: &[u8],
+    inputs: &[&[u8]],
+    (text, status): (&str, u8),
+) -> Result<(), AllocError> {
+    for input in inputs {
+        let ended = ends_after(rt.alloc(), before, input)?;
+        assert_eq!(rt; (ended.0.as_str(), ended.1), (text, status), "{input:?}");
+    }
+    Ok(())
 }
 
 const BAD_SETTINGS: [&[u8]; 21] = [
@@ -263,16 +283,8 @@ const GOOD_SETTINGS: [&[u8]; 13] = [
 
 #[test]
 fn settings_are_taken_or_not(rt: HostRuntime) -> Result<(), Fail> {
-    for (inputs, text, status) in [
-        (BAD_SETTINGS.as_slice(), "line 1: settings", 2),
-        (GOOD_SETTINGS.as_slice(), "", 0),
-    ] {
-        for input in inputs {
-            let ended = ends(rt.alloc(), input)?;
-            assert_eq!(rt; ended.0.as_str(), text, "{input:?}");
-            assert_eq!(rt; ended.1, status, "{input:?}");
-        }
-    }
+    each_ends(&rt, b"", BAD_SETTINGS.as_slice(), ("line 1: settings", 2))?;
+    each_ends(&rt, b"", GOOD_SETTINGS.as_slice(), ("", 0))?;
     Ok(())
 }
 
@@ -330,22 +342,13 @@ const NOT_HELD: [&[u8]; 3] = [
     b"{\"call\":\"new\",\"name\":\"a\",\"parent\":7}",
 ];
 
+// A line that is skipped counts.
+const BEFORE: &[u8] = b"{}\n\n";
+
 #[test]
 fn lines_spell_a_call_or_not(rt: HostRuntime) -> Result<(), Fail> {
-    let alloc = rt.alloc();
-    for (lines, text, status) in [
-        (NOT_CALLS.as_slice(), "line 3: not a call", 1),
-        (NOT_HELD.as_slice(), "line 3: not held 7", 1),
-        (CALLS.as_slice(), "", 0),
-    ] {
-        for line in lines {
-            // A line that is skipped counts.
-            let mut input = b"{}\n\n".to_vec(alloc)?;
-            input.extend_from_slice(line)?;
-            let ended = ends(alloc, input.as_slice())?;
-            assert_eq!(rt; ended.0.as_str(), text, "{line:?}");
-            assert_eq!(rt; ended.1, status, "{line:?}");
-        }
-    }
+    each_ends(&rt, BEFORE, NOT_CALLS.as_slice(), ("line 3: not a call", 1))?;
+    each_ends(&rt, BEFORE, NOT_HELD.as_slice(), ("line 3: not held 7", 1))?;
+    each_ends(&rt, BEFORE, CALLS.as_slice(), ("", 0))?;
     Ok(())
 }

@@ -20,54 +20,58 @@ const PRINTED: &str = concat!(
     "{\"shape\":\"CloseRoot\",\"level\":0,\"lines\":[\"\"]}\n",
 );
 
-// What the rows are printed as over this reader and this writer, and how the reading ends.
-fn printed(alloc: Global, reader: Halting<'_>, writer: &mut Choppy) -> Result<(), RowFault> {
-    rows_to_json(alloc, reader, writer, 2)
+// How a reading ends.
+type Ended = Result<(), RowFault>;
+
+// What this writer took of the rows that this reader gives, and how the reading ended.
+fn printed(alloc: Global, reader: Halting<'_>, mut writer: Choppy) -> (Vec<u8>, Ended) {
+    let ended = rows_to_json(alloc, reader, &mut writer, 2);
+    (writer.taken, ended)
 }
 
-fn whole_reader<'a>() -> Halting<'a> {
-    Halting::new(TREE.as_bytes(), usize::MAX, Trouble::NONE)
+// What is taken is a beginning of what is to be printed.
+fn begins(rt: &impl Abort, taken: &[u8], trouble: Trouble) {
+    assert!(rt; PRINTED.as_bytes().starts_with(taken), "{trouble:?}");
 }
 
-// How many bytes of what is to be printed a writer of pieces takes that meets this trouble, and how the reading ends.
-fn taken(
-    rt: &(impl Abort + AllocGlobal),
-    piece: usize,
-    trouble: Trouble,
-) -> (usize, Result<(), RowFault>) {
-    let mut writer = Choppy::new(rt.alloc(), piece, trouble);
-    let ended = printed(rt.alloc(), whole_reader(), &mut writer);
-    let bytes = writer.taken.as_slice();
-    assert!(rt; PRINTED.as_bytes().starts_with(bytes), "{trouble:?}");
-    (bytes.len(), ended)
+// A writer of pieces that meets this trouble takes so many bytes, and the reading ends so.
+fn takes(rt: &(impl Abort + AllocGlobal), piece: usize, trouble: Trouble, wanted: (usize, Ended)) {
+    let reader = Halting::new(TREE.as_bytes(), usize::MAX, Trouble::NONE);
+    let writer = Choppy::new(rt.alloc(), piece, trouble);
+    let (taken, ended) = printed(rt.alloc(), reader, writer);
+    begins(rt, taken.as_slice(), trouble);
+    assert_eq!(rt; (taken.len(), ended), wanted, "{trouble:?}");
 }
 
 // A byte a write: each write is interrupted, once and twice in a row.
 #[test]
 fn each_write_is_interrupted(rt: HostRuntime) {
-    let length = PRINTED.len();
-    for first in 1..=length {
-        for times in [1, 2] {
-            let trouble = Trouble::interrupted(first, times);
-            assert_eq!(rt; taken(&rt, 1, trouble), (length, Ok(())), "{first} {times}");
-        }
+    let whole = (PRINTED.len(), Ok(()));
+    for first in 1..=PRINTED.len() {
+        takes(&rt, 1, Trouble::interrupted(first, 1), whole);
+        takes(&rt, 1, Trouble::interrupted(first, 2), whole);
     }
 }
 
-// A byte a write: the line after the row of each byte is told, the first rows are out, and a beginning of that row.
+// A byte a write: each byte of a row is refused, and its line end. The bytes before it are taken.
+fn row_is_refused(rt: &(impl Abort + AllocGlobal), place: usize, before: usize, length: usize) {
+    let fault = RowFault {
+        line: (place as u64).saturating_add(2),
+        cause: RowCause::Writer,
+    };
+    for taken in before..=before.saturating_add(length) {
+        let trouble = Trouble::once(taken.saturating_add(1), ERRORS[0]);
+        takes(rt, 1, trouble, (taken, Err(fault)));
+    }
+}
+
+// The line after the row of each byte is told, the first rows are out, and a beginning of that row.
 #[test]
 fn each_write_is_refused(rt: HostRuntime) {
     let mut before = 0_usize;
     for (place, line) in PRINTED.lines().enumerate() {
-        let fault = RowFault {
-            line: (place as u64).saturating_add(2),
-            cause: RowCause::Writer,
-        };
-        for _ in 0..=line.len() {
-            let trouble = Trouble::once(before.saturating_add(1), ERRORS[0]);
-            assert_eq!(rt; taken(&rt, 1, trouble), (before, Err(fault)), "{before}");
-            before = before.saturating_add(1);
-        }
+        row_is_refused(&rt, place, before, line.len());
+        before = before.saturating_add(line.len()).saturating_add(1);
     }
     assert_eq!(rt; before, PRINTED.len());
 }
@@ -79,56 +83,63 @@ fn writes_fail_in_each_way(rt: HostRuntime) {
         cause: RowCause::Writer,
     };
     for kind in ERRORS {
-        let trouble = Trouble::once(11, kind);
-        assert_eq!(rt; taken(&rt, 3, trouble), (30, Err(fault)), "{kind:?}");
+        takes(&rt, 3, Trouble::once(11, kind), (30, Err(fault)));
     }
 }
 
-// How many rows are printed of what a reader of pieces gives that meets this trouble, and how the reading ends.
-fn given(
-    rt: &(impl Abort + AllocGlobal),
-    piece: usize,
-    trouble: Trouble,
-) -> (usize, Result<(), RowFault>) {
-    let mut writer = Choppy::new(rt.alloc(), usize::MAX, Trouble::NONE);
-    let reader = Halting::new(TREE.as_bytes(), piece, trouble);
-    let ended = printed(rt.alloc(), reader, &mut writer);
-    let bytes = writer.taken.as_slice();
-    assert!(rt; PRINTED.as_bytes().starts_with(bytes), "{trouble:?}");
-    (bytes.iter().filter(|byte| **byte == b'\n').count(), ended)
+// How many lines these bytes end.
+fn line_ends(bytes: &[u8]) -> usize {
+    bytes.iter().filter(|byte| **byte == b'\n').count()
+}
+
+// Of what a reader of a byte a read gives that meets this trouble so many rows are printed, and the reading ends so.
+fn gives(rt: &(impl Abort + AllocGlobal), trouble: Trouble, wanted: (usize, Ended)) {
+    let reader = Halting::new(TREE.as_bytes(), 1, trouble);
+    let writer = Choppy::new(rt.alloc(), usize::MAX, Trouble::NONE);
+    let (taken, ended) = printed(rt.alloc(), reader, writer);
+    begins(rt, taken.as_slice(), trouble);
+    assert_eq!(rt; (line_ends(taken.as_slice()), ended), wanted, "{trouble:?}");
+}
+
+// Each read of a row fails, so many after those of the rows before it.
+fn row_is_not_given(rt: &(impl Abort + AllocGlobal), place: usize, before: usize, length: usize) {
+    let fault = RowFault {
+        line: (place as u64).saturating_add(1),
+        cause: RowCause::Read,
+    };
+    for past in 1..=length {
+        let read = before.saturating_add(past);
+        let failed = Trouble::once(read, ERRORS[read % 41]);
+        gives(rt, failed, (place, Err(fault)));
+        gives(rt, Trouble::interrupted(read, 9), (place, Err(fault)));
+        gives(rt, Trouble::interrupted(read, 8), (5, Ok(())));
+    }
 }
 
 // A byte a read: each read fails. The rows before its line are printed, and the line is told.
 #[test]
 fn each_read_fails(rt: HostRuntime) {
-    let mut reads = 0_usize;
+    let mut before = 0_usize;
     for (place, row) in ROWS.iter().enumerate() {
-        let fault = RowFault {
-            line: (place as u64).saturating_add(1),
-            cause: RowCause::Read,
-        };
-        for _ in 0..row.len() {
-            reads = reads.saturating_add(1);
-            let kind = ERRORS[reads % 41];
-            let failed = given(&rt, 1, Trouble::once(reads, kind));
-            assert_eq!(rt; failed, (place, Err(fault)), "{reads}");
-            let nine = given(&rt, 1, Trouble::interrupted(reads, 9));
-            assert_eq!(rt; nine, (place, Err(fault)), "{reads}");
-            let eight = given(&rt, 1, Trouble::interrupted(reads, 8));
-            assert_eq!(rt; eight, (5, Ok(())), "{reads}");
-        }
+        row_is_not_given(&rt, place, before, row.len());
+        before = before.saturating_add(row.len());
     }
 }
 
-// How many bytes are printed of an event of so many bytes outside every span, by a writer of a byte a write.
-fn printed_by_bytes(alloc: Global, bytes: usize) -> Result<usize, AllocError> {
+// An event of so many bytes outside every span.
+fn event(alloc: Global, bytes: usize) -> Result<String, AllocError> {
     let mut text = "x".repeat(alloc, bytes)?;
     text.push_str("\n")?;
-    let mut writer = Choppy::new(alloc, 1, Trouble::NONE);
+    Ok(text)
+}
+
+// How many bytes are printed of this text by a writer of a byte a write.
+fn printed_by_bytes(alloc: Global, text: &str) -> usize {
     let reader = Halting::new(text.as_bytes(), usize::MAX, Trouble::NONE);
-    match printed(alloc, reader, &mut writer) {
-        Ok(()) => Ok(writer.taken.len()),
-        Err(_) => Ok(0),
+    let writer = Choppy::new(alloc, 1, Trouble::NONE);
+    match printed(alloc, reader, writer) {
+        (taken, Ok(())) => taken.len(),
+        (_, Err(_)) => 0,
     }
 }
 
@@ -136,7 +147,8 @@ fn printed_by_bytes(alloc: Global, bytes: usize) -> Result<usize, AllocError> {
 #[test]
 fn long_rows_are_written_byte_by_byte(rt: HostRuntime) -> Result<(), Fail> {
     for bytes in [1, 70, 127, 128, 129, 2_000, 10_000] {
-        let printed = printed_by_bytes(rt.alloc(), bytes)?;
+        let event = event(rt.alloc(), bytes)?;
+        let printed = printed_by_bytes(rt.alloc(), event.as_str());
         assert_eq!(rt; printed, bytes.saturating_add(56));
     }
     Ok(())

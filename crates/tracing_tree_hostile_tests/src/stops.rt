@@ -200,50 +200,65 @@ fn beginning(rt: &impl Abort, taken: &[u8]) -> usize {
     taken.len()
 }
 
+// A writer of such pieces that refuses this write: what the calls come to.
+fn stops_calls(rt: &(impl Abort + AllocGlobal), piece: usize, stop: usize) {
+    let wanted = expected(piece, stop);
+    assert_eq!(rt; ends(rt, piece, stop), wanted, "{piece} {stop}");
+}
+
 // The stops go on until a run meets none.
 #[test]
 fn every_write_is_refused(rt: HostRuntime) {
     for piece in 1..=12 {
         for stop in 1..=49 {
-            assert_eq!(rt;
-                ends(&rt, piece, stop),
-                expected(piece, stop),
-                "{piece} {stop}"
-            );
+            stops_calls(&rt, piece, stop);
         }
     }
 }
 
-// The lines over such a writer: what they come to.
-fn lines_end(rt: &(impl Abort + AllocGlobal), piece: usize, stop: usize) -> End {
-    let alloc = rt.alloc();
-    let trouble = Trouble::once(stop, ErrorKind::BrokenPipe);
-    let ran = run_lines(alloc, LINES, Wrap::new(Choppy::new(alloc, piece, trouble)));
+// How a run of lines is to end of which so many calls were accepted.
+fn fault_after(accepted: u64) -> Option<LineFault> {
     let cause = LineCause::Refused(Refusal::Writer);
-    let line = ran.accepted.saturating_add(2);
-    let fault = if ran.accepted < 5 {
+    let line = accepted.saturating_add(2);
+    if accepted < 5 {
         Some(LineFault { line, cause })
     } else {
         None
-    };
-    assert_eq!(rt; ran.fault, fault);
-    assert_eq!(rt; ran.writer.faults() == 0, ran.fault.is_none());
-    let bytes = beginning(rt, ran.writer.into_inner().taken.as_slice());
+    }
+}
+
+// The lines over such a writer: the fault, how many calls were accepted, whether the output has no fault, and what the writer took.
+fn run_of_lines(alloc: Global, writer: Choppy) -> (Option<LineFault>, u64, bool, Vec<u8>) {
+    let ran = run_lines(alloc, LINES, Wrap::new(writer));
+    let (fault, accepted, whole) = (ran.fault, ran.accepted, ran.writer.faults() == 0);
+    (fault, accepted, whole, ran.writer.into_inner().taken)
+}
+
+// What they come to.
+fn lines_end(rt: &(impl Abort + AllocGlobal), piece: usize, stop: usize) -> End {
+    let trouble = Trouble::once(stop, ErrorKind::BrokenPipe);
+    let writer = Choppy::new(rt.alloc(), piece, trouble);
+    let (fault, accepted, whole, taken) = run_of_lines(rt.alloc(), writer);
+    assert_eq!(rt; fault, fault_after(accepted), "{piece} {stop}");
+    assert_eq!(rt; whole, fault.is_none(), "{piece} {stop}");
+    let bytes = beginning(rt, taken.as_slice());
     End {
-        accepted: ran.accepted as usize,
+        accepted: accepted as usize,
         bytes,
     }
+}
+
+// The same for the lines.
+fn stops_lines(rt: &(impl Abort + AllocGlobal), piece: usize, stop: usize) {
+    let wanted = expected(piece, stop);
+    assert_eq!(rt; lines_end(rt, piece, stop), wanted, "{piece} {stop}");
 }
 
 #[test]
 fn every_write_of_lines_is_refused(rt: HostRuntime) {
     for piece in 1..=12 {
         for stop in 1..=49 {
-            assert_eq!(rt;
-                lines_end(&rt, piece, stop),
-                expected(piece, stop),
-                "{piece} {stop}"
-            );
+            stops_lines(&rt, piece, stop);
         }
     }
 }

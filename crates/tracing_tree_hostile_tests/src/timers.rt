@@ -1,6 +1,7 @@
 //! Timers that fault at one moment.
 
 use std::alloc::Global;
+use std::process::Abort;
 use std::test::*;
 use tracing_tree::call::{Call, Reply};
 use tracing_tree::format::{Id, Refusal, Tape};
@@ -43,8 +44,10 @@ impl FormatTime for StopAt {
 // The moment at which the timer faults.
 const STOP: u64 = 7;
 
+type Stopping = Layered<Tape, StopAt>;
+
 // Spans that wait for their first event, over this timer.
-fn deferring(alloc: Global, lines: bool, amount: usize) -> Layered<Tape, StopAt> {
+fn deferring(alloc: Global, lines: bool, amount: usize) -> Stopping {
     let layer = HierarchicalLayer::new(alloc, amount, false, Tape::new(alloc))
         .with_indent_lines(lines)
         .with_deferred_spans(true)
@@ -53,7 +56,7 @@ fn deferring(alloc: Global, lines: bool, amount: usize) -> Layered<Tape, StopAt>
 }
 
 // What a call at this moment is answered.
-fn answer(alloc: Global, layered: &mut Layered<Tape, StopAt>, step: Step<'_>, mono: u64) -> Answer {
+fn answer(alloc: Global, layered: &mut Stopping, step: Step<'_>, mono: u64) -> Answer {
     let mut call = step.call(alloc)?;
     match &mut call {
         Call::New(_, context) | Call::Event(_, context) | Call::Close(_, context) => {
@@ -65,7 +68,7 @@ fn answer(alloc: Global, layered: &mut Layered<Tape, StopAt>, step: Step<'_>, mo
 }
 
 // Whether a span lives that wasn't printed.
-fn is_unprinted(layered: &Layered<Tape, StopAt>, id: u64) -> bool {
+fn is_unprinted(layered: &Stopping, id: u64) -> bool {
     match layered.registry().data(Id(id)) {
         Some(data) => !data.written,
         None => false,
@@ -73,7 +76,7 @@ fn is_unprinted(layered: &Layered<Tape, StopAt>, id: u64) -> bool {
 }
 
 // Makes so many spans, each in the one before, and returns whether all were made.
-fn nests(alloc: Global, layered: &mut Layered<Tape, StopAt>, depth: u64) -> bool {
+fn nests(alloc: Global, layered: &mut Stopping, depth: u64) -> bool {
     let mut current = None;
     for id in 1..=depth {
         let made = answer(alloc, layered, Step::New("a", current), STOP);
@@ -86,7 +89,7 @@ fn nests(alloc: Global, layered: &mut Layered<Tape, StopAt>, depth: u64) -> bool
 }
 
 // Whether nothing was written or printed, and there is no last span.
-fn is_blank(layered: &Layered<Tape, StopAt>, depth: u64) -> bool {
+fn is_blank(layered: &Stopping, depth: u64) -> bool {
     for id in 1..=depth {
         if !is_unprinted(layered, id) {
             return false;
@@ -95,16 +98,27 @@ fn is_blank(layered: &Layered<Tape, StopAt>, depth: u64) -> bool {
     layered.layer().last_span().is_none() && layered.writer().bytes().is_empty()
 }
 
+// A call at this moment is answered so.
+fn answers(
+    rt: &(impl Abort + AllocGlobal),
+    layered: &mut Stopping,
+    (step, mono): (Step<'_>, u64),
+    wanted: Answer,
+) {
+    let answer = answer(rt.alloc(), layered, step, mono);
+    assert!(rt; answer == wanted, "at {mono}: {answer:?}");
+}
+
 const TOLD: Step<'static> = Step::Told(Level::Info, "x", Some(2));
 
 #[test]
 fn a_fault_of_the_timer_prints_no_span(rt: HostRuntime) {
     let mut layered = deferring(rt.alloc(), true, 2);
     assert!(rt; nests(rt.alloc(), &mut layered, 2));
-    assert!(rt; answer(rt.alloc(), &mut layered, TOLD, STOP) == Err(Refusal::Timer));
+    answers(&rt, &mut layered, (TOLD, STOP), Err(Refusal::Timer));
     assert!(rt; is_blank(&layered, 2));
     for step in [TOLD, Step::Clone(1), Step::Record(1, "1"), Step::Close(2)] {
-        assert!(rt; answer(rt.alloc(), &mut layered, step, 0) == Err(Refusal::Failed));
+        answers(&rt, &mut layered, (step, 0), Err(Refusal::Failed));
     }
     assert!(rt; is_blank(&layered, 2));
 }
@@ -118,8 +132,8 @@ const NARROW: Step<'static> = Step::Told(Level::Info, "y", Some(1));
 fn a_row_too_wide_asks_no_timer(rt: HostRuntime) {
     let mut layered = deferring(rt.alloc(), false, 1 << 63);
     assert!(rt; nests(rt.alloc(), &mut layered, 3));
-    assert!(rt; answer(rt.alloc(), &mut layered, WIDE, STOP) == Err(Refusal::TooWide));
+    answers(&rt, &mut layered, (WIDE, STOP), Err(Refusal::TooWide));
     assert!(rt; is_blank(&layered, 3));
-    assert!(rt; answer(rt.alloc(), &mut layered, NARROW, 0) == Ok(Reply::Done));
+    answers(&rt, &mut layered, (NARROW, 0), Ok(Reply::Done));
     assert!(rt; layered.writer().bytes() == b" a \n  INFO y\n".as_slice());
 }

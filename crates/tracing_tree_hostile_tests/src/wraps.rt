@@ -15,28 +15,34 @@ fn written(wrap: &mut Wrap<Choppy>, bytes: &[u8]) -> Option<Result<usize, Output
 }
 
 // What two writes are answered, and how often the writer was asked.
-fn two_writes(
-    alloc: Global,
-    trouble: Trouble,
-) -> (
+type TwoWrites = (
     Option<Result<usize, OutputFault>>,
     Option<Result<usize, OutputFault>>,
     usize,
-) {
+);
+
+fn two_writes(alloc: Global, trouble: Trouble) -> TwoWrites {
     let mut wrap = Wrap::new(Choppy::new(alloc, 3, trouble));
     let first = written(&mut wrap, b"abcd");
     let second = written(&mut wrap, b"d");
     (first, second, wrap.into_inner().writes)
 }
 
+// Two writes over a writer that meets this trouble.
+fn writes_come_to(rt: &(impl Abort + AllocGlobal), trouble: Trouble, wanted: TwoWrites) {
+    assert_eq!(rt; two_writes(rt.alloc(), trouble), wanted, "{trouble:?}");
+}
+
+const FIRST_FAILS: TwoWrites = (Some(Err(OutputFault)), Some(Ok(1)), 2);
+
+const SECOND_FAILS: TwoWrites = (Some(Ok(3)), Some(Err(OutputFault)), 2);
+
 // An error is not tried again, and the next write may be taken.
 #[test]
 fn writes_fail_in_each_way(rt: HostRuntime) {
     for kind in ERRORS {
-        let wanted = (Some(Err(OutputFault)), Some(Ok(1)), 2);
-        assert_eq!(rt; two_writes(rt.alloc(), Trouble::once(1, kind)), wanted);
-        let wanted = (Some(Ok(3)), Some(Err(OutputFault)), 2);
-        assert_eq!(rt; two_writes(rt.alloc(), Trouble::once(2, kind)), wanted);
+        writes_come_to(&rt, Trouble::once(1, kind), FIRST_FAILS);
+        writes_come_to(&rt, Trouble::once(2, kind), SECOND_FAILS);
     }
 }
 
@@ -44,18 +50,19 @@ fn writes_fail_in_each_way(rt: HostRuntime) {
 fn writes_are_interrupted(rt: HostRuntime) {
     for times in 0..=8 {
         let wanted = (Some(Ok(3)), Some(Ok(1)), times + 2);
-        let trouble = Trouble::interrupted(1, times);
-        assert_eq!(rt; two_writes(rt.alloc(), trouble), wanted);
+        writes_come_to(&rt, Trouble::interrupted(1, times), wanted);
     }
     let wanted = (Some(Err(OutputFault)), Some(Ok(1)), 10);
-    assert_eq!(rt; two_writes(rt.alloc(), Trouble::interrupted(1, 9)), wanted);
+    writes_come_to(&rt, Trouble::interrupted(1, 9), wanted);
     let wanted = (Some(Ok(3)), Some(Err(OutputFault)), 10);
-    assert_eq!(rt; two_writes(rt.alloc(), Trouble::interrupted(2, 9)), wanted);
+    writes_come_to(&rt, Trouble::interrupted(2, 9), wanted);
 }
 
 // A flush that is refused, and another one. Whether the output is stuck after each, how often the writer was flushed, and whether
 // the next write is taken.
-fn two_flushes(alloc: Global, trouble: Trouble) -> (bool, bool, usize, bool) {
+type TwoFlushes = (bool, bool, usize, bool);
+
+fn two_flushes(alloc: Global, trouble: Trouble) -> TwoFlushes {
     let mut wrap = Wrap::new(Choppy::flushing(alloc, trouble));
     let _ = written(&mut wrap, b"ab");
     wrap.flush();
@@ -66,25 +73,27 @@ fn two_flushes(alloc: Global, trouble: Trouble) -> (bool, bool, usize, bool) {
     (first, second, wrap.into_inner().shown.len(), taken)
 }
 
+// Two flushes over a writer that meets this trouble.
+fn flushes_come_to(rt: &(impl Abort + AllocGlobal), trouble: Trouble, wanted: TwoFlushes) {
+    assert_eq!(rt; two_flushes(rt.alloc(), trouble), wanted, "{trouble:?}");
+}
+
 #[test]
 fn a_refused_flush_is_not_forgotten(rt: HostRuntime) {
     for kind in ERRORS {
-        let first = two_flushes(rt.alloc(), Trouble::once(1, kind));
-        assert_eq!(rt; first, (true, true, 2, false));
-        let second = two_flushes(rt.alloc(), Trouble::once(2, kind));
-        assert_eq!(rt; second, (false, true, 2, false));
+        flushes_come_to(&rt, Trouble::once(1, kind), (true, true, 2, false));
+        flushes_come_to(&rt, Trouble::once(2, kind), (false, true, 2, false));
     }
 }
 
 #[test]
 fn flushes_are_interrupted(rt: HostRuntime) {
-    let alloc = rt.alloc();
-    let eight = two_flushes(alloc, Trouble::interrupted(1, 8));
-    assert_eq!(rt; eight, (false, false, 10, true));
-    let nine = two_flushes(alloc, Trouble::interrupted(1, 9));
-    assert_eq!(rt; nine, (true, true, 10, false));
-    let later = two_flushes(alloc, Trouble::interrupted(2, 9));
-    assert_eq!(rt; later, (false, true, 10, false));
+    let eight = Trouble::interrupted(1, 8);
+    flushes_come_to(&rt, eight, (false, false, 10, true));
+    let nine = Trouble::interrupted(1, 9);
+    flushes_come_to(&rt, nine, (true, true, 10, false));
+    let later = Trouble::interrupted(2, 9);
+    flushes_come_to(&rt, later, (false, true, 10, false));
 }
 
 // What a writer that takes nothing is told: whether the write was taken, and how often it was asked.
