@@ -6,7 +6,7 @@ ghost use Rattle.tracing_tree_rows.specs.ReadBack.Readable.{IsReadable, text_row
 ghost use Rattle.tracing_tree_layer.specs.Calls.Run.{accepted_calls, run};
 ghost use Rattle.tracing_tree_layer.specs.Calls.State.{State};
 
-use std::alloc::Global;
+use std::alloc::{AllocError, Global};
 use std::str;
 use std::test::*;
 use tracing_tree::call::{Call, Reply};
@@ -59,23 +59,28 @@ const STEPS: [Step<'static>; 5] = [
     Step::Close(2),
 ];
 
+// What is read back of them. It promises nothing, so that the test is soon proved.
+fn steps_read_back(alloc: Global) -> Result<Option<ReadBack>, AllocError> {
+    let calls = calls(alloc, STEPS.as_slice())?;
+    Ok(read_back(alloc, &mut lined(alloc), calls))
+}
+
+const SHAPES: [Shape; 4] = [
+    Shape::OpenRoot,
+    Shape::Open(false),
+    Shape::Event,
+    Shape::Close(false),
+];
+
 #[test]
 fn reads_a_run_back(rt: HostRuntime) -> Result<(), Fail> {
-    let alloc = rt.alloc();
-    let calls = calls(alloc, STEPS.as_slice())?;
-    let Some(back) = read_back(alloc, &mut lined(alloc), calls) else {
+    let Some(back) = steps_read_back(rt.alloc())? else {
         return Err(Fail::from("the drawing isn't read"));
     };
     let accepted = back.answers.iter().filter(|answer| answer.is_ok()).count();
     assert_eq!(rt; accepted, 4);
-    let shapes = [
-        Shape::OpenRoot,
-        Shape::Open(false),
-        Shape::Event,
-        Shape::Close(false),
-    ];
     assert_eq!(rt; back.rows.len(), 4);
-    for (row, shape) in back.rows.iter().zip(shapes) {
+    for (row, shape) in back.rows.iter().zip(SHAPES) {
         assert_eq!(rt; row.shape(), shape);
     }
     Ok(())

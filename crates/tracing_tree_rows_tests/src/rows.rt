@@ -1,19 +1,24 @@
 //! Rows: made, drawn, read back, and their paths; and what the program that reads prints of them.
 
 use std::alloc::{AllocError, Global};
+use std::io;
 use std::io::Write;
 use std::process::Abort;
 use std::test::*;
-use std::{io, str};
 use tracing_tree::rows::{
     DrawFault, EventPath, ReadFault, Row, RowCause, RowFault, Shape, draw_rows, read_paths,
     read_rows, rows_to_json,
 };
 use tracing_tree::style::Level;
-use tracing_tree_for_tests::{Step, lined};
+use tracing_tree_for_tests::Step;
+use tracing_tree_for_tests::tree::{LINED, drawn};
 
 // The drawing of two spans with an event.
 const TREE: &str = "┐a \n└─┐b \n  ├─ WARN x\n┌─┘\n┘\n";
+
+// The rows that are read of it.
+const TREE_ROWS: &str =
+    "OpenRoot 0|a \nOpen(false) 1|b \nEvent 2| WARN x\nClose(false) 1|\nCloseRoot 0|\n";
 
 // A row of these lines, if there is one.
 fn row(
@@ -29,211 +34,259 @@ fn row(
     Ok(Row::new(shape, level, lines))
 }
 
-// The rows, a line each: shape, level, and each text after a bar.
-fn shown(alloc: Global, rows: &[Row]) -> Result<String, Fail> {
+// A row as a line: its shape, its level, and each of its texts after a bar.
+fn push_row(out: &mut String, row: &Row) -> Result<(), AllocError> {
+    let (shape, level): (Shape, usize) = (row.shape(), row.level());
+    write!(out, "{shape:?} {level}")?;
+    for text in row.lines().as_slice() {
+        write!(out, "|{text}")?;
+    }
+    out.push_str("\n")
+}
+
+// The rows, a line each.
+fn shown(alloc: Global, rows: &[Row]) -> Result<String, AllocError> {
     let mut out = String::new(alloc);
     for row in rows {
-        let shape = row.shape();
-        let level = row.level();
-        write!(out, "{shape:?} {level}")?;
-        for text in row.lines().as_slice() {
-            write!(out, "|{text}")?;
-        }
-        out.push_str("\n")?;
+        push_row(&mut out, row)?;
     }
     Ok(out)
 }
 
-// The paths, a line each: the event's place and those of its ancestors.
-fn shown_paths(alloc: Global, paths: &[EventPath]) -> Result<String, Fail> {
+// A path as a line: the event's place and those of its ancestors.
+fn push_path(out: &mut String, path: &EventPath) -> Result<(), AllocError> {
+    let event = path.event;
+    write!(out, "{event}:")?;
+    for place in path.ancestors.as_slice() {
+        match place {
+            Some(place) => write!(out, " {place}")?,
+            None => out.push_str(" -")?,
+        }
+    }
+    out.push_str("\n")
+}
+
+// The paths, a line each.
+fn shown_paths(alloc: Global, paths: &[EventPath]) -> Result<String, AllocError> {
     let mut out = String::new(alloc);
     for path in paths {
-        let event = path.event;
-        write!(out, "{event}:")?;
-        for place in path.ancestors.as_slice() {
-            match place {
-                Some(place) => write!(out, " {place}")?,
-                None => out.push_str(" -")?,
-            }
-        }
-        out.push_str("\n")?;
+        push_path(&mut out, path)?;
     }
     Ok(out)
 }
 
-// With amount 2 the text is read as these rows, and drawing them gives the text again.
+// The rows of the text with amount 2. Like the two below it promises nothing, so that what calls it is soon proved.
+fn read(alloc: Global, text: &str) -> Result<Vec<Row>, ReadFault> {
+    read_rows(alloc, text, 2)
+}
+
+// The paths of its events.
+fn paths(alloc: Global, text: &str) -> Result<Vec<EventPath>, ReadFault> {
+    read_paths(alloc, text, 2)
+}
+
+// What the rows are drawn as with amount 2, or nothing and why not.
+fn redrawn(alloc: Global, rows: &[Row]) -> (String, Option<DrawFault>) {
+    match draw_rows(alloc, rows, 2) {
+        Ok(text) => (text, None),
+        Err(fault) => (String::new(alloc), Some(fault)),
+    }
+}
+
+// The text is read as these rows, and drawing them gives the text again.
 fn reads_as(rt: &(impl Abort + AllocGlobal), text: &str, wanted: &str) -> Result<(), Fail> {
-    let alloc = rt.alloc();
-    let rows = read_rows(alloc, text, 2)?;
-    assert_eq!(rt; shown(alloc, rows.as_slice())?.as_str(), wanted);
-    let drawn = match draw_rows(alloc, rows.as_slice(), 2) {
-        Ok(drawn) => drawn,
-        Err(_) => String::new(alloc),
-    };
+    let rows = read(rt.alloc(), text)?;
+    let shown = shown(rt.alloc(), rows.as_slice())?;
+    assert_eq!(rt; shown.as_str(), wanted, "{text:?}");
+    let (drawn, _fault) = redrawn(rt.alloc(), rows.as_slice());
     assert_eq!(rt; drawn.as_str(), text);
     Ok(())
 }
 
-// With amount 2 this line is the first that is no line of a row.
-fn fails_at(rt: &(impl Abort + AllocGlobal), text: &str, line: u64) -> Result<(), Fail> {
-    let alloc = rt.alloc();
-    match read_rows(alloc, text, 2) {
-        Ok(_) => assert!(rt; false, "{text} is read"),
-        Err(fault) => assert_eq!(rt; fault, ReadFault::Line(line)),
-    }
-    match read_paths(alloc, text, 2) {
-        Ok(_) => assert!(rt; false, "{text} has paths"),
-        Err(fault) => assert_eq!(rt; fault, ReadFault::Line(line)),
+// The same for each of these texts.
+fn each_reads_as(rt: &(impl Abort + AllocGlobal), texts: &[(&str, &str)]) -> Result<(), Fail> {
+    for (text, wanted) in texts {
+        reads_as(rt, text, wanted)?;
     }
     Ok(())
 }
 
+// Why the text is not read as rows, and why not as paths.
+fn faults(alloc: Global, text: &str) -> (Option<ReadFault>, Option<ReadFault>) {
+    (read(alloc, text).err(), paths(alloc, text).err())
+}
+
+// This line is the first that is no line of a row.
+fn fails_at(rt: &(impl Abort + AllocGlobal), text: &str, line: u64) {
+    let wanted = Some(ReadFault::Line(line));
+    assert_eq!(rt; faults(rt.alloc(), text), (wanted, wanted), "{text:?}");
+}
+
+const TREES: [(&str, &str); 2] = [(TREE, TREE_ROWS), ("", "")];
+
 #[test]
 fn reads_a_tree(rt: HostRuntime) -> Result<(), Fail> {
-    reads_as(
-        &rt,
-        TREE,
-        "OpenRoot 0|a \nOpen(false) 1|b \nEvent 2| WARN x\nClose(false) 1|\nCloseRoot 0|\n",
-    )?;
-    reads_as(&rt, "", "")?;
-    fails_at(&rt, "┐a \n└─┐b \n  ├─ WARN x\n┌─┘\n┘", 5)
+    each_reads_as(&rt, TREES.as_slice())?;
+    fails_at(&rt, "┐a \n└─┐b \n  ├─ WARN x\n┌─┘\n┘", 5);
+    Ok(())
 }
+
+const SHAPES: [(&str, &str); 7] = [
+    ("└┐a \n └┐b \n", "PreOpen 0|a \nOpen(true) 1|b \n"),
+    ("└─┐b \n  │  2\n", "Open(false) 1|b |2\n"),
+    ("├─x\n│  y\n", "Event 1|x|y\n"),
+    (" x\n", "Event 0| x\n"),
+    (" ┌┘b \n┌┘a \n", "Close(true) 1|b \nPostClose 0|a \n"),
+    ("┌─┘b\n │  2\n", "Close(false) 1|b|2\n"),
+    ("└┐a\n│  b\n", "PreOpen 0|a|b\n"),
+];
 
 #[test]
 fn reads_each_shape(rt: HostRuntime) -> Result<(), Fail> {
-    reads_as(&rt, "└┐a \n └┐b \n", "PreOpen 0|a \nOpen(true) 1|b \n")?;
-    reads_as(&rt, "└─┐b \n  │  2\n", "Open(false) 1|b |2\n")?;
-    reads_as(&rt, "├─x\n│  y\n", "Event 1|x|y\n")?;
-    reads_as(&rt, " x\n", "Event 0| x\n")?;
-    reads_as(&rt, " ┌┘b \n┌┘a \n", "Close(true) 1|b \nPostClose 0|a \n")?;
-    reads_as(&rt, "┌─┘b\n │  2\n", "Close(false) 1|b|2\n")?;
-    reads_as(&rt, "└┐a\n│  b\n", "PreOpen 0|a|b\n")
+    each_reads_as(&rt, SHAPES.as_slice())
 }
 
+// Texts that aren't read, with the line at which each isn't.
+const NO_ROWS: [(&str, u64); 9] = [
+    ("└──┐b \n", 1),
+    ("┐a\n│  y\n", 2),
+    ("   \n", 1),
+    ("x\n\n", 2),
+    (" ┐a\n", 1),
+    ("├x\n", 1),
+    ("│  x\n", 1),
+    ("x\n│  y\n", 2),
+    ("┐a", 1),
+];
+
 #[test]
-fn refuses_what_is_no_row(rt: HostRuntime) -> Result<(), Fail> {
-    fails_at(&rt, "└──┐b \n", 1)?;
-    fails_at(&rt, "┐a\n│  y\n", 2)?;
-    fails_at(&rt, "   \n", 1)?;
-    fails_at(&rt, "x\n\n", 2)?;
-    fails_at(&rt, " ┐a\n", 1)?;
-    fails_at(&rt, "├x\n", 1)?;
-    fails_at(&rt, "│  x\n", 1)?;
-    fails_at(&rt, "x\n│  y\n", 2)?;
-    fails_at(&rt, "┐a", 1)
+fn refuses_what_is_no_row(rt: HostRuntime) {
+    for (text, line) in NO_ROWS {
+        fails_at(&rt, text, line);
+    }
 }
+
+const ODD_TEXTS: [(&str, &str); 5] = [
+    ("┐┐ \n", "OpenRoot 0|┐ \n"),
+    ("┐a\n┐┐b \n", "OpenRoot 0|a\nOpenRoot 0|┐b \n"),
+    ("INFO x\n", "Event 0|INFO x\n"),
+    ("├─ INFO x\n│  y\n", "Event 1| INFO x|y\n"),
+    ("├─x\r\n", "Event 1|x\r\n"),
+];
 
 #[test]
 fn reads_odd_texts(rt: HostRuntime) -> Result<(), Fail> {
-    reads_as(&rt, "┐┐ \n", "OpenRoot 0|┐ \n")?;
-    reads_as(&rt, "┐a\n┐┐b \n", "OpenRoot 0|a\nOpenRoot 0|┐b \n")?;
-    reads_as(&rt, "INFO x\n", "Event 0|INFO x\n")?;
-    reads_as(&rt, "├─ INFO x\n│  y\n", "Event 1| INFO x|y\n")?;
-    reads_as(&rt, "├─x\r\n", "Event 1|x\r\n")
+    each_reads_as(&rt, ODD_TEXTS.as_slice())
 }
 
-#[test]
-fn draws_rows(rt: HostRuntime) -> Result<(), Fail> {
-    let alloc = rt.alloc();
-    let mut rows = Vec::new(alloc);
-    for (shape, level, text) in [
-        (Shape::OpenRoot, 0, "a "),
-        (Shape::Open(false), 1, "b "),
-        (Shape::Event, 2, " WARN x"),
-        (Shape::Close(false), 1, ""),
-        (Shape::CloseRoot, 0, ""),
-    ] {
-        match row(alloc, shape, level, [text].as_slice())? {
+// The rows of this table, a text each.
+fn rows_of(
+    rt: &(impl Abort + AllocGlobal),
+    table: &[(Shape, usize, &str)],
+) -> Result<Vec<Row>, AllocError> {
+    let mut rows = Vec::new(rt.alloc());
+    for (shape, level, text) in table {
+        match row(rt.alloc(), *shape, *level, [*text].as_slice())? {
             Some(row) => rows.push(row)?,
             None => assert!(rt; false, "no row of {text}"),
         }
     }
-    match draw_rows(alloc, rows.as_slice(), 2) {
-        Ok(text) => assert_eq!(rt; text.as_str(), TREE),
-        Err(fault) => assert!(rt; false, "{fault}"),
-    }
+    Ok(rows)
+}
+
+const ROWS: [(Shape, usize, &str); 5] = [
+    (Shape::OpenRoot, 0, "a "),
+    (Shape::Open(false), 1, "b "),
+    (Shape::Event, 2, " WARN x"),
+    (Shape::Close(false), 1, ""),
+    (Shape::CloseRoot, 0, ""),
+];
+
+#[test]
+fn draws_rows(rt: HostRuntime) -> Result<(), Fail> {
+    let rows = rows_of(&rt, ROWS.as_slice())?;
+    let (text, fault) = redrawn(rt.alloc(), rows.as_slice());
+    assert_eq!(rt; (text.as_str(), fault), (TREE, None));
+    Ok(())
+}
+
+// A root, and below it a row of this shape and this level.
+fn is_too_wide(
+    rt: &(impl Abort + AllocGlobal),
+    shape: Shape,
+    level: usize,
+) -> Result<(), AllocError> {
+    let table = [(Shape::OpenRoot, 0, "a"), (shape, level, "b")];
+    let rows = rows_of(rt, table.as_slice())?;
+    assert_eq!(rt; rows.len(), 2);
+    let (_text, fault) = redrawn(rt.alloc(), rows.as_slice());
+    assert_eq!(rt; fault, Some(DrawFault::TooWide), "{level}");
     Ok(())
 }
 
 #[test]
 fn refuses_rows_that_are_too_wide(rt: HostRuntime) -> Result<(), Fail> {
-    let alloc = rt.alloc();
-    for (shape, level) in [
-        (Shape::Open(false), 1 << 63),
-        (Shape::PreOpen, usize::MAX),
-        (Shape::PostClose, (1 << 63) - 1),
-    ] {
-        let mut rows = Vec::new(alloc);
-        for row in [
-            row(alloc, Shape::OpenRoot, 0, ["a"].as_slice())?,
-            row(alloc, shape, level, ["b"].as_slice())?,
-        ] {
-            if let Some(row) = row {
-                rows.push(row)?;
-            }
-        }
-        assert_eq!(rt; rows.len(), 2);
-        match draw_rows(alloc, rows.as_slice(), 2) {
-            Ok(_) => assert!(rt; false, "{level} is drawn"),
-            Err(fault) => assert_eq!(rt; fault, DrawFault::TooWide),
-        }
-    }
+    is_too_wide(&rt, Shape::Open(false), 1 << 63)?;
+    is_too_wide(&rt, Shape::PreOpen, usize::MAX)?;
+    is_too_wide(&rt, Shape::PostClose, (1 << 63) - 1)?;
     Ok(())
 }
+
+// Whether there is a row of this shape and level with these texts.
+const MADE: [(Shape, usize, &[&str], bool); 17] = [
+    (Shape::PreOpen, 0, &["a", "b"], true),
+    (Shape::OpenRoot, 0, &["a"], true),
+    (Shape::OpenRoot, 1, &["a"], false),
+    (Shape::OpenRoot, 0, &["a", "b"], false),
+    (Shape::Open(true), 0, &["a"], false),
+    (Shape::Open(true), 1, &["a", "b"], true),
+    (Shape::CloseRoot, 0, &[""], true),
+    (Shape::Close(false), 0, &["a"], false),
+    (Shape::PostClose, 7, &[""], true),
+    (Shape::Event, 0, &["  x"], true),
+    (Shape::Event, 0, &["x", "y"], false),
+    (Shape::Event, 0, &[" ┐x"], false),
+    (Shape::Event, 0, &["─x"], true),
+    (Shape::Event, 0, &["  "], false),
+    (Shape::Event, 1, &["┐", "y"], true),
+    (Shape::Event, 1, &["a\nb"], false),
+    (Shape::Event, 1, &[], false),
+];
 
 #[test]
 fn makes_rows_that_may_be(rt: HostRuntime) -> Result<(), Fail> {
-    let alloc = rt.alloc();
-    for (shape, level, texts, made) in [
-        (Shape::PreOpen, 0, ["a", "b"].as_slice(), true),
-        (Shape::OpenRoot, 0, ["a"].as_slice(), true),
-        (Shape::OpenRoot, 1, ["a"].as_slice(), false),
-        (Shape::OpenRoot, 0, ["a", "b"].as_slice(), false),
-        (Shape::Open(true), 0, ["a"].as_slice(), false),
-        (Shape::Open(true), 1, ["a", "b"].as_slice(), true),
-        (Shape::CloseRoot, 0, [""].as_slice(), true),
-        (Shape::Close(false), 0, ["a"].as_slice(), false),
-        (Shape::PostClose, 7, [""].as_slice(), true),
-        (Shape::Event, 0, ["  x"].as_slice(), true),
-        (Shape::Event, 0, ["x", "y"].as_slice(), false),
-        (Shape::Event, 0, [" ┐x"].as_slice(), false),
-        (Shape::Event, 0, ["─x"].as_slice(), true),
-        (Shape::Event, 0, ["  "].as_slice(), false),
-        (Shape::Event, 1, ["┐", "y"].as_slice(), true),
-        (Shape::Event, 1, ["a\nb"].as_slice(), false),
-        (Shape::Event, 1, [].as_slice(), false),
-    ] {
-        assert_eq!(rt;
-            row(alloc, shape, level, texts)?.is_some(),
-            made,
-            "{shape:?} {level} {texts:?}"
-        );
+    for (shape, level, texts, made) in MADE {
+        let row = row(rt.alloc(), shape, level, texts)?;
+        assert_eq!(rt; row.is_some(), made, "{shape:?} {level} {texts:?}");
     }
     Ok(())
 }
 
-// With amount 2 the events of the text have these paths.
+// The events of the text have these paths.
 fn paths_are(rt: &(impl Abort + AllocGlobal), text: &str, wanted: &str) -> Result<(), Fail> {
-    let alloc = rt.alloc();
-    let paths = read_paths(alloc, text, 2)?;
-    assert_eq!(rt; shown_paths(alloc, paths.as_slice())?.as_str(), wanted);
+    let paths = paths(rt.alloc(), text)?;
+    let shown = shown_paths(rt.alloc(), paths.as_slice())?;
+    assert_eq!(rt; shown.as_str(), wanted, "{text:?}");
     Ok(())
 }
 
+const PATHS: [(&str, &str); 8] = [
+    (TREE, "2: 0 1\n"),
+    ("┐a \n└─┐b \n┐c \n┐a \n└─┐b \n┌─┘\n├─ INFO x\n", "6: 3\n"),
+    ("┐a \n└─┐b \n┐c \n┌─┘\n├─ INFO x\n", "4: 2\n"),
+    ("  ├─x\n", "0: - -\n"),
+    ("┐a\n  ├─x\n", "1: 0 -\n"),
+    ("INFO x\n", "0:\n"),
+    ("└┐a \n└─┐b \n  ├─x\n", "2: - 1\n"),
+    ("", ""),
+];
+
 #[test]
 fn finds_ancestors(rt: HostRuntime) -> Result<(), Fail> {
-    paths_are(&rt, TREE, "2: 0 1\n")?;
-    paths_are(
-        &rt,
-        "┐a \n└─┐b \n┐c \n┐a \n└─┐b \n┌─┘\n├─ INFO x\n",
-        "6: 3\n",
-    )?;
-    paths_are(&rt, "┐a \n└─┐b \n┐c \n┌─┘\n├─ INFO x\n", "4: 2\n")?;
-    paths_are(&rt, "  ├─x\n", "0: - -\n")?;
-    paths_are(&rt, "┐a\n  ├─x\n", "1: 0 -\n")?;
-    paths_are(&rt, "INFO x\n", "0:\n")?;
-    paths_are(&rt, "└┐a \n└─┐b \n  ├─x\n", "2: - 1\n")?;
-    paths_are(&rt, "", "")
+    for (text, wanted) in PATHS {
+        paths_are(&rt, text, wanted)?;
+    }
+    Ok(())
 }
 
 // The calls that draw the tree.
@@ -245,29 +298,11 @@ const STEPS: [Step<'static>; 5] = [
     Step::Close(1),
 ];
 
-// What these calls draw. Each is accepted.
-fn drawn(rt: &(impl Abort + AllocGlobal), steps: &[Step<'_>]) -> Result<Vec<u8>, AllocError> {
-    let alloc = rt.alloc();
-    let mut layered = lined(alloc);
-    for step in steps {
-        let answer = layered.call(step.call(alloc)?);
-        assert_eq!(rt; answer.is_ok(), true);
-    }
-    layered.writer().bytes().to_vec(alloc)
-}
-
 #[test]
 fn reads_what_a_run_drew(rt: HostRuntime) -> Result<(), Fail> {
-    let drawn = drawn(&rt, STEPS.as_slice())?;
-    let Ok(text) = str::from_utf8(drawn.as_slice()) else {
-        return Err(Fail::from("the drawing is no text"));
-    };
-    assert_eq!(rt; text, TREE);
-    reads_as(
-        &rt,
-        text,
-        "OpenRoot 0|a \nOpen(false) 1|b \nEvent 2| WARN x\nClose(false) 1|\nCloseRoot 0|\n",
-    )
+    let text = drawn(rt.alloc(), LINED, STEPS.as_slice())?;
+    assert_eq!(rt; text.as_str(), TREE);
+    reads_as(&rt, text.as_str(), TREE_ROWS)
 }
 
 // What the program prints of the text, and how it ends.
@@ -277,14 +312,22 @@ fn printed(alloc: Global, text: &[u8]) -> Result<(Vec<u8>, Result<(), RowFault>)
     Ok((out, ended))
 }
 
+// Of the text this is printed, and the reading ends so.
+fn prints(
+    rt: &(impl Abort + AllocGlobal),
+    text: &[u8],
+    wanted: &str,
+    ended: Result<(), RowFault>,
+) -> Result<(), AllocError> {
+    let (printed, end) = printed(rt.alloc(), text)?;
+    assert_eq!(rt; end, ended, "{text:?}");
+    assert_eq!(rt; printed.as_slice(), wanted.as_bytes(), "{text:?}");
+    Ok(())
+}
+
 #[test]
 fn prints_rows(rt: HostRuntime) -> Result<(), Fail> {
-    let alloc = rt.alloc();
-    let (out, ended) = printed(
-        alloc,
-        "└┐a \"\n └┐b\\ \n  │  \t2\n  ├─\u{7f}é\n ┌┘\n┌┘\nx\n".as_bytes(),
-    )?;
-    assert_eq!(rt; ended, Ok(()));
+    let text = "└┐a \"\n └┐b\\ \n  │  \t2\n  ├─\u{7f}é\n ┌┘\n┌┘\nx\n";
     let wanted = concat!(
         "{\"shape\":\"PreOpen\",\"level\":0,\"lines\":[\"a \\\"\"]}\n",
         "{\"shape\":\"Open\",\"verbose\":true,\"level\":1,\"lines\":[\"b\\\\ \",\"\\t2\"]}\n",
@@ -293,28 +336,34 @@ fn prints_rows(rt: HostRuntime) -> Result<(), Fail> {
         "{\"shape\":\"PostClose\",\"level\":0,\"lines\":[\"\"]}\n",
         "{\"shape\":\"Event\",\"level\":0,\"lines\":[\"x\"],\"ancestors\":[]}\n",
     );
-    assert_eq!(rt; out.as_slice(), wanted.as_bytes());
+    prints(&rt, text.as_bytes(), wanted, Ok(()))?;
     Ok(())
 }
 
 // For rows whose texts need no escapes, the line of JSON of each that is read, with the path of each event.
-fn expected(alloc: Global, rows: &[Row], paths: &[EventPath]) -> Result<String, Fail> {
+fn expected(alloc: Global, rows: &[Row], paths: &[EventPath]) -> Result<String, AllocError> {
     let mut out = String::new(alloc);
     for (place, row) in rows.iter().enumerate() {
         push_shape(&mut out, row)?;
         push_lines(&mut out, row)?;
-        for path in paths {
-            if path.event == place {
-                push_ancestors(&mut out, path)?;
-            }
-        }
+        push_path_of(&mut out, place, paths)?;
         out.push_str("}\n")?;
     }
     Ok(out)
 }
 
+// The path of the event at this place, if there is one.
+fn push_path_of(out: &mut String, place: usize, paths: &[EventPath]) -> Result<(), AllocError> {
+    for path in paths {
+        if path.event == place {
+            push_ancestors(out, path)?;
+        }
+    }
+    Ok(())
+}
+
 // The shape and the level of a row.
-fn push_shape(out: &mut String, row: &Row) -> Result<(), Fail> {
+fn push_shape(out: &mut String, row: &Row) -> Result<(), AllocError> {
     let level = row.level();
     match row.shape() {
         Shape::Open(verbose) => {
@@ -335,18 +384,17 @@ fn push_shape(out: &mut String, row: &Row) -> Result<(), Fail> {
 }
 
 // The lines of a row.
-fn push_lines(out: &mut String, row: &Row) -> Result<(), Fail> {
+fn push_lines(out: &mut String, row: &Row) -> Result<(), AllocError> {
     out.push_str(",\"lines\":[")?;
     for (index, text) in row.lines().as_slice().iter().enumerate() {
         let comma = if index > 0 { "," } else { "" };
         write!(out, "{comma}\"{text}\"")?;
     }
-    out.push_str("]")?;
-    Ok(())
+    out.push_str("]")
 }
 
 // The path of an event.
-fn push_ancestors(out: &mut String, path: &EventPath) -> Result<(), Fail> {
+fn push_ancestors(out: &mut String, path: &EventPath) -> Result<(), AllocError> {
     out.push_str(",\"ancestors\":[")?;
     for (index, place) in path.ancestors.as_slice().iter().enumerate() {
         let comma = if index > 0 { "," } else { "" };
@@ -355,25 +403,27 @@ fn push_ancestors(out: &mut String, path: &EventPath) -> Result<(), Fail> {
             None => write!(out, "{comma}null")?,
         }
     }
-    out.push_str("]")?;
+    out.push_str("]")
+}
+
+// What is printed of the text is what is read of it.
+fn prints_as_read(rt: &(impl Abort + AllocGlobal), text: &str) -> Result<(), Fail> {
+    let rows = read(rt.alloc(), text)?;
+    let paths = paths(rt.alloc(), text)?;
+    let wanted = expected(rt.alloc(), rows.as_slice(), paths.as_slice())?;
+    prints(rt, text.as_bytes(), wanted.as_str(), Ok(()))?;
     Ok(())
 }
 
 #[test]
 fn prints_what_is_read(rt: HostRuntime) -> Result<(), Fail> {
-    let alloc = rt.alloc();
     for text in [
         TREE,
         "",
         "└┐a \n └┐b \n  │  2\n ┌┘\n┌┘\nx\n",
         "┐a \n└─┐b \n┐c \n┐a \n└─┐b \n┌─┘\n├─ INFO x\n│  y\n    ├─z\n",
     ] {
-        let rows = read_rows(alloc, text, 2)?;
-        let paths = read_paths(alloc, text, 2)?;
-        let wanted = expected(alloc, rows.as_slice(), paths.as_slice())?;
-        let (out, ended) = printed(alloc, text.as_bytes())?;
-        assert_eq!(rt; ended, Ok(()));
-        assert_eq!(rt; out.as_slice(), wanted.as_bytes());
+        prints_as_read(&rt, text)?;
     }
     Ok(())
 }
@@ -389,7 +439,7 @@ const BOTH: &str = concat!(
 
 #[test]
 fn prints_the_rows_before_a_fault(rt: HostRuntime) -> Result<(), Fail> {
-    let alloc = rt.alloc();
+    let cause = RowCause::NotARow;
     for (text, line, wanted) in [
         ("┐a\n└─┐b\n\n".as_bytes(), 3, BOTH),
         ("┐a\n└─┐b\n┌─┘".as_bytes(), 3, BOTH),
@@ -397,33 +447,59 @@ fn prints_the_rows_before_a_fault(rt: HostRuntime) -> Result<(), Fail> {
         (b"\xe2\x94\x90a\n\xff\n".as_slice(), 2, ROOT),
         (b"\xff".as_slice(), 1, ""),
     ] {
-        let (out, ended) = printed(alloc, text)?;
-        let cause = RowCause::NotARow;
-        assert_eq!(rt; ended, Err(RowFault { line, cause }));
-        assert_eq!(rt; out.as_slice(), wanted.as_bytes());
+        prints(&rt, text, wanted, Err(RowFault { line, cause }))?;
     }
+    Ok(())
+}
+
+// The causes of a fault, each with the text of a fault in line 3.
+const CAUSES: [(RowCause, &str); 4] = [
+    (RowCause::NotARow, "line 3: not a row"),
+    (RowCause::Read, "line 3: read"),
+    (RowCause::Memory, "line 3: memory"),
+    (RowCause::Writer, "line 3: writer"),
+];
+
+// A fault in line 3 with this cause has this text.
+fn row_fault_reads(
+    rt: &(impl Abort + AllocGlobal),
+    cause: RowCause,
+    wanted: &str,
+) -> Result<(), AllocError> {
+    let text = RowFault { line: 3, cause }.to_string(rt.alloc())?;
+    assert_eq!(rt; text.as_str(), wanted);
+    Ok(())
+}
+
+fn read_fault_reads(
+    rt: &(impl Abort + AllocGlobal),
+    fault: ReadFault,
+    wanted: &str,
+) -> Result<(), AllocError> {
+    let text = fault.to_string(rt.alloc())?;
+    assert_eq!(rt; text.as_str(), wanted);
+    Ok(())
+}
+
+fn draw_fault_reads(
+    rt: &(impl Abort + AllocGlobal),
+    fault: DrawFault,
+    wanted: &str,
+) -> Result<(), AllocError> {
+    let text = fault.to_string(rt.alloc())?;
+    assert_eq!(rt; text.as_str(), wanted);
     Ok(())
 }
 
 #[test]
 fn texts_of_faults(rt: HostRuntime) -> Result<(), Fail> {
-    let alloc = rt.alloc();
-    for (cause, wanted) in [
-        (RowCause::NotARow, "line 3: not a row"),
-        (RowCause::Read, "line 3: read"),
-        (RowCause::Memory, "line 3: memory"),
-        (RowCause::Writer, "line 3: writer"),
-    ] {
-        let fault = RowFault { line: 3, cause };
-        assert_eq!(rt; fault.to_string(alloc)?.as_str(), wanted);
+    for (cause, wanted) in CAUSES {
+        row_fault_reads(&rt, cause, wanted)?;
     }
-    assert_eq!(rt;
-        ReadFault::Line(7).to_string(alloc)?.as_str(),
-        "line 7: not a row"
-    );
-    assert_eq!(rt; ReadFault::Memory.to_string(alloc)?.as_str(), "memory");
-    assert_eq!(rt; DrawFault::TooWide.to_string(alloc)?.as_str(), "too wide");
-    assert_eq!(rt; DrawFault::Memory.to_string(alloc)?.as_str(), "memory");
+    read_fault_reads(&rt, ReadFault::Line(7), "line 7: not a row")?;
+    read_fault_reads(&rt, ReadFault::Memory, "memory")?;
+    draw_fault_reads(&rt, DrawFault::TooWide, "too wide")?;
+    draw_fault_reads(&rt, DrawFault::Memory, "memory")?;
     Ok(())
 }
 
@@ -447,19 +523,18 @@ impl Write for Full {
     }
 }
 
+// How the reading of the tree ends over a writer that takes so many writes.
+fn ends_after(alloc: Global, left: u32) -> Result<(), RowFault> {
+    let mut writer = Full { left };
+    rows_to_json(alloc, TREE.as_bytes(), &mut writer, 2)
+}
+
 #[test]
-fn tells_a_fault_of_the_writer(rt: HostRuntime) -> Result<(), Fail> {
-    let alloc = rt.alloc();
+fn tells_a_fault_of_the_writer(rt: HostRuntime) {
+    let cause = RowCause::Writer;
     for (left, line) in [(0, 2), (1, 3), (3, 5), (4, 6)] {
-        let mut writer = Full { left };
-        let ended = rows_to_json(alloc, TREE.as_bytes(), &mut writer, 2);
-        let cause = RowCause::Writer;
-        assert_eq!(rt; ended, Err(RowFault { line, cause }));
+        let fault = RowFault { line, cause };
+        assert_eq!(rt; ends_after(rt.alloc(), left), Err(fault), "{left}");
     }
-    let mut writer = Full { left: 5 };
-    assert_eq!(rt;
-        rows_to_json(alloc, TREE.as_bytes(), &mut writer, 2),
-        Ok(())
-    );
-    Ok(())
+    assert_eq!(rt; ends_after(rt.alloc(), 5), Ok(()));
 }
