@@ -128,20 +128,34 @@ impl FormatTime for Asked {
     }
 }
 
+// A layer that asks this timer.
+fn asking(alloc: Global, asked: &Asked) -> Layered<Tape, &Asked> {
+    let layer = HierarchicalLayer::new(alloc, 2, false, Tape::new(alloc))
+        .with_indent_lines(true)
+        .with_span_retrace(true)
+        .with_timer(asked);
+    Layered::new(alloc, layer)
+}
+
+// Makes these calls, whatever they are answered.
+fn make(
+    alloc: Global,
+    mut layered: Layered<Tape, &Asked>,
+    steps: &[Step<'_>],
+) -> Result<(), AllocError> {
+    for step in steps {
+        let _ = layered.call(step.call(alloc)?);
+    }
+    Ok(())
+}
+
 // How often a timer is asked for a moment and for an elapsed time while these calls are made.
 fn times_asked(alloc: Global, steps: &[Step<'_>]) -> Result<(u32, u32), AllocError> {
     let asked = Asked {
         moments: Cell::new(0),
         elapsed: Cell::new(0),
     };
-    let layer = HierarchicalLayer::new(alloc, 2, false, Tape::new(alloc))
-        .with_indent_lines(true)
-        .with_span_retrace(true)
-        .with_timer(&asked);
-    let mut layered = Layered::new(alloc, layer);
-    for step in steps {
-        let _ = layered.call(step.call(alloc)?);
-    }
+    make(alloc, asking(alloc, &asked), steps)?;
     Ok((asked.moments.get(), asked.elapsed.get()))
 }
 

@@ -18,6 +18,19 @@ const PLAIN: Settings = Settings {
     ..LINED
 };
 
+// What calls come to: the first that is not answered as it stands beside it, what they draw, and whether the layer has failed.
+type Drawing = (Option<(usize, Answer)>, Vec<u8>, bool);
+
+fn drawing(
+    alloc: Global,
+    settings: Settings,
+    steps: &[(Step<'_>, Answer)],
+) -> Result<Drawing, AllocError> {
+    let mut tree = Tree::new(alloc, settings);
+    let unlike = tree.first_unlike(alloc, steps)?;
+    Ok((unlike, tree.text().to_vec(alloc)?, tree.failed()))
+}
+
 // Each of these calls is answered as it stands beside it, and they draw this.
 fn draws(
     rt: &(impl Abort + AllocGlobal),
@@ -25,10 +38,10 @@ fn draws(
     steps: &[(Step<'_>, Answer)],
     text: &str,
 ) -> Result<(), AllocError> {
-    let mut tree = Tree::new(rt.alloc(), settings);
-    assert_eq!(rt; tree.first_unlike(rt.alloc(), steps)?, None);
-    assert_eq!(rt; tree.text(), text.as_bytes());
-    assert!(rt; !tree.failed());
+    let (unlike, drawn, failed) = drawing(rt.alloc(), settings, steps)?;
+    assert_eq!(rt; unlike, None);
+    assert_eq!(rt; drawn.as_slice(), text.as_bytes());
+    assert!(rt; !failed);
     Ok(())
 }
 
