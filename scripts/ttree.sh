@@ -106,6 +106,81 @@ run_skipped() {
     count 'with --strict on lines that are known' want '' 1
 }
 
+# The run with this least level on this file, which must end with this status and this text on standard error. The tree comes on standard
+# input; it is made by hand of what docs/FORMATS.md says.
+level_of() {
+    cat > "$room/want"
+    run --level "$1" "$2"
+    count "with --level $1 on $(basename "$2")" want "${4-}" "$3"
+}
+
+run_levels() {
+    level_of error "$top/examples/go-fail.jsonl" 1 << 'END_OF_TREE'
+┐example.com/fail/broken 
+├─ ERROR broken/b_test.go:3:33: undefined: missing
+├─ ERROR fail
+┘
+┐example.com/fail/ok 
+└─┐TestSum 
+  └─┐TestSum/#00 
+    ├─ ERROR fail, elapsed=0
+  ┌─┘
+  ├─ ERROR fail, elapsed=0
+┌─┘
+├─ ERROR fail, elapsed=0.003
+┘
+┐example.com/fail/panics 
+└─┐TestSecond 
+  └─┐TestSecond/inner 
+    ├─ ERROR fail, elapsed=0
+  ┌─┘
+  ├─ ERROR fail, elapsed=0
+┌─┘
+├─ ERROR unfinished TestFirst
+├─ ERROR fail, elapsed=0.005
+┘
+ERROR passed=3, failed=4, skipped=0, unfinished=1
+END_OF_TREE
+    cat > "$room/calm" << 'END_OF_LINES'
+{"Action":"run","Package":"p","Test":"TestA"}
+{"Action":"output","Package":"p","Test":"TestA","Output":"one\n"}
+{"Action":"pass","Package":"p","Test":"TestA","Elapsed":0.1}
+{"Action":"run","Package":"p","Test":"TestB"}
+{"Action":"output","Package":"p","Test":"TestB","Output":"two\n"}
+{"Action":"skip","Package":"p","Test":"TestB","Elapsed":0}
+{"Action":"skip","Package":"p","Test":"TestC"}
+{"Action":"pass","Package":"p","Elapsed":0.2}
+END_OF_LINES
+    level_of warn "$room/calm" 0 << 'END_OF_TREE'
+┐p 
+└─┐TestB 
+  ├─ WARN skip, elapsed=0
+┌─┘
+├─ WARN skip TestC
+┘
+END_OF_TREE
+    level_of trace "$room/calm" 0 << 'END_OF_TREE'
+┐p 
+└─┐TestA 
+  ├─ INFO one
+  ├─ INFO pass, elapsed=0.1
+┌─┘
+└─┐TestB 
+  ├─ INFO two
+  ├─ WARN skip, elapsed=0
+┌─┘
+├─ WARN skip TestC
+├─ INFO pass, elapsed=0.2
+┘
+INFO passed=1, failed=0, skipped=2, unfinished=0
+END_OF_TREE
+    level_of error "$room/calm" 0 < "$room/none"
+    { cat "$room/calm"; echo '[1]'; } > "$room/unknown"
+    level_of error "$room/unknown" 1 'ttree: line 9: "Action": expected a text' < "$room/none"
+    "$tree" < "$top/examples/server.jsonl" > "$room/drawn"
+    level_of error "$top/examples/server.jsonl" 0 < "$room/drawn"
+}
+
 # Lines of settings and calls: the first line decides, or --from.
 run_lines() {
     local input=$top/examples/server.jsonl
@@ -175,7 +250,7 @@ run_faults() {
     : > "$room/out"
     [ -s "$room/err" ] && [ "$status" = 1 ] && : > "$room/err"
     count 'on a full device' want '' 1
-    for word in --amount=x --from=cargo --unknown; do
+    for word in --amount=x --from=cargo --level=fatal --level=WARN --unknown; do
         run "$word"
         [ -s "$room/err" ] && : > "$room/err"
         count "with $word" want '' 2
@@ -191,6 +266,7 @@ run_samples
 run_options
 run_odd
 run_skipped
+run_levels
 run_lines
 run_terminal
 run_faults

@@ -245,6 +245,43 @@ END_OF_LINES
 END_OF_LINES
 }
 
+# Least levels. A span whose opening is told is drawn only where an event is.
+run_tracing_levels() {
+    cat > "$room/shared" << 'END_OF_LINES'
+{"level":"INFO","fields":{"message":"a"},"target":"t","spans":[{"name":"s"},{"id":1,"name":"r"}]}
+{"level":"WARN","fields":{"message":"b"},"target":"t","spans":[{"name":"s"},{"id":2,"name":"r"}]}
+{"level":"DEBUG","fields":{"message":"c"},"target":"t","spans":[{"name":"s"},{"id":2,"name":"r"}]}
+{"level":"ERROR","fields":{"message":"d"},"target":"t","spans":[{"name":"s"}]}
+{"level":"TRACE","fields":{"message":"e"},"target":"t"}
+END_OF_LINES
+    level_of warn "$room/shared" 0 << 'END_OF_TREE'
+┐s 
+└─┐r id=2
+  ├─ WARN b
+├─ ERROR d
+┌─┘
+┘
+END_OF_TREE
+    cat > "$room/told" << 'END_OF_LINES'
+{"level":"DEBUG","fields":{"message":"new"},"target":"t","span":{"id":1,"name":"r"},"spans":[]}
+{"level":"INFO","fields":{"message":"a"},"target":"t","span":{"id":1,"name":"r"},"spans":[{"id":1,"name":"r"}]}
+{"level":"DEBUG","fields":{"message":"close","time.busy":"1ms","time.idle":"2ms"},"target":"t","span":{"id":1,"name":"r"},"spans":[]}
+{"level":"INFO","fields":{"message":"new"},"target":"t","span":{"id":2,"name":"r"},"spans":[]}
+{"level":"INFO","fields":{"message":"close"},"target":"t","span":{"id":2,"name":"r"},"spans":[]}
+END_OF_LINES
+    level_of info "$room/told" 0 << 'END_OF_TREE'
+┐r id=1
+├─ INFO a
+┘
+END_OF_TREE
+    level_of debug "$room/told" 0 << 'END_OF_TREE'
+┐r id=1
+├─ INFO a
+├─ DEBUG close, time.busy=1ms, time.idle=2ms
+┘
+END_OF_TREE
+}
+
 # Values, and lines that can't be read.
 run_tracing_lines() {
     lines_of 'on values of tracing' << 'END_OF_LINES'
@@ -286,5 +323,6 @@ run_tracing() {
     run_tracing_samples
     run_tracing_threads
     run_tracing_events
+    run_tracing_levels
     run_tracing_lines
 }

@@ -2,3 +2,4 @@ pub mod Made
 pub mod Heard
 pub mod GoLines
 mod Worked
+pub mod Leveled

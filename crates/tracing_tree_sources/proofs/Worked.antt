@@ -1,11 +1,15 @@
--- Examples computed from the definitions of Go's tests and of tracing's lines.
+-- Examples computed from the definitions of Go's tests, of tracing's lines and of levels.
 use Rattle.std.proofs.Common.{◌≡◌, true, false, None, Some, [], ◌∷◌, codes, refl}
 use Rattle.json.specs.Json.{boolean, string, object, member, no_members}
 use Rattle.tracing_tree_sources.specs.First.{format_of}
 use Rattle.tracing_tree_sources.specs.GoTest.{after_mark, go_lacks, is_frame, leads, up_to_space}
 use Rattle.tracing_tree_sources.specs.declared.first.Format.TheVariants.{GoTest, Lines, Tracing}
 use Rattle.tracing_tree_sources.specs.declared.notes.Lack.TheVariants.{Package}
-use Rattle.tracing_tree_sources.specs.Told.{is_escaped}
+use Rattle.tracing_tree_base.specs.declared.context.Moment.{Moment}
+use Rattle.tracing_tree_base.specs.declared.style.Level.TheVariants.{Trace, Debug, Info, Warn, Error}
+use Rattle.tracing_tree_core.specs.Registry.Ids.{id_of}
+use Rattle.tracing_tree_sources.specs.Levels.{is_shown, shown_calls}
+use Rattle.tracing_tree_sources.specs.Told.{close_call, event_call, is_escaped, span_call}
 use Rattle.tracing_tree_sources.specs.TracingLine.{kind_of, level_in}
 use Rattle.tracing_tree_sources.specs.declared.tracing.line.Kind.TheVariants.{Event, Enter, New}
 
@@ -73,3 +77,27 @@ new_by_chance = refl
 
 pub enter_is_told_in_the_span : kind_of (record { name = codes "message"; value = codes "enter" } ∷ []) true ≡ Enter
 enter_is_told_in_the_span = refl
+
+-- ---- levels
+
+module _ (moment : Moment) where
+  pub the_least_level_is_shown : is_shown Warn (event_call moment Warn [] None) ≡ true
+  the_least_level_is_shown = refl
+
+  pub so_is_a_higher_one : is_shown Warn (event_call moment Error [] None) ≡ true
+  so_is_a_higher_one = refl
+
+  pub a_lower_one_is_not : is_shown Warn (event_call moment Info [] None) ≡ false
+  a_lower_one_is_not = refl
+
+  pub all_levels_are_shown_from_trace_on : is_shown Trace (event_call moment Trace [] None) ≡ true
+  all_levels_are_shown_from_trace_on = refl
+
+  pub spans_stay : shown_calls Warn (
+      span_call moment (codes "order") [] None
+      ∷ event_call moment Debug [] (Some (id_of 1))
+      ∷ event_call moment Error [] (Some (id_of 1))
+      ∷ close_call moment (id_of 1) None
+      ∷ []
+      ) ≡ span_call moment (codes "order") [] None ∷ event_call moment Error [] (Some (id_of 1)) ∷ close_call moment (id_of 1) None ∷ []
+  spans_stay = refl

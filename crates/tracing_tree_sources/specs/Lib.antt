@@ -4,3 +4,4 @@ pub mod GoTest
 pub mod TracingLine
 pub mod Tracing
 pub mod First
+pub mod Levels

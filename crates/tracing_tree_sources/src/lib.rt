@@ -6,6 +6,7 @@
 
 pub mod first;
 pub mod go_test;
+pub mod level;
 pub mod notes;
 pub mod run;
 pub mod source;
@@ -14,6 +15,7 @@ pub mod tracing;
 
 pub use first::{Format, first_format};
 pub use go_test::GoTest;
+pub use level::AtLeast;
 pub use notes::{Lack, Notes};
 pub use run::{SourceRun, run_source};
 pub use source::Source;

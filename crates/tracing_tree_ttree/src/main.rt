@@ -14,9 +14,10 @@ use tracing_tree::layer::HierarchicalLayer;
 use tracing_tree::layered::Layered;
 use tracing_tree::lines::{LineCause, LineFault, read_line};
 use tracing_tree::run_lines;
+use tracing_tree::style::Level;
 use tracing_tree::time::Moment;
 use tracing_tree_sources::{
-    Format, GoTest, Lack, Notes, Source, SourceRun, Tracing, first_format, run_source,
+    AtLeast, Format, GoTest, Lack, Notes, Source, SourceRun, Tracing, first_format, run_source,
 };
 
 // The input is read in parts of this size.
@@ -33,6 +34,8 @@ const FIRST: &str =
 #[derive(Drop)]
 struct Options<'a> {
     config: Config,
+    // Events below it aren't drawn.
+    least: Level,
     // The first line decides where there is none.
     from: Option<Format>,
     is_strict: bool,
@@ -81,6 +84,7 @@ fn parse<'a>(alloc: Global, words: &'a [String], is_coloured: bool) -> Result<Op
     let matches = command(alloc)?.try_get_matches_from(words)?;
     Ok(Options {
         config: config(&matches, is_coloured),
+        least: least(matches.get_str("level")),
         from: format(matches.get_str("from")),
         is_strict: matches.get_flag("strict"),
         file: matches.get_str("file"),
@@ -88,32 +92,14 @@ fn parse<'a>(alloc: Global, words: &'a [String], is_coloured: bool) -> Result<Op
 }
 
 fn command<'a>(alloc: Global) -> Result<Command<'a>, AllocError> {
-    let from = Arg::new(alloc, "from")
-        .long("from")
-        .value_name("TOOL")
-        .help(
-            "Whose output is read: go-test of `go test -json`, tracing of the JSON format of Rust's tracing-subscriber, lines of settings and calls",
-        )
-        .value_parser(&["lines", "go-test", "tracing"][..]);
-    let color = Arg::new(alloc, "color")
-        .long("color")
-        .value_name("WHEN")
-        .help("Whether the tree is coloured; auto colours it on a terminal, unless NO_COLOR is set")
-        .value_parser(&["auto", "always", "never"][..])
-        .default_value("auto");
-    let amount = Arg::new(alloc, "amount")
-        .long("amount")
-        .value_name("N")
-        .help("The columns a level of the drawing")
-        .value_parser(value_parser!(usize))
-        .default_value("2");
     Command::new(alloc, "ttree")
         .version("0.1.0")
         .about("Draws another tool's output as a tree")
         .after_help(FIRST)
-        .arg(from)?
-        .arg(color)?
-        .arg(amount)?
+        .arg(from_option(alloc))?
+        .arg(color_option(alloc))?
+        .arg(amount_option(alloc))?
+        .arg(level_option(alloc))?
         .arg(flag(alloc, "no-lines", "Indents without lines"))?
         .arg(flag(
             alloc,
@@ -128,11 +114,60 @@ fn command<'a>(alloc: Global) -> Result<Command<'a>, AllocError> {
         )
 }
 
+fn from_option<'a>(alloc: Global) -> Arg<'a> {
+    Arg::new(alloc, "from")
+        .long("from")
+        .value_name("TOOL")
+        .help(
+            "Whose output is read: go-test of `go test -json`, tracing of the JSON format of Rust's tracing-subscriber, lines of settings and calls",
+        )
+        .value_parser(&["lines", "go-test", "tracing"][..])
+}
+
+fn color_option<'a>(alloc: Global) -> Arg<'a> {
+    Arg::new(alloc, "color")
+        .long("color")
+        .value_name("WHEN")
+        .help("Whether the tree is coloured; auto colours it on a terminal, unless NO_COLOR is set")
+        .value_parser(&["auto", "always", "never"][..])
+        .default_value("auto")
+}
+
+fn amount_option<'a>(alloc: Global) -> Arg<'a> {
+    Arg::new(alloc, "amount")
+        .long("amount")
+        .value_name("N")
+        .help("The columns a level of the drawing")
+        .value_parser(value_parser!(usize))
+        .default_value("2")
+}
+
+fn level_option<'a>(alloc: Global) -> Arg<'a> {
+    Arg::new(alloc, "level")
+        .long("level")
+        .value_name("LEVEL")
+        .help(
+            "Draws only events of this level and above, and spans only where one happens in them; lines of settings and calls are drawn whole",
+        )
+        .value_parser(&["trace", "debug", "info", "warn", "error"][..])
+}
+
 fn format(name: Option<&str>) -> Option<Format> {
     match name? {
         "lines" => Some(Format::Lines),
         "tracing" => Some(Format::Tracing),
         _ => Some(Format::GoTest),
+    }
+}
+
+// The least level that is drawn; without a word each is.
+fn least(word: Option<&str>) -> Level {
+    match word {
+        Some("error") => Level::Error,
+        Some("warn") => Level::Warn,
+        Some("info") => Level::Info,
+        Some("debug") => Level::Debug,
+        _ => Level::Trace,
     }
 }
 
@@ -157,6 +192,7 @@ fn config(matches: &ArgMatches<'_>, is_coloured: bool) -> Config {
         .with_bracketed_fields(false)
         .with_span_retrace(is_retraced)
         .with_close_retrace(is_retraced)
+        .with_deferred_spans(matches.get_str("level").is_some())
 }
 
 // Tells what the parser of arguments has to tell: help, the version, or a mistake.
@@ -191,6 +227,7 @@ fn draw<R: AllocGlobal + Eprint + Print, I: Read + Drop>(
 ) -> ExitCode {
     let Options {
         config,
+        least,
         from,
         is_strict,
         file: _,
@@ -215,8 +252,8 @@ fn draw<R: AllocGlobal + Eprint + Print, I: Read + Drop>(
     let input = first.as_slice().chain(lines);
     let drawn = match from {
         Format::Lines => draw_lines(rt, input),
-        Format::GoTest => draw_tests(rt, input, config, is_strict),
-        Format::Tracing => draw_tracing(rt, input, config, is_strict),
+        Format::GoTest => draw_tests(rt, input, config, least, is_strict),
+        Format::Tracing => draw_tracing(rt, input, config, least, is_strict),
     };
     match drawn {
         Ok(status) => status,
@@ -258,11 +295,13 @@ fn draw_tests<R: AllocGlobal + Eprint + Print, I: Read + Drop>(
     rt: &R,
     input: I,
     config: Config,
+    least: Level,
     is_strict: bool,
 ) -> Result<ExitCode, AllocError> {
-    let mut source = GoTest::new(rt.alloc(), 1, some_moment())?;
+    let tests = GoTest::new(rt.alloc(), 1, some_moment())?;
+    let mut source = AtLeast::new(tests, least);
     let is_whole = draw_source(rt, input, &mut source, config, is_strict)?;
-    Ok(status(is_whole && !source.has_failed()))
+    Ok(status(is_whole && !source.into_source().has_failed()))
 }
 
 // Draws the lines of Rust's tracing.
@@ -270,9 +309,10 @@ fn draw_tracing<R: AllocGlobal + Eprint + Print, I: Read + Drop>(
     rt: &R,
     input: I,
     config: Config,
+    least: Level,
     is_strict: bool,
 ) -> Result<ExitCode, AllocError> {
-    let mut source = Tracing::new(rt.alloc(), 1, some_moment());
+    let mut source = AtLeast::new(Tracing::new(rt.alloc(), 1, some_moment()), least);
     let is_whole = draw_source(rt, input, &mut source, config, is_strict)?;
     Ok(status(is_whole))
 }
