@@ -1,7 +1,5 @@
 //! Calls on a layer alone, over each kind of live spans.
 
-ghost use Rattle.std.specs.Prelude.{◌≡◌, None, false};
-
 use crate::calls::TREE;
 use crate::lone::Lone;
 use crate::retracing::{ALTERNATING, CHAIN, LATE, STRANGER};
@@ -56,11 +54,13 @@ impl Keeps for Walked {
 }
 
 // A layer over memory, with lines, of this amount.
-fn layer(alloc: Global, amount: usize) -> HierarchicalLayer<Tape, ()>
-    ensures last { result.last ≡ None }
-    ensures sound { result.failed ≡ false }
-{
+fn layer(alloc: Global, amount: usize) -> HierarchicalLayer<Tape, ()> {
     HierarchicalLayer::new(alloc, amount, false, Tape::new(alloc)).with_indent_lines(true)
+}
+
+// What was written.
+fn text(layer: &HierarchicalLayer<Tape, ()>) -> &[u8] {
+    layer.writer().bytes()
 }
 
 // One call, by calls of the registry and of the layer.
@@ -88,6 +88,19 @@ fn call<S: Keeps>(
     }
 }
 
+// The calls, one after another, over these spans.
+fn call_each<S: Keeps>(
+    alloc: Global,
+    layer: &mut HierarchicalLayer<Tape, ()>,
+    spans: &mut S,
+    calls: Vec<Call>,
+) -> Result<(), Refusal> {
+    for next in calls {
+        call(alloc, layer, spans, next)?;
+    }
+    Ok(())
+}
+
 // The calls of a case, one after another, draw its text over these spans.
 fn draws_over<S: Keeps + Drop>(
     rt: &impl Abort,
@@ -95,22 +108,29 @@ fn draws_over<S: Keeps + Drop>(
     mut spans: S,
     case: Case,
 ) -> Result<(), Fail> {
-    let calls = case.calls(alloc)?;
     let mut layer = case.layer(alloc);
-    for next in calls {
-        assert_eq!(rt; call(alloc, &mut layer, &mut spans, next), Ok(()));
-    }
-    assert_eq!(rt; layer.writer().bytes(), case.text().as_bytes());
+    let calls = case.calls(alloc)?;
+    assert_eq!(rt; call_each(alloc, &mut layer, &mut spans, calls), Ok(()));
+    assert_eq!(rt; text(&layer), case.text().as_bytes());
     Ok(())
+}
+
+// A registry with the layer of a case. None where that isn't fresh.
+fn layered(alloc: Global, case: Case) -> Option<Layered<Tape, ()>> {
+    let layer = case.layer(alloc);
+    if layer.is_fresh() {
+        Some(Layered::new(alloc, layer))
+    } else {
+        None
+    }
 }
 
 // They draw it as one run.
 fn draws_as_a_run(rt: &impl Abort, alloc: Global, case: Case) -> Result<(), Fail> {
-    let calls = case.calls(alloc)?;
-    let mut layered = Layered::new(alloc, case.layer(alloc));
-    let answers = run(alloc, &mut layered, calls)?;
+    let mut layered = layered(alloc, case).ok_or("not fresh")?;
+    let answers = run(alloc, &mut layered, case.calls(alloc)?)?;
     assert_eq!(rt; answers.iter().all(|answer| answer.is_ok()), true);
-    assert_eq!(rt; layered.writer().bytes(), case.text().as_bytes());
+    assert_eq!(rt; text(layered.layer()), case.text().as_bytes());
     Ok(())
 }
 
@@ -137,10 +157,7 @@ enum Case {
 }
 
 impl Case {
-    fn layer(self, alloc: Global) -> HierarchicalLayer<Tape, ()>
-        ensures last { result.last ≡ None }
-        ensures sound { result.failed ≡ false }
-    {
+    fn layer(self, alloc: Global) -> HierarchicalLayer<Tape, ()> {
         match self {
             Case::Nested => layer(alloc, 2),
             Case::Deferred => layer(alloc, 2).with_deferred_spans(true),
@@ -364,17 +381,27 @@ const OF_ONE_ROOT: [(Told, Result<(), Refusal>); 7] = [
     (Told::Close(1), Ok(())),
 ];
 
+// What is told in turn, each answered as it stands beside it, and after each the layer is used.
+fn tells_each(
+    rt: &impl Abort,
+    alloc: Global,
+    layer: &mut HierarchicalLayer<Tape, ()>,
+    lone: &mut Lone,
+) {
+    for (told, wanted) in OF_ONE_ROOT {
+        assert_eq!(rt; tell(alloc, layer, lone, told), wanted);
+        assert_eq!(rt; layer.is_fresh(), false);
+    }
+}
+
 #[test]
 fn draws_over_a_registry_of_ones_own(rt: HostRuntime) -> Result<(), Fail> {
     let alloc = rt.alloc();
     let mut lone = Lone::new(alloc, "a")?;
     let mut layer = layer(alloc, 2).with_verbose_exit(true);
     assert_eq!(rt; layer.is_fresh(), true);
-    for (told, wanted) in OF_ONE_ROOT {
-        assert_eq!(rt; tell(alloc, &mut layer, &mut lone, told), wanted);
-        assert_eq!(rt; layer.is_fresh(), false);
-    }
-    assert_eq!(rt; layer.writer().bytes(), "┐a \n┘a k=1\n┘a k=1\n".as_bytes());
+    tells_each(&rt, alloc, &mut layer, &mut lone);
+    assert_eq!(rt; text(&layer), "┐a \n┘a k=1\n┘a k=1\n".as_bytes());
     Ok(())
 }
 
@@ -386,6 +413,6 @@ fn writes_to_another_writer(rt: HostRuntime) -> Result<(), Fail> {
     assert_eq!(rt; tell(alloc, &mut layer, &mut lone, Told::New(1)), Ok(()));
     let mut layer = layer.with_writer(Tape::new(alloc));
     assert_eq!(rt; tell(alloc, &mut layer, &mut lone, Told::Close(1)), Ok(()));
-    assert_eq!(rt; layer.writer().bytes(), "┘\n".as_bytes());
+    assert_eq!(rt; text(&layer), "┘\n".as_bytes());
     Ok(())
 }

@@ -1,11 +1,12 @@
 //! Calls on a layered, with their answers and their text.
 
+use crate::checks::{answers, draws};
 use std::alloc::{AllocError, Global};
 use std::test::*;
 use tracing_tree::call::Reply;
 use tracing_tree::format::{Id, Refusal};
 use tracing_tree::style::Level;
-use tracing_tree_for_tests::tree::{LINED, Tree, drawn};
+use tracing_tree_for_tests::tree::{LINED, Tree};
 use tracing_tree_for_tests::{Answer, Step};
 
 /// Two spans, an event, and both closed.
@@ -48,16 +49,19 @@ fn roots(alloc: Global, count: u64) -> Result<Vec<Step<'static>>, AllocError> {
     Ok(steps)
 }
 
+// So many roots, which are closed after the last has opened.
+fn roots_text(alloc: Global, count: usize) -> Result<String, AllocError> {
+    let opened = "┐a \n".repeat(alloc, count)?;
+    let closed = "┘\n".repeat(alloc, count)?;
+    format!(in alloc; "{opened}{closed}")
+}
+
 #[test]
 fn draws_many_spans(rt: HostRuntime) -> Result<(), Fail> {
     let alloc = rt.alloc();
     let steps = roots(alloc, 3_000)?;
-    let opened = "┐a \n".repeat(alloc, 3_000)?;
-    let closed = "┘\n".repeat(alloc, 3_000)?;
-    let wanted = format!(in alloc; "{opened}{closed}")?;
-    let text = drawn(alloc, LINED, steps.as_slice())?;
-    assert_eq!(rt; text.as_str(), wanted.as_str());
-    Ok(())
+    let text = roots_text(alloc, 3_000)?;
+    draws(&rt, alloc, LINED, steps.as_slice(), text.as_str())
 }
 
 #[test]
@@ -77,12 +81,7 @@ const PAST_THE_LAST_ID: [(Step<'static>, Answer); 2] = [
 fn gives_out_the_greatest_id(rt: HostRuntime) -> Result<(), Fail> {
     let alloc = rt.alloc();
     let mut tree = Tree::starting_at(alloc, u64::MAX, LINED);
-    assert_eq!(rt;
-        tree.first_unlike(alloc, PAST_THE_LAST_ID.as_slice())?,
-        None
-    );
-    assert_eq!(rt; tree.text(), "┐a \n".as_bytes());
-    Ok(())
+    answers(&rt, alloc, &mut tree, PAST_THE_LAST_ID.as_slice(), "┐a \n")
 }
 
 const NOT_HELD: [(Step<'static>, Answer); 3] = [
@@ -95,9 +94,7 @@ const NOT_HELD: [(Step<'static>, Answer); 3] = [
 fn refuses_what_is_not_held(rt: HostRuntime) -> Result<(), Fail> {
     let alloc = rt.alloc();
     let mut tree = Tree::new(alloc, LINED);
-    assert_eq!(rt; tree.first_unlike(alloc, NOT_HELD.as_slice())?, None);
-    assert_eq!(rt; tree.text(), "INFO x\n".as_bytes());
-    Ok(())
+    answers(&rt, alloc, &mut tree, NOT_HELD.as_slice(), "INFO x\n")
 }
 
 const CLOSED_TOGETHER: [(Step<'static>, Answer); 5] = [
@@ -112,8 +109,8 @@ const CLOSED_TOGETHER: [(Step<'static>, Answer); 5] = [
 fn closes_a_parent_with_its_child(rt: HostRuntime) -> Result<(), Fail> {
     let alloc = rt.alloc();
     let mut tree = Tree::new(alloc, LINED);
-    assert_eq!(rt; tree.first_unlike(alloc, CLOSED_TOGETHER.as_slice())?, None);
-    assert_eq!(rt; tree.text(), "┐a \n└─┐b \n┌─┘\n┘\n".as_bytes());
+    let text = "┐a \n└─┐b \n┌─┘\n┘\n";
+    answers(&rt, alloc, &mut tree, CLOSED_TOGETHER.as_slice(), text)?;
     assert_eq!(rt; tree.last_span(), Some(Id(1)));
     Ok(())
 }

@@ -6,6 +6,8 @@ mod bare;
 #[cfg(test)]
 mod calls;
 #[cfg(test)]
+mod checks;
+#[cfg(test)]
 mod difference;
 #[cfg(test)]
 mod examples;

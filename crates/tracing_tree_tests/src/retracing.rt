@@ -1,11 +1,12 @@
 //! Spans that are deferred, retraced, and retraced before they close.
 
+use crate::checks::{answers, draws};
 use std::test::*;
 use tracing_tree::call::Reply;
 use tracing_tree::format::{Id, Refusal};
 use tracing_tree::registry::Parent;
 use tracing_tree::style::Level;
-use tracing_tree_for_tests::tree::{LINED, Settings, Tree, drawn};
+use tracing_tree_for_tests::tree::{LINED, Settings, Tree};
 use tracing_tree_for_tests::{Answer, Step};
 
 /// Two roots whose events alternate.
@@ -18,17 +19,12 @@ pub const ALTERNATING: [Step<'static>; 4] = [
 
 #[test]
 fn retraces_to_the_current_span_of_an_event(rt: HostRuntime) -> Result<(), Fail> {
-    let alloc = rt.alloc();
     let settings = Settings {
         span_retrace: true,
         ..LINED
     };
     let text = "┐a \n┐b \n┐a \n├─ INFO x\n┐b \n├─ INFO y\n";
-    assert_eq!(rt;
-        drawn(alloc, settings, ALTERNATING.as_slice())?.as_str(),
-        text
-    );
-    Ok(())
+    draws(&rt, rt.alloc(), settings, ALTERNATING.as_slice(), text)
 }
 
 /// A chain of three, an event in the middle one, and the close of the last.
@@ -42,28 +38,24 @@ pub const CHAIN: [Step<'static>; 5] = [
 
 #[test]
 fn defers_spans_until_an_event_happens_in_them(rt: HostRuntime) -> Result<(), Fail> {
-    let alloc = rt.alloc();
     let settings = Settings {
         deferred_spans: true,
         ..LINED
     };
     let text = "┐a \n└─┐b \n  ├─ INFO x\n";
-    assert_eq!(rt; drawn(alloc, settings, CHAIN.as_slice())?.as_str(), text);
-    Ok(())
+    draws(&rt, rt.alloc(), settings, CHAIN.as_slice(), text)
 }
 
 const SILENT: [Step<'static>; 2] = [Step::New("a", None), Step::Close(1)];
 
 #[test]
 fn draws_nothing_of_a_deferred_span_without_events(rt: HostRuntime) -> Result<(), Fail> {
-    let alloc = rt.alloc();
     let settings = Settings {
         deferred_spans: true,
         ..LINED
     };
     let text = "";
-    assert_eq!(rt; drawn(alloc, settings, SILENT.as_slice())?.as_str(), text);
-    Ok(())
+    draws(&rt, rt.alloc(), settings, SILENT.as_slice(), text)
 }
 
 const CLOSED: [Step<'static>; 5] = [
@@ -76,29 +68,25 @@ const CLOSED: [Step<'static>; 5] = [
 
 #[test]
 fn closes_deferred_spans_that_were_shown(rt: HostRuntime) -> Result<(), Fail> {
-    let alloc = rt.alloc();
     let settings = Settings {
         deferred_spans: true,
         ..LINED
     };
     let text = "┐a \n└─┐b \n  ├─ INFO x\n┌─┘\n┘\n";
-    assert_eq!(rt; drawn(alloc, settings, CLOSED.as_slice())?.as_str(), text);
-    Ok(())
+    draws(&rt, rt.alloc(), settings, CLOSED.as_slice(), text)
 }
 
 const ROOT: [Step<'static>; 1] = [Step::New("a", None)];
 
 #[test]
 fn labels_the_row_of_a_new_span_that_is_retraced_to(rt: HostRuntime) -> Result<(), Fail> {
-    let alloc = rt.alloc();
     let settings = Settings {
         span_modes: true,
         span_retrace: true,
         ..LINED
     };
     let text = "┐retrace: a \n";
-    assert_eq!(rt; drawn(alloc, settings, ROOT.as_slice())?.as_str(), text);
-    Ok(())
+    draws(&rt, rt.alloc(), settings, ROOT.as_slice(), text)
 }
 
 /// A span and its child, with an event each.
@@ -111,7 +99,6 @@ pub const LATE: [Step<'static>; 4] = [
 
 #[test]
 fn shows_the_parent_of_the_first_fresh_span(rt: HostRuntime) -> Result<(), Fail> {
-    let alloc = rt.alloc();
     let settings = Settings {
         amount: 4,
         deferred_spans: true,
@@ -119,8 +106,7 @@ fn shows_the_parent_of_the_first_fresh_span(rt: HostRuntime) -> Result<(), Fail>
         ..LINED
     };
     let text = "┐a \n├─── INFO x\n└─┐a \n  └─┐b \n    ├─── INFO y\n";
-    assert_eq!(rt; drawn(alloc, settings, LATE.as_slice())?.as_str(), text);
-    Ok(())
+    draws(&rt, rt.alloc(), settings, LATE.as_slice(), text)
 }
 
 /// `a`, its child `b`, and the root `c`; `b` closes; an event in `a`.
@@ -134,39 +120,33 @@ pub const STRANGER: [Step<'static>; 5] = [
 
 #[test]
 fn closes_off_the_last_path_under_a_stranger(rt: HostRuntime) -> Result<(), Fail> {
-    let alloc = rt.alloc();
     let settings = Settings {
         span_retrace: true,
         ..LINED
     };
     let text = "┐a \n└─┐b \n┐c \n┌─┘\n├─ INFO x\n";
-    assert_eq!(rt; drawn(alloc, settings, STRANGER.as_slice())?.as_str(), text);
-    Ok(())
+    draws(&rt, rt.alloc(), settings, STRANGER.as_slice(), text)
 }
 
 #[test]
 fn retraces_before_a_close_off_the_last_path(rt: HostRuntime) -> Result<(), Fail> {
-    let alloc = rt.alloc();
     let settings = Settings {
         span_retrace: true,
         close_retrace: true,
         ..LINED
     };
     let text = "┐a \n└─┐b \n┐c \n┐a \n└─┐b \n┌─┘\n├─ INFO x\n";
-    assert_eq!(rt; drawn(alloc, settings, STRANGER.as_slice())?.as_str(), text);
-    Ok(())
+    draws(&rt, rt.alloc(), settings, STRANGER.as_slice(), text)
 }
 
 #[test]
 fn retraces_no_close_unless_spans_are_retraced(rt: HostRuntime) -> Result<(), Fail> {
-    let alloc = rt.alloc();
     let settings = Settings {
         close_retrace: true,
         ..LINED
     };
     let text = "┐a \n└─┐b \n┐c \n┌─┘\n├─ INFO x\n";
-    assert_eq!(rt; drawn(alloc, settings, STRANGER.as_slice())?.as_str(), text);
-    Ok(())
+    draws(&rt, rt.alloc(), settings, STRANGER.as_slice(), text)
 }
 
 const CLOSED_ROOT: [(Step<'static>, Answer); 2] = [
@@ -187,11 +167,10 @@ fn leaves_the_last_span_after_the_close_of_a_root(rt: HostRuntime) -> Result<(),
         ..LINED
     };
     let mut tree = Tree::new(alloc, settings);
-    assert_eq!(rt; tree.first_unlike(alloc, CLOSED_ROOT.as_slice())?, None);
+    answers(&rt, alloc, &mut tree, CLOSED_ROOT.as_slice(), "┐a \n┘\n")?;
     assert_eq!(rt; tree.last_span(), Some(Id(1)));
-    assert_eq!(rt; tree.first_unlike(alloc, NEXT_ROOT.as_slice())?, None);
-    assert_eq!(rt; tree.text(), "┐a \n┘\n┐b \n├─ INFO x\n".as_bytes());
-    Ok(())
+    let text = "┐a \n┘\n┐b \n├─ INFO x\n";
+    answers(&rt, alloc, &mut tree, NEXT_ROOT.as_slice(), text)
 }
 
 const TOO_WIDE: [(Step<'static>, Answer); 4] = [
@@ -220,13 +199,10 @@ fn refuses_a_row_that_is_too_wide(rt: HostRuntime) -> Result<(), Fail> {
         ..LINED
     };
     let mut tree = Tree::new(alloc, settings);
-    assert_eq!(rt; tree.first_unlike(alloc, TOO_WIDE.as_slice())?, None);
+    answers(&rt, alloc, &mut tree, TOO_WIDE.as_slice(), "")?;
     assert_eq!(rt; tree.last_span(), None);
     assert_eq!(rt; tree.failed(), false);
-    assert_eq!(rt; tree.text().is_empty(), true);
-    assert_eq!(rt; tree.first_unlike(alloc, NARROW.as_slice())?, None);
-    assert_eq!(rt; tree.text(), " a \n  INFO y\n".as_bytes());
-    Ok(())
+    answers(&rt, alloc, &mut tree, NARROW.as_slice(), " a \n  INFO y\n")
 }
 
 const GONE: [Step<'static>; 4] = [
@@ -239,14 +215,12 @@ const GONE: [Step<'static>; 4] = [
 // An event whose current span is gone retraces nothing, and its last span may be gone.
 #[test]
 fn retraces_to_no_span_that_is_gone(rt: HostRuntime) -> Result<(), Fail> {
-    let alloc = rt.alloc();
     let settings = Settings {
         span_retrace: true,
         ..LINED
     };
     let text = "┐a \n┘\nINFO x\n┐b \n";
-    assert_eq!(rt; drawn(alloc, settings, GONE.as_slice())?.as_str(), text);
-    Ok(())
+    draws(&rt, rt.alloc(), settings, GONE.as_slice(), text)
 }
 
 const TWO_ROOTS: [Step<'static>; 3] = [

@@ -80,29 +80,21 @@ const TWO_SECONDS: [(Step<'static>, u64); 2] = [
     (Step::Told(Level::Info, "x", Some(1)), 3_000_042_000),
 ];
 
+// Whether the elapsed time is shown with a higher precision, and what is drawn then.
+const PRECISIONS: [(bool, &str); 2] = [
+    (false, "┐a \n├─   3.000042s   2s  INFO x\n"),
+    (true, "┐a \n├─   3.000042s  2.00s  INFO x\n"),
+];
+
 #[test]
 fn times_an_event_in_a_span(rt: HostRuntime) -> Result<(), Fail> {
     let alloc = rt.alloc();
-    let mut uptime = Uptime::from(0);
-    let lower = "┐a \n├─   3.000042s   2s  INFO x\n";
-    assert!(rt;
-        draws(
-            alloc,
-            uptime,
-            calls_at(alloc, TWO_SECONDS.as_slice())?,
-            lower
-        )?
-    );
-    uptime.higher_precision = true;
-    let higher = "┐a \n├─   3.000042s  2.00s  INFO x\n";
-    assert!(rt;
-        draws(
-            alloc,
-            uptime,
-            calls_at(alloc, TWO_SECONDS.as_slice())?,
-            higher
-        )?
-    );
+    for (higher_precision, text) in PRECISIONS {
+        let mut uptime = Uptime::from(0);
+        uptime.higher_precision = higher_precision;
+        let calls = calls_at(alloc, TWO_SECONDS.as_slice())?;
+        assert!(rt; draws(alloc, uptime, calls, text)?, "{text}");
+    }
     Ok(())
 }
 
@@ -149,17 +141,22 @@ const ASKING: [(Step<'static>, u32); 14] = [
     (Step::Told(Level::Info, "x", Some(1)), 7),
 ];
 
+// A layered whose new and closed spans are drawn once more, with this timer.
+fn asking(alloc: Global, asked: &Asked) -> Layered<Tape, &Asked> {
+    let layer = HierarchicalLayer::new(alloc, 2, false, Tape::new(alloc))
+        .with_verbose_entry(true)
+        .with_verbose_exit(true)
+        .with_timer(asked);
+    Layered::new(alloc, layer)
+}
+
 #[test]
 fn asks_the_timer_once_an_event(rt: HostRuntime) -> Result<(), Fail> {
     let alloc = rt.alloc();
     let asked = Asked {
         times: Cell::new(0),
     };
-    let layer = HierarchicalLayer::new(alloc, 2, false, Tape::new(alloc))
-        .with_verbose_entry(true)
-        .with_verbose_exit(true)
-        .with_timer(&asked);
-    let mut layered = Layered::new(alloc, layer);
+    let mut layered = asking(alloc, &asked);
     for (step, times) in ASKING {
         run(alloc, &mut layered, vec![in alloc; step.call(alloc)?]?)?;
         assert_eq!(rt; asked.times.get(), times);
@@ -193,26 +190,14 @@ fn fails(alloc: Global, timer: StopAt) -> Result<bool, AllocError> {
     )
 }
 
+// A moment and an elapsed time at which a timer faults.
+const FAULTS: [(u64, u64); 2] = [(7, 100), (100, 5)];
+
 #[test]
 fn fails_with_its_timer(rt: HostRuntime) -> Result<(), Fail> {
-    let alloc = rt.alloc();
-    assert!(rt;
-        fails(
-            alloc,
-            StopAt {
-                moment: 7,
-                elapsed: 100
-            }
-        )?
-    );
-    assert!(rt;
-        fails(
-            alloc,
-            StopAt {
-                moment: 100,
-                elapsed: 5
-            }
-        )?
-    );
+    for (moment, elapsed) in FAULTS {
+        let timer = StopAt { moment, elapsed };
+        assert!(rt; fails(rt.alloc(), timer)?, "{moment}, {elapsed}");
+    }
     Ok(())
 }
