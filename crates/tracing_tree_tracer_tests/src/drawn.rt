@@ -1,9 +1,9 @@
 //! What a tracer draws.
 
 use crate::lined::lined;
-use crate::steps::{Given, Line, Step, first_unlike};
+use crate::steps::{Given, Line, Step, close, first_unlike, open, record, tell, text};
 use jiff::Timestamp;
-use std::alloc::Global;
+use std::alloc::{AllocError, Global};
 use std::test::*;
 use tracing_tree_core::format::{Id, Tape};
 use tracing_tree_core::style::Level;
@@ -23,14 +23,23 @@ fn tracer(alloc: Global) -> Tracer<Tape, (), Moment> {
     Tracer::new(alloc, lined(alloc), START)
 }
 
-fn serve(tracer: &mut Tracer<Tape, (), Moment>) -> Result<(), TraceFault> {
-    tracer.open("conn", &[("peer", Quoted("82.9.9.9"))])?;
-    tracer.info("connected", &[])?;
+fn query(tracer: &mut Tracer<Tape, (), Moment>) -> Result<(), TraceFault> {
     within(tracer, "query", &[("sql", Quoted("select 1"))], |tracer| {
-        tracer.warn("slow", &[("ms", Whole(271))])
-    })?;
-    tracer.close()?;
+        tell(tracer, Level::Warn, "slow", &[("ms", Whole(271))])
+    })
+}
+
+fn serve(tracer: &mut Tracer<Tape, (), Moment>) -> Result<(), TraceFault> {
+    open(tracer, "conn", &[("peer", Quoted("82.9.9.9"))])?;
+    tell(tracer, Level::Info, "connected", &[])?;
+    query(tracer)?;
+    close(tracer)?;
     Ok(())
+}
+
+// The registry and the layer, once the tracer is done with.
+fn into_layered(tracer: Tracer<Tape, (), Moment>) -> Layered<Tape, ()> {
+    tracer.into_layered()
 }
 
 #[test]
@@ -39,7 +48,7 @@ fn draws_a_connection(rt: HostRuntime) -> Result<(), Fail> {
     assert_eq!(rt; serve(&mut tracer), Ok(()));
     let text =
         "┐conn peer=\"82.9.9.9\"\n├─ INFO connected\n└─┐query sql=\"select 1\"\n  ├─ WARN slow, ms=271\n┌─┘\n┘\n";
-    assert_eq!(rt; tracer.into_layered().writer().bytes(), text.as_bytes());
+    assert_eq!(rt; into_layered(tracer).writer().bytes(), text.as_bytes());
     Ok(())
 }
 
@@ -56,8 +65,8 @@ const LEVELS: [Line<'static>; 6] = [
 fn draws_each_level(rt: HostRuntime) -> Result<(), Fail> {
     let mut tracer = tracer(rt.alloc());
     assert_eq!(rt; first_unlike(&mut tracer, LEVELS.as_slice()), None);
-    let text = "TRACE a\nDEBUG b\nINFO c\nWARN d\nERROR e\nINFO f\n";
-    assert_eq!(rt; tracer.layered().writer().bytes(), text.as_bytes());
+    let wanted = "TRACE a\nDEBUG b\nINFO c\nWARN d\nERROR e\nINFO f\n";
+    assert_eq!(rt; text(&tracer), wanted.as_bytes());
     Ok(())
 }
 
@@ -68,33 +77,39 @@ const OPENS: [Line<'static>; 2] = [
 
 const CLOSES: [Line<'static>; 1] = [(Step::Close, Ok(Given::Closed(true)), 1)];
 
+fn current(tracer: &Tracer<Tape, (), Moment>) -> Option<Id> {
+    tracer.current()
+}
+
 #[test]
 fn the_innermost_open_span_is_the_current_one(rt: HostRuntime) -> Result<(), Fail> {
     let mut tracer = tracer(rt.alloc());
-    assert_eq!(rt; tracer.current(), None);
+    assert_eq!(rt; current(&tracer), None);
     assert_eq!(rt; first_unlike(&mut tracer, OPENS.as_slice()), None);
-    assert_eq!(rt; tracer.current(), Some(Id(2)));
+    assert_eq!(rt; current(&tracer), Some(Id(2)));
     assert_eq!(rt; first_unlike(&mut tracer, CLOSES.as_slice()), None);
-    assert_eq!(rt; tracer.current(), Some(Id(1)));
+    assert_eq!(rt; current(&tracer), Some(Id(1)));
     Ok(())
 }
 
-fn record(tracer: &mut Tracer<Tape, (), Moment>) -> Result<(), TraceFault> {
-    tracer.open("a", &[("k", Whole(1))])?;
-    tracer.record(&[("l", Whole(2))])?;
-    tracer.info("x", &[])
+fn deferred(alloc: Global) -> Tracer<Tape, (), Moment> {
+    let layer = HierarchicalLayer::new(alloc, 2, false, Tape::new(alloc))
+        .with_indent_lines(true)
+        .with_deferred_spans(true);
+    Tracer::new(alloc, Layered::new(alloc, layer), START)
+}
+
+fn record_more(tracer: &mut Tracer<Tape, (), Moment>) -> Result<(), TraceFault> {
+    open(tracer, "a", &[("k", Whole(1))])?;
+    record(tracer, &[("l", Whole(2))])?;
+    tell(tracer, Level::Info, "x", &[])
 }
 
 #[test]
 fn a_deferred_span_shows_what_was_recorded(rt: HostRuntime) -> Result<(), Fail> {
-    let alloc = rt.alloc();
-    let layer = HierarchicalLayer::new(alloc, 2, false, Tape::new(alloc))
-        .with_indent_lines(true)
-        .with_deferred_spans(true);
-    let mut tracer = Tracer::new(alloc, Layered::new(alloc, layer), START);
-    assert_eq!(rt; record(&mut tracer), Ok(()));
-    let text = "┐a k=1, l=2\n├─ INFO x\n";
-    assert_eq!(rt; tracer.layered().writer().bytes(), text.as_bytes());
+    let mut tracer = deferred(rt.alloc());
+    assert_eq!(rt; record_more(&mut tracer), Ok(()));
+    assert_eq!(rt; text(&tracer), "┐a k=1, l=2\n├─ INFO x\n".as_bytes());
     Ok(())
 }
 
@@ -104,32 +119,59 @@ const THIRD_SECOND: Moment = Moment {
     wall: Timestamp::UNIX_EPOCH,
 };
 
-#[test]
-fn shows_thread_target_and_moment(rt: HostRuntime) -> Result<(), Fail> {
-    let alloc = rt.alloc();
+// A layer that shows threads, targets and the time.
+fn telling(alloc: Global) -> Layered<Tape, Uptime> {
     let layer = HierarchicalLayer::new(alloc, 2, false, Tape::new(alloc))
         .with_indent_lines(true)
         .with_thread_ids(true)
         .with_thread_names(true)
         .with_targets(true)
         .with_timer(Uptime::from(0));
-    let mut tracer = Tracer::new(alloc, Layered::new(alloc, layer), THIRD_SECOND)
-        .with_target(Text::from_str(alloc, "web")?)
-        .with_thread(7, Some(Text::from_str(alloc, "main")?));
-    assert_eq!(rt; tracer.info("x", &[]), Ok(()));
+    Layered::new(alloc, layer)
+}
+
+// A tracer of the thread 7, main, in its third second.
+fn in_thread(alloc: Global) -> Result<Tracer<Tape, Uptime, Moment>, AllocError> {
+    let target = Text::from_str(alloc, "web")?;
+    let name = Text::from_str(alloc, "main")?;
+    Ok(
+        Tracer::new(alloc, telling(alloc), THIRD_SECOND)
+            .with_target(target)
+            .with_thread(7, Some(name)),
+    )
+}
+
+fn tell_timed(tracer: &mut Tracer<Tape, Uptime, Moment>) -> Result<(), TraceFault> {
+    tracer.info("x", &[])
+}
+
+#[test]
+fn shows_thread_target_and_moment(rt: HostRuntime) -> Result<(), Fail> {
+    let mut tracer = in_thread(rt.alloc())?;
+    assert_eq!(rt; tell_timed(&mut tracer), Ok(()));
     let text = "7:main   3.000000s INFO web x\n";
     assert_eq!(rt; tracer.layered().writer().bytes(), text.as_bytes());
     Ok(())
 }
 
+// Two moments, one after the other. None where one of them can't be told.
+fn moments(clock: &impl Now) -> Option<(Moment, Moment)> {
+    let first = clock.now()?;
+    Some((first, clock.now()?))
+}
+
+// Tells an event at a moment of this clock.
+fn tell_by(alloc: Global, clock: impl Now) -> Result<(), TraceFault> {
+    let mut tracer = Tracer::new(alloc, lined(alloc), clock);
+    tell(&mut tracer, Level::Info, "x", &[])
+}
+
 #[test]
 fn the_clock_of_the_machine_goes_forward(rt: HostRuntime) -> Result<(), Fail> {
     let clock = SystemClock::start(&rt)?;
-    let first = clock.now().expect(&rt, "a moment");
-    let second = clock.now().expect(&rt, "a moment");
+    let (first, second) = moments(&clock).ok_or("no moment")?;
     assert!(rt; first.mono <= second.mono);
     assert!(rt; Timestamp::UNIX_EPOCH < second.wall);
-    let mut tracer = Tracer::new(rt.alloc(), lined(rt.alloc()), clock);
-    assert_eq!(rt; tracer.info("x", &[]), Ok(()));
+    assert_eq!(rt; tell_by(rt.alloc(), clock), Ok(()));
     Ok(())
 }

@@ -1,7 +1,7 @@
 //! What a tracer does where it can't.
 
 use crate::lined::{lined, lined_over};
-use crate::steps::{Given, Line, Step, first_unlike};
+use crate::steps::{Given, Line, Step, close, depth, first_unlike, open, tell, text};
 use jiff::Timestamp;
 use std::alloc::Global;
 use std::io;
@@ -57,7 +57,7 @@ const TIMELESS: [Line<'static>; 2] = [
 fn without_a_moment_no_call_is_made(rt: HostRuntime) -> Result<(), Fail> {
     let mut tracer = Tracer::new(rt.alloc(), lined(rt.alloc()), Broken);
     assert_eq!(rt; first_unlike(&mut tracer, TIMELESS.as_slice()), None);
-    assert!(rt; tracer.layered().writer().bytes().is_empty());
+    assert!(rt; text(&tracer).is_empty());
     Ok(())
 }
 
@@ -114,37 +114,41 @@ impl From<TraceFault> for Trouble {
     }
 }
 
+fn fail(tracer: &mut Tracer<Tape, (), Moment>) -> Result<u8, Trouble> {
+    open(tracer, "b", &[])?;
+    tell(tracer, Level::Info, "x", &[])?;
+    Err(Trouble::Query)
+}
+
 fn fails(tracer: &mut Tracer<Tape, (), Moment>) -> Result<u8, Trouble> {
-    within(tracer, "a", &[], |tracer| {
-        tracer.open("b", &[])?;
-        tracer.info("x", &[])?;
-        Err(Trouble::Query)
-    })
+    within(tracer, "a", &[], |tracer| fail(tracer))
 }
 
 #[test]
 fn a_span_closes_where_its_body_fails(rt: HostRuntime) -> Result<(), Fail> {
     let mut tracer = tracer(rt.alloc());
     assert_eq!(rt; fails(&mut tracer), Err(Trouble::Query));
-    assert_eq!(rt; tracer.depth(), 0);
-    let text = "┐a \n└─┐b \n  ├─ INFO x\n┌─┘\n┘\n";
-    assert_eq!(rt; tracer.layered().writer().bytes(), text.as_bytes());
+    assert_eq!(rt; depth(&tracer), 0);
+    let wanted = "┐a \n└─┐b \n  ├─ INFO x\n┌─┘\n┘\n";
+    assert_eq!(rt; text(&tracer), wanted.as_bytes());
     Ok(())
 }
 
+fn close_twice(tracer: &mut Tracer<Tape, (), Moment>) -> Result<u8, TraceFault> {
+    close(tracer)?;
+    close(tracer)?;
+    Ok(7)
+}
+
 fn closes_too_much(tracer: &mut Tracer<Tape, (), Moment>) -> Result<u8, TraceFault> {
-    tracer.open("a", &[])?;
-    within(tracer, "b", &[], |tracer| {
-        tracer.close()?;
-        tracer.close()?;
-        Ok(7)
-    })
+    open(tracer, "a", &[])?;
+    within(tracer, "b", &[], |tracer| close_twice(tracer))
 }
 
 #[test]
 fn a_body_may_close_what_is_around_it(rt: HostRuntime) -> Result<(), Fail> {
     let mut tracer = tracer(rt.alloc());
     assert_eq!(rt; closes_too_much(&mut tracer), Ok(7));
-    assert_eq!(rt; tracer.depth(), 0);
+    assert_eq!(rt; depth(&tracer), 0);
     Ok(())
 }

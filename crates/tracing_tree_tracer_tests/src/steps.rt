@@ -1,8 +1,9 @@
-//! What is done with a tracer, as lines of a table. The functions have no clauses, so that a test that calls them is soon proved.
+//! What is done with a tracer, by functions and as lines of a table. The functions have no clauses, so that a test that calls them is soon
+//! proved.
 
-use tracing_tree_core::format::Output;
+use tracing_tree_core::format::{Id, Output, Tape};
 use tracing_tree_core::style::Level;
-use tracing_tree_tracer::{Now, TraceFault, Tracer};
+use tracing_tree_tracer::{Now, TraceFault, Tracer, Value};
 
 /// A call of a tracer, without fields.
 #[derive(Clone, Copy)]
@@ -33,27 +34,69 @@ pub type Answer = Result<Given, TraceFault>;
 /// A call, what it is answered, and how many spans are open after it.
 pub type Line<'a> = (Step<'a>, Answer, usize);
 
-fn tell<W: Output, N: Now>(
+/// Opens a span.
+pub fn open<W: Output, N: Now>(
+    tracer: &mut Tracer<W, (), N>,
+    name: &str,
+    fields: &[(&str, Value<'_>)],
+) -> Result<Id, TraceFault> {
+    tracer.open(name, fields)
+}
+
+/// Closes the current span.
+pub fn close<W: Output, N: Now>(tracer: &mut Tracer<W, (), N>) -> Result<bool, TraceFault> {
+    tracer.close()
+}
+
+/// Records fields of the current span.
+pub fn record<W: Output, N: Now>(
+    tracer: &mut Tracer<W, (), N>,
+    fields: &[(&str, Value<'_>)],
+) -> Result<(), TraceFault> {
+    tracer.record(fields)
+}
+
+/// Tells an event by the method that is named after its level.
+pub fn tell<W: Output, N: Now>(
+    tracer: &mut Tracer<W, (), N>,
+    level: Level,
+    message: &str,
+    fields: &[(&str, Value<'_>)],
+) -> Result<(), TraceFault> {
+    match level {
+        Level::Trace => tracer.trace(message, fields),
+        Level::Debug => tracer.debug(message, fields),
+        Level::Info => tracer.info(message, fields),
+        Level::Warn => tracer.warn(message, fields),
+        Level::Error => tracer.error(message, fields),
+    }
+}
+
+fn event<W: Output, N: Now>(
     tracer: &mut Tracer<W, (), N>,
     level: Level,
     message: &str,
 ) -> Result<(), TraceFault> {
-    match level {
-        Level::Trace => tracer.trace(message, &[]),
-        Level::Debug => tracer.debug(message, &[]),
-        Level::Info => tracer.info(message, &[]),
-        Level::Warn => tracer.warn(message, &[]),
-        Level::Error => tracer.error(message, &[]),
-    }
+    tracer.event(level, message, &[])
+}
+
+/// How many spans are open.
+pub fn depth<W: Output, N: Now>(tracer: &Tracer<W, (), N>) -> usize {
+    tracer.depth()
+}
+
+/// What was written.
+pub fn text<N: Now>(tracer: &Tracer<Tape, (), N>) -> &[u8] {
+    tracer.layered().writer().bytes()
 }
 
 fn take<W: Output, N: Now>(tracer: &mut Tracer<W, (), N>, step: Step<'_>) -> Answer {
     match step {
-        Step::Open(name) => tracer.open(name, &[]).map(|id| Given::Span(id.0)),
-        Step::Tell(level, message) => tell(tracer, level, message).map(|()| Given::Done),
-        Step::Event(level, message) => tracer.event(level, message, &[]).map(|()| Given::Done),
-        Step::Record => tracer.record(&[]).map(|()| Given::Done),
-        Step::Close => tracer.close().map(Given::Closed),
+        Step::Open(name) => open(tracer, name, &[]).map(|id| Given::Span(id.0)),
+        Step::Tell(level, message) => tell(tracer, level, message, &[]).map(|()| Given::Done),
+        Step::Event(level, message) => event(tracer, level, message).map(|()| Given::Done),
+        Step::Record => record(tracer, &[]).map(|()| Given::Done),
+        Step::Close => close(tracer).map(Given::Closed),
     }
 }
 
@@ -65,8 +108,9 @@ pub fn first_unlike<W: Output, N: Now>(
 ) -> Option<(usize, Answer, usize)> {
     for (place, (step, wanted, open)) in lines.iter().enumerate() {
         let answer = take(tracer, *step);
-        if answer != *wanted || tracer.depth() != *open {
-            return Some((place, answer, tracer.depth()));
+        let depth = depth(tracer);
+        if answer != *wanted || depth != *open {
+            return Some((place, answer, depth));
         }
     }
     None

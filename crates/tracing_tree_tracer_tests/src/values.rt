@@ -1,9 +1,11 @@
 //! Values of fields as they are drawn.
 
 use crate::lined::lined;
+use crate::steps::{tell, text as drawn};
 use jiff::Timestamp;
 use std::alloc::Global;
 use std::test::*;
+use tracing_tree_core::style::Level;
 use tracing_tree_core::time::Moment;
 use tracing_tree_tracer::Value::{Plain, Quoted, Truth, Whole};
 use tracing_tree_tracer::{Tracer, Value};
@@ -15,27 +17,36 @@ fn is_drawn(alloc: Global, value: Value<'_>, text: &str) -> bool {
         wall: Timestamp::UNIX_EPOCH,
     };
     let mut tracer = Tracer::new(alloc, lined(alloc), moment);
-    tracer.info("x", &[("k", value)]).is_ok()
-        && tracer.layered().writer().bytes() == text.as_bytes()
+    let told = tell(&mut tracer, Level::Info, "x", &[("k", value)]);
+    told.is_ok() && drawn(&tracer) == text.as_bytes()
 }
+
+const TEXTS: [(Value<'static>, &str); 2] = [
+    (Plain("a \"b\""), "INFO x, k=a \"b\"\n"),
+    (
+        Quoted("a \"b\"\\\n\u{1b}\u{9b}é\0\r\t"),
+        "INFO x, k=\"a \\\"b\\\"\\\\\\n\\u{1b}\\u{9b}é\\0\\r\\t\"\n",
+    ),
+];
 
 #[test]
 fn draws_texts(rt: HostRuntime) -> Result<(), Fail> {
-    assert!(rt; is_drawn(rt.alloc(), Plain("a \"b\""), "INFO x, k=a \"b\"\n"));
-    assert!(rt;
-        is_drawn(
-            rt.alloc(),
-            Quoted("a \"b\"\\\n\u{1b}\u{9b}é\0\r\t"),
-            "INFO x, k=\"a \\\"b\\\"\\\\\\n\\u{1b}\\u{9b}é\\0\\r\\t\"\n"
-        )
-    );
+    for (value, text) in TEXTS {
+        assert!(rt; is_drawn(rt.alloc(), value, text), "{text}");
+    }
     Ok(())
 }
 
+const NUMBERS_AND_TRUTHS: [(Value<'static>, &str); 3] = [
+    (Whole(-3), "INFO x, k=-3\n"),
+    (Truth(true), "INFO x, k=true\n"),
+    (Truth(false), "INFO x, k=false\n"),
+];
+
 #[test]
 fn draws_numbers_and_truths(rt: HostRuntime) -> Result<(), Fail> {
-    assert!(rt; is_drawn(rt.alloc(), Whole(-3), "INFO x, k=-3\n"));
-    assert!(rt; is_drawn(rt.alloc(), Truth(true), "INFO x, k=true\n"));
-    assert!(rt; is_drawn(rt.alloc(), Truth(false), "INFO x, k=false\n"));
+    for (value, text) in NUMBERS_AND_TRUTHS {
+        assert!(rt; is_drawn(rt.alloc(), value, text), "{text}");
+    }
     Ok(())
 }
