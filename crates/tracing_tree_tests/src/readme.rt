@@ -1,4 +1,4 @@
-//! The example of the README, word for word.
+//! Calls made by hand, without a tracer: the README names this file.
 
 use jiff::Timestamp;
 use std::alloc::Global;

@@ -1,7 +1,7 @@
 //! What a tracer draws.
 
 use crate::lined::lined;
-use crate::steps::{Given, Line, Step, close, first_unlike, open, record, tell, text};
+use crate::steps::{Given, Line, Step, first_unlike, open, record, tell, text};
 use jiff::Timestamp;
 use std::alloc::{AllocError, Global};
 use std::test::*;
@@ -23,17 +23,14 @@ fn tracer(alloc: Global) -> Tracer<Tape, (), Moment> {
     Tracer::new(alloc, lined(alloc), START)
 }
 
-fn query(tracer: &mut Tracer<Tape, (), Moment>) -> Result<(), TraceFault> {
-    within(tracer, "query", &[("sql", Quoted("select 1"))], |tracer| {
-        tell(tracer, Level::Warn, "slow", &[("ms", Whole(271))])
-    })
-}
-
+// The example of the README, line for line.
 fn serve(tracer: &mut Tracer<Tape, (), Moment>) -> Result<(), TraceFault> {
-    open(tracer, "conn", &[("peer", Quoted("82.9.9.9"))])?;
-    tell(tracer, Level::Info, "connected", &[])?;
-    query(tracer)?;
-    close(tracer)?;
+    tracer.open("conn", &[("peer", Quoted("82.9.9.9"))])?;
+    tracer.info("connected", &[])?;
+    within(tracer, "query", &[("sql", Quoted("select 1"))], |tracer| {
+        tracer.warn("slow", &[("ms", Whole(271))])
+    })?;
+    tracer.close()?;
     Ok(())
 }
 
