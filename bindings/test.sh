@@ -1,5 +1,5 @@
 #!/bin/bash
-# Tests what build.sh has left in bin/, from C, C++, Python and Rust. Where a tool isn't there, it says in one line what it leaves
+# Tests what build.sh has left in bin/, from C, C++, Go, Python and Rust. Where a tool isn't there, it says in one line what it leaves
 # out. The last line is 'bindings: N passed, M failed', and the status is 1 where something failed.
 set -u
 cd "$(dirname "$0")/.."
@@ -105,6 +105,14 @@ if has pkg-config; then
     step "what the static program draws" prints bindings/c/server.out "$room/static"
 else
     left_out "linking by pkg-config, which isn't there"
+fi
+
+# ---- the example in Go
+if ! has go || ! has pkg-config; then
+    left_out "the example in Go, since go or pkg-config isn't there"
+else
+    step "the example in Go" env -C bindings/go GOCACHE="$room/go" CC="$cc" go build -o "$room/server_go" .
+    step "what the example in Go draws" prints bindings/c/server.out env LD_LIBRARY_PATH="$room/prefix/lib" "$room/server_go"
 fi
 
 # ---- the worked cases of the program, through the shared object

@@ -1,0 +1,3 @@
+module tracing_tree_server
+
+go 1.19
