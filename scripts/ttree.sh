@@ -181,6 +181,66 @@ END_OF_TREE
     level_of error "$top/examples/server.jsonl" 0 < "$room/drawn"
 }
 
+# When each event happened, and on which thread. Each tree is made by hand of what docs/FORMATS.md says.
+run_times_and_threads() {
+    cat > "$room/timed" << 'END_OF_LINES'
+{"level":"INFO","fields":{"message":"untimed"},"target":"t"}
+{"timestamp":"2026-11-24T02:31:19.388Z","level":"INFO","fields":{"message":"one"},"spans":[{"name":"a"}],"threadId":"ThreadId(2)"}
+{"timestamp":"2026-11-24T03:31:19.38950542+01:00","level":"WARN","fields":{"message":"two"},"spans":[{"name":"a"}],"threadName":"w\u001bx"}
+{"timestamp":"yesterday","level":"INFO","fields":{"message":"three"},"spans":[{"name":"a"}],"threadId":"ThreadId(2)","threadName":"main"}
+{"timestamp":7,"level":"INFO","fields":{"message":"four"},"threadId":"9"}
+{"timestamp":"1969-12-31T23:59:59Z","level":"INFO","fields":{"message":"five"},"threadId":"ThreadId(3"}
+END_OF_LINES
+    cat > "$room/want" << 'END_OF_TREE'
+1970-01-01 0:00:00.0 INFO untimed
+┐a 
+├─2026-11-24 2:31:19.388  0.00μs INFO one
+├─2026-11-24 2:31:19.38950542  1.51ms WARN two
+├─2026-11-24 2:31:19.38950542  1.51ms INFO three
+2026-11-24 2:31:19.38950542 INFO four
+1969-12-31 23:59:59.0 INFO five
+┘
+END_OF_TREE
+    run --times "$room/timed"
+    count 'with --times on tracing' want '' 0
+    cat > "$room/want" << 'END_OF_TREE'
+INFO untimed
+2┐a 
+2├─ INFO one
+w\u{1b}x├─ WARN two
+2:main├─ INFO three
+9INFO four
+ThreadId(3INFO five
+ThreadId(3┘
+END_OF_TREE
+    run --threads "$room/timed"
+    count 'with --threads on tracing' want '' 0
+    cat > "$room/timed" << 'END_OF_LINES'
+{"Time":"2026-11-24T02:31:19Z","Action":"run","Package":"p","Test":"TestA"}
+{"Time":"2026-11-24T02:31:20Z","Action":"output","Package":"p","Test":"TestA","Output":"one\n"}
+{"Time":"2026-11-24T02:31:21.25Z","Action":"pause","Package":"p","Test":"TestA"}
+{"Action":"pass","Package":"p","Test":"TestA","Elapsed":2}
+{"Time":"2026-11-24T02:31:30Z","Action":"output","Package":"p","Test":"TestA"}
+{"Time":"","Action":"pass","Package":"p","Elapsed":3}
+END_OF_LINES
+    cat > "$room/want" << 'END_OF_TREE'
+┐p 
+└─┐TestA 
+  ├─2026-11-24 2:31:20.0  0.00μs INFO one
+  ├─2026-11-24 2:31:21.25  1.25s  INFO pass, elapsed=2
+┌─┘
+├─2026-11-24 2:31:21.25  2.25s  INFO pass, elapsed=3
+┘
+2026-11-24 2:31:21.25 INFO passed=1, failed=0, skipped=0, unfinished=0
+END_OF_TREE
+    run --times "$room/timed"
+    count "with --times on Go's tests" want 'ttree: line 5: "Output": expected a text' 1
+    sed -i 5d "$room/timed"
+    expect "$room/timed" 's/^//'
+    run --threads "$room/timed"
+    count "with --threads on Go's tests" want '' 0
+}
+
 # Lines of settings and calls: the first line decides, or --from.
 run_lines() {
     local input=$top/examples/server.jsonl
@@ -267,6 +327,7 @@ run_options
 run_odd
 run_skipped
 run_levels
+run_times_and_threads
 run_lines
 run_terminal
 run_faults

@@ -1,5 +1,6 @@
 pub mod Made
 pub mod Heard
+pub mod Instants
 pub mod GoLines
 mod Worked
 pub mod Leveled

@@ -1,5 +1,6 @@
 -- Examples computed from the definitions of Go's tests, of tracing's lines and of levels.
 use Rattle.std.proofs.Common.{◌≡◌, true, false, None, Some, [], ◌∷◌, codes, refl}
+use Rattle.std.specs.Prelude.{negsuc}
 use Rattle.json.specs.Json.{boolean, string, object, member, no_members}
 use Rattle.tracing_tree_sources.specs.First.{format_of}
 use Rattle.tracing_tree_sources.specs.GoTest.{after_mark, go_lacks, is_frame, leads, up_to_space}
@@ -9,8 +10,9 @@ use Rattle.tracing_tree_base.specs.declared.context.Moment.{Moment}
 use Rattle.tracing_tree_base.specs.declared.style.Level.TheVariants.{Trace, Debug, Info, Warn, Error}
 use Rattle.tracing_tree_core.specs.Registry.Ids.{id_of}
 use Rattle.tracing_tree_sources.specs.Levels.{is_shown, shown_calls}
+use Rattle.tracing_tree_sources.specs.Moments.{moment_after, since_1970}
 use Rattle.tracing_tree_sources.specs.Told.{close_call, event_call, is_escaped, span_call}
-use Rattle.tracing_tree_sources.specs.TracingLine.{kind_of, level_in}
+use Rattle.tracing_tree_sources.specs.TracingLine.{bare_thread, kind_of, level_in}
 use Rattle.tracing_tree_sources.specs.declared.tracing.line.Kind.TheVariants.{Event, Enter, New}
 
 pub frame_of_its_own : is_frame (codes "TestSum") (codes "    --- PASS: TestSum (0.00s)") ≡ true
@@ -101,3 +103,12 @@ module _ (moment : Moment) where
       ∷ []
       ) ≡ span_call moment (codes "order") [] None ∷ event_call moment Error [] (Some (id_of 1)) ∷ close_call moment (id_of 1) None ∷ []
   spans_stay = refl
+
+pub a_thread_by_its_number : bare_thread (codes "ThreadId(12)") ≡ codes "12"
+a_thread_by_its_number = refl
+
+pub time_stands_where_a_line_has_none : (before : Moment) → moment_after None before ≡ before
+time_stands_where_a_line_has_none before = refl
+
+pub no_time_before_1970 : since_1970 (negsuc 9) ≡ 0
+no_time_before_1970 = refl

@@ -15,13 +15,14 @@ use Rattle.tracing_tree.specs.Lines.Spelled.{is_skipped}
 use Rattle.tracing_tree_sources.specs.Source.{Step}
 use Rattle.tracing_tree_sources.specs.declared.notes.Lack.{Lack}
 use Rattle.tracing_tree_sources.specs.declared.notes.Lack.TheVariants.{Object, Action, Package, Output}
+use Rattle.tracing_tree_sources.specs.Moments.{moment_after}
 use Rattle.tracing_tree_sources.specs.Told.{close_call, event_call, message_field, span_call}
 use Rattle.tracing_tree_sources.specs.declared.go_test.Ending.{Ending}
 use Rattle.tracing_tree_sources.specs.declared.go_test.Ending.TheVariants.{Passed, Failed, Skipped, Unfinished}
 use Rattle.tracing_tree_sources.specs.declared.go_test.Running.{Running}
 use Rattle.tracing_tree_sources.specs.declared.go_test.Tally.{Tally}
 
--- What is known of the tests that run: the id of the next span, the moment of all calls, what runs,
+-- What is known of the tests that run: the id of the next span, the moment of the last line, what runs,
 -- how many tests came to which end, the package whose build tells lines, whether something failed,
 -- and the calls that were told and not handed out yet.
 pub record GoState : Type 0 where
@@ -370,13 +371,20 @@ acted_for None path value s = None
 abbrev pub takes_json : Json → GoState → Option GoState
 takes_json value s = acted_for (text_at (codes "Action") value) (package_of value) value s
 
+-- the line that is taken next happens at its own time
+abbrev pub timed : Json → GoState → GoState
+timed value s = record s { moment = moment_after (text_at (codes "Time") value) s.moment }
+
 -- what is known of a line is done, and nothing of another
 abbrev pub takes_value_as : Option GoState → GoState → GoState → Bool → Type 0
 takes_value_as (Some state) old new known = (new ≡ state) × (known ≡ true)
 takes_value_as None old new known = (new ≡ old) × (known ≡ false)
 
+abbrev pub takes_timed : Json → GoState → GoState → Bool → Type 0
+takes_timed value old new known = takes_value_as (takes_json value old) old new known
+
 abbrev pub takes_value : Json → GoState → GoState → Bool → Type 0
-takes_value value old new known = takes_value_as (takes_json value old) old new known
+takes_value value old new known = takes_value_as (takes_json value (timed value old)) old new known
 
 abbrev pub handed_out : GoState → Step GoState
 handed_out s = record { calls = s.calls; source = record s { calls = [] } }
@@ -384,7 +392,7 @@ handed_out s = record { calls = s.calls; source = record s { calls = [] } }
 -- what a line tells
 abbrev pub go_takes : GoState → List ℕ → Option Json → Option (Step GoState)
 go_takes s line None = Some (handed_out (takes_text line s))
-go_takes s line (Some value) = option_map handed_out (takes_json value s)
+go_takes s line (Some value) = option_map handed_out (takes_json value (timed value s))
 
 -- the first key that a line lacks of which nothing is known
 abbrev pub lack_in : Json → Lack

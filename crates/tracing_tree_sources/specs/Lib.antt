@@ -1,5 +1,6 @@
 pub mod Source
 pub mod Told
+pub mod Moments
 pub mod GoTest
 pub mod TracingLine
 pub mod Tracing

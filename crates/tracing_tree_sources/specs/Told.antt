@@ -1,5 +1,5 @@
 -- Calls as a source tells them: each names the span that it stands in as its current span.
-use Rattle.std.specs.Prelude.{ℕ, ◌==◌, ◌||◌, ◌&&◌, nat_lt, nat_le, Bool, false, if◌then◌else◌, List, [], ◌++◌, flat_map, Option, None, codes}
+use Rattle.std.specs.Prelude.{ℕ, ◌==◌, ◌||◌, ◌&&◌, nat_lt, nat_le, Bool, false, if◌then◌else◌, List, [], ◌++◌, flat_map, map, Option, Some, None, codes}
 use Rattle.std.specs.Char.{encode_utf8}
 use Rattle.std.specs.Fmt.{digits}
 use Rattle.std.specs.Str.{chars}
@@ -10,7 +10,7 @@ use Rattle.tracing_tree_base.specs.declared.field.Field.{Field}
 use Rattle.tracing_tree_base.specs.declared.style.Level.{Level}
 use Rattle.tracing_tree_core.specs.declared.registry.Parent.TheVariants.{Current}
 use Rattle.tracing_tree_layer.specs.declared.call.Call.{Call}
-use Rattle.tracing_tree_layer.specs.declared.call.Call.TheVariants.{New, Event, Close}
+use Rattle.tracing_tree_layer.specs.declared.call.Call.TheVariants.{New, Clone, Record, Event, Close}
 
 abbrev pub context_at : Moment → Option Id → Context
 context_at moment current = record {
@@ -48,3 +48,16 @@ event_call moment level fields above =
 
 abbrev pub close_call : Moment → Id → Option Id → Call
 close_call moment id above = Close id (context_at moment above)
+
+-- a call on the thread of this name
+abbrev pub on_thread : List ℕ → Call → Call
+on_thread name (New attributes context) = New attributes (record context { thread_name = Some name })
+on_thread name (Event event context) = Event event (record context { thread_name = Some name })
+on_thread name (Close id context) = Close id (record context { thread_name = Some name })
+on_thread name (Clone id) = Clone id
+on_thread name (Record id record_of_it) = Record id record_of_it
+
+-- these calls on the thread of this name, if it has one
+abbrev pub all_on_thread : Option (List ℕ) → List Call → List Call
+all_on_thread (Some name) calls = map (on_thread name) calls
+all_on_thread None calls = calls

@@ -1,5 +1,5 @@
 -- Lines of Rust's tracing: what each line of tracing-subscriber's JSON format tells.
-use Rattle.std.specs.Prelude.{ℕ, ◌&&◌, ◌||◌, nat_lt, Bool, true, false, not, if◌then◌else◌, List, [], ◌∷◌, ◌++◌, length, map, reverse, find, Option, Some, None, option_map, bytes_eq}
+use Rattle.std.specs.Prelude.{ℕ, ◌&&◌, ◌||◌, nat_lt, Bool, true, false, not, if◌then◌else◌, List, [], ◌∷◌, ◌++◌, length, map, reverse, find, Option, Some, None, option_map, bytes_eq, codes}
 use Rattle.std.specs.List.{list_any}
 use Rattle.json.specs.Json.{Json}
 use Rattle.tracing_tree_core.specs.Registry.Ids.{id_of, same_id}
@@ -11,25 +11,34 @@ use Rattle.tracing_tree_layer.specs.declared.call.Call.{Call}
 use Rattle.tracing_tree_sources.specs.Source.{Step}
 use Rattle.tracing_tree_sources.specs.declared.notes.Lack.{Lack}
 use Rattle.tracing_tree_sources.specs.declared.notes.Lack.TheVariants.{Object, Level as NoLevel}
-use Rattle.tracing_tree_sources.specs.GoTest.{one_more}
-use Rattle.tracing_tree_sources.specs.Told.{close_call, event_call, span_call}
-use Rattle.tracing_tree_sources.specs.TracingLine.{kind_in, level_in, line_fields, may_be, path_in, span_in, thread_in}
+use Rattle.tracing_tree_sources.specs.GoTest.{one_more, text_at}
+use Rattle.tracing_tree_sources.specs.Moments.{moment_after}
+use Rattle.tracing_tree_sources.specs.Told.{all_on_thread, close_call, event_call, span_call}
+use Rattle.tracing_tree_sources.specs.TracingLine.{kind_in, label_in, level_in, line_fields, may_be, path_in, span_in, thread_in}
 use Rattle.tracing_tree_sources.specs.declared.tracing.Live.{Live}
 use Rattle.tracing_tree_sources.specs.declared.tracing.line.Listed.{Listed}
 use Rattle.tracing_tree_sources.specs.declared.tracing.line.Kind.{Kind}
 use Rattle.tracing_tree_sources.specs.declared.tracing.line.Kind.TheVariants.{Event, New, Enter, Exit, Close}
 
--- What is known of the spans that live: the id of the next span, the moment of all calls, the live spans
--- with the oldest first, and the calls that were told and not handed out yet.
+-- What is known of the spans that live: the id of the next span, the moment of the last line and how its
+-- thread is shown, the live spans with the oldest first, and the calls that were told and not handed out
+-- yet.
 pub record TracingState : Type 0 where
   pub next : ℕ
   pub moment : Moment
+  pub thread_shown : Option (List ℕ)
   pub live : List Live
   pub calls : List Call
 
 -- no span lives yet
 abbrev pub nothing_open : ℕ → Moment → TracingState
-nothing_open next moment = record { next = next; moment = moment; live = []; calls = [] }
+nothing_open next moment = record {
+  next = next;
+  moment = moment;
+  thread_shown = None;
+  live = [];
+  calls = [];
+}
 
 abbrev pub told : Call → TracingState → TracingState
 told call s = record s { calls = s.calls ++ call ∷ [] }
@@ -223,10 +232,20 @@ acted level value s =
     acted_as kind level fields value (reached (thread_in value) (path_in kind value) None s)
 
 abbrev pub handed_out : TracingState → Step TracingState
-handed_out s = record { calls = s.calls; source = record s { calls = [] } }
+handed_out s = record {
+  calls = all_on_thread s.thread_shown s.calls;
+  source = record s { calls = [] };
+}
+
+-- a line happens at its own time, on its own thread
+abbrev pub placed : Json → TracingState → TracingState
+placed value s = record s {
+  moment = moment_after (text_at (codes "timestamp") value) s.moment;
+  thread_shown = label_in value;
+}
 
 abbrev pub takes_value : Json → TracingState → Option (Step TracingState)
-takes_value value s = option_map (λ level. handed_out (acted level value s)) (level_in value)
+takes_value value s = option_map (λ level. handed_out (acted level value (placed value s))) (level_in value)
 
 -- what a line tells
 abbrev pub tracing_takes : TracingState → List ℕ → Option Json → Option (Step TracingState)
@@ -245,4 +264,4 @@ closes moment live = map (close_at moment) live
 
 -- at the end all that still live close, the oldest first
 abbrev pub tracing_ends : TracingState → List Call
-tracing_ends s = closes s.moment s.live
+tracing_ends s = all_on_thread s.thread_shown (closes s.moment s.live)

@@ -1,13 +1,13 @@
 -- What one line of tracing's JSON says.
-use Rattle.std.specs.Prelude.{ℕ, ◌-◌, ◌&&◌, ◌||◌, Bool, true, false, not, if◌then◌else◌, List, [], ◌∷◌, ◌++◌, length, slice_get, Option, Some, None, is_some, unwrap_or, option_map, option_and_then, codes, bytes_eq}
-use Rattle.std.specs.List.{list_any}
+use Rattle.std.specs.Prelude.{ℕ, ◌-◌, ◌==◌, ◌&&◌, ◌||◌, Bool, true, false, not, if◌then◌else◌, List, [], ◌∷◌, ◌++◌, length, take, slice_get, Option, Some, None, is_some, unwrap_or, option_map, option_and_then, codes, bytes_eq}
+use Rattle.std.specs.List.{ends_with, list_any}
 use Rattle.json.specs.Json.{Json, null, boolean, number, string, array, object, Items, no_items, item, Members, no_members, member}
 use Rattle.json.specs.Find.{get, as_array, as_object}
 use Rattle.tracing_tree_base.specs.Drawing.Texts.{level_named}
 use Rattle.tracing_tree_base.specs.Equal.{field_eq, fields_eq}
 use Rattle.tracing_tree_base.specs.declared.field.Field.{Field}
 use Rattle.tracing_tree_base.specs.declared.style.Level.{Level}
-use Rattle.tracing_tree_sources.specs.GoTest.{text_at}
+use Rattle.tracing_tree_sources.specs.GoTest.{after_mark, text_at}
 use Rattle.tracing_tree_sources.specs.Told.{shown}
 use Rattle.tracing_tree_sources.specs.declared.tracing.line.Listed.{Listed}
 use Rattle.tracing_tree_sources.specs.declared.tracing.line.Kind.{Kind}
@@ -79,6 +79,24 @@ abbrev pub thread_in : Json → List ℕ
 thread_in value =
     unwrap_or (text_at (codes "threadId") value)
     (unwrap_or (text_at (codes "threadName") value) [])
+
+-- a thread's number, without the words that Rust writes around it
+abbrev pub bare_thread : List ℕ → List ℕ
+bare_thread text = inside (after_mark (codes "ThreadId(") text) where
+  inside : Option (List ℕ) → List ℕ
+  inside (Some rest) = if ends_with (λ a b. a == b) rest (codes ")") then take (length rest - 1) rest else text
+  inside None = text
+
+-- how a thread is shown: its number and its name, as far as they are told
+abbrev pub thread_label : Option (List ℕ) → Option (List ℕ) → Option (List ℕ)
+thread_label (Some id) (Some name) = Some (shown (bare_thread id ++ codes ":" ++ name))
+thread_label (Some id) None = Some (shown (bare_thread id))
+thread_label None (Some name) = Some (shown name)
+thread_label None None = None
+
+-- how the thread of a line is shown
+abbrev pub label_in : Json → Option (List ℕ)
+label_in value = thread_label (text_at (codes "threadId") value) (text_at (codes "threadName") value)
 
 -- ---- spans
 

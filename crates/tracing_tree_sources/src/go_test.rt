@@ -2,8 +2,9 @@
 
 ghost use Rattle.std.specs.Prelude.{◌≡◌, ◌++◌, ◌∷◌, ◌<◌, [], Bool, true, false, IfOk, IfSome, OnOk, Option, None, Some, option_map, length, bytes_eq, codes, unwrap_or};
 ghost use Rattle.json.specs.Value.{value_view};
-ghost use Rattle.tracing_tree_sources.specs.GoTest.{acted, after_mark, all_left_over, failed_by, takes_plain, takes_value_as, test_ended, told_if_ended, begun, counted, elapsed_in, ended, ends_line, ends_word, event_told, finished, frames, go_ends, held, holds, is_frame, is_package_frame, kept, is_end_frame, is_step_frame, lack_in, leads, left_one, left_over, level_of, line_of, line_told, name_of, nothing_run, opened, owner, package_ended, package_of, printed, quiet_told, ran, takes_text, takes_value, test_of, text_at, up_to_space, without_line_end, without_spaces, word_of};
+ghost use Rattle.tracing_tree_sources.specs.GoTest.{acted, after_mark, all_left_over, failed_by, takes_plain, takes_value_as, test_ended, told_if_ended, begun, counted, elapsed_in, ended, ends_line, ends_word, event_told, finished, frames, go_ends, held, holds, is_frame, is_package_frame, kept, is_end_frame, is_step_frame, lack_in, leads, left_one, left_over, level_of, line_of, line_told, name_of, nothing_run, opened, owner, package_ended, package_of, printed, quiet_told, ran, takes_text, takes_timed, takes_value, timed, test_of, text_at, up_to_space, without_line_end, without_spaces, word_of};
 
+use crate::moments::moment_after;
 use crate::notes::Lack;
 use crate::source::Source;
 use crate::told::{close_call, event_call, message_field, span_call};
@@ -106,7 +107,7 @@ impl Model for GoTest {
 }
 
 impl GoTest {
-    /// No test runs yet. The next span gets this id, and all calls are made at this moment.
+    /// No test runs yet. The next span gets this id, and calls are made at this moment until a line tells a time.
     pub fn new(alloc: Global, next: u64, moment: Moment) -> Result<GoTest, AllocError>
         ensures { IfOk result (λ source. source ≡ nothing_run next moment) }
     {
@@ -191,6 +192,39 @@ impl GoTest {
     // A line that is a JSON value. Returns whether it is known.
     fn take_value(&mut self, value: &Value<'_>) -> Result<bool, AllocError>
         ensures { IfOk result (takes_value (value_view value.now) self.old self.new) }
+    {
+        let before = self.moment();
+        self.go_on(value);
+        let is_known = self.take_timed(value)?;
+        if !is_known {
+            self.go_back(before);
+        }
+        Ok(is_known)
+    }
+
+    // The moment of the last line.
+    fn moment(&self) -> Moment
+        ensures { result ≡ self.now.moment }
+    {
+        self.moment
+    }
+
+    // Goes on to the moment of a line.
+    fn go_on(&mut self, value: &Value<'_>)
+        ensures { self.new ≡ timed (value_view value.now) self.old }
+    {
+        self.moment = moment_after(text_at(value, "Time"), &self.moment);
+    }
+
+    fn go_back(&mut self, moment: Moment)
+        ensures { self.new ≡ record self.old { moment = moment } }
+    {
+        self.moment = moment;
+    }
+
+    // A line that is a JSON value, at the moment that it tells. Returns whether it is known.
+    fn take_timed(&mut self, value: &Value<'_>) -> Result<bool, AllocError>
+        ensures { IfOk result (takes_timed (value_view value.now) self.old self.new) }
     {
         let Some(action) = text_at(value, "Action") else {
             return Ok(false);
@@ -626,8 +660,8 @@ fn add_to_part(alloc: Global, one: &mut Running, text: &str) -> Result<(), Alloc
     Ok(())
 }
 
-// What stands behind this mark at the front of a line.
-fn after_mark<'a>(line: &'a str, mark: &str) -> Option<&'a str>
+// What stands after this mark at the front of a line.
+pub(crate) fn after_mark<'a>(line: &'a str, mark: &str) -> Option<&'a str>
     ensures { option_map (λ s. s.now) result ≡ after_mark mark.now line.now }
 {
     line.strip_prefix(mark)

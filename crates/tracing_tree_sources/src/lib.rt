@@ -7,6 +7,7 @@
 pub mod first;
 pub mod go_test;
 pub mod level;
+mod moments;
 pub mod notes;
 pub mod run;
 pub mod source;

@@ -1,7 +1,7 @@
 //! Calls as a source tells them: each names the span that it stands in as its current span.
 
-ghost use Rattle.std.specs.Prelude.{◌≡◌, ◌++◌, IfOk, OnOk, [], ◌∷◌, string_bytes};
-ghost use Rattle.tracing_tree_sources.specs.Told.{close_call, context_at, event_call, is_escaped, message_field, shown, shown_char, span_call};
+ghost use Rattle.std.specs.Prelude.{◌≡◌, ◌++◌, IfOk, OnOk, [], ◌∷◌, map, string_bytes};
+ghost use Rattle.tracing_tree_sources.specs.Told.{all_on_thread, close_call, context_at, event_call, is_escaped, message_field, on_thread, shown, shown_char, span_call};
 
 use std::alloc::{AllocError, Global};
 use tracing_tree::call::Call;
@@ -111,4 +111,59 @@ pub(crate) fn close_call(moment: Moment, id: Id, above: Option<Id>) -> Call
     ensures { result ≡ close_call moment id above }
 {
     Call::Close(id, context_at(moment, above))
+}
+
+// These calls on the thread of this name, if it has one.
+pub(crate) fn all_on_thread(
+    alloc: Global,
+    name: &Option<Text>,
+    calls: Vec<Call>,
+) -> Result<Vec<Call>, AllocError>
+    ensures { IfOk result (λ placed. placed.items ≡ all_on_thread name.now calls.items) }
+{
+    match name {
+        Some(name) => named(alloc, name, calls),
+        None => Ok(calls),
+    }
+}
+
+fn named(alloc: Global, name: &Text, calls: Vec<Call>) -> Result<Vec<Call>, AllocError>
+    ensures { IfOk result (λ placed. placed.items ≡ map (on_thread name.now) calls.items) }
+{
+    let mut placed = Vec::new(alloc);
+    for call in calls {
+        placed.push(on_thread(call, name.clone()?))?;
+    }
+    Ok(placed)
+}
+
+// A call on the thread of this name.
+fn on_thread(call: Call, name: Text) -> Call
+    ensures { result ≡ on_thread name call }
+{
+    let thread_name = Some(name);
+    match call {
+        Call::New(attributes, context) => Call::New(
+            attributes,
+            Context {
+                thread_name,
+                ..context
+            },
+        ),
+        Call::Event(event, context) => Call::Event(
+            event,
+            Context {
+                thread_name,
+                ..context
+            },
+        ),
+        Call::Close(id, context) => Call::Close(
+            id,
+            Context {
+                thread_name,
+                ..context
+            },
+        ),
+        Call::Clone(_) | Call::Record(_, _) => call,
+    }
 }

@@ -4,16 +4,18 @@ ghost use Rattle.std.specs.Prelude.{◌≡◌, ◌++◌, ◌∷◌, [], IfOk, No
 ghost use Rattle.json.specs.Value.{value_view};
 ghost use Rattle.std.specs.List.{list_any};
 ghost use Rattle.tracing_tree_core.specs.Registry.Ids.{same_id};
-ghost use Rattle.tracing_tree_sources.specs.Tracing.{acted, anywhere, begun, child, child_of_thread, close_at, close_told, closed, closes, closing, ended, event_told, goes_with, is_child, is_child_of_thread, is_in, is_passing, new_told, nothing_open, opened, parted, parted_one, passing, reached, same_above, stepped};
+ghost use Rattle.tracing_tree_sources.specs.Tracing.{acted, anywhere, begun, child, child_of_thread, close_at, close_told, closed, closes, closing, ended, event_told, goes_with, is_child, is_child_of_thread, is_in, is_passing, new_told, nothing_open, opened, parted, parted_one, passing, placed, reached, same_above, stepped};
 
 mod line;
 
+use crate::go_test::text_at;
+use crate::moments::moment_after;
 use crate::notes::Lack;
 use crate::source::Source;
-use crate::told::{close_call, event_call, span_call};
+use crate::told::{all_on_thread, close_call, event_call, span_call};
 use json::Value;
 pub(crate) use line::{is_object, level_in};
-use line::{Kind, Listed, kind_in, line_fields, may_be, path_in, span_in, thread_in};
+use line::{Kind, Listed, kind_in, label_in, line_fields, may_be, path_in, span_in, thread_in};
 use std::alloc::{AllocError, Global};
 use std::marker::Model;
 use std::mem;
@@ -44,7 +46,10 @@ pub struct Tracing {
     alloc: Global,
     // The id that the next span gets.
     next: u64,
+    // That of the last line.
     moment: Moment,
+    // How the thread of the last line is shown.
+    thread_shown: Option<Text>,
     // The oldest first.
     live: Vec<Live>,
     calls: Vec<Call>,
@@ -58,13 +63,14 @@ impl Model for Tracing {
     ghost view = { λ t. record {
       next = t.next;
       moment = t.moment;
+      thread_shown = t.thread_shown;
       live = t.live.items;
       calls = t.calls.items;
     } };
 }
 
 impl Tracing {
-    /// No span lives yet. The next span gets this id, and all calls are made at this moment.
+    /// No span lives yet. The next span gets this id, and calls are made at this moment until a line tells a time.
     pub fn new(alloc: Global, next: u64, moment: Moment) -> Tracing
         ensures { result ≡ nothing_open next moment }
     {
@@ -72,9 +78,19 @@ impl Tracing {
             alloc,
             next,
             moment,
+            thread_shown: None,
             live: Vec::new(alloc),
             calls: Vec::new(alloc),
         }
+    }
+
+    // Goes on to the moment and the thread of a line.
+    fn place(&mut self, value: &Value<'_>) -> Result<(), AllocError>
+        ensures { OnOk result (self.new ≡ placed (value_view value.now) self.old) }
+    {
+        self.moment = moment_after(text_at(value, "timestamp"), &self.moment);
+        self.thread_shown = label_in(self.alloc, value)?;
+        Ok(())
     }
 
     // Hands out the calls.
@@ -371,7 +387,7 @@ impl Source for Tracing {
 
     fn take(
         &mut self,
-        _alloc: Global,
+        alloc: Global,
         _line: &str,
         value: Option<&Value<'_>>,
     ) -> Result<Option<Vec<Call>>, AllocError> {
@@ -381,8 +397,10 @@ impl Source for Tracing {
         let Some(level) = level_in(value) else {
             return Ok(None);
         };
+        self.place(value)?;
         self.act(level, value)?;
-        Ok(Some(self.told()))
+        let calls = self.told();
+        Ok(Some(all_on_thread(alloc, &self.thread_shown, calls)?))
     }
 
     fn lack(value: Option<&Value<'_>>) -> Lack {
@@ -395,7 +413,8 @@ impl Source for Tracing {
     fn end(&mut self, alloc: Global) -> Result<Vec<Call>, AllocError> {
         let moment = self.moment;
         let live = self.take_live();
-        closes(alloc, moment, live)
+        let calls = closes(alloc, moment, live)?;
+        all_on_thread(alloc, &self.thread_shown, calls)
     }
 }
 

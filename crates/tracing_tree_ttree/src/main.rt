@@ -15,7 +15,7 @@ use tracing_tree::layered::Layered;
 use tracing_tree::lines::{LineCause, LineFault, read_line};
 use tracing_tree::run_lines;
 use tracing_tree::style::Level;
-use tracing_tree::time::Moment;
+use tracing_tree::time::{Clock, Moment, UtcDateTime};
 use tracing_tree_sources::{
     AtLeast, Format, GoTest, Lack, Notes, Source, SourceRun, Tracing, first_format, run_source,
 };
@@ -36,6 +36,8 @@ struct Options<'a> {
     config: Config,
     // Events below it aren't drawn.
     least: Level,
+    // Whether events show when they happened.
+    is_timed: bool,
     // The first line decides where there is none.
     from: Option<Format>,
     is_strict: bool,
@@ -85,6 +87,7 @@ fn parse<'a>(alloc: Global, words: &'a [String], is_coloured: bool) -> Result<Op
     Ok(Options {
         config: config(&matches, is_coloured),
         least: least(matches.get_str("level")),
+        is_timed: matches.get_flag("times"),
         from: format(matches.get_str("from")),
         is_strict: matches.get_flag("strict"),
         file: matches.get_str("file"),
@@ -105,6 +108,12 @@ fn command<'a>(alloc: Global) -> Result<Command<'a>, AllocError> {
             alloc,
             "no-retrace",
             "Shows no path again where the drawing comes back from another branch",
+        ))?
+        .arg(flag(alloc, "threads", "Shows the thread of each row, of tracing"))?
+        .arg(flag(
+            alloc,
+            "times",
+            "Shows when each event happened, and how long after its span opened",
         ))?
         .arg(flag(alloc, "strict", "Ends at the first line that can't be read"))?
         .arg(
@@ -190,6 +199,7 @@ fn config(matches: &ArgMatches<'_>, is_coloured: bool) -> Config {
         .with_indent_lines(!matches.get_flag("no-lines"))
         .with_indent_amount(matches.get_one::<usize>("amount").unwrap_or(2))
         .with_bracketed_fields(false)
+        .with_thread_names(matches.get_flag("threads"))
         .with_span_retrace(is_retraced)
         .with_close_retrace(is_retraced)
         .with_deferred_spans(matches.get_str("level").is_some())
@@ -225,19 +235,12 @@ fn draw<R: AllocGlobal + Eprint + Print, I: Read + Drop>(
     input: I,
     options: Options<'_>,
 ) -> ExitCode {
-    let Options {
-        config,
-        least,
-        from,
-        is_strict,
-        file: _,
-    } = options;
     let alloc = rt.alloc();
     let Ok(mut lines) = BufReader::with_capacity(alloc, BLOCK, input) else {
         return out_of_memory(rt);
     };
     let mut first = Vec::new(alloc);
-    let from = match from {
+    let from = match options.from {
         Some(from) => Ok(from),
         None => look(alloc, &mut lines, &mut first),
     };
@@ -252,8 +255,8 @@ fn draw<R: AllocGlobal + Eprint + Print, I: Read + Drop>(
     let input = first.as_slice().chain(lines);
     let drawn = match from {
         Format::Lines => draw_lines(rt, input),
-        Format::GoTest => draw_tests(rt, input, config, least, is_strict),
-        Format::Tracing => draw_tracing(rt, input, config, least, is_strict),
+        Format::GoTest => draw_tests(rt, input, options),
+        Format::Tracing => draw_tracing(rt, input, options),
     };
     match drawn {
         Ok(status) => status,
@@ -294,13 +297,11 @@ fn draw_lines<R: AllocGlobal + Eprint + Print, I: Read + Drop>(
 fn draw_tests<R: AllocGlobal + Eprint + Print, I: Read + Drop>(
     rt: &R,
     input: I,
-    config: Config,
-    least: Level,
-    is_strict: bool,
+    options: Options<'_>,
 ) -> Result<ExitCode, AllocError> {
     let tests = GoTest::new(rt.alloc(), 1, some_moment())?;
-    let mut source = AtLeast::new(tests, least);
-    let is_whole = draw_source(rt, input, &mut source, config, is_strict)?;
+    let mut source = AtLeast::new(tests, options.least);
+    let is_whole = draw_source(rt, input, &mut source, options)?;
     Ok(status(is_whole && !source.into_source().has_failed()))
 }
 
@@ -308,12 +309,11 @@ fn draw_tests<R: AllocGlobal + Eprint + Print, I: Read + Drop>(
 fn draw_tracing<R: AllocGlobal + Eprint + Print, I: Read + Drop>(
     rt: &R,
     input: I,
-    config: Config,
-    least: Level,
-    is_strict: bool,
+    options: Options<'_>,
 ) -> Result<ExitCode, AllocError> {
-    let mut source = AtLeast::new(Tracing::new(rt.alloc(), 1, some_moment()), least);
-    let is_whole = draw_source(rt, input, &mut source, config, is_strict)?;
+    let tracing = Tracing::new(rt.alloc(), 1, some_moment());
+    let mut source = AtLeast::new(tracing, options.least);
+    let is_whole = draw_source(rt, input, &mut source, options)?;
     Ok(status(is_whole))
 }
 
@@ -338,14 +338,24 @@ fn is_flushed<W: Write + Drop>(writer: Wrap<W>) -> bool {
     writer.into_inner().flush().is_ok() && !is_stuck
 }
 
+// What events show of time.
+fn clock(is_timed: bool) -> Clock<'static> {
+    if is_timed {
+        Clock::Utc(UtcDateTime {
+            higher_precision: true,
+        })
+    } else {
+        Clock::None
+    }
+}
+
 // Draws what a source says of the input. Returns whether each line was known and nothing went wrong. `AllocError` where there is no
 // memory to begin with.
 fn draw_source<R: AllocGlobal + Eprint + Print, I: Read + Drop, S: Source>(
     rt: &R,
     input: I,
     source: &mut S,
-    config: Config,
-    is_strict: bool,
+    options: Options<'_>,
 ) -> Result<bool, AllocError> {
     let alloc = rt.alloc();
     let Ok(mut lines) = BufReader::with_capacity(alloc, BLOCK, input) else {
@@ -354,11 +364,12 @@ fn draw_source<R: AllocGlobal + Eprint + Print, I: Read + Drop, S: Source>(
     let Ok(writer) = BufWriter::new(alloc, io::writer(rt)) else {
         return Err(AllocError);
     };
-    let writer = Wrap::new(writer);
-    let mut layered = Layered::new(alloc, HierarchicalLayer::with_config(alloc, config, writer));
+    let layer = HierarchicalLayer::with_config(alloc, options.config, Wrap::new(writer));
+    let layer = layer.with_timer(clock(options.is_timed));
+    let mut layered = Layered::new(alloc, layer);
     let mut notes = Told {
         rt,
-        is_strict,
+        is_strict: options.is_strict,
         count: 0,
     };
     let run = run_source(alloc, source, &mut lines, &mut layered, &mut notes);

@@ -3,9 +3,9 @@
 ghost use Rattle.std.specs.Prelude.{◌≡◌, ◌++◌, IfOk, OnOk, is_some, option_map};
 ghost use Rattle.json.specs.Find.{as_object};
 ghost use Rattle.json.specs.Value.{items_view, members_view, value_view};
-ghost use Rattle.tracing_tree_sources.specs.TracingLine.{array_at, fields_of, fields_within, is_current, is_left_out, is_line_key, is_message, is_timed_close, items_listed, kind_in, kind_of, kind_of_message, level_in, line_fields, lists_same, listed_of, may_be, member_fields, members_fields, names_span, object_at, path_in, span_in, spans_in, text_of, thread_in};
+ghost use Rattle.tracing_tree_sources.specs.TracingLine.{array_at, bare_thread, fields_of, fields_within, is_current, is_left_out, is_line_key, is_message, is_timed_close, items_listed, kind_in, kind_of, kind_of_message, label_in, level_in, line_fields, lists_same, listed_of, may_be, member_fields, members_fields, names_span, object_at, path_in, span_in, spans_in, text_of, thread_in, thread_label};
 
-use crate::go_test::text_at;
+use crate::go_test::{after_mark, text_at};
 use crate::told::shown;
 use json::Value;
 use std::alloc::{AllocError, Global};
@@ -55,6 +55,52 @@ pub(super) fn thread_in<'v>(value: &'v Value<'_>) -> &'v str
             Some(thread) => thread,
             None => "",
         },
+    }
+}
+
+// How the thread of a line is shown.
+pub(super) fn label_in(alloc: Global, value: &Value<'_>) -> Result<Option<Text>, AllocError>
+    ensures { IfOk result (λ label. label ≡ label_in (value_view value.now)) }
+{
+    thread_label(
+        alloc,
+        text_at(value, "threadId"),
+        text_at(value, "threadName"),
+    )
+}
+
+// How a thread is shown: its number and its name, as far as they are told.
+fn thread_label(
+    alloc: Global,
+    number: Option<&str>,
+    name: Option<&str>,
+) -> Result<Option<Text>, AllocError>
+    ensures { IfOk result (λ label. label ≡ thread_label (option_map (λ n. n.now) number.entry)
+        (option_map (λ n. n.now) name.entry)) }
+{
+    match (number, name) {
+        (Some(number), Some(name)) => {
+            let mut text = String::from_str(alloc, bare_thread(number))?;
+            text.push_str(":")?;
+            text.push_str(name)?;
+            Ok(Some(shown(alloc, text.as_str())?))
+        }
+        (Some(number), None) => Ok(Some(shown(alloc, bare_thread(number))?)),
+        (None, Some(name)) => Ok(Some(shown(alloc, name)?)),
+        (None, None) => Ok(None),
+    }
+}
+
+// A thread's number, without the words that Rust writes around it.
+fn bare_thread(text: &str) -> &str
+    ensures { result.now ≡ bare_thread text.now }
+{
+    let Some(rest) = after_mark(text, "ThreadId(") else {
+        return text;
+    };
+    match rest.strip_suffix(")") {
+        Some(number) => number,
+        None => text,
     }
 }
 

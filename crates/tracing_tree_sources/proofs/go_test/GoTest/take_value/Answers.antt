@@ -1,18 +1,17 @@
-use Rattle.std.proofs.Common.{◌≡◌, Some, Option, option_map, codes, refl, sym, ap, ◌∙◌, subst}
-use Rattle.std.specs.Prelude.{IfOk}
+use Rattle.std.proofs.Common.{◌≡◌, true, false, ap, ◌∙◌}
 use Rattle.json.specs.Value.{value_view}
-use Rattle.tracing_tree_sources.specs.GoTest.{GoState, text_at, package_of, acted, takes_json, takes_value_as}
+use Rattle.tracing_tree_sources.proofs.GoLines.{taken_back, taken_on}
 use Rattle.tracing_tree_sources.proofs.go_test.GoTest.take_value.Goals as goal
 
-pub returns : goal.returns
-returns c =
-    let old = c.args.self.now in
-    let value = value_view c.args.value.now in
-    let action : text_at (codes "Action") value ≡ Some c.in-Some.action.now =
-    sym c.text_at.ensures ∙ ap (option_map (λ s. s.now)) c.in-Some.is in
-    let path : package_of value ≡ Some c.in-Some-package_of.path.now =
-    sym c.package_of.ensures ∙ ap (option_map (λ s. s.now)) c.in-Some-package_of.is in
-    let told : takes_json value old ≡ acted c.in-Some.action.now c.in-Some-package_of.path.now c.test_of.result.now value old =
-    rw (action, path, sym c.test_of.ensures) refl in
-    let takes : Option GoState → Type 0 = λ s. IfOk c.act.result (takes_value_as s old c.act.new.self) in
-    subst takes (sym told) c.act.ensures
+pub returns-then-not-is_known : goal.returns-then-not-is_known
+returns-then-not-is_known c =
+    let left = c.take_timed.new.self in
+    let unknown : c.in_ok-is_known.is_known ≡ false = cc in
+    taken_back (value_view c.args.value.now) c.args.self.now c.go_on.new.self left c.go_back.new.self c.in_ok-is_known.is_known c.go_on.ensures
+    c.in_ok-is_known.ensures unknown (c.go_back.ensures ∙ ap (λ m. record left { moment = m }) c.moment-before.ensures)
+
+pub returns-else-not-is_known : goal.returns-else-not-is_known
+returns-else-not-is_known c =
+    let known : c.in_ok-is_known.is_known ≡ true = cc in
+    taken_on (value_view c.args.value.now) c.args.self.now c.go_on.new.self c.take_timed.new.self c.in_ok-is_known.is_known c.go_on.ensures
+    c.in_ok-is_known.ensures known
