@@ -88,8 +88,9 @@ static tt_context context(uint64_t current) {
   return made;
 }
 
-/* Which settings the script is run under. */
+/* Which settings the script is run under, and whether by the functions whose caller vouches for UTF-8. */
 static int variant;
+static bool vouched;
 
 static void set_variant(tt_settings *settings) {
   settings->targets = settings->thread_names = true;
@@ -118,8 +119,8 @@ static uint32_t call(tt_tree *tree, const step *s, given *out) {
   set_variant(&settings);
   switch (s->kind) {
   case OPEN: return tt_new(tree, &settings);
-  case NEW: return tt_new_span(tree, &attributes, fields, 2, &here, &out->id);
-  case EVENT: return tt_event(tree, &event, fields, 2, &here);
+  case NEW: return (vouched ? tt_utf8_new_span : tt_new_span)(tree, &attributes, fields, 2, &here, &out->id);
+  case EVENT: return (vouched ? tt_utf8_event : tt_event)(tree, &event, fields, 2, &here);
   case TIMED: return tt_event_timed(tree, &timer, &event, fields, 2, &here);
   case RECORD: return tt_record(tree, s->id, fields, 2);
   case CLONE: return tt_clone_span(tree, s->id);
@@ -169,9 +170,13 @@ static bool run(given *ample, long at) {
 static void refusals(void) {
   given *ample = __real_malloc(sizeof(given) * STEPS);
   for (variant = 0; variant < 3; variant++) {
-    long at = 0;
+    long at = 0, again = 1;
     while (run(ample, at)) at++;
     check(at > 20, "the script asks for memory", at);
+    vouched = true;
+    while (run(ample, again)) again++;
+    check(again == at, "as much memory by the functions whose caller vouches for UTF-8", again);
+    vouched = false;
   }
   free(ample);
 }

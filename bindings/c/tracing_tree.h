@@ -6,8 +6,9 @@
  *     .. a call, and after each call that may draw: tt_text(&tree, room, size) ..
  *     tt_free(&tree);
  *
- * `tt_version` and the functions `tt_raw_..` are proved: each meets the contract that crates/tracing_tree_c/src/calls.rt states.
- * The proof ends at them. The other functions stand in this header: they look for NULL and call the proved function of that name.
+ * `tt_version` and the functions `tt_raw_..` and `tt_utf8_..` are proved: each meets the contract that
+ * crates/tracing_tree_c/src/calls.rt states. The proof ends at them. The other functions stand in this header: they look for NULL
+ * and call the proved function of that name.
  * Nothing checks the caller beyond this, who must ensure:
  * - A pointer that isn't NULL points to a whole value of its type, a text's to as many bytes as it says, and `fields` to as many
  *   fields as `field_count` says. (NULL is refused with `TT_NULL`, a text whose address is NULL at length 0 too: `tt_bytes` and
@@ -177,6 +178,15 @@ uint32_t tt_raw_event(tt_tree *tree, const tt_event_ref *event, const tt_field *
 uint32_t tt_raw_close(tt_tree *tree, uint64_t id, const tt_context *context, bool *went);
 uint32_t tt_raw_set_time(tt_tree *tree, const tt_time *time);
 size_t tt_raw_text(tt_tree *tree, uint8_t *room, size_t size);
+
+/* The same for a caller whose texts are UTF-8 for sure, as those of a language with such a type of text: they aren't looked at, and
+ * TT_NOT_UTF8 doesn't come. Where a text isn't UTF-8, nothing is promised any more, also of later calls: call `tt_raw_new_span` and
+ * `tt_raw_event` with texts from elsewhere. `thread_name` counts only if has_thread_name. */
+
+uint32_t tt_utf8_new_span(tt_tree *tree, const tt_attributes *attributes, const tt_field *fields, size_t field_count,
+                          const tt_context *context, uint64_t *id);
+uint32_t tt_utf8_event(tt_tree *tree, const tt_event_ref *event, const tt_field *fields, size_t field_count,
+                       const tt_context *context);
 
 /* ---- Texts, fields and settings. */
 

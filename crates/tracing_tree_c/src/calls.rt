@@ -50,7 +50,7 @@ pub extern "C" fn tt_raw_new_span(
         (IsNewOf attributes.now fields.now context.now) result id.old id.new
         tree.old.inner.kept tree.new.inner.kept }
 {
-    let read = new_in(alloc, attributes, fields, context);
+    let read = new_in(alloc, attributes, fields, context, false);
     let outcome = tree.perform(alloc, read);
     *id = outcome.id_or(*id);
     outcome.status()
@@ -70,7 +70,49 @@ pub extern "C" fn tt_raw_event(
         (IsEventOf event.now fields.now context.now) result
         tree.old.inner.kept tree.new.inner.kept }
 {
-    let read = event_in(alloc, event, fields, context);
+    let read = event_in(alloc, event, fields, context, false);
+    tree.tell(alloc, read).status()
+}
+
+/// Makes a span whose texts are UTF-8, as `tt_raw_new_span` does. The caller must ensure that they are.
+#[unsafe(no_mangle)]
+pub extern "C" fn tt_utf8_new_span(
+    alloc: Global,
+    tree: &mut Tree,
+    attributes: &AttributesRef,
+    fields: &[FieldRef],
+    context: &ContextRef,
+    id: &mut u64,
+) -> u32
+    requires { IsUtf8New attributes.now fields.now context.now }
+    ensures { AnswersWith id_after (IsKnownNew attributes.now)
+        (IsUtf8New attributes.now fields.now context.now)
+        (IsSmallNew attributes.now fields.now context.now)
+        (IsNewOf attributes.now fields.now context.now) result id.old id.new
+        tree.old.inner.kept tree.new.inner.kept }
+{
+    let read = new_in(alloc, attributes, fields, context, true);
+    let made = tree.perform(alloc, read);
+    *id = made.id_or(*id);
+    made.status()
+}
+
+/// Tells of an event whose texts are UTF-8, as `tt_raw_event` does. The caller must ensure that they are.
+#[unsafe(no_mangle)]
+pub extern "C" fn tt_utf8_event(
+    alloc: Global,
+    tree: &mut Tree,
+    event: &EventRef,
+    fields: &[FieldRef],
+    context: &ContextRef,
+) -> u32
+    requires { IsUtf8Event event.now fields.now context.now }
+    ensures { Answers (IsKnownEvent event.now) (IsUtf8Event event.now fields.now context.now)
+        (IsSmallEvent event.now fields.now context.now)
+        (IsEventOf event.now fields.now context.now) result
+        tree.old.inner.kept tree.new.inner.kept }
+{
+    let read = event_in(alloc, event, fields, context, true);
     tree.tell(alloc, read).status()
 }
 

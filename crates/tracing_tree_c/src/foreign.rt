@@ -1,6 +1,6 @@
 //! What C hands over, and how it is read.
 
-ghost use Rattle.std.specs.Prelude.{◌≡◌, ⊤, IsUtf8};
+ghost use Rattle.std.specs.Prelude.{◌≡◌, ⊤, IsTrue, IsUtf8};
 ghost use Rattle.tracing_tree_c.specs.Trees.{call_of, written_of};
 ghost use Rattle.tracing_tree_c.specs.Foreign.{Reads, IsUtf8Field, IsUtf8Fields, IsUtf8Context, IsUtf8New, IsUtf8Event, IsUtf8Time, IsSmallTime, IsSmallText, IsSmallField, IsSmallContext, IsSmallNew, IsSmallEvent, IsKnownNew, IsKnownEvent, HasNoFields, IsContextOf, IsNewOf, IsEventOf, IsRecordOf, IsCloseOf, field_of, fields_of, level_of, parent_of, current_of, thread_name_of};
 
@@ -119,32 +119,42 @@ pub struct TimeRef<'a> {
     pub elapsed: &'a [u8],
 }
 
-// A text. `NotUtf8` exactly where it isn't UTF-8.
-fn text_in(alloc: Global, bytes: &[u8]) -> Result<Text, Unreadable>
+// A text. `NotUtf8` exactly where it isn't UTF-8. A trusted one isn't looked at: the caller must ensure that it is UTF-8.
+#[inline(always)]
+fn text_in(alloc: Global, bytes: &[u8], trusted: bool) -> Result<Text, Unreadable>
+    requires { IsTrue trusted → IsUtf8 bytes.now }
     ensures { Reads ⊤ (IsUtf8 bytes.now) (IsSmallText bytes.now) (λ text. text ≡ bytes.now) result }
 {
+    if trusted {
+        let text = unsafe { str::from_utf8_unchecked(bytes) };
+        return Ok(Text::from_str(alloc, text)?);
+    }
     match str::from_utf8(bytes) {
         Ok(text) => Ok(Text::from_str(alloc, text)?),
         Err(_) => Err(Unreadable::NotUtf8),
     }
 }
 
-fn field_in(alloc: Global, given: &FieldRef) -> Result<Field, Unreadable>
+#[inline(always)]
+fn field_in(alloc: Global, given: &FieldRef, trusted: bool) -> Result<Field, Unreadable>
+    requires { IsTrue trusted → IsUtf8Field given.now }
     ensures { Reads ⊤ (IsUtf8Field given.now) (IsSmallField given.now)
         (λ field. field ≡ field_of given.now) result }
 {
-    let name = text_in(alloc, given.name)?;
-    let value = text_in(alloc, given.value)?;
+    let name = text_in(alloc, given.name, trusted)?;
+    let value = text_in(alloc, given.value, trusted)?;
     Ok(Field { name, value })
 }
 
-fn fields_in(alloc: Global, given: &[FieldRef]) -> Result<Fields, Unreadable>
+#[inline(always)]
+fn fields_in(alloc: Global, given: &[FieldRef], trusted: bool) -> Result<Fields, Unreadable>
+    requires { IsTrue trusted → IsUtf8Fields given.now }
     ensures { Reads ⊤ (IsUtf8Fields given.now) (HasNoFields given.now)
         (λ fields. fields ≡ fields_of given.now) result }
 {
     let mut fields = Vec::with_capacity(alloc, given.len())?;
     for field in given {
-        match field_in(alloc, field) {
+        match field_in(alloc, field, trusted) {
             Ok(read) => fields.push_reserved(read),
             Err(fault) => return Err(fault),
         }
@@ -182,21 +192,29 @@ fn current_in(id: u64) -> Option<Id>
     if id == 0 { None } else { Some(Id(id)) }
 }
 
-fn thread_name_in(alloc: Global, given: &ContextRef) -> Result<Option<Text>, Unreadable>
+#[inline(always)]
+fn thread_name_in(
+    alloc: Global,
+    given: &ContextRef,
+    trusted: bool,
+) -> Result<Option<Text>, Unreadable>
+    requires { IsTrue trusted → IsUtf8Context given.now }
     ensures { Reads ⊤ (IsUtf8Context given.now) (IsSmallContext given.now)
         (λ name. name ≡ thread_name_of given.now) result }
 {
     if !given.has_thread_name {
         return Ok(None);
     }
-    Ok(Some(text_in(alloc, given.thread_name)?))
+    Ok(Some(text_in(alloc, given.thread_name, trusted)?))
 }
 
-fn context_in(alloc: Global, given: &ContextRef) -> Result<Context, Unreadable>
+#[inline(always)]
+fn context_in(alloc: Global, given: &ContextRef, trusted: bool) -> Result<Context, Unreadable>
+    requires { IsTrue trusted → IsUtf8Context given.now }
     ensures { Reads ⊤ (IsUtf8Context given.now) (IsSmallContext given.now)
         (IsContextOf given.now) result }
 {
-    let thread_name = thread_name_in(alloc, given)?;
+    let thread_name = thread_name_in(alloc, given, trusted)?;
     let wall = Timestamp::from_nanosecond(i128::from(given.wall)).unwrap();
     Ok(Context {
         current: current_in(given.current),
@@ -209,22 +227,25 @@ fn context_in(alloc: Global, given: &ContextRef) -> Result<Context, Unreadable>
     })
 }
 
-// A new span.
+// A new span. The caller must ensure that trusted texts are UTF-8.
+#[inline(always)]
 pub(crate) fn new_in(
     alloc: Global,
     given: &AttributesRef,
     fields: &[FieldRef],
     when: &ContextRef,
+    trusted: bool,
 ) -> Result<Call, Unreadable>
+    requires { IsTrue trusted → IsUtf8New given.now fields.now when.now }
     ensures { Reads (IsKnownNew given.now) (IsUtf8New given.now fields.now when.now)
         (IsSmallNew given.now fields.now when.now)
         (IsNewOf given.now fields.now when.now) result }
 {
     let parent = parent_in(given.parent_kind, given.parent).ok_or(Unreadable::Unknown)?;
-    let name = text_in(alloc, given.name)?;
-    let target = text_in(alloc, given.target)?;
-    let fields = fields_in(alloc, fields)?;
-    let context = context_in(alloc, when)?;
+    let name = text_in(alloc, given.name, trusted)?;
+    let target = text_in(alloc, given.target, trusted)?;
+    let fields = fields_in(alloc, fields, trusted)?;
+    let context = context_in(alloc, when, trusted)?;
     let attributes = Attributes {
         name,
         target,
@@ -241,22 +262,25 @@ pub struct Told {
     pub context: Context,
 }
 
-// An event.
+// An event. The caller must ensure that trusted texts are UTF-8.
+#[inline(always)]
 pub(crate) fn event_in(
     alloc: Global,
     given: &EventRef,
     fields: &[FieldRef],
     when: &ContextRef,
+    trusted: bool,
 ) -> Result<Told, Unreadable>
+    requires { IsTrue trusted → IsUtf8Event given.now fields.now when.now }
     ensures { Reads (IsKnownEvent given.now) (IsUtf8Event given.now fields.now when.now)
         (IsSmallEvent given.now fields.now when.now)
         (λ told. IsEventOf given.now fields.now when.now (call_of told)) result }
 {
     let level = level_in(given.level).ok_or(Unreadable::Unknown)?;
     let parent = parent_in(given.parent_kind, given.parent).ok_or(Unreadable::Unknown)?;
-    let target = text_in(alloc, given.target)?;
-    let fields = fields_in(alloc, fields)?;
-    let context = context_in(alloc, when)?;
+    let target = text_in(alloc, given.target, trusted)?;
+    let fields = fields_in(alloc, fields, trusted)?;
+    let context = context_in(alloc, when, trusted)?;
     let event = Event {
         level,
         target,
@@ -271,7 +295,7 @@ pub(crate) fn record_in(alloc: Global, id: u64, fields: &[FieldRef]) -> Result<C
     ensures { Reads ⊤ (IsUtf8Fields fields.now) (HasNoFields fields.now)
         (IsRecordOf id fields.now) result }
 {
-    let fields = fields_in(alloc, fields)?;
+    let fields = fields_in(alloc, fields, false)?;
     Ok(Call::Record(Id(id), Record { fields }))
 }
 
@@ -280,8 +304,8 @@ pub(crate) fn time_in(alloc: Global, given: &TimeRef) -> Result<Written, Unreada
     ensures { Reads ⊤ (IsUtf8Time given.now) (IsSmallTime given.now)
         (λ written. written ≡ written_of given.now) result }
 {
-    let moment = text_in(alloc, given.moment)?;
-    let elapsed = text_in(alloc, given.elapsed)?;
+    let moment = text_in(alloc, given.moment, false)?;
+    let elapsed = text_in(alloc, given.elapsed, false)?;
     Ok(Written { moment, elapsed })
 }
 
@@ -290,5 +314,5 @@ pub(crate) fn close_in(alloc: Global, id: u64, when: &ContextRef) -> Result<Call
     ensures { Reads ⊤ (IsUtf8Context when.now) (IsSmallContext when.now)
         (IsCloseOf id when.now) result }
 {
-    Ok(Call::Close(Id(id), context_in(alloc, when)?))
+    Ok(Call::Close(Id(id), context_in(alloc, when, false)?))
 }

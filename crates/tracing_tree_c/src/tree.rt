@@ -36,6 +36,7 @@ impl Drawing {
     }
 
     // Lets the text of the last call go, and keeps its room.
+    #[inline(always)]
     fn clear(&mut self, alloc: Global)
         ensures { self.new ≡ blank self.old }
     {
@@ -69,6 +70,7 @@ impl Drawing {
 
 impl Drawing {
     // Draws an event, as `call` makes its call, and leaves it where it is.
+    #[inline(always)]
     #[tactic(auto, using(crate::proofs::Makes::lost_is))]
     fn tell(&mut self, alloc: Global, told: &Told) -> Result<Reply, Refusal>
         ensures { IsCalled (call_of told.now) result self.old self.new }
@@ -257,6 +259,7 @@ impl Tree {
     }
 
     // Takes the tree out.
+    #[inline(always)]
     pub(crate) fn lift(&mut self, alloc: Global) -> Option<Box<Drawing>>
         ensures lifted { IsLifted (option_map (λ box. box.value) result) self.old.inner.kept }
         ensures gone { self.new.inner.kept ≡ None }
@@ -274,6 +277,7 @@ impl Tree {
     }
 
     // Puts a tree in.
+    #[inline(always)]
     pub(crate) fn lower(&mut self, drawing: Box<Drawing>)
         ensures { self.new.inner.kept ≡ Some drawing.value }
     {
@@ -302,6 +306,7 @@ impl Tree {
     }
 
     // Draws an event if it was read. The text of the call before is gone then.
+    #[inline(always)]
     pub(crate) fn tell(&mut self, alloc: Global, read: Result<Told, Unreadable>) -> Outcome
         ensures { Performs (read_call read) result self.old.inner.kept self.new.inner.kept }
     {

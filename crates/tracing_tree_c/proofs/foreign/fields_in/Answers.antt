@@ -14,3 +14,10 @@ returns-in-Err c =
     carried Field (List Field) ⊤ (IsUtf8Field at) (IsSmallField at) (IsUtf8Fields given) (HasNoFields given) (λ field. field ≡ field_of at) (λ fields. fields ≡ fields_of given) c.in-Err.fault
     (λ all. head_of given c.loop-field.field-index none c.loop-field-test.true (c.loop-field.invariant.2 all))
     (λ none_given. absurd (not_empty given c.loop-field.field-index c.loop-field-test.true none_given)) c.in-Err.ensures
+
+-- where all can be read for sure, so can the one at hand
+pub field_in-requires : goal.field_in-requires
+field_in-requires c =
+    let given : List FieldRef = c.args.given.now in
+    let none : FieldRef = record { name = record { ref_ptr = (0, 0); now = [] }; value = record { ref_ptr = (0, 0); now = [] } } in
+    λ sure. head_of given c.loop-field.field-index none c.loop-field-test.true (c.loop-field.invariant.2 (c.requires sure))
