@@ -8,62 +8,81 @@ use tracing_core::field::{Field, Visit};
 thread_local! {
     // The buffers of the last call on this thread. A call takes them out, so that another call, made while a field is formatted,
     // finds none and makes its own.
-    static SPARE: Cell<Option<Fields>> = const { Cell::new(None) };
+    static SPARE: Cell<Option<Box<Fields>>> = const { Cell::new(None) };
 }
 
-/// Fields with the texts of their values, one after another in one buffer.
+/// Fields with the texts of their values.
 #[derive(Default)]
-pub(crate) struct Fields {
-    text: String,
-    ends: Vec<(&'static str, usize)>,
-}
+pub(crate) struct Fields(sys::Fields);
 
 impl Fields {
     /// The fields that `record` visits.
-    pub(crate) fn of(record: impl FnOnce(&mut dyn Visit)) -> Fields {
+    #[inline(always)]
+    pub(crate) fn of(record: impl FnOnce(&mut dyn Visit)) -> Box<Fields> {
         let mut fields = SPARE.try_with(Cell::take).ok().flatten().unwrap_or_default();
-        fields.text.clear();
-        fields.ends.clear();
-        record(&mut fields);
+        fields.0.clear();
+        record(&mut *fields);
         fields
     }
 
     /// Makes a call with the fields, and keeps their buffers for the next one.
-    pub(crate) fn with<R>(self, then: impl FnOnce(&[sys::Field<'_>]) -> R) -> R {
-        // Most spans and events have few fields, which are handed over without memory of their own.
-        let result = match self.ends.len() {
-            0..=1 => self.few::<1, R>(then),
-            2..=4 => self.few::<4, R>(then),
-            5..=16 => self.few::<16, R>(then),
-            _ => then(&self.iter().collect::<Vec<_>>()),
-        };
+    #[inline(always)]
+    pub(crate) fn with<R>(mut self: Box<Self>, then: impl FnOnce(&[sys::Field<'_>]) -> R) -> R {
+        let result = then(self.0.as_slice());
         let _ = SPARE.try_with(|spare| spare.set(Some(self)));
         result
     }
-
-    // Makes a call with at most so many fields.
-    fn few<const MOST: usize, R>(&self, then: impl FnOnce(&[sys::Field<'_>]) -> R) -> R {
-        let mut few = [sys::Field::default(); MOST];
-        for (place, field) in few.iter_mut().zip(self.iter()) {
-            *place = field;
-        }
-        then(&few[..self.ends.len()])
-    }
-
-    fn iter(&self) -> impl Iterator<Item = sys::Field<'_>> {
-        let mut begin = 0;
-        self.ends.iter().map(move |(name, end)| {
-            let value = &self.text[begin..*end];
-            begin = *end;
-            sys::Field { name: (*name).into(), value: value.into() }
-        })
-    }
 }
 
+// Whether `Debug` shows a text as it is, between quotes. All bytes are looked at, several at a time.
+fn is_shown_as_it_is(text: &str) -> bool {
+    text.bytes().fold(true, |all, byte| all & matches!(byte, b' ' | b'!' | b'#'..=b'[' | b']'..=b'~'))
+}
+
+// Each value is shown as `Debug` shows it. The usual types are written without its machinery.
 impl Visit for Fields {
     fn record_debug(&mut self, field: &Field, value: &dyn fmt::Debug) {
         // A `Debug` that fails leaves what it has written.
-        let _ = write!(self.text, "{value:?}");
-        self.ends.push((field.name(), self.text.len()));
+        let _ = write!(self.0.text(), "{value:?}");
+        self.0.end(field.name());
+    }
+
+    fn record_str(&mut self, field: &Field, value: &str) {
+        if !is_shown_as_it_is(value) {
+            return self.record_debug(field, &value);
+        }
+        let text = self.0.text();
+        text.reserve(value.len() + 2);
+        text.push_str("\"");
+        text.push_str(value);
+        text.push_str("\"");
+        self.0.end(field.name());
+    }
+
+    fn record_u64(&mut self, field: &Field, value: u64) {
+        let mut digits = [b'0'; 20];
+        let (mut at, mut rest) = (digits.len(), value);
+        loop {
+            at -= 1;
+            digits[at] += (rest % 10) as u8;
+            rest /= 10;
+            if rest == 0 {
+                break;
+            }
+        }
+        self.0.text().push_str(std::str::from_utf8(&digits[at..]).unwrap_or_default());
+        self.0.end(field.name());
+    }
+
+    fn record_i64(&mut self, field: &Field, value: i64) {
+        if value < 0 {
+            self.0.text().push('-');
+        }
+        self.record_u64(field, value.unsigned_abs());
+    }
+
+    fn record_bool(&mut self, field: &Field, value: bool) {
+        self.0.text().push_str(if value { "true" } else { "false" });
+        self.0.end(field.name());
     }
 }

@@ -1,10 +1,12 @@
 //! The layer's part of the work: what `tracing` tells goes to the library, and the text that comes back goes to the writer.
 
 use crate::fields::Fields;
+use crate::spans::{Kept, Spans};
 use crate::time::{monotonic, wall, FormatTime};
 use crate::{sys, HierarchicalLayer};
 use std::cell::Cell;
 use std::io::Write;
+use std::sync::atomic::{AtomicBool, Ordering};
 use std::sync::{Mutex, MutexGuard, PoisonError};
 use std::thread::{self, Thread};
 use std::time::Instant;
@@ -12,7 +14,7 @@ use tracing_core::span::{Attributes, Id, Record};
 use tracing_core::{Event, Level, Subscriber};
 use tracing_subscriber::fmt::MakeWriter;
 use tracing_subscriber::layer::{Context, Layer};
-use tracing_subscriber::registry::{ExtensionsMut, LookupSpan, SpanRef};
+use tracing_subscriber::registry::LookupSpan;
 
 thread_local! {
     // Whether this thread is in a call of a layer.
@@ -21,34 +23,38 @@ thread_local! {
     static NUMBER: Cell<Option<u64>> = const { Cell::new(None) };
 }
 
-/// The tree, which is made at the first call, and a buffer for texts.
+/// The tree, which is made at the first call, with its spans and a buffer for texts.
 pub(crate) struct State {
     tree: sys::Tree,
+    spans: Spans,
     room: Vec<u8>,
 }
 
-// What a span's extensions keep: the number of each layer that made it, with the id that it has there. There is mostly one layer.
-struct Kept {
-    first: (u64, u64),
-    others: Vec<(u64, u64)>,
-    // When the span opened, for a layer with a timer of the caller's.
-    opened: Option<Instant>,
+/// Spans that closed while their thread was in a call of this layer.
+#[derive(Default)]
+pub(crate) struct Late {
+    ids: Mutex<Vec<Id>>,
+    // Whether there are any, so that most calls take no lock to know it.
+    any: AtomicBool,
 }
 
-impl Kept {
-    fn id(&self, layer: u64) -> Option<u64> {
-        let mut all = std::iter::once(&self.first).chain(&self.others);
-        all.find(|(of, _)| *of == layer).map(|(_, id)| *id)
+impl Late {
+    fn push(&self, id: Id) {
+        let mut ids = locked(&self.ids);
+        ids.push(id);
+        self.any.store(true, Ordering::Release);
     }
 
-    fn keep(extensions: &mut ExtensionsMut<'_>, layer: u64, id: u64, opened: Option<Instant>) {
-        match extensions.get_mut::<Kept>() {
-            Some(kept) => {
-                kept.others.push((layer, id));
-                kept.opened = kept.opened.or(opened);
-            }
-            None => extensions.insert(Kept { first: (layer, id), others: Vec::new(), opened }),
-        }
+    fn pop(&self) -> Option<Id> {
+        let mut ids = locked(&self.ids);
+        let id = ids.pop();
+        self.any.store(!ids.is_empty(), Ordering::Release);
+        id
+    }
+
+    #[inline]
+    fn any(&self) -> bool {
+        self.any.load(Ordering::Acquire)
     }
 }
 
@@ -57,6 +63,7 @@ impl Kept {
 struct InCall;
 
 impl InCall {
+    #[inline]
     fn enter() -> Option<InCall> {
         let entered = IN_CALL.try_with(|in_call| in_call.replace(true));
         matches!(entered, Ok(false)).then_some(InCall)
@@ -64,12 +71,14 @@ impl InCall {
 }
 
 impl Drop for InCall {
+    #[inline]
     fn drop(&mut self) {
         let _ = IN_CALL.try_with(|in_call| in_call.set(false));
     }
 }
 
 // What a lock guards is whole even after a panic: each call of the library is made whole or not at all.
+#[inline]
 fn locked<T>(mutex: &Mutex<T>) -> MutexGuard<'_, T> {
     mutex.lock().unwrap_or_else(PoisonError::into_inner)
 }
@@ -86,6 +95,7 @@ fn thread_number(thread: &Thread) -> u64 {
     })
 }
 
+#[inline]
 fn level(level: &Level) -> u32 {
     match *level {
         Level::TRACE => 0,
@@ -101,37 +111,40 @@ where
     W: for<'writer> MakeWriter<'writer> + 'static,
     FT: FormatTime,
 {
-    // The id that a span has here, if it was made here.
-    fn id_of<'a, R: LookupSpan<'a>>(&self, span: &SpanRef<'a, R>) -> Option<u64> {
-        span.extensions().get::<Kept>().and_then(|kept| kept.id(self.number))
-    }
-
-    // What the timer of the caller's shows of an event in this span.
-    fn time<'a, R: LookupSpan<'a>>(&self, within: Option<&SpanRef<'a, R>>) -> (String, String) {
+    // What the timer of the caller's shows of an event in a span that opened then.
+    fn time(&self, opened: Option<Instant>) -> (String, String) {
         let (mut moment, mut elapsed) = (String::new(), String::new());
         let _ = self.timer.format_time(&mut moment);
-        let opened = within.and_then(|span| span.extensions().get::<Kept>().and_then(|kept| kept.opened));
         if let Some(opened) = opened {
             let _ = self.timer.style_timestamp(self.settings.ansi, opened.elapsed(), &mut elapsed);
         }
         (moment, elapsed)
     }
 
-    // Makes a call and writes its text. A tree that can't be made, or a call that is refused, draws nothing.
-    fn call<R>(&self, make: impl FnOnce(&mut sys::Tree) -> Result<R, sys::Refused>) -> Option<R> {
+    // Makes a call, which opens this span or none, and writes its text. A tree that can't be made draws nothing, nor does a call
+    // that is refused or isn't made.
+    #[inline(always)]
+    fn call(&self, opens: Option<&Id>, make: impl FnOnce(&mut sys::Tree, &mut Spans) -> Option<()>) {
         let mut state = locked(&self.state);
         if state.is_none() {
-            let tree = sys::Tree::new(&self.settings).ok()?;
-            *state = Some(State { tree, room: Vec::new() });
+            let Ok(tree) = sys::Tree::new(&self.settings) else { return };
+            *state = Some(State { tree, spans: Spans::default(), room: Vec::new() });
         }
-        let state = state.as_mut()?;
-        let reply = make(&mut state.tree).ok();
-        self.write(state);
-        self.close_late(state);
-        reply
+        let Some(state) = state.as_mut() else { return };
+        // A span that had this id before has closed, if late.
+        if self.late.any() && opens.is_some_and(|id| state.spans.get(id).is_some()) {
+            self.close_late(state);
+        }
+        if make(&mut state.tree, &mut state.spans).is_some() {
+            self.write(state);
+        }
+        if self.late.any() {
+            self.close_late(state);
+        }
     }
 
     // Writes the text of the last call. What the writer refuses is lost, and the tree goes on.
+    #[inline(always)]
     fn write(&self, state: &mut State) {
         let text = state.tree.text(&mut state.room);
         if !text.is_empty() {
@@ -139,24 +152,26 @@ where
         }
     }
 
-    // Closes the spans that closed in the course of the call.
+    // Closes the spans that closed in the course of calls. Their ids may be given anew once they are out of `late`.
     fn close_late(&self, state: &mut State) {
-        loop {
-            let Some(id) = locked(&self.late).pop() else { return };
-            let _ = self.with_context(0, |context| state.tree.close(id, context));
-            self.write(state);
+        while let Some(id) = self.late.pop() {
+            let Some(kept) = state.spans.remove(&id) else { continue };
+            if self.with_context(|context| state.tree.close(kept.id, context)).is_ok() {
+                self.write(state);
+            }
         }
     }
 
-    // What goes with a call, for as long as it is made.
-    fn with_context<R>(&self, current: u64, then: impl FnOnce(&sys::Context<'_>) -> R) -> R {
+    // What goes with a call, outside all spans, for as long as it is made.
+    #[inline(always)]
+    fn with_context<R>(&self, then: impl FnOnce(&sys::Context<'_>) -> R) -> R {
         let clocked = self.settings.timer != 0;
         let shown = self.settings.thread_names || self.settings.thread_ids;
         let thread = shown.then(thread::current);
         let name = thread.as_ref().filter(|_| self.settings.thread_names).and_then(Thread::name);
         let numbered = thread.as_ref().filter(|_| self.settings.thread_ids);
         then(&sys::Context {
-            current,
+            current: 0,
             thread_id: numbered.map_or(0, thread_number),
             thread_name: name.unwrap_or("").into(),
             mono: if clocked { monotonic() } else { 0 },
@@ -174,66 +189,67 @@ where
 {
     fn on_new_span(&self, attrs: &Attributes<'_>, id: &Id, ctx: Context<'_, S>) {
         let Some(_in_call) = InCall::enter() else { return };
-        let Some(span) = ctx.span(id) else { return };
-        let parent = span.parent().and_then(|parent| self.id_of(&parent));
-        let attributes = sys::Attributes {
-            name: attrs.metadata().name().into(),
-            target: attrs.metadata().target().into(),
-            parent: parent.unwrap_or(0),
-            parent_kind: if parent.is_some() { sys::OF } else { sys::ROOT },
-        };
+        let current = attrs.is_contextual().then(|| ctx.current_span());
+        let named = current.as_ref().map_or(attrs.parent(), |current| current.id());
+        let opened = self.own_timer.then(Instant::now);
         let fields = Fields::of(|visit| attrs.record(visit));
-        let made = self.with_context(0, |context| {
-            fields.with(|fields| self.call(|tree| tree.new_span(&attributes, fields, context)))
-        });
-        if let Some(id) = made {
-            Kept::keep(&mut span.extensions_mut(), self.number, id, self.own_timer.then(Instant::now));
-        }
-    }
-
-    fn on_record(&self, id: &Id, values: &Record<'_>, ctx: Context<'_, S>) {
-        let Some(_in_call) = InCall::enter() else { return };
-        let Some(id) = ctx.span(id).and_then(|span| self.id_of(&span)) else { return };
-        let fields = Fields::of(|visit| values.record(visit));
-        fields.with(|fields| self.call(|tree| tree.record(id, fields)));
-    }
-
-    fn on_event(&self, event: &Event<'_>, ctx: Context<'_, S>) {
-        let Some(_in_call) = InCall::enter() else { return };
-        let within = ctx.lookup_current();
-        let current = within.as_ref().and_then(|span| self.id_of(span));
-        let time = self.own_timer.then(|| self.time(within.as_ref()));
-        let named = event.parent().and_then(|id| ctx.span(id)).and_then(|span| self.id_of(&span));
-        let told = sys::Event {
-            target: event.metadata().target().into(),
-            parent: named.unwrap_or(0),
-            parent_kind: match named {
-                Some(_) => sys::OF,
-                None if event.is_contextual() => sys::CURRENT,
-                None => sys::ROOT,
-            },
-            level: level(event.metadata().level()),
-        };
-        let fields = Fields::of(|visit| event.record(visit));
-        self.with_context(current.unwrap_or(0), |context| {
+        self.with_context(|context| {
             fields.with(|fields| {
-                self.call(|tree| {
-                    if let Some((moment, elapsed)) = &time {
-                        tree.set_time(&sys::Time { moment: moment.as_str().into(), elapsed: elapsed.as_str().into() })?;
-                    }
-                    tree.event(&told, fields, context)
+                self.call(Some(id), |tree, spans| {
+                    let parent = spans.parent(id, named, &ctx).map(|kept| kept.id);
+                    let attributes = sys::Attributes {
+                        name: attrs.metadata().name().into(),
+                        target: attrs.metadata().target().into(),
+                        parent: parent.unwrap_or(0),
+                        parent_kind: if parent.is_some() { sys::OF } else { sys::ROOT },
+                    };
+                    let made = tree.new_span(&attributes, fields, context).ok()?;
+                    spans.insert(id, Kept { id: made, opened });
+                    Some(())
                 })
             })
         });
     }
 
-    fn on_close(&self, id: Id, ctx: Context<'_, S>) {
-        let Some(id) = ctx.span(&id).and_then(|span| self.id_of(&span)) else { return };
-        match InCall::enter() {
-            Some(_in_call) => {
-                self.with_context(0, |context| self.call(|tree| tree.close(id, context)));
-            }
-            None => locked(&self.late).push(id),
-        }
+    fn on_record(&self, id: &Id, values: &Record<'_>, _: Context<'_, S>) {
+        let Some(_in_call) = InCall::enter() else { return };
+        let fields = Fields::of(|visit| values.record(visit));
+        fields.with(|fields| self.call(None, |tree, spans| tree.record(spans.get(id)?.id, fields).ok()));
+    }
+
+    fn on_event(&self, event: &Event<'_>, ctx: Context<'_, S>) {
+        let Some(_in_call) = InCall::enter() else { return };
+        let time = self.own_timer.then(|| {
+            let opened = locked(&self.state).as_ref().and_then(|state| state.spans.current(&ctx)?.opened);
+            self.time(opened)
+        });
+        let fields = Fields::of(|visit| event.record(visit));
+        self.with_context(|context| {
+            fields.with(|fields| {
+                self.call(None, |tree, spans| {
+                    if let Some((moment, elapsed)) = &time {
+                        tree.set_time(&sys::Time { moment: moment.as_str().into(), elapsed: elapsed.as_str().into() }).ok()?;
+                    }
+                    let current = spans.current(&ctx).map_or(0, |kept| kept.id);
+                    let named = event.parent().and_then(|id| spans.get(id));
+                    let told = sys::Event {
+                        target: event.metadata().target().into(),
+                        parent: named.map_or(0, |kept| kept.id),
+                        parent_kind: match named {
+                            Some(_) => sys::OF,
+                            None if event.is_contextual() => sys::CURRENT,
+                            None => sys::ROOT,
+                        },
+                        level: level(event.metadata().level()),
+                    };
+                    tree.event(&told, fields, &sys::Context { current, ..*context }).ok()
+                })
+            })
+        });
+    }
+
+    fn on_close(&self, id: Id, _: Context<'_, S>) {
+        let Some(_in_call) = InCall::enter() else { return self.late.push(id) };
+        self.with_context(|context| self.call(None, |tree, spans| tree.close(spans.remove(&id)?.id, context).ok().map(drop)));
     }
 }

@@ -20,20 +20,17 @@
 
 mod fields;
 mod layer;
+mod spans;
 #[allow(unsafe_code)]
 mod sys;
 pub mod time;
 
 use std::io::{self, IsTerminal};
-use std::sync::atomic::{AtomicU64, Ordering};
 use std::sync::Mutex;
 use time::FormatTime;
 use tracing_subscriber::fmt::MakeWriter;
 
 pub use sys::version;
-
-// How many layers were made.
-static LAYERS: AtomicU64 = AtomicU64::new(0);
 
 /// Draws spans and events as a tree.
 ///
@@ -43,13 +40,10 @@ where
     W: for<'writer> MakeWriter<'writer> + 'static,
     FT: FormatTime,
 {
-    // No two layers have the same number.
-    number: u64,
     make_writer: W,
     settings: sys::Settings,
     state: Mutex<Option<layer::State>>,
-    // Spans that closed while their thread was in a call of this layer.
-    late: Mutex<Vec<u64>>,
+    late: layer::Late,
     timer: FT,
     // Whether the timer is none of the library's.
     own_timer: bool,
@@ -66,7 +60,6 @@ impl HierarchicalLayer {
     /// A layer that writes to standard error, with so many columns for each level. It uses colours if standard error is a terminal.
     pub fn new(indent_amount: usize) -> Self {
         HierarchicalLayer {
-            number: LAYERS.fetch_add(1, Ordering::Relaxed),
             make_writer: io::stderr,
             settings: sys::Settings {
                 indent_amount: indent_amount as u64,
@@ -74,7 +67,7 @@ impl HierarchicalLayer {
                 ..sys::Settings::default()
             },
             state: Mutex::new(None),
-            late: Mutex::new(Vec::new()),
+            late: layer::Late::default(),
             timer: (),
             own_timer: false,
         }
@@ -130,7 +123,6 @@ where
         W2: for<'writer> MakeWriter<'writer> + 'static,
     {
         HierarchicalLayer {
-            number: self.number,
             make_writer,
             settings: self.settings,
             state: self.state,
@@ -156,7 +148,6 @@ where
     pub fn with_timer<FT2: FormatTime>(self, timer: FT2) -> HierarchicalLayer<W, FT2> {
         let set = timer.set(self.settings);
         HierarchicalLayer {
-            number: self.number,
             make_writer: self.make_writer,
             settings: set.unwrap_or(sys::Settings { timer: 0, ..self.settings }),
             state: self.state,

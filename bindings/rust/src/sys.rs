@@ -14,13 +14,8 @@ pub struct Text<'a> {
     of: PhantomData<&'a str>,
 }
 
-impl Default for Text<'_> {
-    fn default() -> Self {
-        "".into()
-    }
-}
-
 impl<'a> From<&'a str> for Text<'a> {
+    #[inline]
     fn from(text: &'a str) -> Text<'a> {
         Text { at: text.as_ptr(), len: text.len(), of: PhantomData }
     }
@@ -28,10 +23,54 @@ impl<'a> From<&'a str> for Text<'a> {
 
 /// A field.
 #[repr(C)]
-#[derive(Clone, Copy, Default)]
+#[derive(Clone, Copy)]
 pub struct Field<'a> {
     pub name: Text<'a>,
     pub value: Text<'a>,
+}
+
+/// Fields whose values stand one after another in one text.
+#[derive(Default)]
+pub struct Fields {
+    text: String,
+    // Where a value lies is said once all are written, since the text moves as it grows.
+    list: Vec<Field<'static>>,
+    // Where the values end that are in the list.
+    end: usize,
+}
+
+impl Fields {
+    /// Forgets all fields, and keeps the room.
+    pub fn clear(&mut self) {
+        self.text.clear();
+        self.list.clear();
+        self.end = 0;
+    }
+
+    /// The text, to whose end the next value is written.
+    pub fn text(&mut self) -> &mut String {
+        &mut self.text
+    }
+
+    /// What was written since the last field is the value of this one.
+    #[inline]
+    pub fn end(&mut self, name: &'static str) {
+        let value = Text { at: name.as_ptr(), len: self.text.len() - self.end, of: PhantomData };
+        self.end = self.text.len();
+        self.list.push(Field { name: name.into(), value });
+    }
+
+    /// The fields.
+    #[inline]
+    pub fn as_slice(&mut self) -> &[Field<'_>] {
+        let mut begin = 0;
+        for field in &mut self.list {
+            let end = begin + field.value.len;
+            field.value.at = self.text[begin..end].as_ptr();
+            begin = end;
+        }
+        &self.list
+    }
 }
 
 /// Settings; the names are those of the header.
@@ -141,7 +180,7 @@ extern "C" {
     fn tt_version() -> u32;
     fn tt_raw_new(tree: *mut RawTree, settings: *const Settings) -> u32;
     fn tt_raw_free(tree: *mut RawTree);
-    fn tt_raw_new_span(
+    fn tt_utf8_new_span(
         tree: *mut RawTree,
         attributes: *const Attributes<'_>,
         fields: *const Field<'_>,
@@ -150,7 +189,7 @@ extern "C" {
         id: *mut u64,
     ) -> u32;
     fn tt_raw_record(tree: *mut RawTree, id: u64, fields: *const Field<'_>, count: usize) -> u32;
-    fn tt_raw_event(
+    fn tt_utf8_event(
         tree: *mut RawTree,
         event: *const Event<'_>,
         fields: *const Field<'_>,
@@ -166,6 +205,7 @@ extern "C" {
 #[derive(Clone, Copy, Debug, PartialEq, Eq)]
 pub struct Refused(pub u32);
 
+#[inline]
 fn answered(status: u32) -> Result<(), Refused> {
     if status == 0 {
         Ok(())
@@ -193,6 +233,7 @@ impl Tree {
     }
 
     /// Makes a span.
+    #[inline]
     pub fn new_span(
         &mut self,
         attributes: &Attributes<'_>,
@@ -200,23 +241,25 @@ impl Tree {
         context: &Context<'_>,
     ) -> Result<u64, Refused> {
         let mut id = 0;
-        // SAFETY: each reference is whole for the call, and a slice's address is never null.
+        // SAFETY: each reference is whole for the call, a slice's address is never null, and each text was a `str`.
         answered(unsafe {
-            tt_raw_new_span(&mut self.raw, attributes, fields.as_ptr(), fields.len(), context, &mut id)
+            tt_utf8_new_span(&mut self.raw, attributes, fields.as_ptr(), fields.len(), context, &mut id)
         })?;
         Ok(id)
     }
 
     /// Puts fields at the end of a span's.
+    #[inline]
     pub fn record(&mut self, id: u64, fields: &[Field<'_>]) -> Result<(), Refused> {
         // SAFETY: as for a new span.
         answered(unsafe { tt_raw_record(&mut self.raw, id, fields.as_ptr(), fields.len()) })
     }
 
     /// Tells of an event.
+    #[inline]
     pub fn event(&mut self, event: &Event<'_>, fields: &[Field<'_>], context: &Context<'_>) -> Result<(), Refused> {
         // SAFETY: as for a new span.
-        answered(unsafe { tt_raw_event(&mut self.raw, event, fields.as_ptr(), fields.len(), context) })
+        answered(unsafe { tt_utf8_event(&mut self.raw, event, fields.as_ptr(), fields.len(), context) })
     }
 
     /// Shows these texts as the time from now on.
@@ -226,6 +269,7 @@ impl Tree {
     }
 
     /// Takes a handle of a span away.
+    #[inline]
     pub fn close(&mut self, id: u64, context: &Context<'_>) -> Result<bool, Refused> {
         let mut went = false;
         // SAFETY: as for a new span.
@@ -234,6 +278,7 @@ impl Tree {
     }
 
     /// The text of the last call, in a buffer that is used again.
+    #[inline]
     pub fn text<'a>(&mut self, room: &'a mut Vec<u8>) -> &'a [u8] {
         if room.is_empty() {
             room.resize(1024, 0);

@@ -7,6 +7,7 @@ use std::sync::{Arc, Mutex};
 use std::thread;
 use std::time::Duration;
 use tracing::{info, info_span, warn};
+use tracing_subscriber::filter::filter_fn;
 use tracing_subscriber::prelude::*;
 use tracing_subscriber::Registry;
 use tracing_tree_proved::time::FormatTime;
@@ -320,4 +321,60 @@ fn threads() {
         let own: String = text.lines().filter(|line| line.starts_with(&name)).map(|line| format!("{line}\n")).collect();
         assert_eq!(own, alone.replace("t0", &name));
     }
+}
+
+/// A value is shown as `Debug` shows it.
+#[test]
+fn values() {
+    let texts = ["", "plain, it's", "\"quoted\"", "back\\slash", "é", "line\nfeed", "\u{7f}\u{0}", "\u{301}"];
+    for text in texts {
+        assert_eq!(drawn(plain(), || info!(text)), format!("INFO text={text:?}\n"));
+    }
+    for (signed, unsigned) in [(0, 0), (7, 10), (-1, 99), (i64::MIN, u64::MAX), (i64::MAX, 1 << 63)] {
+        let text = drawn(plain(), || info!(signed, unsigned));
+        assert_eq!(text, format!("INFO signed={signed:?}, unsigned={unsigned:?}\n"));
+    }
+    let text = drawn(plain(), || info!(yes = true, no = false, small = 1u8, half = 0.5, wide = i128::MIN));
+    assert_eq!(text, format!("INFO yes=true, no=false, small=1, half=0.5, wide={}\n", i128::MIN));
+}
+
+/// More fields than are seen in one place elsewhere.
+#[test]
+fn many_fields() {
+    let text = drawn(plain(), || info!(a = 1, b = "2", c = 3, d = 4, e = 5, f = ?Some(6), g = 7, h = 8, i = 9, j = "", k = 11));
+    assert_eq!(text, "INFO a=1, b=\"2\", c=3, d=4, e=5, f=Some(6), g=7, h=8, i=9, j=\"\", k=11\n");
+}
+
+/// What stands in a span that a filter hides from the layer stands in the next one around it.
+#[test]
+fn spans_that_a_filter_hides() {
+    let sink = Sink::default();
+    let writer = sink.clone();
+    let layer = plain().with_writer(move || writer.clone()).with_filter(filter_fn(|metadata| metadata.target() != "hidden"));
+    tracing::subscriber::with_default(Registry::default().with(layer), || {
+        let hidden = info_span!(target: "hidden", "x").entered();
+        info!("in no span");
+        let a = info_span!("a").entered();
+        let hidden_too = info_span!(target: "hidden", "y").entered();
+        info!("in a");
+        info!(target: "hidden", "not at all");
+        info_span!("b").in_scope(|| info!("in b"));
+        info_span!(parent: &hidden_too, "c").in_scope(|| info!("in c"));
+        drop((hidden_too, a, hidden));
+    });
+    let (b, c) = ("└─┐b \n  ├─ INFO in b\n┌─┘\n", "└─┐c \n  ├─ INFO in c\n┌─┘\n");
+    assert_eq!(sink.text(), format!("INFO in no span\n┐a \n├─ INFO in a\n{b}{c}┘\n"));
+}
+
+/// `tracing` gives ids anew: far more spans than it has ids in one place.
+#[test]
+fn ids_that_are_given_anew() {
+    let text = drawn(plain(), || {
+        for round in 0..40_000 {
+            let _a = info_span!("a").entered();
+            info!(round);
+        }
+    });
+    let rounds = (0..40_000).map(|round| format!("┐a \n├─ INFO round={round}\n┘\n"));
+    assert!(text == rounds.collect::<String>());
 }

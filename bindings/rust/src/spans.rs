@@ -1,0 +1,82 @@
+//! The ids that the spans of `tracing` have in the tree.
+
+use std::collections::HashMap;
+use std::hash::{BuildHasherDefault, Hasher};
+use std::time::Instant;
+use tracing_core::span::Id;
+use tracing_core::Subscriber;
+use tracing_subscriber::layer::Context;
+use tracing_subscriber::registry::LookupSpan;
+
+/// What is kept of a span.
+#[derive(Clone, Copy)]
+pub(crate) struct Kept {
+    /// Its id in the tree.
+    pub(crate) id: u64,
+    /// When it opened, for a layer with a timer of the caller's.
+    pub(crate) opened: Option<Instant>,
+}
+
+/// The spans that were drawn and haven't closed, by their ids in `tracing`. An id is given anew only after its span has closed.
+#[derive(Default)]
+pub(crate) struct Spans {
+    kept: HashMap<u64, Kept, BuildHasherDefault<ByProduct>>,
+}
+
+impl Spans {
+    #[inline]
+    pub(crate) fn insert(&mut self, id: &Id, kept: Kept) {
+        self.kept.insert(id.into_u64(), kept);
+    }
+
+    #[inline]
+    pub(crate) fn get(&self, id: &Id) -> Option<Kept> {
+        self.kept.get(&id.into_u64()).copied()
+    }
+
+    #[inline]
+    pub(crate) fn remove(&mut self, id: &Id) -> Option<Kept> {
+        self.kept.remove(&id.into_u64())
+    }
+
+    /// The current span; where it is hidden from this layer, the next one around it that isn't.
+    #[inline(always)]
+    pub(crate) fn current<S>(&self, ctx: &Context<'_, S>) -> Option<Kept>
+    where
+        S: Subscriber + for<'span> LookupSpan<'span>,
+    {
+        let current = ctx.current_span();
+        self.get(current.id()?).or_else(|| self.get(&ctx.lookup_current()?.id()))
+    }
+
+    /// The parent of a new span; where it is hidden from this layer, the next one around it that isn't.
+    #[inline(always)]
+    pub(crate) fn parent<S>(&self, id: &Id, named: Option<&Id>, ctx: &Context<'_, S>) -> Option<Kept>
+    where
+        S: Subscriber + for<'span> LookupSpan<'span>,
+    {
+        self.get(named?).or_else(|| self.get(&ctx.span(id)?.parent()?.id()))
+    }
+}
+
+/// A hash for ids, which count up from a place of their own in each thread: a product spreads them.
+#[derive(Default)]
+pub(crate) struct ByProduct(u64);
+
+impl Hasher for ByProduct {
+    fn write(&mut self, bytes: &[u8]) {
+        for byte in bytes {
+            self.write_u64(u64::from(*byte));
+        }
+    }
+
+    #[inline]
+    fn write_u64(&mut self, number: u64) {
+        self.0 = (self.0 ^ number).wrapping_mul(0x9e37_79b9_7f4a_7c15);
+    }
+
+    #[inline]
+    fn finish(&self) -> u64 {
+        self.0
+    }
+}
