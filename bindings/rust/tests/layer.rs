@@ -345,13 +345,15 @@ fn many_fields() {
     assert_eq!(text, "INFO a=1, b=\"2\", c=3, d=4, e=5, f=Some(6), g=7, h=8, i=9, j=\"\", k=11\n");
 }
 
-/// What stands in a span that a filter hides from the layer stands in the next one around it.
+/// What stands in a span that a filter hides from the layer stands in the next one around it. Another layer sees all of them, since
+/// `tracing` makes no span that none sees.
 #[test]
 fn spans_that_a_filter_hides() {
     let sink = Sink::default();
     let writer = sink.clone();
     let layer = plain().with_writer(move || writer.clone()).with_filter(filter_fn(|metadata| metadata.target() != "hidden"));
-    tracing::subscriber::with_default(Registry::default().with(layer), || {
+    let subscriber = Registry::default().with(plain().with_writer(io::sink)).with(layer);
+    tracing::subscriber::with_default(subscriber, || {
         let hidden = info_span!(target: "hidden", "x").entered();
         info!("in no span");
         let a = info_span!("a").entered();
