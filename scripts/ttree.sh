@@ -181,6 +181,220 @@ END_OF_TREE
     level_of error "$top/examples/server.jsonl" 0 < "$room/drawn"
 }
 
+# The run with --failed on this file, as `level_of`. Each tree is made by hand of what docs/FORMATS.md says.
+failed_of() {
+    cat > "$room/want"
+    run --failed "$1"
+    count "with --failed on $(basename "$1")" want "${3-}" "$2"
+}
+
+run_failed() {
+    failed_of "$top/examples/go-fail.jsonl" 1 << 'END_OF_TREE'
+┐example.com/fail/broken 
+├─ ERROR broken/b_test.go:3:33: undefined: missing
+├─ ERROR fail
+┘
+┐example.com/fail/ok 
+└─┐TestSum 
+  └─┐TestSum/#00 
+    ├─ INFO adding 0    ok_test.go:6: two
+    ├─ INFO         lines
+    ├─ INFO     ok_test.go:6: 0
+    ├─ ERROR fail, elapsed=0
+  ┌─┘
+  ├─ ERROR fail, elapsed=0
+┌─┘
+├─ INFO exit status 1
+├─ ERROR fail, elapsed=0.003
+┘
+┐example.com/fail/panics 
+└─┐TestSecond 
+  └─┐TestSecond/inner 
+    ├─ INFO panic: runtime error: index out of range [3] with length 0 [recovered]
+    ├─ INFO 	panic: runtime error: index out of range [3] with length 0
+    ├─ INFO goroutine 8 [running]:
+    ├─ INFO testing.tRunner.func1.2({0x518a00, 0xc00001a078})
+    ├─ INFO 	go/src/testing/testing.go:1396 +0x24e
+    ├─ INFO testing.tRunner.func1()
+    ├─ INFO 	go/src/testing/testing.go:1399 +0x39f
+    ├─ INFO panic({0x518a00, 0xc00001a078})
+    ├─ INFO 	go/src/runtime/panic.go:884 +0x212
+    ├─ INFO example.com/fail/panics.TestSecond.func1(0x0?)
+    ├─ INFO 	panics/p_test.go:4 +0x1a
+    ├─ INFO testing.tRunner(0xc000118000, 0x52f398)
+    ├─ INFO 	go/src/testing/testing.go:1446 +0x10b
+    ├─ INFO created by testing.(*T).Run
+    ├─ INFO 	go/src/testing/testing.go:1493 +0x35f
+    ├─ INFO exit status 2
+    ├─ ERROR fail, elapsed=0
+  ┌─┘
+  ├─ ERROR fail, elapsed=0
+┌─┘
+├─ ERROR unfinished TestFirst
+├─ ERROR fail, elapsed=0.005
+┘
+ERROR passed=3, failed=4, skipped=0, unfinished=1
+END_OF_TREE
+    failed_of "$top/examples/go-test.jsonl" 1 << 'END_OF_TREE'
+┐sample 
+└─┐TestAdd 
+  └─┐TestAdd/large 
+    ├─ INFO     a_test.go:3: big
+    ├─ INFO     a_test.go:3: wrong sum
+    ├─ ERROR fail, elapsed=0
+  ┌─┘
+  ├─ ERROR fail, elapsed=0
+┌─┘
+├─ ERROR fail, elapsed=0.005
+┘
+ERROR passed=2, failed=2, skipped=1, unfinished=0
+END_OF_TREE
+    failed_of "$top/examples/go-std.jsonl" 0 << END_OF_TREE
+INFO passed=$(grep '"Action":"pass"' "$top/examples/go-std.jsonl" | grep -c '"Test"'), failed=0, skipped=2, unfinished=0
+END_OF_TREE
+    failed_of "$room/calm" 0 <<< 'INFO passed=1, failed=0, skipped=2, unfinished=0'
+    failed_of "$room/none" 0 <<< 'INFO passed=0, failed=0, skipped=0, unfinished=0'
+    run_failed_apart
+    run_failed_builds
+    run_failed_ends
+    "$tree" < "$top/examples/server.jsonl" > "$room/drawn"
+    failed_of "$top/examples/server.jsonl" 0 < "$room/drawn"
+    cat > "$room/want" << 'END_OF_TREE'
+┐sample 
+└─┐TestAdd 
+  └─┐TestAdd/large 
+    ├─ ERROR fail, elapsed=0
+  ┌─┘
+  ├─ ERROR fail, elapsed=0
+┌─┘
+├─ ERROR fail, elapsed=0.005
+┘
+ERROR passed=2, failed=2, skipped=1, unfinished=0
+END_OF_TREE
+    run --failed --level error "$top/examples/go-test.jsonl"
+    count 'with --failed and --level error' want '' 1
+}
+
+# Two packages whose lines come in turn, and a line that is no test's.
+run_failed_apart() {
+    cat > "$room/apart" << 'END_OF_LINES'
+{"Action":"run","Package":"p","Test":"TestA"}
+{"Action":"run","Package":"q","Test":"TestA"}
+{"Action":"output","Package":"p","Test":"TestA","Output":"p one\n"}
+{"Action":"output","Package":"q","Test":"TestA","Output":"q one\n"}
+{"Action":"run"}
+{"Action":"output","Package":"p","Test":"TestA","Output":"p two\n"}
+{"Action":"pass","Package":"q","Test":"TestA"}
+{"Action":"run","Package":"q","Test":"TestB"}
+{"Action":"output","Package":"q","Test":"TestB","Output":"q three\n"}
+{"Action":"fail","Package":"p","Test":"TestA","Elapsed":1}
+{"Action":"output","Package":"p","Output":"p log\n"}
+{"Action":"fail","Package":"q","Test":"TestB","Elapsed":2}
+{"Action":"fail","Package":"p","Elapsed":3}
+{"Action":"fail","Package":"q","Elapsed":4}
+END_OF_LINES
+    failed_of "$room/apart" 1 'ttree: line 5: "Package": expected a text' << 'END_OF_TREE'
+┐p 
+└─┐TestA 
+  ├─ INFO p one
+  ├─ INFO p two
+  ├─ ERROR fail, elapsed=1
+┌─┘
+┐q 
+└─┐TestB 
+  ├─ INFO q three
+  ├─ ERROR fail, elapsed=2
+┌─┘
+┐p 
+├─ INFO p log
+├─ ERROR fail, elapsed=3
+┘
+┐q 
+├─ ERROR fail, elapsed=4
+┘
+ERROR passed=1, failed=2, skipped=0, unfinished=0
+END_OF_TREE
+}
+
+# A build that fails, one that prints and doesn't fail, and one that isn't of a tested package.
+run_failed_builds() {
+    cat > "$room/builds" << 'END_OF_LINES'
+{"ImportPath":"s","Action":"build-output","Output":"s warns\n"}
+{"ImportPath":"r [r.test]","Action":"build-output","Output":"# r [r.test]\n"}
+{"ImportPath":"r [r.test]","Action":"build-output","Output":"./a.go:3: undefined: x\n"}
+{"ImportPath":"r [r.test]","Action":"build-fail"}
+{"Action":"start","Package":"s"}
+{"Action":"start","Package":"r"}
+{"Action":"output","Package":"r","Output":"FAIL\tr [build failed]\n"}
+{"Action":"fail","Package":"r","Elapsed":0,"FailedBuild":"r [r.test]"}
+{"Action":"output","Package":"s","Output":"ok  \ts\t0.1s\n"}
+{"Action":"pass","Package":"s","Elapsed":0.1}
+END_OF_LINES
+    failed_of "$room/builds" 1 << 'END_OF_TREE'
+┐r 
+├─ INFO # r [r.test]
+├─ INFO ./a.go:3: undefined: x
+├─ ERROR fail, elapsed=0
+┘
+ERROR passed=0, failed=0, skipped=0, unfinished=0
+END_OF_TREE
+}
+
+# What is left where a test, a package or the input ends: a test of a longer name, a test in a test that passed, a line after the end.
+run_failed_ends() {
+    cat > "$room/ends" << 'END_OF_LINES'
+{"Action":"run","Package":"p","Test":"TestAll"}
+{"Action":"output","Package":"p","Test":"TestAll","Output":"all\n"}
+{"Action":"run","Package":"p","Test":"TestA"}
+{"Action":"run","Package":"p","Test":"TestA/b"}
+{"Action":"output","Package":"p","Test":"TestA/b","Output":"b\n"}
+{"Action":"run","Package":"p","Test":"TestA/b/c"}
+{"Action":"output","Package":"p","Test":"TestA/b/c","Output":"c\n"}
+{"Action":"skip","Package":"p","Test":"TestA/b/c"}
+{"Action":"fail","Package":"p","Test":"TestA/b"}
+{"Action":"run","Package":"p","Test":"TestA/d"}
+{"Action":"output","Package":"p","Test":"TestA/d","Output":"d\n"}
+{"Action":"output","Package":"p","Test":"TestA","Output":"a\n"}
+{"Action":"fail","Package":"p","Test":"TestA"}
+{"Action":"run","Package":"p","Test":"TestE"}
+{"Action":"skip","Package":"p","Test":"TestE"}
+{"Action":"output","Package":"p","Test":"TestE","Output":"late\n"}
+{"Action":"pass","Package":"p","Test":"TestAll"}
+{"Action":"fail","Package":"p"}
+{"Action":"run","Package":"q","Test":"TestA"}
+{"Action":"output","Package":"q","Test":"TestA","Output":"one\n"}
+{"Action":"run","Package":"q","Test":"TestA/x"}
+{"Action":"output","Package":"q","Test":"TestA/x","Output":"two\n"}
+{"Action":"pass","Package":"q","Test":"TestA/x"}
+{"Action":"output","Package":"q","Output":"log\n"}
+END_OF_LINES
+    failed_of "$room/ends" 1 << 'END_OF_TREE'
+┐p 
+└─┐TestA 
+  └─┐TestA/b 
+    ├─ INFO b
+    ├─ ERROR fail
+  ┌─┘
+  └─┐TestA/d 
+    ├─ INFO d
+  ├─ INFO a
+  ├─ ERROR fail
+├─ INFO late
+└─┐TestA 
+  └─┐TestA/d 
+    ├─ ERROR unfinished
+  ┌─┘
+┌─┘
+├─ ERROR fail
+┘
+┐q 
+└─┐TestA 
+  ├─ INFO one
+├─ INFO log
+ERROR passed=2, failed=2, skipped=2, unfinished=1
+END_OF_TREE
+}
+
 # When each event happened, and on which thread. Each tree is made by hand of what docs/FORMATS.md says.
 run_times_and_threads() {
     cat > "$room/timed" << 'END_OF_LINES'
@@ -327,6 +541,7 @@ run_options
 run_odd
 run_skipped
 run_levels
+run_failed
 run_times_and_threads
 run_lines
 run_terminal

@@ -4,3 +4,4 @@ pub mod Instants
 pub mod GoLines
 mod Worked
 pub mod Leveled
+pub mod FailedLines

@@ -1,9 +1,12 @@
--- Examples computed from the definitions of Go's tests, of tracing's lines and of levels.
-use Rattle.std.proofs.Common.{◌≡◌, true, false, None, Some, [], ◌∷◌, codes, refl}
+-- Examples computed from the definitions of Go's tests, of what failed of them, of tracing's lines and of levels.
+use Rattle.std.proofs.Common.{◌≡◌, ℕ, List, Bool, true, false, None, Some, [], ◌∷◌, codes, refl}
 use Rattle.std.specs.Prelude.{negsuc}
 use Rattle.json.specs.Json.{boolean, string, object, member, no_members}
+use Rattle.tracing_tree_sources.specs.Failed.{Untold, forgotten, is_inner, released, taken, verdict_of}
 use Rattle.tracing_tree_sources.specs.First.{format_of}
-use Rattle.tracing_tree_sources.specs.GoTest.{after_mark, go_lacks, is_frame, leads, up_to_space}
+use Rattle.tracing_tree_sources.specs.GoTest.{GoState, after_mark, go_lacks, is_frame, leads, up_to_space}
+use Rattle.tracing_tree_sources.specs.declared.failed.Kept.{Kept}
+use Rattle.tracing_tree_sources.specs.declared.failed.Verdict.TheVariants.{Open, Good, Bad}
 use Rattle.tracing_tree_sources.specs.declared.first.Format.TheVariants.{GoTest, Lines, Tracing}
 use Rattle.tracing_tree_sources.specs.declared.notes.Lack.TheVariants.{Package}
 use Rattle.tracing_tree_base.specs.declared.context.Moment.{Moment}
@@ -59,6 +62,36 @@ settings_are_lines = refl
 
 pub an_action_without_a_package : go_lacks (Some (object (member (codes "Action") (string (codes "run")) no_members))) ≡ Package
 an_action_without_a_package = refl
+
+-- ---- what failed
+
+pub a_skipped_test_is_left_out : verdict_of (codes "skip") ≡ Good
+a_skipped_test_is_left_out = refl
+
+pub a_build_may_fail : verdict_of (codes "build-fail") ≡ Bad
+a_build_may_fail = refl
+
+pub a_pause_ends_nothing : verdict_of (codes "pause") ≡ Open
+a_pause_ends_nothing = refl
+
+pub a_test_in_another : (is_inner (codes "TestSum/small") ≡ true) × (is_inner (codes "TestSum") ≡ false)
+a_test_in_another = (refl, refl)
+
+module _ (line : List ℕ) (shown : GoState) where
+  abbrev kept_of : List ℕ → Bool → Kept
+  kept_of test is_good = record { test = test; is_good = is_good; line = line }
+
+  abbrev lines_of_two : Untold
+  lines_of_two = record { path = codes "p"; kept = kept_of (codes "TestA/x") true ∷ kept_of (codes "TestAll") false ∷ [] }
+
+  abbrev lines_of_one : Untold
+  lines_of_one = record { path = codes "p"; kept = kept_of (codes "TestAll") false ∷ [] }
+
+  pub what_a_test_has_in_it_is_forgotten_with_it : forgotten (codes "TestA") lines_of_two ≡ lines_of_one
+  what_a_test_has_in_it_is_forgotten_with_it = refl
+
+  pub what_passed_in_a_failed_test_isnt_told : released (codes "TestA") (taken lines_of_two shown) ≡ taken lines_of_one shown
+  what_passed_in_a_failed_test_isnt_told = refl
 
 -- ---- tracing
 

@@ -6,3 +6,4 @@ pub mod TracingLine
 pub mod Tracing
 pub mod First
 pub mod Levels
+pub mod Failed

@@ -143,7 +143,7 @@ impl GoTest {
     }
 
     // Hands out the calls.
-    fn told(&mut self) -> Vec<Call>
+    pub(crate) fn told(&mut self) -> Vec<Call>
         ensures told { result.items ≡ self.old.calls }
         ensures rest { self.new ≡ record self.old { calls = [] } }
     {
@@ -151,7 +151,7 @@ impl GoTest {
     }
 
     // A line of text: of a build that fails.
-    fn take_text(&mut self, line: &str) -> Result<(), AllocError>
+    pub(crate) fn take_text(&mut self, line: &str) -> Result<(), AllocError>
         ensures { OnOk result (self.new ≡ takes_text line.now self.old) }
     {
         if let Some(rest) = after_mark(line, "# ") {
@@ -190,7 +190,7 @@ impl GoTest {
     }
 
     // A line that is a JSON value. Returns whether it is known.
-    fn take_value(&mut self, value: &Value<'_>) -> Result<bool, AllocError>
+    pub(crate) fn take_value(&mut self, value: &Value<'_>) -> Result<bool, AllocError>
         ensures { IfOk result (takes_value (value_view value.now) self.old self.new) }
     {
         let before = self.moment();
@@ -612,7 +612,7 @@ fn lack_in(value: &Value<'_>) -> Lack
 }
 
 // The test of a line; a package's line has none.
-fn test_of<'v>(value: &'v Value<'_>) -> &'v str
+pub(crate) fn test_of<'v>(value: &'v Value<'_>) -> &'v str
     ensures { result.now ≡ test_of (value_view value.now) }
 {
     match text_at(value, "Test") {
@@ -629,7 +629,7 @@ fn elapsed_in<'v>(value: &'v Value<'_>) -> Option<&'v str>
 }
 
 // The package of a line; that of a build's line is the beginning of its import path.
-fn package_of<'v>(value: &'v Value<'_>) -> Option<&'v str>
+pub(crate) fn package_of<'v>(value: &'v Value<'_>) -> Option<&'v str>
     ensures { option_map (λ s. s.now) result ≡ package_of (value_view value.now) }
 {
     match text_at(value, "Package") {
@@ -700,7 +700,7 @@ fn owner(running: &[Running], path: &str, test: &str) -> Option<usize>
 }
 
 // Whether a name is this one or a beginning of it at a `/`, as the empty name of a package is.
-fn leads(name: &[u8], test: &[u8]) -> bool
+pub(crate) fn leads(name: &[u8], test: &[u8]) -> bool
     ensures { result ≡ leads name.now test.now }
 {
     name.is_empty() || test.starts_with(name) && ends_word(b'/', &test[name.len()..])

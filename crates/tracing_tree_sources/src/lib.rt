@@ -4,6 +4,7 @@
 //! tracing-subscriber. [`first_format`] tells by the first line which of them an input is.
 #![tactic(auto)]
 
+pub mod failed;
 pub mod first;
 pub mod go_test;
 pub mod level;
@@ -14,6 +15,7 @@ pub mod source;
 mod told;
 pub mod tracing;
 
+pub use failed::Failed;
 pub use first::{Format, first_format};
 pub use go_test::GoTest;
 pub use level::AtLeast;

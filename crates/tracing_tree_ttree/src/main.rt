@@ -17,7 +17,8 @@ use tracing_tree::run_lines;
 use tracing_tree::style::Level;
 use tracing_tree::time::{Clock, Moment, UtcDateTime};
 use tracing_tree_sources::{
-    AtLeast, Format, GoTest, Lack, Notes, Source, SourceRun, Tracing, first_format, run_source,
+    AtLeast, Failed, Format, GoTest, Lack, Notes, Source, SourceRun, Tracing, first_format,
+    run_source,
 };
 
 // The input is read in parts of this size.
@@ -36,6 +37,8 @@ struct Options<'a> {
     config: Config,
     // Events below it aren't drawn.
     least: Level,
+    // Whether only what failed of Go's tests is drawn.
+    is_failed: bool,
     // Whether events show when they happened.
     is_timed: bool,
     // The first line decides where there is none.
@@ -87,6 +90,7 @@ fn parse<'a>(alloc: Global, words: &'a [String], is_coloured: bool) -> Result<Op
     Ok(Options {
         config: config(&matches, is_coloured),
         least: least(matches.get_str("level")),
+        is_failed: matches.get_flag("failed"),
         is_timed: matches.get_flag("times"),
         from: format(matches.get_str("from")),
         is_strict: matches.get_flag("strict"),
@@ -103,6 +107,7 @@ fn command<'a>(alloc: Global) -> Result<Command<'a>, AllocError> {
         .arg(color_option(alloc))?
         .arg(amount_option(alloc))?
         .arg(level_option(alloc))?
+        .arg(failed_option(alloc))?
         .arg(flag(alloc, "no-lines", "Indents without lines"))?
         .arg(flag(
             alloc,
@@ -159,6 +164,14 @@ fn level_option<'a>(alloc: Global) -> Arg<'a> {
             "Draws only events of this level and above, and spans only where one happens in them; lines of settings and calls are drawn whole",
         )
         .value_parser(&["trace", "debug", "info", "warn", "error"][..])
+}
+
+fn failed_option<'a>(alloc: Global) -> Arg<'a> {
+    flag(
+        alloc,
+        "failed",
+        "Leaves out the tests that passed or were skipped, and packages without a failure; go-test alone",
+    )
 }
 
 fn format(name: Option<&str>) -> Option<Format> {
@@ -299,8 +312,23 @@ fn draw_tests<R: AllocGlobal + Eprint + Print, I: Read + Drop>(
     input: I,
     options: Options<'_>,
 ) -> Result<ExitCode, AllocError> {
+    if options.is_failed {
+        return draw_failed(rt, input, options);
+    }
     let tests = GoTest::new(rt.alloc(), 1, some_moment())?;
     let mut source = AtLeast::new(tests, options.least);
+    let is_whole = draw_source(rt, input, &mut source, options)?;
+    Ok(status(is_whole && !source.into_source().has_failed()))
+}
+
+// Draws what failed of Go's tests.
+fn draw_failed<R: AllocGlobal + Eprint + Print, I: Read + Drop>(
+    rt: &R,
+    input: I,
+    options: Options<'_>,
+) -> Result<ExitCode, AllocError> {
+    let failed = Failed::new(rt.alloc(), 1, some_moment())?;
+    let mut source = AtLeast::new(failed, options.least);
     let is_whole = draw_source(rt, input, &mut source, options)?;
     Ok(status(is_whole && !source.into_source().has_failed()))
 }
