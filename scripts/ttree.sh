@@ -11,6 +11,7 @@ top=$(cd "$(dirname "$0")/.." && pwd)
 room=$(mktemp -d)
 trap 'rm -rf "$room"' EXIT
 . "$top/scripts/ttree_tracing.sh"
+. "$top/scripts/ttree_chrome.sh"
 runs=0
 right=0
 
@@ -483,8 +484,8 @@ run_lines() {
     run --from go-test "$room/lines"
     count 'with --from go-test on an object that has other keys' want 'ttree: line 1: "Action": expected a text' 1
     printf '[]\n' > "$room/lines"
-    run "$room/lines"
-    count 'on an array' want 'ttree: line 1: "Action": expected a text' 1
+    run --from go-test "$room/lines"
+    count 'with --from go-test on an array' want 'ttree: line 1: "Action": expected a text' 1
 }
 
 # Colours on a terminal, but not under NO_COLOR. A terminal ends lines with a carriage return too.
@@ -547,5 +548,10 @@ run_lines
 run_terminal
 run_faults
 run_tracing
+run_spans_of_traces
+run_threads_of_traces
+run_cut_traces
+run_odd_traces
+run_trace_samples
 echo "ttree: $right of $runs runs ended as they must"
 [ "$right" = "$runs" ]

@@ -5,3 +5,8 @@ pub mod GoLines
 mod Worked
 pub mod Leveled
 pub mod FailedLines
+pub mod ChromeNumbers
+pub mod ChromeText
+mod ChromeTrees
+mod ChromeLast
+mod ChromeWorked

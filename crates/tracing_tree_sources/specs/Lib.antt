@@ -2,8 +2,14 @@ pub mod Source
 pub mod Told
 pub mod Moments
 pub mod GoTest
+pub mod Failed
 pub mod TracingLine
 pub mod Tracing
 pub mod First
 pub mod Levels
-pub mod Failed
+pub mod ChromeText
+pub mod ChromeElement
+pub mod ChromeGather
+pub mod ChromeLength
+pub mod ChromeTree
+pub mod Chrome

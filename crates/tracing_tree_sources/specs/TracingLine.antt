@@ -55,6 +55,10 @@ members_fields part (member key value others) =
 abbrev pub fields_of : Part → Json → List Field
 fields_of part value = members_fields part (unwrap_or (as_object value) no_members)
 
+-- an object's members as the fields of an event
+abbrev pub event_fields : Json → List Field
+event_fields value = fields_of Event value
+
 abbrev pub object_at : List ℕ → Json → Option Json
 object_at key value = if_object (get key value) where
   if_object : Option Json → Option Json

@@ -28,6 +28,30 @@ pub enum Lack {
     /// None of the five levels at `level`.
     #[error("\"level\": expected a level")]
     Level,
+
+    /// No text at `ph`.
+    #[error("\"ph\": expected a text")]
+    Phase,
+
+    /// What stands at `pid` is no whole number.
+    #[error("\"pid\": expected a whole number")]
+    Process,
+
+    /// What stands at `tid` is no whole number.
+    #[error("\"tid\": expected a whole number")]
+    Thread,
+
+    /// No number of microseconds at `ts`.
+    #[error("\"ts\": expected microseconds")]
+    Start,
+
+    /// No number of microseconds at `dur`, which a span needs.
+    #[error("\"dur\": expected microseconds")]
+    Duration,
+
+    /// The input isn't a trace.
+    #[error("expected an array, or an object with an array at \"traceEvents\"")]
+    Trace,
 }
 
 /// Who is told of skipped lines.

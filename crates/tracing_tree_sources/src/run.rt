@@ -86,7 +86,7 @@ pub fn run_source<S: Source, R: Read, W: Output, FT: FormatTime, N: Notes>(
 }
 
 // Has a skipped line noted. An error ends the run.
-fn skip<N: Notes>(
+pub(crate) fn skip<N: Notes>(
     notes: &mut N,
     number: u64,
     lack: Result<Lack, AllocError>,
@@ -247,7 +247,7 @@ fn run_end<S: Source, W: Output, FT: FormatTime>(
 }
 
 // Makes these calls one after another, up to the first that is refused.
-fn make<W: Output, FT: FormatTime>(
+pub(crate) fn make<W: Output, FT: FormatTime>(
     calls: Vec<Call>,
     layered: &mut Layered<W, FT>,
 ) -> Result<(), LineCause>

@@ -14,7 +14,7 @@ use crate::notes::Lack;
 use crate::source::Source;
 use crate::told::{all_on_thread, close_call, event_call, span_call};
 use json::Value;
-pub(crate) use line::{is_object, level_in};
+pub(crate) use line::{array_at, event_fields, is_object, level_in};
 use line::{Kind, Listed, kind_in, label_in, line_fields, may_be, path_in, span_in, thread_in};
 use std::alloc::{AllocError, Global};
 use std::marker::Model;

@@ -3,7 +3,8 @@
 
 use clap::error::ErrorKind;
 use clap::{Arg, ArgAction, ArgMatches, Command, Error, value_parser};
-use jiff::Timestamp;
+use jiff::{SignedDuration, Timestamp};
+use simdutf8::basic::from_utf8;
 use std::alloc::{AllocError, Global};
 use std::io::{BufReader, BufWriter, IsTerminal, Read, Write};
 use std::process::ExitCode;
@@ -15,10 +16,10 @@ use tracing_tree::layered::Layered;
 use tracing_tree::lines::{LineCause, LineFault, read_line};
 use tracing_tree::run_lines;
 use tracing_tree::style::Level;
-use tracing_tree::time::{Clock, Moment, UtcDateTime};
+use tracing_tree::time::{Clock, Moment, Uptime, UtcDateTime};
 use tracing_tree_sources::{
-    AtLeast, Failed, Format, GoTest, Lack, Notes, Source, SourceRun, Tracing, first_format,
-    run_source,
+    AtLeast, Cut, Failed, Format, GoTest, Lack, Notes, Source, SourceRun, Tracing, first_format,
+    run_source, run_trace,
 };
 
 // The input is read in parts of this size.
@@ -29,7 +30,7 @@ const NOTED: u64 = 10;
 
 // What `--help` says of the first line.
 const FIRST: &str =
-    "Without --from, the first line decides: a JSON object with a text at \"Action\" is of go-test, one with TRACE, DEBUG, INFO, WARN or ERROR at \"level\" and anything at \"fields\" or \"target\" of tracing, any other object of lines, and every other line of go-test.";
+    "Without --from, the first line decides: a JSON object with a text at \"Action\" is of go-test; a line that begins with [, or with { and is no whole JSON value, or an object with an array at \"traceEvents\", is of chrome; an object with TRACE, DEBUG, INFO, WARN or ERROR at \"level\" and anything at \"fields\" or \"target\" is of tracing, any other object of lines, and every other line of go-test.";
 
 // What the words of the command line ask for.
 #[derive(Drop)]
@@ -39,6 +40,8 @@ struct Options<'a> {
     least: Level,
     // Whether only what failed of Go's tests is drawn.
     is_failed: bool,
+    // Which spans of a trace aren't drawn.
+    cut: Cut,
     // Whether events show when they happened.
     is_timed: bool,
     // The first line decides where there is none.
@@ -91,6 +94,10 @@ fn parse<'a>(alloc: Global, words: &'a [String], is_coloured: bool) -> Result<Op
         config: config(&matches, is_coloured),
         least: least(matches.get_str("level")),
         is_failed: matches.get_flag("failed"),
+        cut: Cut {
+            least: shortest(alloc, matches.get_str("min"))?,
+            depth: matches.get_one::<usize>("depth"),
+        },
         is_timed: matches.get_flag("times"),
         from: format(matches.get_str("from")),
         is_strict: matches.get_flag("strict"),
@@ -108,6 +115,8 @@ fn command<'a>(alloc: Global) -> Result<Command<'a>, AllocError> {
         .arg(amount_option(alloc))?
         .arg(level_option(alloc))?
         .arg(failed_option(alloc))?
+        .arg(min_option(alloc))?
+        .arg(depth_option(alloc))?
         .arg(flag(alloc, "no-lines", "Indents without lines"))?
         .arg(flag(
             alloc,
@@ -133,9 +142,9 @@ fn from_option<'a>(alloc: Global) -> Arg<'a> {
         .long("from")
         .value_name("TOOL")
         .help(
-            "Whose output is read: go-test of `go test -json`, tracing of the JSON format of Rust's tracing-subscriber, lines of settings and calls",
+            "Whose output is read: go-test of `go test -json`, tracing of the JSON format of Rust's tracing-subscriber, chrome of Chrome's trace event format, lines of settings and calls",
         )
-        .value_parser(&["lines", "go-test", "tracing"][..])
+        .value_parser(&["lines", "go-test", "tracing", "chrome"][..])
 }
 
 fn color_option<'a>(alloc: Global) -> Arg<'a> {
@@ -174,9 +183,47 @@ fn failed_option<'a>(alloc: Global) -> Arg<'a> {
     )
 }
 
+fn min_option<'a>(alloc: Global) -> Arg<'a> {
+    Arg::new(alloc, "min").long("min").value_name("TIME").help(
+        "Leaves out the spans of a trace that took less than this, such as 5ms or 1.5s",
+    )
+}
+
+fn depth_option<'a>(alloc: Global) -> Arg<'a> {
+    Arg::new(alloc, "depth")
+        .long("depth")
+        .value_name("N")
+        .help("Leaves out the spans of a trace below so many levels")
+        .value_parser(value_parser!(usize))
+}
+
+// The nanoseconds of a length of time; none without a word.
+fn shortest(alloc: Global, word: Option<&str>) -> Result<u64, Error> {
+    let Some(word) = word else {
+        return Ok(0);
+    };
+    match nanoseconds(word) {
+        Some(nanoseconds) => Ok(nanoseconds),
+        None => Err(no_time(alloc)?),
+    }
+}
+
+fn nanoseconds(word: &str) -> Option<u64> {
+    let length: SignedDuration = word.parse().ok()?;
+    u64::try_from(length.as_nanos()).ok()
+}
+
+fn no_time(alloc: Global) -> Result<Error, AllocError> {
+    command(alloc)?.error(
+        ErrorKind::ValueValidation,
+        "invalid value for '--min <TIME>': expected a length of time, such as 5ms or 1.5s",
+    )
+}
+
 fn format(name: Option<&str>) -> Option<Format> {
     match name? {
         "lines" => Some(Format::Lines),
+        "chrome" => Some(Format::Chrome),
         "tracing" => Some(Format::Tracing),
         _ => Some(Format::GoTest),
     }
@@ -270,6 +317,7 @@ fn draw<R: AllocGlobal + Eprint + Print, I: Read + Drop>(
         Format::Lines => draw_lines(rt, input),
         Format::GoTest => draw_tests(rt, input, options),
         Format::Tracing => draw_tracing(rt, input, options),
+        Format::Chrome => draw_trace(rt, input, options),
     };
     match drawn {
         Ok(status) => status,
@@ -345,6 +393,44 @@ fn draw_tracing<R: AllocGlobal + Eprint + Print, I: Read + Drop>(
     Ok(status(is_whole))
 }
 
+// Draws a trace, of which the whole is read first.
+fn draw_trace<R: AllocGlobal + Eprint + Print, I: Read + Drop>(
+    rt: &R,
+    input: I,
+    options: Options<'_>,
+) -> Result<ExitCode, AllocError> {
+    let alloc = rt.alloc();
+    let mut input = input;
+    let mut bytes = Vec::new(alloc);
+    if let Err(error) = input.read_to_end(&mut bytes) {
+        if error.kind() == io::ErrorKind::OutOfMemory {
+            return Err(AllocError);
+        }
+        let _ = eprintln!(rt; "ttree: read");
+        return Ok(ExitCode::FAILURE);
+    }
+    let Ok(text) = from_utf8(bytes.as_slice()) else {
+        let _ = eprintln!(rt; "ttree: {}", Lack::Utf8);
+        return Ok(ExitCode::FAILURE);
+    };
+    let Ok(writer) = BufWriter::new(alloc, io::writer(rt)) else {
+        return Err(AllocError);
+    };
+    let config = options.config.with_deferred_spans(false);
+    let mut layered = layered(alloc, config, trace_clock(options.is_timed), writer);
+    let mut notes = Told::new(rt, Unit::Element, options.is_strict);
+    let run = run_trace(
+        alloc,
+        1,
+        some_moment(),
+        options.cut,
+        text,
+        &mut layered,
+        &mut notes,
+    );
+    Ok(status(is_right(rt, &run, layered, &notes)))
+}
+
 fn status(is_right: bool) -> ExitCode {
     if is_right {
         ExitCode::SUCCESS
@@ -377,6 +463,16 @@ fn clock(is_timed: bool) -> Clock<'static> {
     }
 }
 
+// What events of a trace show of time: that on the trace's clock.
+fn trace_clock(is_timed: bool) -> Clock<'static> {
+    if !is_timed {
+        return Clock::None;
+    }
+    let mut uptime = Uptime::from(0);
+    uptime.higher_precision = true;
+    Clock::Uptime(uptime)
+}
+
 // Draws what a source says of the input. Returns whether each line was known and nothing went wrong. `AllocError` where there is no
 // memory to begin with.
 fn draw_source<R: AllocGlobal + Eprint + Print, I: Read + Drop, S: Source>(
@@ -392,60 +488,108 @@ fn draw_source<R: AllocGlobal + Eprint + Print, I: Read + Drop, S: Source>(
     let Ok(writer) = BufWriter::new(alloc, io::writer(rt)) else {
         return Err(AllocError);
     };
-    let layer = HierarchicalLayer::with_config(alloc, options.config, Wrap::new(writer));
-    let layer = layer.with_timer(clock(options.is_timed));
-    let mut layered = Layered::new(alloc, layer);
-    let mut notes = Told {
-        rt,
-        is_strict: options.is_strict,
-        count: 0,
-    };
+    let mut layered = layered(alloc, options.config, clock(options.is_timed), writer);
+    let mut notes = Told::new(rt, Unit::Line, options.is_strict);
     let run = run_source(alloc, source, &mut lines, &mut layered, &mut notes);
+    Ok(is_right(rt, &run, layered, &notes))
+}
+
+fn layered<W: Write + Drop>(
+    alloc: Global,
+    config: Config,
+    clock: Clock<'static>,
+    writer: W,
+) -> Layered<Wrap<W>, Clock<'static>> {
+    let layer = HierarchicalLayer::with_config(alloc, config, Wrap::new(writer));
+    Layered::new(alloc, layer.with_timer(clock))
+}
+
+// Tells what went wrong at the end of a run. Returns whether nothing did, and all was known.
+fn is_right<R: Eprint, W: Write + Drop>(
+    rt: &R,
+    run: &SourceRun,
+    layered: Layered<Wrap<W>, Clock<'static>>,
+    notes: &Told<'_, R>,
+) -> bool {
     notes.tell_rest();
     let (_registry, layer) = layered.into_parts();
     let is_out = is_flushed(layer.into_writer());
-    tell_run(rt, &run, is_out);
-    Ok(is_out && run.unknown == 0 && run.fault.is_none())
+    match run.fault {
+        None => tell(rt, &None, is_out),
+        Some(fault) => notes.tell_fault(fault),
+    }
+    is_out && run.unknown == 0 && run.fault.is_none()
 }
 
-// Tells skipped lines on standard error. A fault of standard error itself changes nothing.
+// What an input has, one after another.
+#[derive(Clone, Copy)]
+enum Unit {
+    Line,
+    Element,
+}
+
+impl Unit {
+    fn name(self) -> &'static str {
+        match self {
+            Unit::Line => "line",
+            Unit::Element => "element",
+        }
+    }
+}
+
+// Tells what is skipped on standard error. A fault of standard error itself changes nothing.
 #[derive(Drop)]
 struct Told<'a, R> {
     rt: &'a R,
+    unit: Unit,
     is_strict: bool,
     count: u64,
 }
 
 impl<R: Eprint> Notes for Told<'_, R> {
-    fn note(&mut self, line: u64, lack: Lack) -> bool {
-        if self.count < NOTED {
-            let _ = eprintln!(self.rt; "ttree: line {line}: {lack}");
+    fn note(&mut self, number: u64, lack: Lack) -> bool {
+        let unit = self.unit.name();
+        if lack == Lack::Trace {
+            let _ = eprintln!(self.rt; "ttree: {lack}");
+        } else if self.count < NOTED {
+            let _ = eprintln!(self.rt; "ttree: {unit} {number}: {lack}");
         }
         self.count = self.count.saturating_add(1);
         !self.is_strict
     }
 }
 
-impl<R: Eprint> Told<'_, R> {
-    // Tells how many lines were skipped, where not all of them were told.
-    fn tell_rest(&self) {
-        let count = self.count;
-        if count > NOTED {
-            let _ = eprintln!(self.rt; "ttree: lines skipped: {count}");
+impl<'a, R: Eprint> Told<'a, R> {
+    fn new(rt: &'a R, unit: Unit, is_strict: bool) -> Told<'a, R> {
+        Told {
+            rt,
+            unit,
+            is_strict,
+            count: 0,
         }
     }
-}
 
-// Tells how a run ended; a line that may not be skipped was told already.
-fn tell_run(rt: &impl Eprint, run: &SourceRun, is_out: bool) {
-    match run.fault {
-        Some(
-            LineFault {
-                line: _,
-                cause: LineCause::NotACall,
-            },
-        ) => {}
-        fault => tell(rt, &fault, is_out),
+    // Tells how many were skipped, where not all of them were told.
+    fn tell_rest(&self) {
+        let count = self.count;
+        let unit = self.unit.name();
+        if count > NOTED {
+            let _ = eprintln!(self.rt; "ttree: {unit}s skipped: {count}");
+        }
+    }
+
+    // Tells what ended a run; what may not be skipped was told already. A fault of a trace has no place in it.
+    fn tell_fault(&self, fault: LineFault) {
+        let cause = fault.cause;
+        match (self.unit, cause) {
+            (_, LineCause::NotACall) => {}
+            (Unit::Line, _) => {
+                let _ = eprintln!(self.rt; "ttree: {fault}");
+            }
+            (Unit::Element, _) => {
+                let _ = eprintln!(self.rt; "ttree: {cause}");
+            }
+        }
     }
 }
 

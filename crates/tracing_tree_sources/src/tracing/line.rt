@@ -3,7 +3,7 @@
 ghost use Rattle.std.specs.Prelude.{◌≡◌, ◌++◌, IfOk, OnOk, is_some, option_map};
 ghost use Rattle.json.specs.Find.{as_object};
 ghost use Rattle.json.specs.Value.{items_view, members_view, value_view};
-ghost use Rattle.tracing_tree_sources.specs.TracingLine.{array_at, bare_thread, fields_of, fields_within, is_current, is_left_out, is_line_key, is_message, is_timed_close, items_listed, kind_in, kind_of, kind_of_message, label_in, level_in, line_fields, lists_same, listed_of, may_be, member_fields, members_fields, names_span, object_at, path_in, span_in, spans_in, text_of, thread_in, thread_label};
+ghost use Rattle.tracing_tree_sources.specs.TracingLine.{array_at, bare_thread, event_fields, fields_of, fields_within, is_current, is_left_out, is_line_key, is_message, is_timed_close, items_listed, kind_in, kind_of, kind_of_message, label_in, level_in, line_fields, lists_same, listed_of, may_be, member_fields, members_fields, names_span, object_at, path_in, span_in, spans_in, text_of, thread_in, thread_label};
 
 use crate::go_test::{after_mark, text_at};
 use crate::told::shown;
@@ -313,7 +313,7 @@ pub(crate) fn is_object(value: &Value<'_>) -> bool
 }
 
 // The items of the array at this key.
-fn array_at<'v, 'a>(value: &'v Value<'a>, key: &str) -> Option<&'v Vec<Value<'a>>>
+pub(crate) fn array_at<'v, 'a>(value: &'v Value<'a>, key: &str) -> Option<&'v Vec<Value<'a>>>
     ensures { option_map (λ items. items_view items.now.items) result
         ≡ array_at key.now (value_view value.now) }
 {
@@ -321,6 +321,13 @@ fn array_at<'v, 'a>(value: &'v Value<'a>, key: &str) -> Option<&'v Vec<Value<'a>
         Value::Array(items) => Some(items),
         _ => None,
     }
+}
+
+// An object's members as the fields of an event.
+pub(crate) fn event_fields(alloc: Global, value: &Value<'_>) -> Result<Fields, AllocError>
+    ensures { IfOk result (λ fields. fields ≡ event_fields (value_view value.now)) }
+{
+    fields_of(alloc, Part::Event, value)
 }
 
 // An object's members as fields.

@@ -1,0 +1,301 @@
+# The runs of ttree on traces, for scripts/ttree.sh. Each tree is made by hand of what docs/FORMATS.md says.
+
+# The run of this name, with these words, on a trace and the tree that it makes: both come on standard input, with a line `--` between.
+# The words are those before a word `--`; behind it stand the status and the text on standard error.
+trace_of() {
+    local name=$1 words=()
+    shift
+    while [ $# -gt 0 ] && [ "$1" != -- ]; do
+        words+=("$1")
+        shift
+    done
+    cat > "$room/both"
+    sed '/^--$/,$d' "$room/both" > "$room/trace"
+    sed '1,/^--$/d' "$room/both" > "$room/want"
+    run "${words[@]}" "$room/trace"
+    count "$name" want "${3-}" "${2-0}"
+}
+
+run_spans_of_traces() {
+    trace_of 'on spans in no order' << 'END'
+[{"ph":"X","ts":20,"dur":5,"name":"c"},
+ {"ph":"X","ts":10,"dur":20,"name":"b","args":{"k":"v","n":1.50}},
+ {"ph":"X","ts":0,"dur":100,"name":"a"},
+ {"ph":"X","ts":40,"dur":0.25,"name":"d"}]
+--
+┐a time=100.000μs
+└─┐b time=20.000μs, k=v, n=1.50
+  └─┐c time=5.000μs
+  ┌─┘
+┌─┘
+└─┐d time=0.250μs
+┌─┘
+┘
+END
+    trace_of 'on spans that begin at once' << 'END'
+[{"ph":"X","ts":0,"dur":5,"name":"in"},{"ph":"X","ts":0,"dur":10,"name":"out"},{"ph":"X","ts":0,"dur":10,"name":"next"}]
+--
+┐out time=10.000μs
+└─┐next time=10.000μs
+  └─┐in time=5.000μs
+  ┌─┘
+┌─┘
+┘
+END
+    trace_of 'on a span that outlasts the one above' << 'END'
+[{"ph":"X","ts":0,"dur":10,"name":"a"},{"ph":"X","ts":5,"dur":10,"name":"b"},{"ph":"X","ts":12,"dur":1000,"name":"c"}]
+--
+┐a time=10.000μs
+└─┐b time=10.000μs
+┌─┘
+┘
+┐c time=1.000ms
+┘
+END
+    trace_of 'on begins and ends' << 'END'
+[{"ph":"B","ts":1,"pid":7,"name":"x"},{"ph":"B","ts":2,"pid":7,"name":"y","args":{"q":1}},{"ph":"E","ts":2.5,"pid":8},
+ {"ph":"E","ts":3,"pid":7,"args":{"r":"ok"}},{"ph":"i","ts":5,"pid":7,"name":"mark","args":{"s":"p"}},{"ph":"I","ts":6,"pid":7,"name":"old"}]
+--
+┐process pid=7
+└─┐x 
+  └─┐y time=1.000μs, q=1, r=ok
+  ┌─┘
+  ├─ INFO mark, s=p
+  ├─ INFO old
+┌─┘
+┘
+END
+    trace_of 'on long times' << 'END'
+[{"ph":"X","ts":0,"dur":61234567.8919,"name":"a\u001b[31m","args":{"b\u0007":[1],"c":{}}},{"ph":"E","ts":1,"name":"none"}]
+--
+┐a\u{1b}[31m time=61.234s, b\u{7}=[..], c={..}
+┘
+END
+}
+
+run_threads_of_traces() {
+    trace_of 'on processes and threads' << 'END'
+[{"ph":"X","pid":2,"tid":9,"ts":5,"dur":1,"name":"late"},
+ {"ph":"X","pid":1,"tid":10,"ts":7,"dur":1,"name":"two"},
+ {"ph":"X","pid":1,"tid":9,"ts":8,"dur":1,"name":"one"},
+ {"ph":"X","pid":1,"tid":null,"ts":9,"dur":1,"name":"none"},
+ {"ph":"M","pid":1,"name":"process_name","args":{"name":"old"}},
+ {"ph":"M","pid":1,"name":"process_name","args":{"name":"server"}},
+ {"ph":"M","pid":1,"tid":10,"name":"thread_name","args":{"name":"worker"}},
+ {"ph":"M","pid":1,"tid":9,"name":"thread_sort_index","args":{"sort_index":3}}]
+--
+┐server pid=1
+└─┐none time=1.000μs
+┌─┘
+└─┐thread tid=9
+  └─┐one time=1.000μs
+  ┌─┘
+┌─┘
+└─┐worker tid=10
+  └─┐two time=1.000μs
+  ┌─┘
+┌─┘
+┘
+┐process pid=2
+└─┐thread tid=9
+  └─┐late time=1.000μs
+  ┌─┘
+┌─┘
+┘
+END
+    trace_of 'with --times on a trace' --times << 'END'
+[{"ph":"X","tid":4,"ts":1000000,"dur":2000000,"name":"a"},{"ph":"i","tid":4,"ts":1500000.25,"name":"half"},{"ph":"i","ts":7,"name":"first"}]
+--
+   0.000007s INFO first
+┐thread tid=4
+└─┐a time=2.000s
+  ├─   1.500000s  500.00ms INFO half
+┌─┘
+┘
+END
+}
+
+run_cut_traces() {
+    local nested='[{"ph":"X","ts":0,"dur":100,"name":"a"},{"ph":"X","ts":10,"dur":1,"name":"b"},{"ph":"X","ts":20,"dur":1,"name":"c"},
+{"ph":"X","ts":20.2,"dur":0.5,"name":"d"},{"ph":"X","ts":50,"dur":10,"name":"e"},{"ph":"X","ts":200,"dur":1,"name":"f"}]'
+    { echo "$nested"; cat << 'END'; } | trace_of 'with --min' --min 2us
+--
+┐a time=100.000μs
+└─┐e time=10.000μs
+┌─┘
+├─ INFO left out, spans=3, time=2.000μs
+┘
+INFO left out, spans=1, time=1.000μs
+END
+    { echo "$nested"; cat << 'END'; } | trace_of 'with --depth' --depth 1
+--
+┐a time=100.000μs
+├─ INFO left out, spans=4, time=12.000μs
+┘
+┐f time=1.000μs
+┘
+END
+    { echo "$nested"; cat << 'END'; } | trace_of 'with --depth 0' --depth 0
+--
+INFO left out, spans=6, time=101.000μs
+END
+    trace_of 'with --min on threads' --min 2us << 'END'
+[{"ph":"X","pid":1,"tid":1,"ts":10,"dur":1,"name":"a"},{"ph":"X","pid":1,"tid":2,"ts":0,"dur":1,"name":"b"},
+ {"ph":"X","pid":1,"tid":3,"ts":0,"dur":1,"name":"c"},{"ph":"X","pid":1,"tid":3,"ts":5,"dur":2,"name":"d"},
+ {"ph":"X","pid":1,"tid":3,"ts":6,"dur":1,"name":"e"},{"ph":"B","pid":2,"ts":0,"name":"f"},{"ph":"X","pid":3,"ts":0,"dur":1,"name":"g"}]
+--
+┐process pid=1
+└─┐thread tid=3
+  └─┐d time=2.000μs
+    ├─ INFO left out, spans=1, time=1.000μs
+  ┌─┘
+┌─┘
+┘
+┐process pid=2
+└─┐f 
+┌─┘
+┘
+INFO left out, spans=4, time=4.000μs
+END
+    run --min nope "$room/trace"
+    : > "$room/want"
+    count 'with a --min that is no time' want "error: invalid value for '--min <TIME>': expected a length of time, such as 5ms or 1.5s
+
+Usage: ttree [OPTIONS] [FILE]
+
+For more information, try '--help'." 2
+    run --min -1s "$room/trace"
+    [ "$status" = 2 ] && : > "$room/err"
+    count 'with a --min below zero' want '' 2
+}
+
+# Traces that end early, elements of which nothing is known, and inputs that are no traces.
+run_odd_traces() {
+    trace_of 'on a list that ends early' << 'END'
+[{"ph":"i","ts":0,"name":"only"},
+--
+INFO only
+END
+    trace_of 'on an object that ends in an element' -- 1 'ttree: element 2: expected a JSON object' << 'END'
+{"displayTimeUnit":"ms","traceEvents":[{"ph":"X","ts":1,"dur":1,"name":"]}\"{"},{"ph":"X","ts":
+--
+┐]}"{ time=1.000μs
+┘
+END
+    trace_of 'on an object with more than its list' -- 1 'ttree: element 2: expected a JSON object' << 'END'
+{"otherData":{"x":[{"ph":"i","ts":0,"name":"other"}]},"traceEvents":[{"ph":"i","ts":0,"name":"mine"}],"last":{"y":
+--
+INFO mine
+END
+    local unknown='[1,{"ph":"X","ts":1},{"ph":"B","ts":-1},{"ph":"B","ts":1e3},{"ph":"i","ts":1,"pid":"x"},{"ph":"i","ts":1,"tid":1.5},
+{"ph":"C","ts":"anything"},{"ph":"i","ts":0,"name":"kept"}]'
+    { echo "$unknown"; printf -- '--\nINFO kept\n'; } | trace_of 'on elements that say nothing' -- 1 'ttree: element 1: "ph": expected a text
+ttree: element 2: "dur": expected microseconds
+ttree: element 3: "ts": expected microseconds
+ttree: element 4: "ts": expected microseconds
+ttree: element 5: "pid": expected a whole number
+ttree: element 6: "tid": expected a whole number'
+    { echo "$unknown"; echo --; } | trace_of 'with --strict on a trace' --strict -- 1 'ttree: element 1: "ph": expected a text'
+    local number notes=''
+    for number in {1..10}; do
+        notes+="ttree: element $number: \"ph\": expected a text"$'\n'
+    done
+    { printf '[%s]\n--\n' "$(printf '0,%.0s' {1..11})0"; } | trace_of 'on twelve elements that say nothing' -- 1 "${notes}ttree: elements skipped: 12"
+    local none='ttree: expected an array, or an object with an array at "traceEvents"'
+    printf '{"a":1}\n--\n' | trace_of 'on an object that is no trace' --from chrome -- 1 "$none"
+    printf '"x"\n--\n' | trace_of 'on a text that is no trace' --from chrome -- 1 "$none"
+    printf '[{"ph":"i","ts":0,"name":"a"},,{}]\n--\n' | trace_of 'on a list that is no JSON' -- 1 "$none"
+    printf -- '--\n' | trace_of 'on nothing as a trace' --from chrome -- 1 "$none"
+    printf '[\n--\n' | trace_of 'on a list that just began'
+    printf '[{"ph":"i","ts":0,"name":"\377"}]' > "$room/bytes"
+    : > "$room/want"
+    run "$room/bytes"
+    count 'on a trace that is not UTF-8' want 'ttree: expected UTF-8' 1
+    python3 -c 'print("[" + ",".join("{\"ph\":\"X\",\"ts\":%d,\"dur\":1,\"name\":\"s\"}" % (n * 2) for n in range(99999, -1, -1)) + "]")' > "$room/wide"
+    python3 -c 'print("┐s time=1.000μs\n┘\n" * 100000, end="")' > "$room/want"
+    run "$room/wide"
+    count 'on 100,000 spans side by side' want '' 0
+    python3 -c 'print("[" + ",".join("{\"ph\":\"B\",\"ts\":%d,\"name\":\"s\"}" % n for n in range(100000)) + "]")' > "$room/deep"
+    printf '┐s \n└─┐s \n  ├─ INFO left out, spans=99998, time=0.000μs\n┌─┘\n┘\n' > "$room/want"
+    run --depth 2 "$room/deep"
+    count 'on 100,000 spans in one another' want '' 0
+}
+
+# What two tools wrote.
+run_trace_samples() {
+    cat > "$room/want" << 'END'
+┐[20609] v pid=20609
+└─┐__monstartup time=4.756μs
+┌─┘
+└─┐__cxa_atexit time=2.448μs
+┌─┘
+└─┐main time=4.147ms
+  └─┐pthread_create time=112.607μs
+  ┌─┘
+  └─┐load time=10.064μs
+    └─┐parse time=4.331μs
+    ┌─┘
+    └─┐parse time=5.212μs
+    ┌─┘
+  ┌─┘
+  └─┐pthread_join time=3.997ms
+    └─┐linux:schedule time=3.979ms
+    ┌─┘
+  ┌─┘
+  └─┐puts time=23.340μs
+  ┌─┘
+┌─┘
+└─┐thread tid=20611
+  └─┐worker time=5.634μs
+    └─┐load time=5.129μs
+      └─┐parse time=1.753μs
+      ┌─┘
+      └─┐parse time=2.580μs
+      ┌─┘
+    ┌─┘
+  ┌─┘
+┌─┘
+┘
+END
+    run "$top/examples/uftrace.json"
+    count 'on a trace of uftrace' want '' 0
+    cat > "$room/want" << 'END'
+┐clang pid=26611
+└─┐clang tid=26611
+  └─┐ExecuteCompiler time=77.515ms
+    └─┐Frontend time=68.688ms
+      └─┐Source time=27.641ms, detail=include/stdio.h
+        └─┐Source time=19.711ms, detail=include/bits/libc-header-start.h
+          ├─ INFO left out, spans=2, time=2.681ms
+        ┌─┘
+        ├─ INFO left out, spans=3, time=2.703ms
+      ┌─┘
+      ├─ INFO left out, spans=1, time=4.887ms
+    ┌─┘
+    └─┐Backend time=6.456ms
+      ├─ INFO left out, spans=8, time=4.779ms
+    ┌─┘
+  ┌─┘
+┌─┘
+└─┐thread tid=26612
+  └─┐Total ExecuteCompiler time=77.514ms, count=1, avg ms=77
+  ┌─┘
+┌─┘
+└─┐thread tid=26613
+  └─┐Total Frontend time=68.744ms, count=2, avg ms=34
+  ┌─┘
+┌─┘
+└─┐thread tid=26614
+  └─┐Total Source time=27.640ms, count=1, avg ms=27
+  ┌─┘
+┌─┘
+└─┐thread tid=26615
+  └─┐Total Backend time=6.455ms, count=1, avg ms=6
+  ┌─┘
+┌─┘
+├─ INFO left out, spans=75, time=23.129ms
+┘
+END
+    run --min 5ms "$top/examples/clang-trace.json"
+    count 'with --min on a trace of clang' want '' 0
+}
