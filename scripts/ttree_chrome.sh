@@ -118,7 +118,8 @@ END
 run_cut_traces() {
     local nested='[{"ph":"X","ts":0,"dur":100,"name":"a"},{"ph":"X","ts":10,"dur":1,"name":"b"},{"ph":"X","ts":20,"dur":1,"name":"c"},
 {"ph":"X","ts":20.2,"dur":0.5,"name":"d"},{"ph":"X","ts":50,"dur":10,"name":"e"},{"ph":"X","ts":200,"dur":1,"name":"f"}]'
-    { echo "$nested"; cat << 'END'; } | trace_of 'with --min' --min 2us
+    trace_of 'with --min' --min 2us << END
+$nested
 --
 ┐a time=100.000μs
 └─┐e time=10.000μs
@@ -127,7 +128,8 @@ run_cut_traces() {
 ┘
 INFO left out, spans=1, time=1.000μs
 END
-    { echo "$nested"; cat << 'END'; } | trace_of 'with --depth' --depth 1
+    trace_of 'with --depth' --depth 1 << END
+$nested
 --
 ┐a time=100.000μs
 ├─ INFO left out, spans=4, time=12.000μs
@@ -135,7 +137,8 @@ END
 ┐f time=1.000μs
 ┘
 END
-    { echo "$nested"; cat << 'END'; } | trace_of 'with --depth 0' --depth 0
+    trace_of 'with --depth 0' --depth 0 << END
+$nested
 --
 INFO left out, spans=6, time=101.000μs
 END
@@ -189,24 +192,28 @@ INFO mine
 END
     local unknown='[1,{"ph":"X","ts":1},{"ph":"B","ts":-1},{"ph":"B","ts":1e3},{"ph":"i","ts":1,"pid":"x"},{"ph":"i","ts":1,"tid":1.5},
 {"ph":"C","ts":"anything"},{"ph":"i","ts":0,"name":"kept"}]'
-    { echo "$unknown"; printf -- '--\nINFO kept\n'; } | trace_of 'on elements that say nothing' -- 1 'ttree: element 1: "ph": expected a text
+    trace_of 'on elements that say nothing' -- 1 'ttree: element 1: "ph": expected a text
 ttree: element 2: "dur": expected microseconds
 ttree: element 3: "ts": expected microseconds
 ttree: element 4: "ts": expected microseconds
 ttree: element 5: "pid": expected a whole number
-ttree: element 6: "tid": expected a whole number'
-    { echo "$unknown"; echo --; } | trace_of 'with --strict on a trace' --strict -- 1 'ttree: element 1: "ph": expected a text'
+ttree: element 6: "tid": expected a whole number' << END
+$unknown
+--
+INFO kept
+END
+    trace_of 'with --strict on a trace' --strict -- 1 'ttree: element 1: "ph": expected a text' < <(echo "$unknown"; echo --)
     local number notes=''
     for number in {1..10}; do
         notes+="ttree: element $number: \"ph\": expected a text"$'\n'
     done
-    { printf '[%s]\n--\n' "$(printf '0,%.0s' {1..11})0"; } | trace_of 'on twelve elements that say nothing' -- 1 "${notes}ttree: elements skipped: 12"
+    trace_of 'on twelve elements that say nothing' -- 1 "${notes}ttree: elements skipped: 12" < <(printf '[%s]\n--\n' "$(printf '0,%.0s' {1..11})0")
     local none='ttree: expected an array, or an object with an array at "traceEvents"'
-    printf '{"a":1}\n--\n' | trace_of 'on an object that is no trace' --from chrome -- 1 "$none"
-    printf '"x"\n--\n' | trace_of 'on a text that is no trace' --from chrome -- 1 "$none"
-    printf '[{"ph":"i","ts":0,"name":"a"},,{}]\n--\n' | trace_of 'on a list that is no JSON' -- 1 "$none"
-    printf -- '--\n' | trace_of 'on nothing as a trace' --from chrome -- 1 "$none"
-    printf '[\n--\n' | trace_of 'on a list that just began'
+    trace_of 'on an object that is no trace' --from chrome -- 1 "$none" < <(printf '{"a":1}\n--\n')
+    trace_of 'on a text that is no trace' --from chrome -- 1 "$none" < <(printf '"x"\n--\n')
+    trace_of 'on a list that is no JSON' -- 1 "$none" < <(printf '[{"ph":"i","ts":0,"name":"a"},,{}]\n--\n')
+    trace_of 'on nothing as a trace' --from chrome -- 1 "$none" < <(printf -- '--\n')
+    trace_of 'on a list that just began' < <(printf '[\n--\n')
     printf '[{"ph":"i","ts":0,"name":"\377"}]' > "$room/bytes"
     : > "$room/want"
     run "$room/bytes"
