@@ -76,7 +76,7 @@ faults: need-python need-cc build
 	@$(CC) -O1 -shared -fPIC -o bin/refuse.so scripts/refuse.c -ldl
 	@python3 scripts/refuse.py bin/tracing_tree bin/refuse.so examples/first.jsonl examples/server.jsonl $(FAULTY)
 	@python3 scripts/refuse.py bin/tracing_tree_read bin/refuse.so $(DRAWINGS)
-	@python3 scripts/refuse.py bin/ttree bin/refuse.so examples/go-test.jsonl
+	@python3 scripts/refuse.py bin/ttree bin/refuse.so examples/go-test.jsonl examples/uftrace.json
 
 # How much `fuzz` and `soak` try. The same seed gives the same runs again.
 LINES = 1000000

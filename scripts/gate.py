@@ -156,7 +156,7 @@ class Gate:
         self.programs("scripts/steps.py", "tracing_tree_bench", more=[stepper])
         self.programs("scripts/refuse_calls.py", "tracing_tree_refusals", more=[shim])
         self.programs("scripts/refuse.py", "tracing_tree_cli", more=[shim, f"{TOP}/examples/first.jsonl"])
-        self.programs("scripts/refuse.py", "tracing_tree_ttree", more=[shim, f"{TOP}/examples/go-test.jsonl"])
+        self.programs("scripts/refuse.py", "tracing_tree_ttree", more=[shim, f"{TOP}/examples/go-test.jsonl", f"{TOP}/examples/uftrace.json"])
         drawing = f"{TOP}/crates/tracing_tree_cases/data/first/tree.out"
         return self.programs("scripts/refuse.py", "tracing_tree_read", more=[shim, drawing])
 

@@ -49,10 +49,13 @@ class Refusals:
             return True
         if kind == "write" and whole[0] and (status, told) == (whole[0], whole[2]):
             return whole[1].startswith(text)
-        found = re.fullmatch(rf"{'ttree: ' * (self.kind == 'ttree')}(?:line (\d+)|end): {WORDS[kind]}\n", told)
+        if self.kind == "ttree":
+            found = re.fullmatch(rf"ttree: (?:(?:line \d+|end): )?{WORDS[kind]}\n", told)
+            return bool(found) and status == 1 and whole[1].startswith(text)
+        found = re.fullmatch(rf"(?:line (\d+)|end): {WORDS[kind]}\n", told)
         if not found or status != 1 or not (found[1] or kind == "write"):
             return False
-        if self.kind == "ttree" or not found[1]:
+        if not found[1]:
             return whole[1].startswith(text)
         line = int(found[1])
         if kind == "write":

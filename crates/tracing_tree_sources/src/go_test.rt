@@ -4,6 +4,8 @@ ghost use Rattle.std.specs.Prelude.{◌≡◌, ◌++◌, ◌∷◌, ◌<◌, [],
 ghost use Rattle.json.specs.Value.{value_view};
 ghost use Rattle.tracing_tree_sources.specs.GoTest.{acted, after_mark, all_left_over, failed_by, takes_plain, takes_value_as, test_ended, told_if_ended, begun, counted, elapsed_in, ended, ends_line, ends_word, event_told, finished, frames, go_ends, held, holds, is_frame, is_package_frame, kept, is_end_frame, is_step_frame, lack_in, leads, left_one, left_over, level_of, line_of, line_told, name_of, nothing_run, opened, owner, package_ended, package_of, printed, quiet_told, ran, takes_text, takes_timed, takes_value, timed, test_of, text_at, up_to_space, without_line_end, without_spaces, word_of};
 
+mod text;
+
 use crate::moments::moment_after;
 use crate::notes::Lack;
 use crate::source::Source;
@@ -12,6 +14,8 @@ use json::Value;
 use std::alloc::{AllocError, Global};
 use std::marker::Model;
 use std::mem;
+pub(crate) use text::{after_mark, leads};
+use text::{ends_line, is_frame, is_package_frame, up_to_space, without_line_end};
 use tracing_tree::call::Call;
 use tracing_tree::field::{Field, Fields};
 use tracing_tree::format::Id;
@@ -660,13 +664,6 @@ fn add_to_part(alloc: Global, one: &mut Running, text: &str) -> Result<(), Alloc
     Ok(())
 }
 
-// What stands after this mark at the front of a line.
-pub(crate) fn after_mark<'a>(line: &'a str, mark: &str) -> Option<&'a str>
-    ensures { option_map (λ s. s.now) result ≡ after_mark mark.now line.now }
-{
-    line.strip_prefix(mark)
-}
-
 // The name that a span or a line shows.
 fn name_of(one: &Running) -> &str
     ensures { result.now ≡ name_of one.now }
@@ -697,109 +694,4 @@ fn owner(running: &[Running], path: &str, test: &str) -> Option<usize>
         rest = others;
     }
     found
-}
-
-// Whether a name is this one or a beginning of it at a `/`, as the empty name of a package is.
-pub(crate) fn leads(name: &[u8], test: &[u8]) -> bool
-    ensures { result ≡ leads name.now test.now }
-{
-    name.is_empty() || test.starts_with(name) && ends_word(b'/', &test[name.len()..])
-}
-
-// Whether nothing or this byte begins what is left.
-fn ends_word(byte: u8, rest: &[u8]) -> bool
-    ensures { result ≡ ends_word byte rest.now }
-{
-    match rest {
-        [] => true,
-        [first, ..] => *first == byte,
-    }
-}
-
-// What stands before the first space.
-fn up_to_space(text: &str) -> &str
-    ensures { result.now ≡ up_to_space text.now }
-{
-    match text.split_once(' ') {
-        Some((front, _)) => front,
-        None => text,
-    }
-}
-
-fn ends_line(bytes: &[u8]) -> bool
-    ensures { result ≡ ends_line bytes.now }
-{
-    bytes.ends_with("\n".as_bytes())
-}
-
-fn without_line_end(text: &str) -> &str
-    ensures { result.now ≡ without_line_end text.now }
-{
-    match text.strip_suffix("\n") {
-        Some(line) => line,
-        None => text,
-    }
-}
-
-// Whether a line only frames what the test of this name, or a package, prints.
-fn is_frame(test: &[u8], line: &[u8]) -> bool
-    ensures { result ≡ is_frame test.now line.now }
-{
-    if test.is_empty() {
-        return is_package_frame(line);
-    }
-    let line = without_spaces(line);
-    is_step_frame(test, line) || is_end_frame(test, line)
-}
-
-// Whether a line tells that the test goes on or waits.
-fn is_step_frame(test: &[u8], line: &[u8]) -> bool
-    ensures { result ≡ is_step_frame test.now line.now }
-{
-    frames(line, "=== RUN   ", test)
-        || frames(line, "=== PAUSE ", test)
-        || frames(line, "=== CONT  ", test)
-        || frames(line, "=== NAME  ", test)
-}
-
-// Whether a line tells how the test ended.
-fn is_end_frame(test: &[u8], line: &[u8]) -> bool
-    ensures { result ≡ is_end_frame test.now line.now }
-{
-    frames(line, "--- PASS: ", test)
-        || frames(line, "--- FAIL: ", test)
-        || frames(line, "--- SKIP: ", test)
-        || frames(line, "--- BENCH: ", test)
-}
-
-// What stands from the first byte on that is no space.
-fn without_spaces(line: &[u8]) -> &[u8]
-    ensures { result.now ≡ without_spaces line.now }
-{
-    let mut rest = line;
-    while let [b' ', more @ ..] = rest {
-        rest = more;
-    }
-    rest
-}
-
-// Whether the line is this mark, the test's name and nothing more, or a time after it.
-fn frames(line: &[u8], mark: &str, test: &[u8]) -> bool
-    ensures { result ≡ frames line.now test.now mark.now }
-{
-    if !line.starts_with(mark.as_bytes()) {
-        return false;
-    }
-    let rest = &line[mark.len()..];
-    rest.starts_with(test) && ends_word(b' ', &rest[test.len()..])
-}
-
-fn is_package_frame(line: &[u8]) -> bool
-    ensures { result ≡ is_package_frame line.now }
-{
-    line == "PASS".as_bytes()
-        || line == "FAIL".as_bytes()
-        || line.starts_with("ok  \t".as_bytes())
-        || line.starts_with("FAIL\t".as_bytes())
-        || line.starts_with("?   \t".as_bytes())
 }

@@ -1,5 +1,5 @@
 use Rattle.tracing_tree_sources.proofs.GoLines.{strips}
-use Rattle.tracing_tree_sources.proofs.go_test.after_mark.Goals as goal
+use Rattle.tracing_tree_sources.proofs.go_test.text.after_mark.Goals as goal
 
 pub returns : goal.returns
 returns c = strips c.strip_prefix.result c.args.mark.now c.args.line.now c.strip_prefix.ensures.cases
