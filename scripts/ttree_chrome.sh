@@ -190,9 +190,39 @@ END
 --
 INFO mine
 END
+    trace_of 'on a comma after the last element' << 'END'
+[{"ph":"i","ts":0,"name":"a"},]
+--
+INFO a
+END
+    trace_of 'on what is no JSON after the list' -- 1 'ttree: element 2: expected a JSON object' << 'END'
+{"traceEvents":[{"ph":"i","ts":0,"name":"a"}],"x":NaN}
+--
+INFO a
+END
+    printf '[{"ph":"i","ts":0,"name":"a"},{"ph":"i","ts":1,"name":"\303' > "$room/bytes"
+    echo 'INFO a' > "$room/want"
+    run "$room/bytes"
+    count 'on a trace that ends in a character' want 'ttree: element 2: expected a JSON object' 1
+    trace_of 'on a large number of a thread' << 'END'
+[{"ph":"X","tid":18446744073709551615,"ts":0,"dur":1,"name":"a"},{"ph":"X","tid":-1,"ts":0,"dur":1,"name":"b"}]
+--
+┐thread tid=-1
+└─┐b time=1.000μs
+┌─┘
+┘
+┐thread tid=18446744073709551615
+└─┐a time=1.000μs
+┌─┘
+┘
+END
+    printf '[build] started\n{"Action":"fail","Package":"p"}\n' > "$room/banner"
+    expect "$room/banner" 's/^//'
+    run "$room/banner"
+    count 'on a word in brackets before the lines of a test' want '' 1
     local unknown='[1,{"ph":"X","ts":1},{"ph":"B","ts":-1},{"ph":"B","ts":1e3},{"ph":"i","ts":1,"pid":"x"},{"ph":"i","ts":1,"tid":1.5},
 {"ph":"C","ts":"anything"},{"ph":"i","ts":0,"name":"kept"}]'
-    trace_of 'on elements that say nothing' -- 1 'ttree: element 1: "ph": expected a text
+    trace_of 'on elements that say nothing' --from chrome -- 1 'ttree: element 1: "ph": expected a text
 ttree: element 2: "dur": expected microseconds
 ttree: element 3: "ts": expected microseconds
 ttree: element 4: "ts": expected microseconds
@@ -202,12 +232,12 @@ $unknown
 --
 INFO kept
 END
-    trace_of 'with --strict on a trace' --strict -- 1 'ttree: element 1: "ph": expected a text' < <(echo "$unknown"; echo --)
+    trace_of 'with --strict on a trace' --from chrome --strict -- 1 'ttree: element 1: "ph": expected a text' < <(echo "$unknown"; echo --)
     local number notes=''
     for number in {1..10}; do
         notes+="ttree: element $number: \"ph\": expected a text"$'\n'
     done
-    trace_of 'on twelve elements that say nothing' -- 1 "${notes}ttree: elements skipped: 12" < <(printf '[%s]\n--\n' "$(printf '0,%.0s' {1..11})0")
+    trace_of 'on twelve elements that say nothing' --from chrome -- 1 "${notes}ttree: elements skipped: 12" < <(printf '[%s]\n--\n' "$(printf '0,%.0s' {1..11})0")
     local none='ttree: expected an array, or an object with an array at "traceEvents"'
     trace_of 'on an object that is no trace' --from chrome -- 1 "$none" < <(printf '{"a":1}\n--\n')
     trace_of 'on a text that is no trace' --from chrome -- 1 "$none" < <(printf '"x"\n--\n')

@@ -7,9 +7,9 @@ use Rattle.std.specs.Int.RustNames.{FitsSigned}
 use Rattle.std.specs.Result.{OkIff, result_ok}
 use Rattle.std.specs.Str.{all_ascii_digits}
 use Rattle.std.specs.Str.Parse.{IsNumeral, digits_value, signed_digits_value, without_leading_sign, ParsesSigned, ParsesUnsigned}
-use mir.Syntax.{w64}
+use mir.Syntax.{w128}
 use Rattle.tracing_tree_sources.specs.GoTest.{is_empty}
-use Rattle.tracing_tree_sources.specs.ChromeElement.{fits_i64, integer_of, is_digits, whole_of}
+use Rattle.tracing_tree_sources.specs.ChromeElement.{fits_i128, integer_of, is_digits, whole_of}
 
 digits : IsNumeralModel (λ ds. all_ascii_digits ds ≡ true) (digits_value 10)
 digits = numerals_by_value _ tells_all_ascii_digits
@@ -29,13 +29,13 @@ numeral_from ds h =
     let parts = and_parts (not (is_empty ds)) (all_ascii_digits ds) h in
     (length_some ds parts.0, digits.to ds parts.1)
 
-fits_true : (z : ℤ) → FitsSigned w64 z → fits_i64 z ≡ true
-fits_true (pos n) h = lt-ltb n (2 ^ 63) h.sfits
-fits_true (negsuc n) h = lt-ltb n (2 ^ 63) h.sfits
+fits_true : (z : ℤ) → FitsSigned w128 z → fits_i128 z ≡ true
+fits_true (pos n) h = lt-ltb n (2 ^ 127) h.sfits
+fits_true (negsuc n) h = lt-ltb n (2 ^ 127) h.sfits
 
-fits_from : (z : ℤ) → fits_i64 z ≡ true → FitsSigned w64 z
-fits_from (pos n) h = record { sfits = ltb-true n (2 ^ 63) h }
-fits_from (negsuc n) h = record { sfits = ltb-true n (2 ^ 63) h }
+fits_from : (z : ℤ) → fits_i128 z ≡ true → FitsSigned w128 z
+fits_from (pos n) h = record { sfits = ltb-true n (2 ^ 127) h }
+fits_from (negsuc n) h = record { sfits = ltb-true n (2 ^ 127) h }
 
 picked : {X E : Type 0} (r : Result X E) (P : Type 0) (v : X) (b : Bool) → OkIff r P v → (P → b ≡ true) → (b ≡ true → P) →
     result_ok r ≡ (if b then Some v else None)
@@ -51,10 +51,10 @@ whole_parsed bs r h is =
     (λ p. and_from _ _ is (lt-ltb v (2 ^ 64) p.1))
     (λ q. (length_some bs parts.0, ltb-true v (2 ^ 64) (and_parts (is_digits bs) _ q).1))
 
-pub integer_parsed : {E : Type 0} (bs : List ℕ) (r : Result ℤ E) → ParsesSigned w64 10 bs r → result_ok r ≡ integer_of bs
+pub integer_parsed : {E : Type 0} (bs : List ℕ) (r : Result ℤ E) → ParsesSigned w128 10 bs r → result_ok r ≡ integer_of bs
 integer_parsed bs r h =
     let ds = without_leading_sign bs in
     let z = signed_digits_value 10 bs in
-    picked r (IsNumeral 10 ds × FitsSigned w64 z) z _ h
+    picked r (IsNumeral 10 ds × FitsSigned w128 z) z _ h
     (λ p. and_from _ _ (is_digits_true ds p.0) (fits_true z p.1))
-    (λ q. (numeral_from ds (and_parts (is_digits ds) (fits_i64 z) q).0, fits_from z (and_parts (is_digits ds) (fits_i64 z) q).1))
+    (λ q. (numeral_from ds (and_parts (is_digits ds) (fits_i128 z) q).0, fits_from z (and_parts (is_digits ds) (fits_i128 z) q).1))

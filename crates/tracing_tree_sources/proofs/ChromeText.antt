@@ -1,6 +1,6 @@
 -- Where a text is cut.
 use Rattle.std.proofs.Common.{◌≡◌, ℕ, ◌+◌, ◌<◌, ◌==◌, ◌||◌, Bool, true, false, List, [], ◌∷◌, ◌++◌, length, get_or, refl, sym, ◌∙◌, arith, append_assoc}
-use Rattle.std.specs.Prelude.{if◌then◌else◌, nat_le, IsUtf8, IsCharBoundary}
+use Rattle.std.specs.Prelude.{if◌then◌else◌, IsUtf8, IsCharBoundary}
 use Rattle.std.proofs.Math.Seq.{get_or-append_seam}
 use Rattle.std.proofs.lemmas.List.{length-append}
 use Rattle.std.proofs.lemmas.Bool.Decides.{nat_tests}
@@ -15,7 +15,7 @@ module _ (P : ℕ → Type 0) where
 
   noted_place : (level at : ℕ) (s : ScanState) → P s.place → P at → P (noted level at s).place
   noted_place level at s h k =
-      place_if (nat_le (length s.brackets) level) (record s { place = at; left_open = s.brackets }) s (λ _. k) h
+      place_if (length s.brackets == level) (record s { place = at; left_open = s.brackets }) s (λ _. k) h
 
   in_text_place : (byte : ℕ) (s : ScanState) → P s.place → P (read_in_text byte s).place
   in_text_place byte s h =

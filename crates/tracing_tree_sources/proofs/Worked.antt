@@ -4,7 +4,7 @@ use Rattle.std.specs.Prelude.{negsuc}
 use Rattle.json.specs.Json.{array, boolean, string, object, no_items, member, no_members}
 use Rattle.tracing_tree_sources.specs.ChromeText.{is_cut, mended}
 use Rattle.tracing_tree_sources.specs.Failed.{Untold, forgotten, is_inner, released, taken, verdict_of}
-use Rattle.tracing_tree_sources.specs.First.{begins_with, format_by, format_of, format_of_line}
+use Rattle.tracing_tree_sources.specs.First.{begins_list, begins_with, format_by, format_of, format_of_line}
 use Rattle.tracing_tree_sources.specs.GoTest.{GoState, after_mark, go_lacks, is_frame, leads, up_to_space}
 use Rattle.tracing_tree_sources.specs.declared.failed.Kept.{Kept}
 use Rattle.tracing_tree_sources.specs.declared.failed.Verdict.TheVariants.{Open, Good, Bad}
@@ -164,6 +164,15 @@ half_an_element_is_lost = refl
 pub no_element_is_lost : is_cut (codes "[\n[],\n") ≡ false
 no_element_is_lost = refl
 
+pub a_comma_after_the_last : mended (codes "[{\"a\":1},]") ≡ codes "[{\"a\":1}]"
+a_comma_after_the_last = refl
+
+pub a_comma_loses_nothing : is_cut (codes "[{\"a\":1},]") ≡ false
+a_comma_loses_nothing = refl
+
+pub what_is_no_json_after_the_list : mended (codes "{\"traceEvents\":[{\"a\":1}],\"x\":NaN}") ≡ codes "{\"traceEvents\":[{\"a\":1}]}"
+what_is_no_json_after_the_list = refl
+
 pub a_list_that_goes_on_is_of_chrome : format_of_line (codes "\t[") ≡ Chrome
 a_list_that_goes_on_is_of_chrome = refl
 
@@ -175,3 +184,9 @@ events_of_a_trace_are_of_chrome = refl
 
 pub an_action_beside_events_is_gos : format_of (Some (object (member (codes "traceEvents") (array no_items) (member (codes "Action") (string (codes "start")) no_members)))) ≡ GoTest
 an_action_beside_events_is_gos = refl
+
+pub a_word_in_brackets_begins_no_list : begins_list (codes "[info] started") ≡ false
+a_word_in_brackets_begins_no_list = refl
+
+pub a_list_of_objects_begins : begins_list (codes " [ {\"ph\":") ≡ true
+a_list_of_objects_begins = refl

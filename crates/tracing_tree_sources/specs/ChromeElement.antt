@@ -31,14 +31,14 @@ whole_of text =
     if is_digits text && nat_lt (digits_value 10 text) (2 ^ 64)
     then Some (digits_value 10 text) else None
 
-abbrev pub fits_i64 : ℤ → Bool
-fits_i64 (pos n) = nat_lt n (2 ^ 63)
-fits_i64 (negsuc n) = nat_lt n (2 ^ 63)
+abbrev pub fits_i128 : ℤ → Bool
+fits_i128 (pos n) = nat_lt n (2 ^ 127)
+fits_i128 (negsuc n) = nat_lt n (2 ^ 127)
 
--- the number that digits write with a sign before them or none, if an i64 holds it
+-- the number that digits write with a sign before them or none, if an i128 holds it
 abbrev pub integer_of : List ℕ → Option ℤ
 integer_of text =
-    if is_digits (without_leading_sign text) && fits_i64 (signed_digits_value 10 text)
+    if is_digits (without_leading_sign text) && fits_i128 (signed_digits_value 10 text)
     then Some (signed_digits_value 10 text) else None
 
 -- what a digit counts

@@ -1,5 +1,5 @@
 -- The elements that a text has as a trace.
-use Rattle.std.specs.Prelude.{ℕ, ◌+◌, ◌==◌, ◌||◌, nat_le, Bool, true, false, if◌then◌else◌, List, [], ◌∷◌, ◌++◌, length, take, drop, flat_map, Option, Some, None, codes}
+use Rattle.std.specs.Prelude.{ℕ, ◌+◌, ◌==◌, ◌||◌, Bool, true, false, if◌then◌else◌, List, [], ◌∷◌, ◌++◌, length, take, drop, flat_map, Option, Some, None, codes}
 use Rattle.json.specs.Json.{Json, null, boolean, number, string, array, object, Items}
 use Rattle.tracing_tree_sources.specs.TracingLine.{array_at}
 use Rattle.tracing_tree_sources.specs.declared.chrome.text.Bracket.{Bracket}
@@ -25,7 +25,7 @@ pub record ScanState : Type 0 where
   pub in_text : Bool
   -- whether a backslash stands before it there
   pub is_escaped : Bool
-  -- how many bytes stand up to the last place where few enough brackets were open
+  -- how many bytes stand up to the last place between two elements
   pub place : ℕ
   -- those that were open there, the innermost first
   pub left_open : List Bracket
@@ -40,10 +40,10 @@ opened bracket s = record s { brackets = bracket ∷ s.brackets }
 abbrev pub closed : ScanState → ScanState
 closed s = record s { brackets = drop 1 s.brackets }
 
--- this many bytes in, at most `level` brackets may be open
+-- this many bytes in, a place where just `level` brackets are open
 abbrev pub noted : ℕ → ℕ → ScanState → ScanState
 noted level at s =
-    if nat_le (length s.brackets) level then record s { place = at; left_open = s.brackets } else s
+    if length s.brackets == level then record s { place = at; left_open = s.brackets } else s
 
 abbrev pub read_in_text : ℕ → ScanState → ScanState
 read_in_text byte s =
@@ -75,6 +75,11 @@ scan_from level at (byte ∷ others) s =
 abbrev pub is_blank : ℕ → Bool
 is_blank byte = (byte == 32) || (byte == 9) || (byte == 13) || (byte == 10)
 
+-- what stands from the first byte on that is no blank
+abbrev pub after_blanks : List ℕ → List ℕ
+after_blanks [] = []
+after_blanks (byte ∷ others) = if is_blank byte then after_blanks others else byte ∷ others
+
 -- the first byte that is no blank
 abbrev pub first_byte : List ℕ → Option ℕ
 first_byte [] = None
@@ -95,14 +100,18 @@ abbrev pub closer : Bracket → List ℕ
 closer Square = codes "]"
 closer Curly = codes "}"
 
--- the text up to the last place where few enough brackets are open, with these closed
+-- the text up to the last place between two elements, with what is open there closed
 abbrev pub mended : List ℕ → List ℕ
 mended text = take (scan_of text).place text ++ flat_map closer (scan_of text).left_open
 
--- whether anything but blanks and commas stands there
+-- a byte may stand after the last element of a list: a blank, a comma, or what closes
+abbrev pub is_closing : ℕ → Bool
+is_closing byte = is_blank byte || (byte == 44) || (byte == 93) || (byte == 125)
+
+-- whether anything else stands there
 abbrev pub has_more : List ℕ → Bool
 has_more [] = false
-has_more (byte ∷ others) = if is_blank byte || (byte == 44) then has_more others else true
+has_more (byte ∷ others) = if is_closing byte then has_more others else true
 
 -- whether more than its end is lost
 abbrev pub is_cut : List ℕ → Bool

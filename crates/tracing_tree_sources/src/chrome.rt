@@ -19,7 +19,7 @@ use element::element_of;
 use gather::{Gathered, in_order};
 use json::{Scratch, Value};
 use std::alloc::{AllocError, Global};
-pub(crate) use text::first_byte;
+pub(crate) use text::{after_blanks, first_byte};
 use text::{elements_in, mended};
 use tracing_tree::call::Call;
 use tracing_tree::format::Output;

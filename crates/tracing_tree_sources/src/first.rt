@@ -3,9 +3,9 @@
 ghost use Rattle.std.specs.Prelude.{◌≡◌, IfOk, option_map};
 ghost use Rattle.json.specs.Json.{document};
 ghost use Rattle.json.specs.Value.{value_view};
-ghost use Rattle.tracing_tree_sources.specs.First.{begins_with, format_by, format_of, format_of_line, format_of_value, is_of_tracing};
+ghost use Rattle.tracing_tree_sources.specs.First.{begins_list, begins_with, format_by, format_of, format_of_line, format_of_value, is_of_tracing};
 
-use crate::chrome::first_byte;
+use crate::chrome::{after_blanks, first_byte};
 use crate::go_test::text_at;
 use crate::run::value_of;
 use crate::tracing::{array_at, is_object, level_in};
@@ -29,20 +29,33 @@ pub enum Format {
     Chrome,
 }
 
-/// Whose output begins with this line. A line that begins with `[` after its blanks is Chrome's, and so is one that begins with
-/// `{` and is no JSON value. An object with a text at `Action` is Go's. Another with an array at `traceEvents` is Chrome's. Another
+/// Whose output begins with this line. A line that begins with `[` after its blanks is Chrome's, where nothing else, `{` or `]` comes
+/// next, and so is one that begins with `{` and is no JSON value. An object with a text at `Action` is Go's. Another with an array at `traceEvents` is Chrome's. Another
 /// with one of the five levels at `level`, and anything at `fields` or at `target`, is tracing's. Any other object has settings. All
 /// else is Go's, whose builds print lines that aren't JSON. `AllocError` where memory is refused.
 pub fn first_format(alloc: Global, line: &[u8]) -> Result<Format, AllocError>
     ensures { IfOk result (λ format. format ≡ format_of_line line.now) }
 {
-    if begins_with(b'[', line) {
+    if begins_list(line) {
         return Ok(Format::Chrome);
     }
     let begins_object = begins_with(b'{', line);
     match from_utf8(line) {
         Ok(text) => format_of_text(alloc, begins_object, text),
         Err(_) => Ok(format_by(begins_object, None)),
+    }
+}
+
+// Whether a list of objects begins, or nothing but a list does.
+fn begins_list(line: &[u8]) -> bool
+    ensures { result ≡ begins_list line.now }
+{
+    match after_blanks(line) {
+        [b'[', rest @ ..] => match first_byte(rest) {
+            Some(byte) => byte == b'{' || byte == b']',
+            None => true,
+        },
+        _ => false,
     }
 }
 

@@ -4,11 +4,11 @@
 use clap::error::ErrorKind;
 use clap::{Arg, ArgAction, ArgMatches, Command, Error, value_parser};
 use jiff::{SignedDuration, Timestamp};
-use simdutf8::basic::from_utf8;
 use std::alloc::{AllocError, Global};
 use std::io::{BufReader, BufWriter, IsTerminal, Read, Write};
 use std::process::ExitCode;
 use std::rt::{Env, Files};
+use std::str::from_utf8;
 use std::{env, fs, io};
 use tracing_tree::format::{Config, Wrap};
 use tracing_tree::layer::HierarchicalLayer;
@@ -393,6 +393,19 @@ fn draw_tracing<R: AllocGlobal + Eprint + Print, I: Read + Drop>(
     Ok(status(is_whole))
 }
 
+// The text of these bytes, without a character in which they end. The line end that the first line got doesn't count.
+fn whole_characters(bytes: &[u8]) -> Option<&str> {
+    let bytes = match bytes {
+        [front @ .., b'\n'] => front,
+        _ => bytes,
+    };
+    match from_utf8(bytes) {
+        Ok(text) => Some(text),
+        Err(error) if error.error_len().is_none() => from_utf8(&bytes[..error.valid_up_to()]).ok(),
+        Err(_) => None,
+    }
+}
+
 // Draws a trace, of which the whole is read first.
 fn draw_trace<R: AllocGlobal + Eprint + Print, I: Read + Drop>(
     rt: &R,
@@ -409,7 +422,7 @@ fn draw_trace<R: AllocGlobal + Eprint + Print, I: Read + Drop>(
         let _ = eprintln!(rt; "ttree: read");
         return Ok(ExitCode::FAILURE);
     }
-    let Ok(text) = from_utf8(bytes.as_slice()) else {
+    let Some(text) = whole_characters(bytes.as_slice()) else {
         let _ = eprintln!(rt; "ttree: {}", Lack::Utf8);
         return Ok(ExitCode::FAILURE);
     };

@@ -16,8 +16,8 @@ use tracing_tree::text::Text;
 // The process and the thread of an element, as far as it tells them.
 #[derive(Clone, Copy, PartialEq, Eq, PartialOrd, Ord)]
 pub(super) struct Lane {
-    pub(super) process: Option<i64>,
-    pub(super) thread: Option<i64>,
+    pub(super) process: Option<i128>,
+    pub(super) thread: Option<i128>,
 }
 
 // What most elements say.
@@ -226,7 +226,7 @@ fn lane_in(value: &Value<'_>) -> Result<Lane, Lack>
 }
 
 // The whole number at a key, none where the key is absent or its value is null.
-fn integer_at(value: &Value<'_>, key: &str, lack: Lack) -> Result<Option<i64>, Lack>
+fn integer_at(value: &Value<'_>, key: &str, lack: Lack) -> Result<Option<i128>, Lack>
     ensures { result ≡ integer_at key.now lack (value_view value.now) }
 {
     match value.get(key) {
@@ -236,7 +236,7 @@ fn integer_at(value: &Value<'_>, key: &str, lack: Lack) -> Result<Option<i64>, L
 }
 
 // A whole number, or null for none.
-fn integer_in(value: &Value<'_>, lack: Lack) -> Result<Option<i64>, Lack>
+fn integer_in(value: &Value<'_>, lack: Lack) -> Result<Option<i128>, Lack>
     ensures { result ≡ integer_in lack (value_view value.now) }
 {
     match value {
@@ -249,7 +249,7 @@ fn integer_in(value: &Value<'_>, lack: Lack) -> Result<Option<i64>, Lack>
     }
 }
 
-fn integer_of(text: &str) -> Option<i64>
+fn integer_of(text: &str) -> Option<i128>
     ensures { result ≡ integer_of text.now }
 {
     text.parse().ok()

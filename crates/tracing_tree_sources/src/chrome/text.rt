@@ -2,7 +2,7 @@
 
 ghost use Rattle.std.specs.Prelude.{◌≡◌, ◌++◌, IfOk, OnOk, flat_map, option_map, reverse, string_bytes};
 ghost use Rattle.json.specs.Value.{items_view, value_view};
-ghost use Rattle.tracing_tree_sources.specs.ChromeText.{byte_read, closed, closer, elements_in, first_byte, has_more, is_blank, is_cut, level_of, mended, noted, nothing_read, opened, read_in_text, read_outside, scan_of};
+ghost use Rattle.tracing_tree_sources.specs.ChromeText.{after_blanks, byte_read, closed, closer, elements_in, first_byte, has_more, is_blank, is_closing, is_cut, level_of, mended, noted, nothing_read, opened, read_in_text, read_outside, scan_of};
 
 use crate::tracing::array_at;
 use json::Value;
@@ -29,7 +29,7 @@ pub(super) struct MendedText {
     pub(super) is_cut: bool,
 }
 
-// The text up to the last place where few brackets are open, with these closed.
+// The text up to the last place between two elements, with what is open there closed.
 pub(super) fn mended(alloc: Global, text: &str) -> Result<MendedText, AllocError>
     ensures { IfOk result (λ made. made ≡ record { text = mended text.now; is_cut = is_cut text.now }) }
 {
@@ -79,7 +79,7 @@ struct Scan {
     brackets: Vec<Bracket>,
     in_text: bool,
     is_escaped: bool,
-    // How many bytes stand up to the last place where few brackets were open.
+    // How many bytes stand up to the last place between two elements.
     place: usize,
     // What was open there, the innermost last.
     left_open: Vec<Bracket>,
@@ -165,11 +165,11 @@ impl Scan {
         self.brackets.pop();
     }
 
-    // Keeps this place where few brackets are open.
+    // Keeps a place between two elements, where just the list and what is around it is open.
     fn note(&mut self, level: usize, at: usize) -> Result<(), AllocError>
         ensures { OnOk result (self.new ≡ noted level at self.old) }
     {
-        if self.brackets.len() > level {
+        if self.brackets.len() != level {
             return Ok(());
         }
         self.place = at;
@@ -203,6 +203,20 @@ fn level_of(text: &[u8]) -> usize
     }
 }
 
+// What stands from the first byte on that is no blank.
+pub(crate) fn after_blanks(text: &[u8]) -> &[u8]
+    ensures { result.now ≡ after_blanks text.now }
+{
+    let mut rest = text;
+    while let [byte, others @ ..] = rest {
+        if !is_blank(*byte) {
+            break;
+        }
+        rest = others;
+    }
+    rest
+}
+
 // The first byte that is no blank.
 pub(crate) fn first_byte(text: &[u8]) -> Option<u8>
     ensures { result ≡ first_byte text.now }
@@ -226,13 +240,23 @@ fn is_blank(byte: u8) -> bool
     }
 }
 
-// Whether anything but blanks and commas stands there.
+// Whether a byte may stand after the last element of a list.
+fn is_closing(byte: u8) -> bool
+    ensures { result ≡ is_closing byte }
+{
+    match byte {
+        b',' | b']' | b'}' => true,
+        _ => is_blank(byte),
+    }
+}
+
+// Whether anything else stands there.
 fn has_more(bytes: &[u8]) -> bool
     ensures { result ≡ has_more bytes.now }
 {
     let mut rest = bytes;
     while let [byte, others @ ..] = rest {
-        if !is_blank(*byte) && *byte != b',' {
+        if !is_closing(*byte) {
             return true;
         }
         rest = others;

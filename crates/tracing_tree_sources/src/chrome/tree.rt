@@ -205,7 +205,7 @@ impl Tree {
         let Some(process) = lane.process else {
             return Ok(());
         };
-        let field = Field::whole(self.alloc, "pid", i128::from(process))?;
+        let field = Field::whole(self.alloc, "pid", process)?;
         let name = process_name(self.processes.as_slice(), process);
         let name = Text::from_str(self.alloc, name)?;
         self.open_lane(name, field)
@@ -218,7 +218,7 @@ impl Tree {
         let Some(thread) = lane.thread else {
             return Ok(());
         };
-        let field = Field::whole(self.alloc, "tid", i128::from(thread))?;
+        let field = Field::whole(self.alloc, "tid", thread)?;
         let name = thread_name(self.threads.as_slice(), lane);
         let name = Text::from_str(self.alloc, name)?;
         self.open_lane(name, field)
@@ -447,7 +447,7 @@ fn process_depth(lane: Lane) -> usize
 }
 
 // How a process is called, by the last element that says it.
-fn process_name<'n>(names: &'n [Name], process: i64) -> &'n str
+fn process_name<'n>(names: &'n [Name], process: i128) -> &'n str
     ensures { result.now ≡ process_name names.now process }
 {
     match told_process(names, process) {
@@ -456,7 +456,7 @@ fn process_name<'n>(names: &'n [Name], process: i64) -> &'n str
     }
 }
 
-fn told_process<'n>(names: &'n [Name], process: i64) -> Option<&'n str>
+fn told_process<'n>(names: &'n [Name], process: i128) -> Option<&'n str>
     ensures { option_map (λ t. t.now) result ≡ told_process names.now process }
 {
     let found = names.iter().rev().find(|name| {
@@ -466,7 +466,7 @@ fn told_process<'n>(names: &'n [Name], process: i64) -> Option<&'n str>
     Some(found.text.as_str())
 }
 
-fn is_of_process(name: &Name, process: i64) -> bool
+fn is_of_process(name: &Name, process: i128) -> bool
     ensures { result ≡ is_of_process process name.now }
 {
     name.lane.process == Some(process)

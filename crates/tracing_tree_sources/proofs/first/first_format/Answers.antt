@@ -3,7 +3,7 @@ use Rattle.std.specs.Prelude.{if◌then◌else◌}
 use Rattle.std.specs.Str.{is_utf8}
 use Rattle.std.proofs.lemmas.Str.{is_utf8-from_IsUtf8}
 use Rattle.json.specs.Json.{document}
-use Rattle.tracing_tree_sources.specs.First.{begins_with, format_by, format_of_line}
+use Rattle.tracing_tree_sources.specs.First.{begins_list, begins_with, format_by, format_of_line}
 use Rattle.tracing_tree_sources.specs.declared.first.Format.{Format}
 use Rattle.tracing_tree_sources.specs.declared.first.Format.TheVariants.{Chrome}
 use Rattle.tracing_tree_sources.proofs.Heard.{no_text}
@@ -12,20 +12,20 @@ use Rattle.tracing_tree_sources.proofs.first.first_format.Goals as goal
 abbrev judged : List ℕ → Bool → Format
 judged line is_text = format_by (begins_with 123 line) (if is_text then document line else None)
 
-no_list : (line : List ℕ) (is_text : Bool) → begins_with 91 line ≡ false → is_utf8 line ≡ is_text → judged line is_text ≡ format_of_line line
+no_list : (line : List ℕ) (is_text : Bool) → begins_list line ≡ false → is_utf8 line ≡ is_text → judged line is_text ≡ format_of_line line
 no_list line is_text past is =
     sym (ap (λ b. if b then Chrome else judged line (is_utf8 line)) past ∙ ap (judged line) is)
 
 pub returns-in-Err : goal.returns-in-Err
 returns-in-Err c =
     let line = c.args.line.now in
-    let past : begins_with 91 line ≡ false = cc in
+    let past : begins_list line ≡ false = cc in
     c.format_by.ensures ∙ ap (λ b. format_by b None) c.begins_with-begins_object.ensures ∙ no_list line false past (no_text line c.in-Err.ensures)
 
 pub returns-in-Ok : goal.returns-in-Ok
 returns-in-Ok c =
     let line = c.args.line.now in
-    let past : begins_with 91 line ≡ false = cc in
+    let past : begins_list line ≡ false = cc in
     let same : format_by c.begins_with-begins_object.result (document c.in-Ok.text.now) ≡ format_of_line line =
     ap (λ b. format_by b (document c.in-Ok.text.now)) c.begins_with-begins_object.ensures
     ∙ ap (λ t. format_by (begins_with 123 line) (document t)) c.in-Ok.ensures.0
