@@ -1,6 +1,6 @@
 # Every target needs the kit's command `rt` and Python 3; `bench`, `counts`, `faults` and `soak` need a C compiler besides, `memcheck` valgrind.
 # README says what each takes.
-.PHONY: demo test prove gate edits claim build jobs laws stress bench faults fuzz soak memcheck limits counts
+.PHONY: demo test prove gate edits claim build service jobs laws stress bench faults fuzz soak memcheck limits counts
 
 # Draws the example, within a minute from a clean clone.
 demo:
@@ -42,6 +42,10 @@ bin/ttree: $(SOURCES)
 
 bin/%: $(SOURCES)
 	@scripts/build.sh $* $@
+
+# Proves and runs the example of a service.
+service: bin/tracing_tree_service
+	@bin/tracing_tree_service < crates/tracing_tree_service/stdin
 
 # Proves and runs the example of several threads.
 jobs: bin/tracing_tree_jobs

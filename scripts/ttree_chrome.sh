@@ -65,6 +65,21 @@ END
 ┌─┘
 ┘
 END
+    trace_of 'on spans that begin and end at one time' << 'END'
+[{"ph":"B","ts":5,"name":"a"},{"ph":"i","ts":5,"name":"in a"},{"ph":"B","ts":5,"name":"b"},{"ph":"E","ts":5},{"ph":"E","ts":5},
+ {"ph":"i","ts":5,"name":"after a"},{"ph":"X","ts":5,"dur":0,"name":"c"},{"ph":"X","ts":5,"dur":0,"name":"d"}]
+--
+┐a time=0.000μs
+├─ INFO in a
+└─┐b time=0.000μs
+┌─┘
+┘
+INFO after a
+┐c time=0.000μs
+┘
+┐d time=0.000μs
+┘
+END
     trace_of 'on long times' << 'END'
 [{"ph":"X","ts":0,"dur":61234567.8919,"name":"a\u001b[31m","args":{"b\u0007":[1],"c":{}}},{"ph":"E","ts":1,"name":"none"}]
 --
@@ -152,13 +167,15 @@ END
   └─┐d time=2.000μs
     ├─ INFO left out, spans=1, time=1.000μs
   ┌─┘
+  ├─ INFO left out, spans=1, time=1.000μs
 ┌─┘
+├─ INFO left out, spans=2, time=2.000μs
 ┘
 ┐process pid=2
 └─┐f 
 ┌─┘
 ┘
-INFO left out, spans=4, time=4.000μs
+INFO left out, spans=1, time=1.000μs
 END
     local word
     for word in nope -1s 5; do

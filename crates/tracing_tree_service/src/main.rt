@@ -1,5 +1,5 @@
 //! A service that keeps a stock. It reads requests from standard input, one a line, and what it does is drawn as a tree on standard
-//! output.
+//! output, with colours where that is a terminal.
 #![tactic(auto)]
 
 mod service;
@@ -7,7 +7,7 @@ mod stock;
 
 use service::serve;
 use std::io;
-use std::io::Read;
+use std::io::{IsTerminal, Read};
 use stock::Stock;
 use tracing_tree_core::format::Wrap;
 use tracing_tree_core::text::Text;
@@ -24,9 +24,10 @@ fn main(rt: HostRuntime) -> anyhow::Result<()> {
     let layer = HierarchicalLayer::new(
         alloc,
         AMOUNT,
-        false,
+        rt.stdout().is_terminal(),
         Wrap::new(io::writer(&rt)),
-    ).with_indent_lines(true);
+    )
+    .with_indent_lines(true);
     let mut tracer = Tracer::new(
         alloc,
         Layered::new(alloc, layer),

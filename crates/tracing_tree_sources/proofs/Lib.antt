@@ -5,8 +5,3 @@ pub mod GoLines
 mod Worked
 pub mod Leveled
 pub mod FailedLines
-pub mod ChromeNumbers
-pub mod ChromeText
-mod ChromeTrees
-mod ChromeLast
-mod ChromeWorked

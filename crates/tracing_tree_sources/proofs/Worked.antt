@@ -2,7 +2,6 @@
 use Rattle.std.proofs.Common.{◌≡◌, ℕ, List, Bool, true, false, None, Some, [], ◌∷◌, codes, refl}
 use Rattle.std.specs.Prelude.{negsuc}
 use Rattle.json.specs.Json.{array, boolean, string, object, no_items, member, no_members}
-use Rattle.tracing_tree_sources.specs.ChromeText.{is_cut, mended}
 use Rattle.tracing_tree_sources.specs.Failed.{Untold, forgotten, is_inner, released, taken, verdict_of}
 use Rattle.tracing_tree_sources.specs.First.{begins_list, begins_with, format_by, format_of, format_of_line}
 use Rattle.tracing_tree_sources.specs.GoTest.{GoState, after_mark, go_lacks, is_frame, leads, up_to_space}
@@ -147,31 +146,7 @@ time_stands_where_a_line_has_none before = refl
 pub no_time_before_1970 : since_1970 (negsuc 9) ≡ 0
 no_time_before_1970 = refl
 
--- ---- chrome
-
-pub a_list_cut_behind_a_comma : mended (codes "[{\"a\":1},{\"b\":") ≡ codes "[{\"a\":1}]"
-a_list_cut_behind_a_comma = refl
-
-pub a_bracket_in_a_text_closes_nothing : mended (codes "{\"traceEvents\":[{\"a\":\"]\"},") ≡ codes "{\"traceEvents\":[{\"a\":\"]\"}]}"
-a_bracket_in_a_text_closes_nothing = refl
-
-pub what_is_open_is_closed_from_the_inside : mended (codes "{\"traceEvents\":[{\"a\":1}],\"o\":{\"k\":{\"x\":1},\"y") ≡ codes "{\"traceEvents\":[{\"a\":1}],\"o\":{\"k\":{\"x\":1}}}"
-what_is_open_is_closed_from_the_inside = refl
-
-pub half_an_element_is_lost : is_cut (codes "[{\"a\":1},{\"b\":") ≡ true
-half_an_element_is_lost = refl
-
-pub no_element_is_lost : is_cut (codes "[\n[],\n") ≡ false
-no_element_is_lost = refl
-
-pub a_comma_after_the_last : mended (codes "[{\"a\":1},]") ≡ codes "[{\"a\":1}]"
-a_comma_after_the_last = refl
-
-pub a_comma_loses_nothing : is_cut (codes "[{\"a\":1},]") ≡ false
-a_comma_loses_nothing = refl
-
-pub what_is_no_json_after_the_list : mended (codes "{\"traceEvents\":[{\"a\":1}],\"x\":NaN}") ≡ codes "{\"traceEvents\":[{\"a\":1}]}"
-what_is_no_json_after_the_list = refl
+-- ---- whose output a line begins
 
 pub a_list_that_goes_on_is_of_chrome : format_of_line (codes "\t[") ≡ Chrome
 a_list_that_goes_on_is_of_chrome = refl

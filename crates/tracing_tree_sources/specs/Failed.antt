@@ -5,7 +5,8 @@ use Rattle.json.specs.Json.{Json, document}
 use Rattle.tracing_tree_base.specs.declared.context.Moment.{Moment}
 use Rattle.tracing_tree_layer.specs.declared.call.Call.{Call}
 use Rattle.tracing_tree_sources.specs.Source.{Step}
-use Rattle.tracing_tree_sources.specs.GoTest.{GoState, go_ends, go_takes, leads, nothing_run, package_of, takes_json, takes_text, test_of, text_at, timed}
+use Rattle.tracing_tree_sources.specs.GoTest.{GoState, go_ends, go_takes, leads, nothing_run, package_of, takes_json, takes_text, test_of, timed}
+use Rattle.tracing_tree_sources.specs.Values.{text_at}
 use Rattle.tracing_tree_sources.specs.declared.failed.Kept.{Kept}
 use Rattle.tracing_tree_sources.specs.declared.failed.Verdict.{Verdict}
 use Rattle.tracing_tree_sources.specs.declared.failed.Verdict.TheVariants.{Open, Good, Bad}

@@ -2,7 +2,7 @@
 use Rattle.std.specs.Prelude.{◌≡◌, ℕ, pos, ◌+◌, ◌-◌, ◌^◌, ◌==◌, ◌&&◌, ◌||◌, nat_le, min, Bool, true, false, not, if◌then◌else◌, List, [], ◌∷◌, ◌++◌, length, take, drop, slice_get, Option, Some, None, is_some, unwrap_or, option_map, option_and_then, codes, bytes_eq}
 use Rattle.std.specs.List.{starts_with, ends_with, position_or_len}
 use Rattle.json.specs.Json.{Json}
-use Rattle.json.specs.Find.{get, as_str, as_number}
+use Rattle.json.specs.Find.{get, as_number}
 use Rattle.tracing_tree_base.specs.Drawing.Texts.{rendered_field, whole_field}
 use Rattle.tracing_tree_core.specs.Registry.Ids.{id_of}
 use Rattle.tracing_tree_base.specs.declared.context.Id.{Id}
@@ -13,6 +13,7 @@ use Rattle.tracing_tree_base.specs.declared.style.Level.TheVariants.{Info, Warn,
 use Rattle.tracing_tree_layer.specs.declared.call.Call.{Call}
 use Rattle.tracing_tree.specs.Lines.Spelled.{is_skipped}
 use Rattle.tracing_tree_sources.specs.Source.{Step}
+use Rattle.tracing_tree_sources.specs.Values.{text_at}
 use Rattle.tracing_tree_sources.specs.declared.notes.Lack.{Lack}
 use Rattle.tracing_tree_sources.specs.declared.notes.Lack.TheVariants.{Object, Action, Package, Output}
 use Rattle.tracing_tree_sources.specs.Moments.{moment_after}
@@ -327,9 +328,6 @@ takes_heading None line s = takes_failure (after_mark (codes "FAIL\t") line) lin
 -- a line that isn't JSON: of a build that fails
 abbrev pub takes_text : List ℕ → GoState → GoState
 takes_text line s = takes_heading (after_mark (codes "# ") line) line s
-
-abbrev pub text_at : List ℕ → Json → Option (List ℕ)
-text_at key value = option_and_then as_str (get key value)
 
 -- the test of a line; a package's line has none
 abbrev pub test_of : Json → List ℕ

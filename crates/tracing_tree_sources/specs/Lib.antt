@@ -1,3 +1,5 @@
+pub mod Values
+pub mod Blanks
 pub mod Source
 pub mod Told
 pub mod Moments
@@ -7,9 +9,3 @@ pub mod TracingLine
 pub mod Tracing
 pub mod First
 pub mod Levels
-pub mod ChromeText
-pub mod ChromeElement
-pub mod ChromeGather
-pub mod ChromeLength
-pub mod ChromeTree
-pub mod Chrome

@@ -5,6 +5,7 @@ use Rattle.std.specs.Io.KnownBytes.{Appends}
 use Rattle.std.specs.Str.{is_utf8}
 use Rattle.json.specs.Json.{Json, document}
 use Rattle.tracing_tree_base.specs.Drawing.Picture.{draw}
+use Rattle.tracing_tree_base.specs.declared.context.Refusal.{Refusal}
 use Rattle.tracing_tree_layer.specs.Calls.Seen.{Seen, seen_later}
 use Rattle.tracing_tree_layer.specs.Calls.Headline.{run_from}
 use Rattle.tracing_tree_layer.specs.Calls.Answered.{IsAnswered}
@@ -111,6 +112,11 @@ pub record StopsIn (calls : List Call) (cause : LineCause) (old new : Seen) : Ty
   pub between : Seen
   pub makes : Makes made old between
   pub breaks : Breaks cause rest between new
+
+-- all of these calls were accepted, or those before the first that was refused
+abbrev pub MakesEach : List Call → Result ⊤ Refusal → Seen → Seen → Type 0
+MakesEach calls (Ok done) old new = Makes calls old new
+MakesEach calls (Err refusal) old new = StopsIn calls (Refused refusal) old new
 
 -- all of these calls were accepted, or a beginning
 abbrev pub MakesAll : List Call → Result ⊤ LineCause → Seen → Seen → Type 0

@@ -11,7 +11,8 @@ use Rattle.tracing_tree_layer.specs.declared.call.Call.{Call}
 use Rattle.tracing_tree_sources.specs.Source.{Step}
 use Rattle.tracing_tree_sources.specs.declared.notes.Lack.{Lack}
 use Rattle.tracing_tree_sources.specs.declared.notes.Lack.TheVariants.{Object, Level as NoLevel}
-use Rattle.tracing_tree_sources.specs.GoTest.{one_more, text_at}
+use Rattle.tracing_tree_sources.specs.GoTest.{one_more}
+use Rattle.tracing_tree_sources.specs.Values.{text_at}
 use Rattle.tracing_tree_sources.specs.Moments.{moment_after}
 use Rattle.tracing_tree_sources.specs.Told.{all_on_thread, close_call, event_call, span_call}
 use Rattle.tracing_tree_sources.specs.TracingLine.{kind_in, label_in, level_in, line_fields, may_be, path_in, span_in, thread_in}

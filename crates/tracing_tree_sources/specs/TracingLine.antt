@@ -2,12 +2,13 @@
 use Rattle.std.specs.Prelude.{ℕ, ◌-◌, ◌==◌, ◌&&◌, ◌||◌, Bool, true, false, not, if◌then◌else◌, List, [], ◌∷◌, ◌++◌, length, take, slice_get, Option, Some, None, is_some, unwrap_or, option_map, option_and_then, codes, bytes_eq}
 use Rattle.std.specs.List.{ends_with, list_any}
 use Rattle.json.specs.Json.{Json, null, boolean, number, string, array, object, Items, no_items, item, Members, no_members, member}
-use Rattle.json.specs.Find.{get, as_array, as_object}
+use Rattle.json.specs.Find.{get, as_object}
 use Rattle.tracing_tree_base.specs.Drawing.Texts.{level_named}
 use Rattle.tracing_tree_base.specs.Equal.{field_eq, fields_eq}
 use Rattle.tracing_tree_base.specs.declared.field.Field.{Field}
 use Rattle.tracing_tree_base.specs.declared.style.Level.{Level}
-use Rattle.tracing_tree_sources.specs.GoTest.{after_mark, text_at}
+use Rattle.tracing_tree_sources.specs.GoTest.{after_mark}
+use Rattle.tracing_tree_sources.specs.Values.{array_at, text_at}
 use Rattle.tracing_tree_sources.specs.Told.{shown}
 use Rattle.tracing_tree_sources.specs.declared.tracing.line.Listed.{Listed}
 use Rattle.tracing_tree_sources.specs.declared.tracing.line.Kind.{Kind}
@@ -64,9 +65,6 @@ object_at key value = if_object (get key value) where
   if_object : Option Json → Option Json
   if_object None = None
   if_object (Some found) = if is_some (as_object found) then Some found else None
-
-abbrev pub array_at : List ℕ → Json → Option Items
-array_at key value = option_and_then as_array (get key value)
 
 -- the fields of a line's event: those at `fields`, else all but the line's own keys
 abbrev pub line_fields : Json → List Field

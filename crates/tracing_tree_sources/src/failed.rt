@@ -7,10 +7,10 @@ ghost use Rattle.json.specs.Value.{value_view};
 ghost use Rattle.tracing_tree_sources.specs.GoTest.{go_takes};
 ghost use Rattle.tracing_tree_sources.specs.Failed.{Knows, all_released, begun, forgotten, found, is_good, is_inner, is_over, kept_shown, line_kept, line_shown, line_taken, none_failed, package_found, path_of, put_back, released, released_each, released_one, says_over, settled, settled_as, taken, value_taken, verdict_in, verdict_of};
 
-use crate::go_test::{GoTest, leads, package_of, test_of, text_at};
+use crate::go_test::{GoTest, leads, package_of, test_of};
 use crate::notes::Lack;
-use crate::run::value_of;
 use crate::source::Source;
+use crate::values::{text_at, value_of};
 use json::{Scratch, Value};
 use std::alloc::{AllocError, Global};
 use std::collections::BTreeSet;

@@ -2,7 +2,7 @@
 
 ghost use Rattle.std.specs.Prelude.{◌≡◌, ◌++◌, ◌∷◌, ◌<◌, [], Bool, true, false, IfOk, IfSome, OnOk, Option, None, Some, option_map, length, bytes_eq, codes, unwrap_or};
 ghost use Rattle.json.specs.Value.{value_view};
-ghost use Rattle.tracing_tree_sources.specs.GoTest.{acted, after_mark, all_left_over, failed_by, takes_plain, takes_value_as, test_ended, told_if_ended, begun, counted, elapsed_in, ended, ends_line, ends_word, event_told, finished, frames, go_ends, held, holds, is_frame, is_package_frame, kept, is_end_frame, is_step_frame, lack_in, leads, left_one, left_over, level_of, line_of, line_told, name_of, nothing_run, opened, owner, package_ended, package_of, printed, quiet_told, ran, takes_text, takes_timed, takes_value, timed, test_of, text_at, up_to_space, without_line_end, without_spaces, word_of};
+ghost use Rattle.tracing_tree_sources.specs.GoTest.{acted, after_mark, all_left_over, failed_by, takes_plain, takes_value_as, test_ended, told_if_ended, begun, counted, elapsed_in, ended, ends_line, ends_word, event_told, finished, frames, go_ends, held, holds, is_frame, is_package_frame, kept, is_end_frame, is_step_frame, lack_in, leads, left_one, left_over, level_of, line_of, line_told, name_of, nothing_run, opened, owner, package_ended, package_of, printed, quiet_told, ran, takes_text, takes_timed, takes_value, timed, test_of, up_to_space, without_line_end, without_spaces, word_of};
 
 mod text;
 
@@ -10,6 +10,7 @@ use crate::moments::moment_after;
 use crate::notes::Lack;
 use crate::source::Source;
 use crate::told::{close_call, event_call, message_field, span_call};
+use crate::values::text_at;
 use json::Value;
 use std::alloc::{AllocError, Global};
 use std::marker::Model;
@@ -594,12 +595,6 @@ impl Source for GoTest {
         calls.push(event_call(alloc, self.moment, level, Fields::from(fields), None)?)?;
         Ok(calls)
     }
-}
-
-pub(crate) fn text_at<'v>(value: &'v Value<'_>, key: &str) -> Option<&'v str>
-    ensures { option_map (λ s. s.now) result ≡ text_at key.now (value_view value.now) }
-{
-    value.get(key)?.as_str()
 }
 
 // The first key that a line lacks of which nothing is known.

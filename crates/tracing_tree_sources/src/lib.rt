@@ -1,11 +1,11 @@
 //! Other tools' output drawn as a tree.
 //!
 //! [`run_source`] draws the lines of any [`Source`]: [`GoTest`] for `go test -json`, [`Tracing`] for the JSON lines of Rust's
-//! tracing-subscriber. [`Failed`] tells what failed of Go's tests alone, and [`AtLeast`] the events of a level and above. [`run_trace`]
-//! draws a trace in Chrome's trace event format. [`first_format`] tells by the first line which of them an input is.
+//! tracing-subscriber. [`Failed`] tells what failed of Go's tests alone, and [`AtLeast`] the events of a level and above.
+//! [`first_format`] tells by the first line whose output an input is.
 #![tactic(auto)]
 
-pub mod chrome;
+pub mod blanks;
 pub mod failed;
 pub mod first;
 pub mod go_test;
@@ -14,10 +14,10 @@ mod moments;
 pub mod notes;
 pub mod run;
 pub mod source;
-mod told;
+pub mod told;
 pub mod tracing;
+pub mod values;
 
-pub use chrome::{Cut, run_trace};
 pub use failed::Failed;
 pub use first::{Format, first_format};
 pub use go_test::GoTest;

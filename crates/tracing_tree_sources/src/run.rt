@@ -1,20 +1,21 @@
 //! The run of a source over an input.
 
-ghost use Rattle.std.specs.Prelude.{◌≡◌, true, IfErr, IfOk, option_map};
+ghost use Rattle.std.specs.Prelude.{◌≡◌, true, Err, IfErr, IfOk, MatchResult, option_map};
 ghost use Rattle.std.specs.Io.Buffered.{reader_remaining};
 ghost use Rattle.json.specs.Json.{document};
 ghost use Rattle.json.specs.Value.{value_view};
 ghost use Rattle.tracing_tree_layer.specs.Calls.Layers.{seen, Changes, Flushes};
-ghost use Rattle.tracing_tree_sources.specs.Source.{HearsLine, HearsNext, MakesAll, RunsSource, Tells, is_quiet, lack_of};
+ghost use Rattle.tracing_tree_sources.specs.Source.{HearsLine, HearsNext, MakesAll, MakesEach, RunsSource, Tells, is_quiet, lack_of};
 
 use crate::notes::{Lack, Notes};
 use crate::source::Source;
+use crate::values::value_of;
 use json::{Error, Scratch, Value};
 use simdutf8::basic::from_utf8;
 use std::alloc::{AllocError, Global};
 use std::io::{BufRead, BufReader, Read};
 use tracing_tree::call::Call;
-use tracing_tree::format::Output;
+use tracing_tree::format::{Output, Refusal};
 use tracing_tree::layered::Layered;
 use tracing_tree::lines::{LineCause, LineFault, holds_line, is_skipped, read_line};
 use tracing_tree::time::FormatTime;
@@ -85,13 +86,16 @@ pub fn run_source<S: Source, R: Read, W: Output, FT: FormatTime, N: Notes>(
     SourceRun { unknown, fault }
 }
 
-// Has a skipped line noted. An error ends the run.
-pub(crate) fn skip<N: Notes>(
+/// Has a skipped line noted, by its number from 1 on. An error ends the run: `NotACall` where the notes end it, `Memory` where memory
+/// was refused.
+pub fn skip<N: Notes>(
     notes: &mut N,
     number: u64,
     lack: Result<Lack, AllocError>,
 ) -> Result<(), LineCause>
-    ensures { IfErr result (λ cause. is_quiet cause ≡ true) }
+    ensures quiet { IfErr result (λ cause. is_quiet cause ≡ true) }
+    ensures ended { MatchResult lack (λ _. IfErr result (λ cause. cause ≡ LineCause.NotACall))
+        (λ _. result ≡ Err LineCause.Memory) }
 {
     match lack {
         Ok(lack) => {
@@ -196,7 +200,7 @@ fn run_line<S: Source, W: Output, FT: FormatTime>(
     match told {
         Some(calls) => match make(calls, layered) {
             Ok(()) => Ok(true),
-            Err(cause) => Err(cause),
+            Err(refusal) => Err(LineCause::Refused(refusal)),
         },
         None => Ok(false),
     }
@@ -216,21 +220,6 @@ fn hear<S: Source>(
     source.take(alloc, text, value.as_ref())
 }
 
-// The JSON value that a text is, if it is one.
-pub(crate) fn value_of<'a>(
-    alloc: Global,
-    text: &'a str,
-    scratch: &'a mut Scratch,
-) -> Result<Option<Value<'a>>, AllocError>
-    ensures { IfOk result (λ value. option_map value_view value ≡ document text.now) }
-{
-    match Value::parse(alloc, text, scratch) {
-        Ok(value) => Ok(Some(value)),
-        Err(Error::Invalid) => Ok(None),
-        Err(_) => Err(AllocError),
-    }
-}
-
 // Makes the calls that the input's end brings.
 fn run_end<S: Source, W: Output, FT: FormatTime>(
     alloc: Global,
@@ -243,21 +232,22 @@ fn run_end<S: Source, W: Output, FT: FormatTime>(
     let Ok(calls) = source.end(alloc) else {
         return Err(LineCause::Memory);
     };
-    make(calls, layered)
+    match make(calls, layered) {
+        Ok(()) => Ok(()),
+        Err(refusal) => Err(LineCause::Refused(refusal)),
+    }
 }
 
-// Makes these calls one after another, up to the first that is refused.
-pub(crate) fn make<W: Output, FT: FormatTime>(
+/// Makes these calls one after another, up to the first that is refused.
+pub fn make<W: Output, FT: FormatTime>(
     calls: Vec<Call>,
     layered: &mut Layered<W, FT>,
-) -> Result<(), LineCause>
-    ensures { Changes (seen FT.FormatTime W.Output) (MakesAll calls.items result)
+) -> Result<(), Refusal>
+    ensures { Changes (seen FT.FormatTime W.Output) (MakesEach calls.items result)
         layered.old layered.new }
 {
     for call in calls {
-        if let Err(refusal) = layered.call(call) {
-            return Err(LineCause::Refused(refusal));
-        }
+        layered.call(call)?;
     }
     Ok(())
 }

@@ -47,8 +47,9 @@ fn push_shown(out: &mut String, c: char) -> Result<(), AllocError>
     out.push_str("}")
 }
 
-// A text with control characters as escapes, so that no input moves a terminal's cursor or changes its colour.
-pub(crate) fn shown(alloc: Global, text: &str) -> Result<Text, AllocError>
+/// A text with control characters as escapes, so that no input moves a terminal's cursor or changes its colour. `AllocError` where
+/// memory is refused, here and below.
+pub fn shown(alloc: Global, text: &str) -> Result<Text, AllocError>
     ensures { IfOk result (λ made. made ≡ shown text.now) }
 {
     let mut out = String::new(alloc);
@@ -58,8 +59,8 @@ pub(crate) fn shown(alloc: Global, text: &str) -> Result<Text, AllocError>
     Ok(Text::from(out))
 }
 
-// A new span.
-pub(crate) fn span_call(
+/// A new span, in the span above.
+pub fn span_call(
     alloc: Global,
     moment: Moment,
     name: &str,
@@ -77,8 +78,8 @@ pub(crate) fn span_call(
     Ok(Call::New(attributes, context_at(moment, above)))
 }
 
-// The field that is drawn as its text alone.
-pub(crate) fn message_field(alloc: Global, text: &str) -> Result<Field, AllocError>
+/// The field that is drawn as its text alone.
+pub fn message_field(alloc: Global, text: &str) -> Result<Field, AllocError>
     ensures { IfOk result (λ field. field ≡ message_field text.now) }
 {
     Ok(Field {
@@ -87,8 +88,8 @@ pub(crate) fn message_field(alloc: Global, text: &str) -> Result<Field, AllocErr
     })
 }
 
-// An event with these fields.
-pub(crate) fn event_call(
+/// An event with these fields, in the span above.
+pub fn event_call(
     alloc: Global,
     moment: Moment,
     level: Level,
@@ -106,8 +107,8 @@ pub(crate) fn event_call(
     Ok(Call::Event(event, context_at(moment, above)))
 }
 
-// A span's close.
-pub(crate) fn close_call(moment: Moment, id: Id, above: Option<Id>) -> Call
+/// A span's close, in the span above.
+pub fn close_call(moment: Moment, id: Id, above: Option<Id>) -> Call
     ensures { result ≡ close_call moment id above }
 {
     Call::Close(id, context_at(moment, above))

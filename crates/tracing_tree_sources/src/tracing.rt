@@ -8,13 +8,14 @@ ghost use Rattle.tracing_tree_sources.specs.Tracing.{acted, anywhere, begun, chi
 
 mod line;
 
-use crate::go_test::text_at;
 use crate::moments::moment_after;
 use crate::notes::Lack;
 use crate::source::Source;
 use crate::told::{all_on_thread, close_call, event_call, span_call};
+use crate::values::text_at;
 use json::Value;
-pub(crate) use line::{array_at, event_fields, is_object, level_in};
+pub use line::event_fields;
+pub(crate) use line::level_in;
 use line::{Kind, Listed, kind_in, label_in, line_fields, may_be, path_in, span_in, thread_in};
 use std::alloc::{AllocError, Global};
 use std::marker::Model;

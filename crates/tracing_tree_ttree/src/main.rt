@@ -17,9 +17,10 @@ use tracing_tree::lines::{LineCause, LineFault, read_line};
 use tracing_tree::run_lines;
 use tracing_tree::style::Level;
 use tracing_tree::time::{Clock, Moment, Uptime, UtcDateTime};
+use tracing_tree_chrome::{Cut, run_trace};
 use tracing_tree_sources::{
-    AtLeast, Cut, Failed, Format, GoTest, Lack, Notes, Source, SourceRun, Tracing, first_format,
-    run_source, run_trace,
+    AtLeast, Failed, Format, GoTest, Lack, Notes, Source, SourceRun, Tracing, first_format,
+    run_source,
 };
 
 // The input is read in parts of this size.

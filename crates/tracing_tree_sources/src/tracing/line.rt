@@ -3,10 +3,11 @@
 ghost use Rattle.std.specs.Prelude.{◌≡◌, ◌++◌, IfOk, OnOk, is_some, option_map};
 ghost use Rattle.json.specs.Find.{as_object};
 ghost use Rattle.json.specs.Value.{items_view, members_view, value_view};
-ghost use Rattle.tracing_tree_sources.specs.TracingLine.{array_at, bare_thread, event_fields, fields_of, fields_within, is_current, is_left_out, is_line_key, is_message, is_timed_close, items_listed, kind_in, kind_of, kind_of_message, label_in, level_in, line_fields, lists_same, listed_of, may_be, member_fields, members_fields, names_span, object_at, path_in, span_in, spans_in, text_of, thread_in, thread_label};
+ghost use Rattle.tracing_tree_sources.specs.TracingLine.{bare_thread, event_fields, fields_of, fields_within, is_current, is_left_out, is_line_key, is_message, is_timed_close, items_listed, kind_in, kind_of, kind_of_message, label_in, level_in, line_fields, lists_same, listed_of, may_be, member_fields, members_fields, names_span, object_at, path_in, span_in, spans_in, text_of, thread_in, thread_label};
 
-use crate::go_test::{after_mark, text_at};
+use crate::go_test::after_mark;
 use crate::told::shown;
+use crate::values::{array_at, is_object, text_at};
 use json::Value;
 use std::alloc::{AllocError, Global};
 use tracing_tree::field::{Field, Fields};
@@ -303,28 +304,8 @@ fn object_at<'v, 'a>(value: &'v Value<'a>, key: &str) -> Option<&'v Value<'a>>
     if is_object(value) { Some(value) } else { None }
 }
 
-pub(crate) fn is_object(value: &Value<'_>) -> bool
-    ensures { result ≡ is_some (as_object (value_view value.now)) }
-{
-    match value {
-        Value::Object(_) => true,
-        _ => false,
-    }
-}
-
-// The items of the array at this key.
-pub(crate) fn array_at<'v, 'a>(value: &'v Value<'a>, key: &str) -> Option<&'v Vec<Value<'a>>>
-    ensures { option_map (λ items. items_view items.now.items) result
-        ≡ array_at key.now (value_view value.now) }
-{
-    match value.get(key)? {
-        Value::Array(items) => Some(items),
-        _ => None,
-    }
-}
-
-// An object's members as the fields of an event.
-pub(crate) fn event_fields(alloc: Global, value: &Value<'_>) -> Result<Fields, AllocError>
+/// An object's members as the fields of an event. A value that is no object has none. `AllocError` where memory is refused.
+pub fn event_fields(alloc: Global, value: &Value<'_>) -> Result<Fields, AllocError>
     ensures { IfOk result (λ fields. fields ≡ event_fields (value_view value.now)) }
 {
     fields_of(alloc, Part::Event, value)

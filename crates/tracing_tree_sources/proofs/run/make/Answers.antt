@@ -11,7 +11,7 @@ loop-call-preserved g c =
     let s = c.in-Some.ensures.steps in (
       done ++ c.in-Some.call ∷ [],
       split ∙ ap (λ rest. done ++ rest) s.0 ∙ sym (append_assoc done (c.in-Some.call ∷ []) (into_iter_items c.next.new.self)),
-      change_then (seen g.FT.FormatTime g.W.Output) (makes_more done c.in-Some.call c.in_default.field-0)
-          c.args.layered.now c.loop-call.layered c.call.new.self change c.in_default.ensures.answered,
+      change_then (seen g.FT.FormatTime g.W.Output) (makes_more done c.in-Some.call _)
+          c.args.layered.now c.loop-call.layered c.call.new.self change c.in_ok-call.ensures.answered,
       omega (arith, s.1, length_is, ap length s.0),
     )

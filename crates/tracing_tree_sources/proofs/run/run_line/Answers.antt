@@ -1,4 +1,5 @@
 use Rattle.std.proofs.Common.{refl, sym, ◌∙◌}
+use Rattle.tracing_tree.specs.declared.lines.LineCause.TheVariants.{Refused}
 use Rattle.tracing_tree_layer.specs.Calls.Layers.{seen}
 use Rattle.tracing_tree_sources.proofs.Heard.{hears_no_text, hears_calls, hears_stop}
 use Rattle.tracing_tree_sources.proofs.run.run_line.Goals as goal
@@ -25,7 +26,7 @@ returns-in-Err g c =
     let see = seen g.FT.FormatTime g.W.Output in
     let told = rw (c.in-Ok.ensures.0, c.in-Some.is) at c.in-Ok-hear.ensures in
     record {
-      changed = hears_stop g.S.Source.takes c.args.line.now c.args.source.now c.hear.new.source c.in-Some.calls.items c.in-Err.cause (see c.args.layered.now) (see c.make.new.layered)
+      changed = hears_stop g.S.Source.takes c.args.line.now c.args.source.now c.hear.new.source c.in-Some.calls.items (Refused c.in-Err.refusal) (see c.args.layered.now) (see c.make.new.layered)
           (sym c.is_skipped.ensures ∙ c.if-is_skipped.false) c.in-Ok.ensures.1 told c.in-Err.ensures.changed;
       fixed = c.in-Err.ensures.fixed;
     }

@@ -59,7 +59,7 @@ returns-in-Err-skip g c =
     record {
       changed = stops takes g.S.Source.ends known left left c.args.source.now c.run_next.new.source c.run_next.new.source (c.loop-number.unknown + 1) c.in-Err-skip.cause
           (see c.args.layered.now) now now after.changed
-          (next_quiet takes g.S.Source.ends left left c.run_next.new.source c.run_next.new.source c.in-Err-skip.cause now c.in-Err-skip.ensures);
+          (next_quiet takes g.S.Source.ends left left c.run_next.new.source c.run_next.new.source c.in-Err-skip.cause now c.in-Err-skip.ensures.quiet);
       fixed = after.fixed;
     }
 

@@ -1,7 +1,7 @@
 use Rattle.std.proofs.Common.{◌≡◌, true, false, Some, codes, refl, sym, ap, ◌∙◌, option_map, rules, bytes_eq}
 use Rattle.std.specs.Prelude.{◌||◌}
 use Rattle.json.specs.Value.{value_view}
-use Rattle.tracing_tree_sources.specs.GoTest.{text_at}
+use Rattle.tracing_tree_sources.specs.Values.{text_at}
 use Rattle.tracing_tree_sources.proofs.go_test.GoTest.act.Goals as goal
 
 pub returns-in_ok-output : goal.returns-in_ok-output

@@ -1,7 +1,8 @@
 use Rattle.std.proofs.Common.{◌≡◌, Some, Option, option_map, codes, refl, sym, ap, ◌∙◌, subst}
 use Rattle.std.specs.Prelude.{IfOk}
 use Rattle.json.specs.Value.{value_view}
-use Rattle.tracing_tree_sources.specs.GoTest.{GoState, text_at, package_of, acted, takes_json, takes_value_as}
+use Rattle.tracing_tree_sources.specs.GoTest.{GoState, package_of, acted, takes_json, takes_value_as}
+use Rattle.tracing_tree_sources.specs.Values.{text_at}
 use Rattle.tracing_tree_sources.proofs.go_test.GoTest.take_timed.Goals as goal
 
 pub returns : goal.returns

@@ -1,0 +1,6 @@
+pub mod Numbers
+pub mod Places
+mod Leaving
+mod LastInLane
+pub mod Hearing
+mod Worked

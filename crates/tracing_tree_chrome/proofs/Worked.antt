@@ -1,0 +1,185 @@
+-- Examples computed from the definitions of what a text and an element of a trace say.
+use Rattle.std.proofs.Common.{◌≡◌, pos, true, false, None, Some, [], ◌∷◌, codes, refl}
+use Rattle.std.specs.Prelude.{negsuc, Ok, Err}
+use Rattle.std.specs.Str.{chars}
+use lib.Utf8.{encode}
+use Rattle.json.specs.Json.{null, number, string, object, member, no_members}
+use Rattle.tracing_tree_chrome.specs.Element.{element_of, nanoseconds_of}
+use Rattle.tracing_tree_chrome.specs.Text.{is_cut, mended}
+use Rattle.tracing_tree_sources.specs.declared.notes.Lack.TheVariants.{Phase, Process, Thread, Start, Duration}
+use Rattle.tracing_tree_chrome.specs.declared.element.Element.TheVariants.{Span, Begin, End, Instant, ProcessName, ThreadName, Other}
+
+-- ---- times
+
+pub whole_microseconds : nanoseconds_of (codes "57411") ≡ Some 57411000
+whole_microseconds = refl
+
+pub with_thousandths : nanoseconds_of (codes "1350024132.832") ≡ Some 1350024132832
+with_thousandths = refl
+
+pub half_a_microsecond : nanoseconds_of (codes "0.5") ≡ Some 500
+half_a_microsecond = refl
+
+pub more_is_cut : nanoseconds_of (codes "1.23456") ≡ Some 1234
+more_is_cut = refl
+
+pub before_the_trace_is_no_time : nanoseconds_of (codes "-1") ≡ None
+before_the_trace_is_no_time = refl
+
+pub an_exponent_is_no_time : nanoseconds_of (codes "1.5e3") ≡ None
+an_exponent_is_no_time = refl
+
+pub so_is_one_of_a_whole_number : nanoseconds_of (codes "1E3") ≡ None
+so_is_one_of_a_whole_number = refl
+
+pub the_last_nanosecond : nanoseconds_of (codes "18446744073709551.615") ≡ Some 18446744073709551615
+the_last_nanosecond = refl
+
+pub one_after_it : nanoseconds_of (codes "18446744073709551.616") ≡ None
+one_after_it = refl
+
+-- ---- elements
+
+pub a_span_of_clang : element_of (object (
+    member (codes "pid") (number (codes "26611"))
+    (member (codes "tid") (number (codes "26611"))
+    (member (codes "ph") (string (codes "X"))
+    (member (codes "ts") (number (codes "57411"))
+    (member (codes "dur") (number (codes "905"))
+    (member (codes "name") (string (codes "Source"))
+    (member (codes "args") (object (member (codes "detail") (string (codes "include/sys/cdefs.h")) no_members))
+    no_members)))))))) ≡ Ok (Span (record {
+      lane = record { process = Some (pos 26611); thread = Some (pos 26611) };
+      start = 57411000;
+      name = codes "Source";
+      fields = (record { name = codes "detail"; value = codes "include/sys/cdefs.h" }) ∷ [];
+    }) 58316000)
+unfolding chars encode
+a_span_of_clang = refl
+
+pub a_begin_of_uftrace : element_of (object (
+    member (codes "ts") (number (codes "1350024132.832"))
+    (member (codes "ph") (string (codes "B"))
+    (member (codes "pid") (number (codes "20609"))
+    (member (codes "name") (string (codes "main")) no_members))))) ≡ Ok (Begin (record {
+      lane = record { process = Some (pos 20609); thread = None };
+      start = 1350024132832;
+      name = codes "main";
+      fields = [];
+    }))
+a_begin_of_uftrace = refl
+
+pub an_end_of_uftrace : element_of (object (
+    member (codes "ts") (number (codes "1350024137.588"))
+    (member (codes "ph") (string (codes "E"))
+    (member (codes "pid") (number (codes "20609"))
+    (member (codes "name") (string (codes "main")) no_members))))) ≡ Ok (End (record {
+      lane = record { process = Some (pos 20609); thread = None };
+      start = 1350024137588;
+      name = codes "main";
+      fields = [];
+    }))
+an_end_of_uftrace = refl
+
+pub an_instant_of_no_lane : element_of (object (
+    member (codes "ph") (string (codes "i"))
+    (member (codes "ts") (number (codes "7"))
+    (member (codes "tid") null no_members)))) ≡ Ok (Instant (record {
+      lane = record { process = None; thread = None };
+      start = 7000;
+      name = [];
+      fields = [];
+    }))
+an_instant_of_no_lane = refl
+
+pub a_process_by_its_name : element_of (object (
+    member (codes "ts") (string (codes "none"))
+    (member (codes "ph") (string (codes "M"))
+    (member (codes "pid") (number (codes "-1"))
+    (member (codes "name") (string (codes "process_name"))
+    (member (codes "args") (object (member (codes "name") (string (codes "clang")) no_members))
+    no_members)))))) ≡ Ok (ProcessName (record { process = Some (negsuc 0); thread = None }) (codes "clang"))
+a_process_by_its_name = refl
+
+pub a_thread_by_its_name : element_of (object (
+    member (codes "ph") (string (codes "M"))
+    (member (codes "tid") (number (codes "2"))
+    (member (codes "name") (string (codes "thread_name"))
+    (member (codes "args") (object (member (codes "name") (string (codes "worker")) no_members))
+    no_members))))) ≡ Ok (ThreadName (record { process = None; thread = Some (pos 2) }) (codes "worker"))
+a_thread_by_its_name = refl
+
+pub other_metadata : element_of (object (
+    member (codes "ph") (string (codes "M"))
+    (member (codes "pid") (string (codes "one"))
+    (member (codes "name") (string (codes "process_labels")) no_members)))) ≡ Ok Other
+other_metadata = refl
+
+pub an_unknown_phase : element_of (object (
+    member (codes "ph") (string (codes "C"))
+    (member (codes "tid") (string (codes "one")) no_members))) ≡ Ok Other
+an_unknown_phase = refl
+
+-- ---- what is lacking
+
+pub no_object : element_of null ≡ Err Phase
+no_object = refl
+
+pub a_phase_that_is_no_text : element_of (object (member (codes "ph") (number (codes "1")) no_members)) ≡ Err Phase
+a_phase_that_is_no_text = refl
+
+pub a_process_that_is_a_text : element_of (object (
+    member (codes "ph") (string (codes "B"))
+    (member (codes "tid") (string (codes "two"))
+    (member (codes "pid") (string (codes "one")) no_members)))) ≡ Err Process
+a_process_that_is_a_text = refl
+
+pub a_thread_that_is_a_text : element_of (object (
+    member (codes "ph") (string (codes "B"))
+    (member (codes "tid") (string (codes "one")) no_members))) ≡ Err Thread
+a_thread_that_is_a_text = refl
+
+pub a_begin_at_no_time : element_of (object (member (codes "ph") (string (codes "B")) no_members)) ≡ Err Start
+a_begin_at_no_time = refl
+
+pub a_span_of_no_length : element_of (object (
+    member (codes "ph") (string (codes "X"))
+    (member (codes "ts") (number (codes "1")) no_members))) ≡ Err Duration
+a_span_of_no_length = refl
+
+pub no_end_after_the_last_nanosecond : element_of (object (
+    member (codes "ph") (string (codes "X"))
+    (member (codes "ts") (number (codes "18446744073709551"))
+    (member (codes "dur") (number (codes "18446744073709551")) no_members)))) ≡ Ok (Span (record {
+      lane = record { process = None; thread = None };
+      start = 18446744073709551000;
+      name = [];
+      fields = [];
+    }) 18446744073709551615)
+no_end_after_the_last_nanosecond = refl
+
+-- ---- texts that end early
+
+pub a_list_cut_behind_a_comma : mended (codes "[{\"a\":1},{\"b\":") ≡ codes "[{\"a\":1}]"
+a_list_cut_behind_a_comma = refl
+
+pub a_bracket_in_a_text_closes_nothing : mended (codes "{\"traceEvents\":[{\"a\":\"]\"},") ≡ codes "{\"traceEvents\":[{\"a\":\"]\"}]}"
+a_bracket_in_a_text_closes_nothing = refl
+
+pub what_is_open_is_closed_from_the_inside : mended (codes "{\"traceEvents\":[{\"a\":1}],\"o\":{\"k\":{\"x\":1},\"y") ≡ codes "{\"traceEvents\":[{\"a\":1}],\"o\":{\"k\":{\"x\":1}}}"
+what_is_open_is_closed_from_the_inside = refl
+
+pub half_an_element_is_lost : is_cut (codes "[{\"a\":1},{\"b\":") ≡ true
+half_an_element_is_lost = refl
+
+pub no_element_is_lost : is_cut (codes "[\n[],\n") ≡ false
+no_element_is_lost = refl
+
+pub a_comma_after_the_last : mended (codes "[{\"a\":1},]") ≡ codes "[{\"a\":1}]"
+a_comma_after_the_last = refl
+
+pub a_comma_loses_nothing : is_cut (codes "[{\"a\":1},]") ≡ false
+a_comma_loses_nothing = refl
+
+pub what_is_no_json_after_the_list : mended (codes "{\"traceEvents\":[{\"a\":1}],\"x\":NaN}") ≡ codes "{\"traceEvents\":[{\"a\":1}]}"
+what_is_no_json_after_the_list = refl

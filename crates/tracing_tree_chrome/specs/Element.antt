@@ -1,0 +1,211 @@
+-- What one element of a trace in Chrome's trace event format says.
+use Rattle.std.specs.Prelude.{ℕ, ◌+◌, ◌-◌, ◌*◌, ◌^◌, ◌==◌, ◌&&◌, ◌||◌, min, nat_lt, ℤ, pos, negsuc, Bool, not, if◌then◌else◌, List, [], ◌∷◌, length, Option, Some, None, unwrap_or, option_and_then, Result, Ok, Err, codes, bytes_eq}
+use Rattle.std.specs.List.{position_or_len, before_first, after_first}
+use Rattle.std.specs.Str.{all_ascii_digits}
+use Rattle.std.specs.Str.Parse.{digits_value, signed_digits_value, without_leading_sign}
+use Rattle.json.specs.Json.{Json, null, boolean, number, string, array, object}
+use Rattle.json.specs.Find.{get, as_number}
+use Rattle.tracing_tree_base.specs.declared.field.Field.{Field}
+use Rattle.tracing_tree_sources.specs.GoTest.{is_empty}
+use Rattle.tracing_tree_sources.specs.Values.{text_at}
+use Rattle.tracing_tree_sources.specs.TracingLine.{event_fields}
+use Rattle.tracing_tree_sources.specs.declared.notes.Lack.{Lack}
+use Rattle.tracing_tree_sources.specs.declared.notes.Lack.TheVariants.{Phase as NoPhase, Process as NoProcess, Thread as NoThread, Start as NoStart, Duration as NoDuration}
+use Rattle.tracing_tree_chrome.specs.declared.element.Lane.{Lane}
+use Rattle.tracing_tree_chrome.specs.declared.element.Entry.{Entry}
+use Rattle.tracing_tree_chrome.specs.declared.element.Element.{Element}
+use Rattle.tracing_tree_chrome.specs.declared.element.Element.TheVariants.{Span, Begin, End, Instant, ProcessName, ThreadName, Other}
+use Rattle.tracing_tree_chrome.specs.declared.element.Phase.{Phase}
+use Rattle.tracing_tree_chrome.specs.declared.element.Phase.TheVariants.{Complete, Begin as Begins, End as Ends, Instant as Happens}
+use Rattle.tracing_tree_chrome.specs.declared.element.Naming.{Naming}
+use Rattle.tracing_tree_chrome.specs.declared.element.Naming.TheVariants.{Process as OfProcess, Thread as OfThread}
+
+-- ---- numbers
+
+-- one digit or more, and nothing else
+abbrev pub is_digits : List ℕ → Bool
+is_digits text = not (is_empty text) && all_ascii_digits text
+
+-- the number that digits write, if a u64 holds it
+abbrev pub whole_of : List ℕ → Option ℕ
+whole_of text =
+    if is_digits text && nat_lt (digits_value 10 text) (2 ^ 64)
+    then Some (digits_value 10 text) else None
+
+abbrev pub fits_i128 : ℤ → Bool
+fits_i128 (pos n) = nat_lt n (2 ^ 127)
+fits_i128 (negsuc n) = nat_lt n (2 ^ 127)
+
+-- the number that digits write with a sign before them or none, if an i128 holds it
+abbrev pub integer_of : List ℕ → Option ℤ
+integer_of text =
+    if is_digits (without_leading_sign text) && fits_i128 (signed_digits_value 10 text)
+    then Some (signed_digits_value 10 text) else None
+
+-- what a digit counts
+abbrev pub digit_in : ℕ → ℕ
+digit_in byte = byte - 48
+
+-- The thousandths that the digits after a point write. Those after the third are cut off.
+abbrev pub thousandths : List ℕ → ℕ
+thousandths [] = 0
+thousandths (a ∷ []) = digit_in a * 100
+thousandths (a ∷ b ∷ []) = digit_in a * 100 + digit_in b * 10
+thousandths (a ∷ b ∷ c ∷ rest) = digit_in a * 100 + digit_in b * 10 + digit_in c
+
+-- the nanoseconds of these microseconds and this many thousandths of one, if a u64 holds them
+abbrev pub nanoseconds : ℕ → ℕ → Option ℕ
+nanoseconds whole part =
+    if nat_lt (whole * 1000 + part) (2 ^ 64) then Some (whole * 1000 + part) else None
+
+abbrev pub is_point : ℕ → Bool
+is_point byte = byte == 46
+
+abbrev pub has_point : List ℕ → Bool
+has_point text = nat_lt (position_or_len is_point text) (length text)
+
+-- the same of a number with a point, by what stands before the point and after it
+abbrev pub decimal_of : List ℕ → List ℕ → Option ℕ
+decimal_of before after =
+    if is_digits after
+    then option_and_then (λ whole. nanoseconds whole (thousandths after)) (whole_of before)
+    else None
+
+-- The nanoseconds of a number of microseconds: digits alone, or digits, a point and digits. A number
+-- with a sign or an exponent is none.
+abbrev pub nanoseconds_of : List ℕ → Option ℕ
+nanoseconds_of text =
+    if has_point text then decimal_of (before_first is_point text) (after_first is_point text)
+    else option_and_then (λ whole. nanoseconds whole 0) (whole_of text)
+
+-- ---- keys
+
+-- the time at a key, in nanoseconds
+abbrev pub time_at : List ℕ → Json → Option ℕ
+time_at key value = option_and_then nanoseconds_of (option_and_then as_number (get key value))
+
+abbrev pub integer_or : Option ℤ → Lack → Result (Option ℤ) Lack
+integer_or (Some found) lack = Ok (Some found)
+integer_or None lack = Err lack
+
+-- a whole number, or null for none
+abbrev pub integer_in : Lack → Json → Result (Option ℤ) Lack
+integer_in lack null = Ok None
+integer_in lack (boolean _) = Err lack
+integer_in lack (number text) = integer_or (integer_of text) lack
+integer_in lack (string _) = Err lack
+integer_in lack (array _) = Err lack
+integer_in lack (object _) = Err lack
+
+-- the whole number at a key, none where the key is absent or its value is null
+abbrev pub integer_at : List ℕ → Lack → Json → Result (Option ℤ) Lack
+integer_at key lack value = if_any (get key value) where
+  if_any : Option Json → Result (Option ℤ) Lack
+  if_any None = Ok None
+  if_any (Some found) = integer_in lack found
+
+abbrev pub lane_of : Result (Option ℤ) Lack → Result (Option ℤ) Lack → Result Lane Lack
+lane_of (Err lack) thread = Err lack
+lane_of (Ok process) (Err lack) = Err lack
+lane_of (Ok process) (Ok thread) = Ok (record { process = process; thread = thread })
+
+-- the process and the thread of an element
+abbrev pub lane_in : Json → Result Lane Lack
+lane_in value =
+    lane_of (integer_at (codes "pid") NoProcess value) (integer_at (codes "tid") NoThread value)
+
+-- the name of an element, empty where it has none
+abbrev pub name_in : Json → List ℕ
+name_in value = unwrap_or (text_at (codes "name") value) []
+
+-- the members of the object at `args` as fields
+abbrev pub fields_in : Json → List Field
+fields_in value = at_args (get (codes "args") value) where
+  at_args : Option Json → List Field
+  at_args None = []
+  at_args (Some args) = event_fields args
+
+-- ---- elements
+
+abbrev pub entry_of : Result Lane Lack → Option ℕ → Json → Result Entry Lack
+entry_of (Err lack) start value = Err lack
+entry_of (Ok lane) None value = Err NoStart
+entry_of (Ok lane) (Some start) value = Ok (record {
+  lane = lane;
+  start = start;
+  name = name_in value;
+  fields = fields_in value;
+})
+
+-- what most elements say
+abbrev pub entry_in : Json → Result Entry Lack
+entry_in value = entry_of (lane_in value) (time_at (codes "ts") value) value
+
+-- the phase that a text tells, of an element at a time
+abbrev pub phase_of : List ℕ → Option Phase
+phase_of text =
+    if bytes_eq text (codes "X") then Some Complete
+    else if bytes_eq text (codes "B") then Some Begins
+    else if bytes_eq text (codes "E") then Some Ends
+    else if bytes_eq text (codes "i") || bytes_eq text (codes "I") then Some Happens
+    else None
+
+-- a span by how long it takes
+abbrev pub span_of : Entry → Option ℕ → Result Element Lack
+span_of entry None = Err NoDuration
+span_of entry (Some duration) = Ok (Span entry (min (entry.start + duration) (2 ^ 64 - 1)))
+
+abbrev pub phased : Phase → Entry → Json → Result Element Lack
+phased Complete entry value = span_of entry (time_at (codes "dur") value)
+phased Begins entry value = Ok (Begin entry)
+phased Ends entry value = Ok (End entry)
+phased Happens entry value = Ok (Instant entry)
+
+abbrev pub timed_of : Phase → Result Entry Lack → Json → Result Element Lack
+timed_of phase (Err lack) value = Err lack
+timed_of phase (Ok entry) value = phased phase entry value
+
+-- an element of this phase
+abbrev pub timed_in : Phase → Json → Result Element Lack
+timed_in phase value = timed_of phase (entry_in value) value
+
+-- what an element names
+abbrev pub naming_of : List ℕ → Option Naming
+naming_of name =
+    if bytes_eq name (codes "process_name") then Some OfProcess
+    else if bytes_eq name (codes "thread_name") then Some OfThread
+    else None
+
+abbrev pub named_as : Naming → Lane → List ℕ → Element
+named_as OfProcess lane text = ProcessName lane text
+named_as OfThread lane text = ThreadName lane text
+
+abbrev pub lane_named : Naming → Result Lane Lack → List ℕ → Result Element Lack
+lane_named naming (Err lack) text = Err lack
+lane_named naming (Ok lane) text = Ok (named_as naming lane text)
+
+abbrev pub named_of : Option Naming → Option (List ℕ) → Result Lane Lack → Result Element Lack
+named_of None text lane = Ok Other
+named_of (Some naming) None lane = Ok Other
+named_of (Some naming) (Some text) lane = lane_named naming lane text
+
+-- the text at `args`.`name`
+abbrev pub given_name : Json → Option (List ℕ)
+given_name value = option_and_then (text_at (codes "name")) (get (codes "args") value)
+
+-- an element of metadata: it may name its process or its thread
+abbrev pub named_in : Json → Result Element Lack
+named_in value = named_of (naming_of (name_in value)) (given_name value) (lane_in value)
+
+abbrev pub timed_if : Option Phase → Json → Result Element Lack
+timed_if None value = Ok Other
+timed_if (Some phase) value = timed_in phase value
+
+abbrev pub told_as : Option (List ℕ) → Json → Result Element Lack
+told_as None value = Err NoPhase
+told_as (Some phase) value =
+    if bytes_eq phase (codes "M") then named_in value else timed_if (phase_of phase) value
+
+-- what an element says, or what it lacks
+abbrev pub element_of : Json → Result Element Lack
+element_of value = told_as (text_at (codes "ph") value) value

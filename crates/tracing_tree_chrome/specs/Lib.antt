@@ -1,0 +1,7 @@
+pub mod Text
+pub mod Element
+pub mod Gather
+pub mod Length
+pub mod Later
+pub mod Tree
+pub mod Trace

@@ -1,0 +1,136 @@
+-- What a trace in Chrome's trace event format tells.
+use Rattle.std.specs.Prelude.{◌≡◌, ◌<◌, ℕ, Bool, false, List, Option, Some, None, Result, Ok, Err, MatchOption, IsPermutation, IsSorted, if◌then◌else◌, ⊤}
+use Rattle.json.specs.Json.{Json, Items, no_items, item, document}
+use Rattle.tracing_tree_base.specs.declared.context.Moment.{Moment}
+use Rattle.tracing_tree_layer.specs.Calls.Seen.{Seen}
+use Rattle.tracing_tree_layer.specs.declared.call.Call.{Call}
+use Rattle.tracing_tree_base.specs.declared.context.Refusal.{Refusal}
+use Rattle.tracing_tree.specs.declared.lines.LineCause.{LineCause}
+use Rattle.tracing_tree.specs.declared.lines.LineCause.TheVariants.{Settings as NoSettings, NotACall, Read, Memory, Refused}
+use Rattle.tracing_tree_chrome.specs.Element.{element_of}
+use Rattle.tracing_tree_chrome.specs.Gather.{GatheredState, all_items, gathered_one, item_cmp, nothing_gathered}
+use Rattle.tracing_tree_chrome.specs.Later.{marked}
+use Rattle.tracing_tree_chrome.specs.Text.{elements_in, is_cut, mended}
+use Rattle.tracing_tree_chrome.specs.Tree.{begun_tree, finished, stepped_all}
+use Rattle.tracing_tree_sources.specs.GoTest.{one_more}
+use Rattle.tracing_tree_sources.specs.Source.{Makes, StopsIn}
+use Rattle.tracing_tree_chrome.specs.declared.trace.Cut.{Cut}
+use Rattle.tracing_tree_chrome.specs.declared.trace.Heard.{Heard}
+use Rattle.tracing_tree_chrome.specs.declared.element.Element.{Element}
+use Rattle.tracing_tree_chrome.specs.declared.gather.Item.{Item}
+use Rattle.tracing_tree_sources.specs.declared.notes.Lack.{Lack}
+use Rattle.tracing_tree_sources.specs.declared.run.SourceRun.{SourceRun}
+
+-- nothing was said yet
+abbrev pub nothing_heard_of : Heard
+nothing_heard_of = record { gathered = nothing_gathered; unknown = 0 }
+
+abbrev pub heard_unknown : Heard → Heard
+heard_unknown h = record h { unknown = one_more h.unknown }
+
+abbrev pub heard_as : Result Element Lack → Heard → Heard
+heard_as (Ok element) h = record h { gathered = gathered_one element h.gathered }
+heard_as (Err lack) h = heard_unknown h
+
+abbrev pub heard_all : Items → Heard → Heard
+heard_all no_items h = h
+heard_all (item value others) h = heard_all others (heard_as (element_of value) h)
+
+-- what elements said; a trace that is cut within an element lost that one
+abbrev pub heard_cut : Bool → Heard → Heard
+heard_cut is_cut h = if is_cut then heard_unknown h else h
+
+abbrev pub heard_by : Bool → Option Items → Heard → Heard
+heard_by is_cut None h = heard_unknown h
+heard_by is_cut (Some elements) h = heard_cut is_cut (heard_all elements h)
+
+-- what a value says as a trace; one that is none says nothing that is known
+abbrev pub heard_value : Bool → Json → Heard → Heard
+heard_value is_cut value h = heard_by is_cut (elements_in value) h
+
+abbrev pub heard_value_or : Bool → Option Json → Heard → Heard
+heard_value_or is_cut None h = heard_unknown h
+heard_value_or is_cut (Some value) h = heard_value is_cut value h
+
+-- what a text says that ends early
+abbrev pub heard_mended : List ℕ → Heard → Heard
+heard_mended text h = heard_value_or (is_cut text) (document (mended text)) h
+
+abbrev pub heard_as_it_is : Option Json → List ℕ → Heard → Heard
+heard_as_it_is None text h = heard_mended text h
+heard_as_it_is (Some value) text h = heard_value false value h
+
+-- what was said, and what a text says as a trace
+abbrev pub heard_from : List ℕ → Heard → Heard
+heard_from text h = heard_as_it_is (document text) text h
+
+-- what a text says as a trace
+abbrev pub heard_in : List ℕ → Heard
+heard_in text = heard_from text nothing_heard_of
+
+-- Why no more was heard, and what would have been: memory was refused, or after something unknown the
+-- notes ended the run.
+abbrev pub EndsHearing : LineCause → Heard → Heard → Type 0
+EndsHearing NoSettings h all = ⊥
+EndsHearing NotACall h all = (0 < h.unknown) × (0 < all.unknown)
+EndsHearing Read h all = ⊥
+EndsHearing Memory h all = ⊤
+EndsHearing (Refused refusal) h all = ⊥
+
+-- these items in the one order in which they are drawn
+abbrev pub IsInOrder : List Item → List Item → Type 0
+IsInOrder items ordered = IsPermutation items ordered × IsSorted item_cmp ordered
+
+-- the calls of items in their order
+abbrev pub calls_in_order : ℕ → Moment → Cut → GatheredState → List Item → List Call
+calls_in_order next moment cut gathered ordered =
+    (finished
+    (stepped_all (marked cut.least ordered)
+    (begun_tree next moment cut gathered.processes gathered.threads))).calls
+
+-- the calls that draw what was gathered
+abbrev pub AreCallsOf : ℕ → Moment → Cut → GatheredState → List Call → Type 0
+AreCallsOf next moment cut gathered calls =
+    (ordered : List Item) × IsInOrder (all_items gathered) ordered
+    × (calls ≡ calls_in_order next moment cut gathered ordered)
+
+-- The drawing is that of the calls of the trace, and each was accepted.
+abbrev pub DrawsTrace : ℕ → Moment → Cut → GatheredState → Seen → Seen → Type 0
+DrawsTrace next moment cut gathered old new =
+    (calls : List Call) × AreCallsOf next moment cut gathered calls × Makes calls old new
+
+-- The drawing ends at a call that was refused: it is that of the calls before it.
+abbrev pub DrawsUpTo : ℕ → Moment → Cut → GatheredState → Refusal → Seen → Seen → Type 0
+DrawsUpTo next moment cut gathered refusal old new =
+    (calls : List Call) × AreCallsOf next moment cut gathered calls
+    × StopsIn calls (Refused refusal) old new
+
+-- what was gathered is drawn, or the drawing ends at a call that was refused, or nothing is drawn for
+-- want of memory
+abbrev pub DrawsOrEnds : ℕ → Moment → Cut → GatheredState → Result ⊤ LineCause → Seen → Seen → Type 0
+DrawsOrEnds next moment cut gathered (Ok done) old new = DrawsTrace next moment cut gathered old new
+DrawsOrEnds next moment cut gathered (Err NoSettings) old new = ⊥
+DrawsOrEnds next moment cut gathered (Err NotACall) old new = ⊥
+DrawsOrEnds next moment cut gathered (Err Read) old new = ⊥
+DrawsOrEnds next moment cut gathered (Err Memory) old new = new ≡ old
+DrawsOrEnds next moment cut gathered (Err (Refused refusal)) old new =
+    DrawsUpTo next moment cut gathered refusal old new
+
+-- What ended a run, of which so much was unknown: nothing was drawn for want of memory, or where the
+-- notes ended the run after something unknown; or the drawing ends at a call that was refused.
+abbrev pub EndsTrace : ℕ → Moment → Cut → Heard → ℕ → LineCause → Seen → Seen → Type 0
+EndsTrace next moment cut heard unknown NoSettings old new = ⊥
+EndsTrace next moment cut heard unknown NotACall old new =
+    (0 < unknown) × (0 < heard.unknown) × (new ≡ old)
+EndsTrace next moment cut heard unknown Read old new = ⊥
+EndsTrace next moment cut heard unknown Memory old new = new ≡ old
+EndsTrace next moment cut heard unknown (Refused refusal) old new =
+    (unknown ≡ heard.unknown) × DrawsUpTo next moment cut heard.gathered refusal old new
+
+-- The drawing is that of a text as a trace. Where something ended the run, it is that of a beginning.
+abbrev pub RunsTrace : ℕ → Moment → Cut → List ℕ → SourceRun → Seen → Seen → Type 0
+RunsTrace next moment cut text run old new =
+    let heard = heard_in text in
+    MatchOption run.fault
+    (DrawsTrace next moment cut heard.gathered old new × (run.unknown ≡ heard.unknown))
+    (λ fault. (fault.line ≡ 1) × EndsTrace next moment cut heard run.unknown fault.cause old new)

@@ -1,0 +1,339 @@
+//! What one element of a trace says.
+
+ghost use Rattle.std.specs.Prelude.{◌≡◌, IfOk, option_map};
+ghost use Rattle.std.specs.Str.{all_ascii_digits};
+ghost use Rattle.json.specs.Value.{value_view};
+ghost use Rattle.tracing_tree_chrome.specs.Element.{decimal_of, digit_in, element_of, entry_in, fields_in, given_name, integer_at, integer_in, integer_of, is_digits, lane_in, name_in, named_as, named_in, naming_of, nanoseconds, nanoseconds_of, phase_of, phased, span_of, thousandths, time_at, timed_in, whole_of};
+
+use json::Value;
+use std::alloc::{AllocError, Global};
+use tracing_tree::field::Fields;
+use tracing_tree::text::Text;
+use tracing_tree_sources::notes::Lack;
+use tracing_tree_sources::tracing::event_fields;
+use tracing_tree_sources::values::text_at;
+
+// The process and the thread of an element, as far as it tells them.
+#[derive(Clone, Copy, PartialEq, Eq, PartialOrd, Ord)]
+pub(crate) struct Lane {
+    pub(crate) process: Option<i128>,
+    pub(crate) thread: Option<i128>,
+}
+
+// What most elements say.
+#[derive(Drop)]
+pub(crate) struct Entry {
+    pub(crate) lane: Lane,
+    // Nanoseconds on the trace's clock.
+    pub(crate) start: u64,
+    pub(crate) name: Text,
+    pub(crate) fields: Fields,
+}
+
+// What one element of a trace says.
+#[derive(Drop)]
+pub(crate) enum Element {
+    // A span, and when it ends.
+    Span(Entry, u64),
+    // A span begins.
+    Begin(Entry),
+    // The span of the lane that began last ends.
+    End(Entry),
+    Instant(Entry),
+    ProcessName(Lane, Text),
+    ThreadName(Lane, Text),
+    // It draws nothing.
+    Other,
+}
+
+// What an element at a time tells.
+#[derive(Clone, Copy)]
+enum Phase {
+    Complete,
+    Begin,
+    End,
+    Instant,
+}
+
+// What an element of metadata names.
+#[derive(Clone, Copy)]
+enum Naming {
+    Process,
+    Thread,
+}
+
+// What an element says, or what it lacks.
+pub(crate) fn element_of(
+    alloc: Global,
+    value: &Value<'_>,
+) -> Result<Result<Element, Lack>, AllocError>
+    ensures { IfOk result (λ element. element ≡ element_of (value_view value.now)) }
+{
+    let Some(phase) = text_at(value, "ph") else {
+        return Ok(Err(Lack::Phase));
+    };
+    if phase == "M" {
+        return named_in(alloc, value);
+    }
+    match phase_of(phase) {
+        Some(phase) => timed_in(alloc, phase, value),
+        None => Ok(Ok(Element::Other)),
+    }
+}
+
+// The phase that a text tells, of an element at a time.
+fn phase_of(text: &str) -> Option<Phase>
+    ensures { result ≡ phase_of text.now }
+{
+    if text == "X" {
+        Some(Phase::Complete)
+    } else if text == "B" {
+        Some(Phase::Begin)
+    } else if text == "E" {
+        Some(Phase::End)
+    } else if text == "i" || text == "I" {
+        Some(Phase::Instant)
+    } else {
+        None
+    }
+}
+
+// An element of this phase.
+fn timed_in(
+    alloc: Global,
+    phase: Phase,
+    value: &Value<'_>,
+) -> Result<Result<Element, Lack>, AllocError>
+    ensures { IfOk result (λ element. element ≡ timed_in phase (value_view value.now)) }
+{
+    match entry_in(alloc, value)? {
+        Ok(entry) => Ok(phased(phase, entry, value)),
+        Err(lack) => Ok(Err(lack)),
+    }
+}
+
+fn phased(phase: Phase, entry: Entry, value: &Value<'_>) -> Result<Element, Lack>
+    ensures { result ≡ phased phase entry (value_view value.now) }
+{
+    match phase {
+        Phase::Complete => span_of(entry, time_at(value, "dur")),
+        Phase::Begin => Ok(Element::Begin(entry)),
+        Phase::End => Ok(Element::End(entry)),
+        Phase::Instant => Ok(Element::Instant(entry)),
+    }
+}
+
+// A span by how long it takes.
+fn span_of(entry: Entry, duration: Option<u64>) -> Result<Element, Lack>
+    ensures { result ≡ span_of entry duration }
+{
+    let Some(duration) = duration else {
+        return Err(Lack::Duration);
+    };
+    let end = entry.start.saturating_add(duration);
+    Ok(Element::Span(entry, end))
+}
+
+fn entry_in(alloc: Global, value: &Value<'_>) -> Result<Result<Entry, Lack>, AllocError>
+    ensures { IfOk result (λ entry. entry ≡ entry_in (value_view value.now)) }
+{
+    let lane = match lane_in(value) {
+        Ok(lane) => lane,
+        Err(lack) => return Ok(Err(lack)),
+    };
+    let Some(start) = time_at(value, "ts") else {
+        return Ok(Err(Lack::Start));
+    };
+    Ok(Ok(Entry {
+        lane,
+        start,
+        name: Text::from_str(alloc, name_in(value))?,
+        fields: fields_in(alloc, value)?,
+    }))
+}
+
+// An element of metadata: it may name its process or its thread.
+fn named_in(alloc: Global, value: &Value<'_>) -> Result<Result<Element, Lack>, AllocError>
+    ensures { IfOk result (λ element. element ≡ named_in (value_view value.now)) }
+{
+    let Some(naming) = naming_of(name_in(value)) else {
+        return Ok(Ok(Element::Other));
+    };
+    let Some(text) = given_name(value) else {
+        return Ok(Ok(Element::Other));
+    };
+    match lane_in(value) {
+        Ok(lane) => Ok(Ok(named_as(naming, lane, Text::from_str(alloc, text)?))),
+        Err(lack) => Ok(Err(lack)),
+    }
+}
+
+fn naming_of(name: &str) -> Option<Naming>
+    ensures { result ≡ naming_of name.now }
+{
+    if name == "process_name" {
+        Some(Naming::Process)
+    } else if name == "thread_name" {
+        Some(Naming::Thread)
+    } else {
+        None
+    }
+}
+
+fn named_as(naming: Naming, lane: Lane, text: Text) -> Element
+    ensures { result ≡ named_as naming lane text }
+{
+    match naming {
+        Naming::Process => Element::ProcessName(lane, text),
+        Naming::Thread => Element::ThreadName(lane, text),
+    }
+}
+
+// The text at `args`.`name`.
+fn given_name<'v>(value: &'v Value<'_>) -> Option<&'v str>
+    ensures { option_map (λ s. s.now) result ≡ given_name (value_view value.now) }
+{
+    text_at(value.get("args")?, "name")
+}
+
+// The name of an element, empty where it has none.
+fn name_in<'v>(value: &'v Value<'_>) -> &'v str
+    ensures { result.now ≡ name_in (value_view value.now) }
+{
+    match text_at(value, "name") {
+        Some(name) => name,
+        None => "",
+    }
+}
+
+// The members of the object at `args` as fields.
+fn fields_in(alloc: Global, value: &Value<'_>) -> Result<Fields, AllocError>
+    ensures { IfOk result (λ fields. fields ≡ fields_in (value_view value.now)) }
+{
+    match value.get("args") {
+        Some(args) => event_fields(alloc, args),
+        None => Ok(Fields::new(alloc)),
+    }
+}
+
+// The process and the thread of an element.
+fn lane_in(value: &Value<'_>) -> Result<Lane, Lack>
+    ensures { result ≡ lane_in (value_view value.now) }
+{
+    let process = integer_at(value, "pid", Lack::Process)?;
+    let thread = integer_at(value, "tid", Lack::Thread)?;
+    Ok(Lane { process, thread })
+}
+
+// The whole number at a key, none where the key is absent or its value is null.
+fn integer_at(value: &Value<'_>, key: &str, lack: Lack) -> Result<Option<i128>, Lack>
+    ensures { result ≡ integer_at key.now lack (value_view value.now) }
+{
+    match value.get(key) {
+        Some(found) => integer_in(found, lack),
+        None => Ok(None),
+    }
+}
+
+// A whole number, or null for none.
+fn integer_in(value: &Value<'_>, lack: Lack) -> Result<Option<i128>, Lack>
+    ensures { result ≡ integer_in lack (value_view value.now) }
+{
+    match value {
+        Value::Null => Ok(None),
+        Value::Number(text) => match integer_of(text) {
+            Some(found) => Ok(Some(found)),
+            None => Err(lack),
+        },
+        _ => Err(lack),
+    }
+}
+
+fn integer_of(text: &str) -> Option<i128>
+    ensures { result ≡ integer_of text.now }
+{
+    text.parse().ok()
+}
+
+// The time at a key, in nanoseconds.
+fn time_at(value: &Value<'_>, key: &str) -> Option<u64>
+    ensures { result ≡ time_at key.now (value_view value.now) }
+{
+    nanoseconds_of(value.get(key)?.as_number()?)
+}
+
+// The nanoseconds of a number of microseconds, without a sign or an exponent.
+fn nanoseconds_of(text: &str) -> Option<u64>
+    ensures { result ≡ nanoseconds_of text.now }
+{
+    match text.split_once('.') {
+        Some((before, after)) => decimal_of(before, after),
+        None => nanoseconds(whole_of(text)?, 0),
+    }
+}
+
+// The same of a number with a point, by what stands before the point and after it.
+fn decimal_of(before: &str, after: &str) -> Option<u64>
+    ensures { result ≡ decimal_of before.now after.now }
+{
+    if !is_digits(after) {
+        return None;
+    }
+    nanoseconds(whole_of(before)?, thousandths(after.as_bytes()))
+}
+
+// The nanoseconds of these microseconds and this many thousandths of one, if a u64 holds them.
+fn nanoseconds(whole: u64, part: u64) -> Option<u64>
+    ensures { result ≡ nanoseconds whole part }
+{
+    whole.checked_mul(1000)?.checked_add(part)
+}
+
+// The number that digits write, if a u64 holds it.
+fn whole_of(text: &str) -> Option<u64>
+    ensures { result ≡ whole_of text.now }
+{
+    if !is_digits(text) {
+        return None;
+    }
+    text.parse().ok()
+}
+
+// The thousandths that the digits after a point write. Those after the third are cut off.
+fn thousandths(digits: &[u8]) -> u64
+    ensures { result ≡ thousandths digits.now }
+{
+    match digits {
+        [] => 0,
+        [a] => digit_in(*a) * 100,
+        [a, b] => digit_in(*a) * 100 + digit_in(*b) * 10,
+        [a, b, c, ..] => digit_in(*a) * 100 + digit_in(*b) * 10 + digit_in(*c),
+    }
+}
+
+// What a digit counts.
+fn digit_in(byte: u8) -> u64
+    ensures { result ≡ digit_in byte }
+{
+    u64::from(byte.saturating_sub(b'0'))
+}
+
+// Whether a text is one digit or more, and nothing else.
+fn is_digits(text: &str) -> bool
+    ensures { result ≡ is_digits text.now }
+{
+    !text.is_empty() && all_digits(text.as_bytes())
+}
+
+fn all_digits(bytes: &[u8]) -> bool
+    ensures { result ≡ all_ascii_digits bytes.now }
+{
+    let mut rest = bytes;
+    while let [byte, others @ ..] = rest {
+        if !byte.is_ascii_digit() {
+            return false;
+        }
+        rest = others;
+    }
+    true
+}

@@ -1,0 +1,243 @@
+//! What the elements of a trace say together.
+
+ghost use Rattle.std.specs.Prelude.{◌≡◌, ◌∷◌, ◌++◌, [], ◌<◌, length, IfOk, IfSome, OnOk, IsPermutation, IsSorted};
+ghost use Rattle.tracing_tree_chrome.specs.Gather.{ended, gathered_one, item_cmp, item_of, last_in, none_later, nothing_gathered, process_of, same_lane, whole};
+
+use crate::element::{Element, Entry, Lane};
+use std::alloc::{AllocError, Global};
+use std::cmp::Reverse;
+use std::marker::Model;
+use tracing_tree::field::Fields;
+use tracing_tree::text::Text;
+
+// What an item of the drawing is.
+#[derive(Clone, Copy)]
+pub(crate) enum Shape {
+    Event,
+    // A span whose end is known.
+    Whole,
+    // A span that began, and whose end no element tells.
+    Unended,
+}
+
+// A point of a trace: nanoseconds on its clock, and how many elements came before.
+#[derive(Clone, Copy)]
+pub(crate) struct Point {
+    pub(crate) time: u64,
+    pub(crate) index: u64,
+}
+
+// Whether one of the items after an item is drawn.
+#[derive(Clone, Copy)]
+pub(crate) struct Later {
+    // One of the same thread.
+    pub(crate) in_thread: bool,
+    // One of the same process.
+    pub(crate) in_process: bool,
+}
+
+// An event or a span.
+#[derive(Drop)]
+pub(crate) struct Item {
+    pub(crate) lane: Lane,
+    pub(crate) start: Point,
+    // That of a whole element stands before all that start at its time. That of a span without an end has the last time that there is.
+    pub(crate) end: Point,
+    pub(crate) name: Text,
+    pub(crate) fields: Fields,
+    pub(crate) shape: Shape,
+    pub(crate) later: Later,
+}
+
+// How a process or a thread is called.
+#[derive(Drop)]
+pub(crate) struct Name {
+    pub(crate) lane: Lane,
+    pub(crate) text: Text,
+}
+
+// What elements said so far.
+#[derive(Drop)]
+pub(crate) struct Gathered {
+    // What is drawn, without the spans that began and haven't ended.
+    pub(crate) items: Vec<Item>,
+    // The spans that began and haven't ended, the newest last.
+    pub(crate) begun: Vec<Item>,
+    pub(crate) processes: Vec<Name>,
+    pub(crate) threads: Vec<Name>,
+    // How many elements there were.
+    pub(crate) count: u64,
+}
+
+impl Model for Gathered {
+    ghost use Rattle.tracing_tree_chrome.specs.Gather.{GatheredState};
+
+    ghost Value = { GatheredState };
+
+    ghost view = { λ g. record {
+      items = g.items.items;
+      begun = g.begun.items;
+      processes = g.processes.items;
+      threads = g.threads.items;
+      count = g.count;
+    } };
+}
+
+impl Gathered {
+    pub(crate) fn new(alloc: Global) -> Gathered
+        ensures { result ≡ nothing_gathered }
+    {
+        Gathered {
+            items: Vec::new(alloc),
+            begun: Vec::new(alloc),
+            processes: Vec::new(alloc),
+            threads: Vec::new(alloc),
+            count: 0,
+        }
+    }
+
+    // Takes an element.
+    pub(crate) fn take(&mut self, element: Element) -> Result<(), AllocError>
+        ensures { OnOk result (self.new ≡ gathered_one element self.old) }
+    {
+        let index = self.count;
+        self.count = self.count.saturating_add(1);
+        match element {
+            Element::Span(entry, end) => Ok(
+                self.items.push(item_of(entry, end, Shape::Whole, index))?,
+            ),
+            Element::Begin(entry) => {
+                Ok(
+                    self.begun
+                        .push(item_of(entry, u64::MAX, Shape::Unended, index))?,
+                )
+            }
+            Element::End(entry) => self.end(entry, index),
+            Element::Instant(entry) => {
+                let start = entry.start;
+                Ok(self.items.push(item_of(entry, start, Shape::Event, index))?)
+            }
+            Element::ProcessName(lane, text) => {
+                let lane = process_of(lane);
+                Ok(self.processes.push(Name { lane, text })?)
+            }
+            Element::ThreadName(lane, text) => Ok(self.threads.push(Name { lane, text })?),
+            Element::Other => Ok(()),
+        }
+    }
+
+    // Ends the span of the lane that began last, at the element with so many before it; nothing where there is none.
+    fn end(&mut self, entry: Entry, index: u64) -> Result<(), AllocError>
+        ensures { OnOk result (self.new ≡ ended entry index self.old) }
+    {
+        match last_in(self.begun.as_slice(), entry.lane) {
+            Some(at) => {
+                let one = self.begun.remove(at);
+                Ok(self.items.push(whole(one, entry, index)?)?)
+            }
+            None => Ok(()),
+        }
+    }
+}
+
+// All that is drawn, in its order: by process and thread, by the start, the longer first, and then as it came. A span without an end
+// is drawn, too.
+pub(crate) fn in_order(items: Vec<Item>, begun: Vec<Item>) -> Result<Vec<Item>, AllocError>
+    ensures same { IfOk result (λ ordered. IsPermutation (items.items ++ begun.items) ordered.items) }
+    ensures sorted { IfOk result (λ ordered. IsSorted item_cmp ordered.items) }
+{
+    let mut items = items;
+    let mut begun = begun;
+    items.append(&mut begun)?;
+    sort(&mut items)?;
+    Ok(items)
+}
+
+fn sort(items: &mut Vec<Item>) -> Result<(), AllocError>
+    ensures same { IsPermutation items.old.items items.new.items }
+    ensures sorted { OnOk result (IsSorted item_cmp items.new.items) }
+{
+    items.sort_by_key(|item| {
+        (
+            item.lane,
+            item.start.time,
+            Reverse(item.end.time),
+            item.start.index,
+        )
+    })?;
+    Ok(())
+}
+
+fn item_of(entry: Entry, end: u64, shape: Shape, index: u64) -> Item
+    ensures { result ≡ item_of entry end shape index }
+{
+    Item {
+        lane: entry.lane,
+        start: Point {
+            time: entry.start,
+            index,
+        },
+        end: Point {
+            time: end,
+            index: 0,
+        },
+        name: entry.name,
+        fields: entry.fields,
+        shape,
+        later: none_later(),
+    }
+}
+
+// A span that began, with what the element of its end says, before which so many came.
+fn whole(one: Item, end: Entry, index: u64) -> Result<Item, AllocError>
+    ensures { IfOk result (λ item. item ≡ whole one end index) }
+{
+    let mut one = one;
+    one.fields.append(end.fields)?;
+    one.end = Point {
+        time: one.start.time.max(end.start),
+        index,
+    };
+    one.shape = Shape::Whole;
+    Ok(one)
+}
+
+// Where the last of these in the lane stands.
+fn last_in(begun: &[Item], lane: Lane) -> Option<usize>
+    ensures last { result ≡ last_in begun.now lane }
+    ensures within { IfSome result (λ at. at < length begun.now) }
+{
+    let mut at = begun.len();
+    while at > 0 {
+        at -= 1;
+        if same_lane(begun[at].lane, lane) {
+            return Some(at);
+        }
+    }
+    None
+}
+
+pub(crate) fn same_lane(one: Lane, other: Lane) -> bool
+    ensures { result ≡ same_lane one other }
+{
+    one.process == other.process && one.thread == other.thread
+}
+
+// The lane of a process, in which items stand that tell no thread.
+pub(crate) fn process_of(lane: Lane) -> Lane
+    ensures { result ≡ process_of lane }
+{
+    Lane {
+        process: lane.process,
+        thread: None,
+    }
+}
+
+pub(crate) fn none_later() -> Later
+    ensures { result ≡ none_later }
+{
+    Later {
+        in_thread: false,
+        in_process: false,
+    }
+}

@@ -1,0 +1,15 @@
+//! Traces in Chrome's trace event format drawn as a tree.
+//!
+//! [`run_trace`] draws a whole trace: its processes and threads are spans, and in each thread its spans stand nested by time.
+//! [`Cut`] says which spans are left out.
+#![tactic(auto)]
+
+mod element;
+mod gather;
+mod later;
+mod length;
+mod text;
+pub mod trace;
+mod tree;
+
+pub use trace::{Cut, run_trace};

@@ -1,0 +1,229 @@
+//! The elements that a text has as a trace.
+
+ghost use Rattle.std.specs.Prelude.{◌≡◌, ◌++◌, IfOk, OnOk, flat_map, option_map, reverse, string_bytes};
+ghost use Rattle.json.specs.Value.{items_view, value_view};
+ghost use Rattle.tracing_tree_chrome.specs.Text.{byte_read, closed, closer, elements_in, has_more, is_closing, is_cut, level_of, mended, noted, nothing_read, opened, read_in_text, read_outside, scan_of};
+
+use json::Value;
+use std::alloc::{AllocError, Global};
+use std::marker::Model;
+use tracing_tree::text::Text;
+use tracing_tree_sources::blanks::{first_byte, is_blank};
+use tracing_tree_sources::values::array_at;
+
+// The elements that a value lists.
+pub(crate) fn elements_in<'v, 'a>(value: &'v Value<'a>) -> Option<&'v Vec<Value<'a>>>
+    ensures { option_map (λ items. items_view items.now.items) result
+        ≡ elements_in (value_view value.now) }
+{
+    match value {
+        Value::Array(items) => Some(items),
+        _ => array_at(value, "traceEvents"),
+    }
+}
+
+// A text that ends early, with its end made up.
+#[derive(Drop)]
+pub(crate) struct MendedText {
+    pub(crate) text: Text,
+    // Whether more than its end is lost.
+    pub(crate) is_cut: bool,
+}
+
+// The text up to the last place between two elements, with what is open there closed.
+pub(crate) fn mended(alloc: Global, text: &str) -> Result<MendedText, AllocError>
+    ensures { IfOk result (λ made. made ≡ record { text = mended text.now; is_cut = is_cut text.now }) }
+{
+    let scan = scan_of(alloc, text.as_bytes())?;
+    let mut out = String::with_capacity(alloc, text.len())?;
+    out.push_str(&text[..scan.place])?;
+    let is_cut = has_more(&text.as_bytes()[scan.place..]);
+    push_closers(&mut out, scan.left_open)?;
+    Ok(MendedText {
+        text: Text::from(out),
+        is_cut,
+    })
+}
+
+// A bracket that opens.
+#[derive(Clone, Copy)]
+enum Bracket {
+    Square,
+    Curly,
+}
+
+// What closes a bracket.
+fn closer(bracket: Bracket) -> &'static str
+    ensures { result.now ≡ closer bracket }
+{
+    match bracket {
+        Bracket::Square => "]",
+        Bracket::Curly => "}",
+    }
+}
+
+// Closes these brackets, the last first.
+fn push_closers(out: &mut String, brackets: Vec<Bracket>) -> Result<(), AllocError>
+    ensures { OnOk result (string_bytes out.new ≡ string_bytes out.old ++ flat_map closer (reverse brackets.items)) }
+{
+    let mut brackets = brackets;
+    while let Some(bracket) = brackets.pop() {
+        out.push_str(closer(bracket))?;
+    }
+    Ok(())
+}
+
+// What is known of a text as far as it is read.
+#[derive(Drop)]
+struct Scan {
+    // The innermost last.
+    brackets: Vec<Bracket>,
+    in_text: bool,
+    is_escaped: bool,
+    // How many bytes stand up to the last place between two elements.
+    place: usize,
+    // What was open there, the innermost last.
+    left_open: Vec<Bracket>,
+}
+
+impl Model for Scan {
+    ghost use Rattle.std.specs.Prelude.{reverse};
+    ghost use Rattle.tracing_tree_chrome.specs.Text.{ScanState};
+
+    ghost Value = { ScanState };
+
+    ghost view = { λ s. record {
+      brackets = reverse s.brackets.items;
+      in_text = s.in_text;
+      is_escaped = s.is_escaped;
+      place = s.place;
+      left_open = reverse s.left_open.items;
+    } };
+}
+
+impl Scan {
+    fn new(alloc: Global) -> Scan
+        ensures { result ≡ nothing_read }
+    {
+        Scan {
+            brackets: Vec::new(alloc),
+            in_text: false,
+            is_escaped: false,
+            place: 0,
+            left_open: Vec::new(alloc),
+        }
+    }
+
+    // Reads one more byte, up to which so many stand.
+    fn read(&mut self, level: usize, at: usize, byte: u8) -> Result<(), AllocError>
+        ensures { OnOk result (self.new ≡ byte_read level at byte self.old) }
+    {
+        if self.in_text {
+            self.read_in_text(byte);
+            Ok(())
+        } else {
+            self.read_outside(level, at, byte)
+        }
+    }
+
+    fn read_in_text(&mut self, byte: u8)
+        ensures { self.new ≡ read_in_text byte self.old }
+    {
+        if self.is_escaped {
+            self.is_escaped = false;
+        } else if byte == b'\\' {
+            self.is_escaped = true;
+        } else if byte == b'"' {
+            self.in_text = false;
+        }
+    }
+
+    fn read_outside(&mut self, level: usize, at: usize, byte: u8) -> Result<(), AllocError>
+        ensures { OnOk result (self.new ≡ read_outside level at byte self.old) }
+    {
+        match byte {
+            b'"' => {
+                self.in_text = true;
+                return Ok(());
+            }
+            b'[' => self.push(Bracket::Square)?,
+            b'{' => self.push(Bracket::Curly)?,
+            b']' | b'}' => self.pop(),
+            _ => return Ok(()),
+        }
+        self.note(level, at)
+    }
+
+    fn push(&mut self, bracket: Bracket) -> Result<(), AllocError>
+        ensures { OnOk result (self.new ≡ opened bracket self.old) }
+    {
+        Ok(self.brackets.push(bracket)?)
+    }
+
+    fn pop(&mut self)
+        ensures { self.new ≡ closed self.old }
+    {
+        self.brackets.pop();
+    }
+
+    // Keeps a place between two elements, where just the list and what is around it is open.
+    fn note(&mut self, level: usize, at: usize) -> Result<(), AllocError>
+        ensures { OnOk result (self.new ≡ noted level at self.old) }
+    {
+        if self.brackets.len() != level {
+            return Ok(());
+        }
+        self.place = at;
+        self.left_open.clear();
+        self.left_open.extend_from_slice(self.brackets.as_slice())
+    }
+}
+
+fn scan_of(alloc: Global, text: &[u8]) -> Result<Scan, AllocError>
+    ensures { IfOk result (λ scan. scan ≡ scan_of text.now) }
+{
+    let level = level_of(text);
+    let mut scan = Scan::new(alloc);
+    let mut at = 0;
+    let mut rest = text;
+    while let [byte, others @ ..] = rest {
+        at += 1;
+        scan.read(level, at, *byte)?;
+        rest = others;
+    }
+    Ok(scan)
+}
+
+// How many brackets stay open where the elements stand: the list's, and that of an object around it.
+fn level_of(text: &[u8]) -> usize
+    ensures { result ≡ level_of text.now }
+{
+    match first_byte(text) {
+        Some(b'[') => 1,
+        _ => 2,
+    }
+}
+
+// Whether a byte may stand after the last element of a list.
+fn is_closing(byte: u8) -> bool
+    ensures { result ≡ is_closing byte }
+{
+    match byte {
+        b',' | b']' | b'}' => true,
+        _ => is_blank(byte),
+    }
+}
+
+// Whether anything else stands there.
+fn has_more(bytes: &[u8]) -> bool
+    ensures { result ≡ has_more bytes.now }
+{
+    let mut rest = bytes;
+    while let [byte, others @ ..] = rest {
+        if !is_closing(*byte) {
+            return true;
+        }
+        rest = others;
+    }
+    false
+}

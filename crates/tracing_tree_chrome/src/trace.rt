@@ -1,0 +1,258 @@
+//! Traces in Chrome's trace event format.
+
+ghost use Rattle.std.specs.Prelude.{◌≡◌, IfErr, IfOk, OnOk, Some};
+ghost use Rattle.json.specs.Value.{items_view, value_view};
+ghost use Rattle.tracing_tree_layer.specs.Calls.Layers.{seen, Changes};
+ghost use Rattle.tracing_tree_chrome.specs.Trace.{AreCallsOf, DrawsOrEnds, EndsHearing, RunsTrace, heard_all, heard_as, heard_cut, heard_from, heard_mended, heard_unknown, heard_value, nothing_heard_of};
+ghost use Rattle.tracing_tree_chrome.specs.Element.{element_of};
+
+use crate::element::element_of;
+use crate::gather::{Gathered, in_order};
+use crate::text::{elements_in, mended};
+use crate::tree::Tree;
+use json::{Scratch, Value};
+use std::alloc::{AllocError, Global};
+use tracing_tree::call::Call;
+use tracing_tree::format::Output;
+use tracing_tree::layered::Layered;
+use tracing_tree::lines::{LineCause, LineFault};
+use tracing_tree::time::{FormatTime, Moment};
+use tracing_tree_sources::notes::{Lack, Notes};
+use tracing_tree_sources::run::{SourceRun, make, skip};
+use tracing_tree_sources::values::value_of;
+
+/// Which spans of a trace are left out.
+#[derive(Clone, Copy, Debug, PartialEq, Eq)]
+pub struct Cut {
+    /// Those that took fewer nanoseconds.
+    pub least: u64,
+
+    /// Those that stand in so many others or more, their process and their thread among these. None where it is none.
+    pub depth: Option<usize>,
+}
+
+// What elements said so far.
+#[derive(Drop)]
+struct Heard {
+    gathered: Gathered,
+    // How many said nothing that is known.
+    unknown: u64,
+}
+
+/// Draws a trace: a JSON array of elements, or an object with such an array at `traceEvents`. One that ends early is drawn up to its
+/// last whole element.
+///
+/// Each process is a span, and each of its threads a span in it. In a thread spans stand nested by time, and an event in the
+/// innermost span that hasn't ended. A span shows how long it took. Spans that are left out are counted in the span that they stand
+/// in, which tells them before it closes. Times are nanoseconds on the trace's clock; the first span gets the id `next`, and
+/// moments are `moment` with these times.
+///
+/// An element of which nothing is known is counted and left out, and what it lacks is noted by its number from 1 on; so is an
+/// element in which the text ends, and a text that is no trace. Nothing is drawn where memory is refused, and where the notes end
+/// the run: `NotACall` is the cause then. The drawing ends at the first call that is refused. The line of a fault is 1.
+pub fn run_trace<W: Output, FT: FormatTime, N: Notes>(
+    alloc: Global,
+    next: u64,
+    moment: Moment,
+    cut: Cut,
+    text: &str,
+    layered: &mut Layered<W, FT>,
+    notes: &mut N,
+) -> SourceRun
+    ensures { Changes (seen FT.FormatTime W.Output) (RunsTrace next moment cut text.now result)
+        layered.old layered.new }
+{
+    let mut heard = Heard::new(alloc);
+    if let Err(cause) = hear(alloc, text, &mut heard, notes) {
+        return ended(heard.unknown, cause);
+    }
+    let Heard { gathered, unknown } = heard;
+    match draw(alloc, next, moment, cut, gathered, layered) {
+        Ok(()) => SourceRun {
+            unknown,
+            fault: None,
+        },
+        Err(cause) => ended(unknown, cause),
+    }
+}
+
+fn ended(unknown: u64, cause: LineCause) -> SourceRun
+    ensures { result ≡ record { unknown = unknown; fault = Some (record { line = 1; cause = cause }) } }
+{
+    SourceRun {
+        unknown,
+        fault: Some(LineFault { line: 1, cause }),
+    }
+}
+
+// Draws what was gathered.
+fn draw<W: Output, FT: FormatTime>(
+    alloc: Global,
+    next: u64,
+    moment: Moment,
+    cut: Cut,
+    gathered: Gathered,
+    layered: &mut Layered<W, FT>,
+) -> Result<(), LineCause>
+    ensures { Changes (seen FT.FormatTime W.Output) (DrawsOrEnds next moment cut gathered result)
+        layered.old layered.new }
+{
+    let Ok(calls) = calls_of(alloc, next, moment, cut, gathered) else {
+        return Err(LineCause::Memory);
+    };
+    match make(calls, layered) {
+        Ok(()) => Ok(()),
+        Err(refusal) => Err(LineCause::Refused(refusal)),
+    }
+}
+
+// The calls that draw what was gathered.
+fn calls_of(
+    alloc: Global,
+    next: u64,
+    moment: Moment,
+    cut: Cut,
+    gathered: Gathered,
+) -> Result<Vec<Call>, AllocError>
+    ensures { IfOk result (λ calls. AreCallsOf next moment cut gathered calls.items) }
+{
+    let Gathered {
+        items,
+        begun,
+        processes,
+        threads,
+        count: _,
+    } = gathered;
+    let ordered = in_order(items, begun)?;
+    let mut tree = Tree::new(alloc, next, moment, cut, processes, threads)?;
+    tree.draw(ordered)?;
+    Ok(tree.into_calls())
+}
+
+// Takes what a text says as a trace.
+fn hear<N: Notes>(
+    alloc: Global,
+    text: &str,
+    heard: &mut Heard,
+    notes: &mut N,
+) -> Result<(), LineCause>
+    ensures heard { OnOk result (heard.new ≡ heard_from text.now heard.old) }
+    ensures ended { IfErr result (λ cause. EndsHearing cause heard.new (heard_from text.now heard.old)) }
+{
+    let mut scratch = Scratch::new(alloc);
+    match value_of(alloc, text, &mut scratch)? {
+        Some(value) => heard.take_value(alloc, &value, false, notes),
+        None => hear_mended(alloc, text, heard, notes),
+    }
+}
+
+// Takes what a text says that ends early.
+fn hear_mended<N: Notes>(
+    alloc: Global,
+    text: &str,
+    heard: &mut Heard,
+    notes: &mut N,
+) -> Result<(), LineCause>
+    ensures heard { OnOk result (heard.new ≡ heard_mended text.now heard.old) }
+    ensures ended { IfErr result (λ cause. EndsHearing cause heard.new (heard_mended text.now heard.old)) }
+{
+    let mended = mended(alloc, text)?;
+    let mut scratch = Scratch::new(alloc);
+    match value_of(alloc, mended.text.as_str(), &mut scratch)? {
+        Some(value) => heard.take_value(alloc, &value, mended.is_cut, notes),
+        None => heard.lose(1, Lack::Trace, notes),
+    }
+}
+
+impl Heard {
+    fn new(alloc: Global) -> Heard
+        ensures { result ≡ nothing_heard_of }
+    {
+        Heard {
+            gathered: Gathered::new(alloc),
+            unknown: 0,
+        }
+    }
+
+    // Takes what a value says as a trace, of which one more element is lost where it was cut.
+    #[tactic(auto, using(crate::proofs::Hearing::ends_before_cut))]
+    fn take_value<N: Notes>(
+        &mut self,
+        alloc: Global,
+        value: &Value<'_>,
+        is_cut: bool,
+        notes: &mut N,
+    ) -> Result<(), LineCause>
+        ensures heard { OnOk result (self.new ≡ heard_value is_cut (value_view value.now) self.old) }
+        ensures ended { IfErr result (λ cause. EndsHearing cause self.new
+            (heard_value is_cut (value_view value.now) self.old)) }
+    {
+        let Some(elements) = elements_in(value) else {
+            return self.lose(1, Lack::Trace, notes);
+        };
+        self.take_all(alloc, elements, notes)?;
+        self.lose_cut(is_cut, notes)
+    }
+
+    fn take_all<N: Notes>(
+        &mut self,
+        alloc: Global,
+        elements: &Vec<Value<'_>>,
+        notes: &mut N,
+    ) -> Result<(), LineCause>
+        ensures heard { OnOk result (self.new ≡ heard_all (items_view elements.now.items) self.old) }
+        ensures ended { IfErr result (λ cause. EndsHearing cause self.new
+            (heard_all (items_view elements.now.items) self.old)) }
+    {
+        let mut number: u64 = 0;
+        for element in elements {
+            number = number.saturating_add(1);
+            self.take(alloc, element, number, notes)?;
+        }
+        Ok(())
+    }
+
+    // Takes what one element says.
+    fn take<N: Notes>(
+        &mut self,
+        alloc: Global,
+        element: &Value<'_>,
+        number: u64,
+        notes: &mut N,
+    ) -> Result<(), LineCause>
+        ensures heard { OnOk result (self.new ≡ heard_as (element_of (value_view element.now)) self.old) }
+        ensures ended { IfErr result (λ cause. EndsHearing cause self.new
+            (heard_as (element_of (value_view element.now)) self.old)) }
+    {
+        match element_of(alloc, element)? {
+            Ok(element) => Ok(self.gathered.take(element)?),
+            Err(lack) => self.lose(number, lack, notes),
+        }
+    }
+
+    // Counts the element in which a text was cut.
+    fn lose_cut<N: Notes>(&mut self, is_cut: bool, notes: &mut N) -> Result<(), LineCause>
+        ensures heard { OnOk result (self.new ≡ heard_cut is_cut self.old) }
+        ensures ended { IfErr result (λ cause. EndsHearing cause self.new (heard_cut is_cut self.old)) }
+    {
+        if !is_cut {
+            return Ok(());
+        }
+        let last = self
+            .gathered
+            .count
+            .saturating_add(self.unknown)
+            .saturating_add(1);
+        self.lose(last, Lack::Object, notes)
+    }
+
+    // Counts an element that says nothing that is known, and has it noted. An error ends the run.
+    #[tactic(auto, using(crate::proofs::Hearing::ends_unknown))]
+    fn lose<N: Notes>(&mut self, number: u64, lack: Lack, notes: &mut N) -> Result<(), LineCause>
+        ensures heard { self.new ≡ heard_unknown self.old }
+        ensures ended { IfErr result (λ cause. EndsHearing cause self.new (heard_unknown self.old)) }
+    {
+        self.unknown = self.unknown.saturating_add(1);
+        skip(notes, number, Ok(lack))
+    }
+}

@@ -1,0 +1,571 @@
+//! The spans of a trace nested by time, and its events in them, as calls.
+
+ghost use Rattle.std.specs.Prelude.{◌≡◌, ◌∷◌, [], drop, IfOk, None, OnOk, option_map, reverse};
+ghost use Rattle.tracing_tree_chrome.specs.Later.{marked};
+ghost use Rattle.tracing_tree_chrome.specs.Tree.{added, at_moment, begun_tree, counted_until, current, current_end, entered, entered_process, entered_thread, event_shown, event_told, extent, finished, fits, frame_of, is_by, is_in_process, is_lane, is_left, is_of_lane, lane_opened, leaving, leaving_count, left, left_out, left_out_told, left_while, length_field, name_in, opened, passed_over, placed, process_depth, process_opened, shown_lane, span_end, span_fields, span_placed, span_shown, stepped, stepped_all, told_name, within};
+
+use crate::element::Lane;
+use crate::gather::{Item, Name, Point, Shape, process_of, same_lane};
+use crate::later::{is_long, marked};
+use crate::length::length_text;
+use crate::trace::Cut;
+use std::alloc::{AllocError, Global};
+use std::marker::Model;
+use tracing_tree::call::Call;
+use tracing_tree::field::{Field, Fields};
+use tracing_tree::format::Id;
+use tracing_tree::style::Level;
+use tracing_tree::text::Text;
+use tracing_tree::time::Moment;
+use tracing_tree_sources::told::{close_call, event_call, message_field, span_call};
+
+// How many spans were left out in a span, and how long they took together, in nanoseconds.
+#[derive(Clone, Copy)]
+struct Left {
+    spans: u64,
+    time: u64,
+    // The thread of the last, and up to which time it is counted.
+    lane: Option<Lane>,
+    until: u64,
+}
+
+// An open span, or the root that all stand in.
+#[derive(Clone, Copy)]
+struct Frame {
+    id: Option<Id>,
+    above: Option<Id>,
+    // Where it has none, it lasts as long as its thread or its process.
+    end: Option<Point>,
+    left: Left,
+}
+
+// Which open spans are left.
+#[derive(Clone, Copy)]
+enum Until {
+    // Those with so many below them, or more.
+    Depth(usize),
+    // Those that ended by then.
+    Ended(Point),
+}
+
+// The calls so far, and what is open.
+#[derive(Drop)]
+pub(crate) struct Tree {
+    alloc: Global,
+    // The id that the next span gets.
+    next: u64,
+    moment: Moment,
+    cut: Cut,
+    // That of the last item.
+    lane: Option<Lane>,
+    // The root first.
+    frames: Vec<Frame>,
+    processes: Vec<Name>,
+    threads: Vec<Name>,
+    calls: Vec<Call>,
+}
+
+impl Model for Tree {
+    ghost use Rattle.std.specs.Prelude.{reverse};
+    ghost use Rattle.tracing_tree_chrome.specs.Tree.{TreeState};
+
+    ghost Value = { TreeState };
+
+    ghost view = { λ t. record {
+      next = t.next;
+      moment = t.moment;
+      cut = t.cut;
+      lane = t.lane;
+      frames = reverse t.frames.items;
+      processes = t.processes.items;
+      threads = t.threads.items;
+      calls = t.calls.items;
+    } };
+}
+
+impl Tree {
+    // Nothing is open but the root.
+    pub(crate) fn new(
+        alloc: Global,
+        next: u64,
+        moment: Moment,
+        cut: Cut,
+        processes: Vec<Name>,
+        threads: Vec<Name>,
+    ) -> Result<Tree, AllocError>
+        ensures { IfOk result (λ tree. tree
+            ≡ begun_tree next moment cut processes.items threads.items) }
+    {
+        let mut frames = Vec::new(alloc);
+        frames.push(frame_of(None, None, None))?;
+        Ok(Tree {
+            alloc,
+            next,
+            moment,
+            cut,
+            lane: None,
+            frames,
+            processes,
+            threads,
+            calls: Vec::new(alloc),
+        })
+    }
+
+    // Draws these items, one after another, and closes what is open then.
+    pub(crate) fn draw(&mut self, items: Vec<Item>) -> Result<(), AllocError>
+        ensures { OnOk result (self.new
+            ≡ finished (stepped_all (marked self.old.cut.least items.items) self.old)) }
+    {
+        let items = marked(self.alloc, items, self.cut.least)?;
+        self.step_all(items)?;
+        self.leave_while(Until::Depth(0))
+    }
+
+    // Draws these items, the last first.
+    fn step_all(&mut self, items: Vec<Item>) -> Result<(), AllocError>
+        ensures { OnOk result (self.new ≡ stepped_all (reverse items.items) self.old) }
+    {
+        let mut items = items;
+        while let Some(item) = items.pop() {
+            self.step(item)?;
+        }
+        Ok(())
+    }
+
+    // Hands out the calls.
+    pub(crate) fn into_calls(self) -> Vec<Call>
+        ensures { result.items ≡ self.calls }
+    {
+        self.calls
+    }
+
+    // Draws an item in the innermost span of its thread that hasn't ended, or counts a span that is too short.
+    fn step(&mut self, item: Item) -> Result<(), AllocError>
+        ensures { OnOk result (self.new ≡ stepped item self.old) }
+    {
+        if !is_long(&item, self.cut.least) {
+            return self.pass_over(&item);
+        }
+        self.enter(item.lane, item.start.time)?;
+        self.leave_while(Until::Ended(item.start))?;
+        self.go_to(item.start.time);
+        self.place(item)
+    }
+
+    // Counts a span that is too short.
+    fn pass_over(&mut self, item: &Item) -> Result<(), AllocError>
+        ensures { OnOk result (self.new ≡ passed_over item.now self.old) }
+    {
+        let lane = self.shown_lane(item);
+        self.enter(lane, item.start.time)?;
+        self.leave_while(Until::Ended(item.start))?;
+        self.leave_out(item);
+        Ok(())
+    }
+
+    // Where a span that is too short counts: in its thread if that is drawn, else in its process if that is, else at the root.
+    fn shown_lane(&self, item: &Item) -> Lane
+        ensures { result ≡ shown_lane item.now self.now }
+    {
+        if is_lane(item.lane, self.lane) || item.later.in_thread {
+            item.lane
+        } else if is_in_process(item.lane, self.lane) || item.later.in_process {
+            process_of(item.lane)
+        } else {
+            Lane {
+                process: None,
+                thread: None,
+            }
+        }
+    }
+
+    fn go_to(&mut self, time: u64)
+        ensures { self.new ≡ at_moment time self.old }
+    {
+        self.moment.mono = time;
+    }
+
+    // Leaves the thread before for this one.
+    fn enter(&mut self, lane: Lane, time: u64) -> Result<(), AllocError>
+        ensures { OnOk result (self.new ≡ entered lane time self.old) }
+    {
+        if is_lane(lane, self.lane) {
+            return Ok(());
+        }
+        self.enter_process(lane, time)?;
+        self.enter_thread(lane, time)?;
+        self.lane = Some(lane);
+        Ok(())
+    }
+
+    fn enter_process(&mut self, lane: Lane, time: u64) -> Result<(), AllocError>
+        ensures { OnOk result (self.new ≡ entered_process lane time self.old) }
+    {
+        if is_in_process(lane, self.lane) {
+            return self.leave_while(Until::Depth(process_depth(lane)));
+        }
+        self.leave_while(Until::Depth(1))?;
+        self.go_to(time);
+        self.open_process(lane)
+    }
+
+    fn open_process(&mut self, lane: Lane) -> Result<(), AllocError>
+        ensures { OnOk result (self.new ≡ process_opened lane self.old) }
+    {
+        let Some(process) = lane.process else {
+            return Ok(());
+        };
+        let field = Field::whole(self.alloc, "pid", process)?;
+        let name = name_in(self.processes.as_slice(), process_of(lane), "process");
+        let name = Text::from_str(self.alloc, name)?;
+        self.open_lane(name, field)
+    }
+
+    fn enter_thread(&mut self, lane: Lane, time: u64) -> Result<(), AllocError>
+        ensures { OnOk result (self.new ≡ entered_thread lane time self.old) }
+    {
+        self.go_to(time);
+        let Some(thread) = lane.thread else {
+            return Ok(());
+        };
+        let field = Field::whole(self.alloc, "tid", thread)?;
+        let name = name_in(self.threads.as_slice(), lane, "thread");
+        let name = Text::from_str(self.alloc, name)?;
+        self.open_lane(name, field)
+    }
+
+    // Opens the span of a process or a thread, unless it would be too deep.
+    fn open_lane(&mut self, name: Text, field: Field) -> Result<(), AllocError>
+        ensures { OnOk result (self.new ≡ lane_opened name field self.old) }
+    {
+        if !self.fits() {
+            return Ok(());
+        }
+        let mut fields = Vec::new(self.alloc);
+        fields.push(field)?;
+        self.open(name.as_str(), Fields::from(fields), None)
+    }
+
+    // Opens a span in the innermost that is open.
+    fn open(&mut self, name: &str, fields: Fields, end: Option<Point>) -> Result<(), AllocError>
+        ensures { OnOk result (self.new ≡ opened name.now fields end self.old) }
+    {
+        let above = self.current();
+        let call = span_call(self.alloc, self.moment, name, fields, above)?;
+        self.calls.push(call)?;
+        let id = Id(self.next);
+        self.next = self.next.saturating_add(1);
+        self.push(frame_of(Some(id), above, end))
+    }
+
+    fn push(&mut self, frame: Frame) -> Result<(), AllocError>
+        ensures { OnOk result (self.new ≡ record self.old { frames = frame ∷ self.old.frames }) }
+    {
+        Ok(self.frames.push(frame)?)
+    }
+
+    // The innermost span that is open.
+    fn current(&self) -> Option<Id>
+        ensures { result ≡ current self.now }
+    {
+        self.frames.as_slice().last()?.id
+    }
+
+    // Where the innermost span ends.
+    fn current_end(&self) -> Option<Point>
+        ensures { result ≡ current_end self.now }
+    {
+        self.frames.as_slice().last()?.end
+    }
+
+    // Closes spans from the innermost on.
+    fn leave_while(&mut self, until: Until) -> Result<(), AllocError>
+        ensures { OnOk result (self.new ≡ left_while until self.old.frames self.old) }
+    {
+        while let Some(frame) = self.leaving(until) {
+            self.leave(frame)?;
+        }
+        Ok(())
+    }
+
+    // Takes the innermost span off, if it is left.
+    fn leaving(&mut self, until: Until) -> Option<Frame>
+        ensures frame { result ≡ leaving until self.old.frames }
+        ensures rest { self.new ≡ record self.old {
+          frames = drop (leaving_count until self.old.frames) self.old.frames;
+        } }
+    {
+        let below = self.frames.len().saturating_sub(1);
+        let frame = *self.frames.as_slice().last()?;
+        if !is_left(until, &frame, below) {
+            return None;
+        }
+        self.frames.pop()
+    }
+
+    // Closes a span that was taken off, and tells what it lost.
+    fn leave(&mut self, frame: Frame) -> Result<(), AllocError>
+        ensures { OnOk result (self.new ≡ left frame self.old) }
+    {
+        if let Some(end) = frame.end {
+            self.go_to(end.time);
+        }
+        self.tell_left_out(&frame)?;
+        if let Some(id) = frame.id {
+            self.calls.push(close_call(self.moment, id, frame.above))?;
+        }
+        Ok(())
+    }
+
+    // Tells how many spans were left out, if any was.
+    fn tell_left_out(&mut self, frame: &Frame) -> Result<(), AllocError>
+        ensures { OnOk result (self.new ≡ left_out_told frame.now self.old) }
+    {
+        if frame.left.spans == 0 {
+            return Ok(());
+        }
+        let mut fields = Vec::with_capacity(self.alloc, 3)?;
+        fields.push(message_field(self.alloc, "left out")?)?;
+        fields.push(Field::whole(self.alloc, "spans", i128::from(frame.left.spans))?)?;
+        fields.push(length_field(self.alloc, frame.left.time)?)?;
+        self.push_event(Fields::from(fields), frame.id)
+    }
+
+    fn push_event(&mut self, fields: Fields, above: Option<Id>) -> Result<(), AllocError>
+        ensures { OnOk result (self.new ≡ event_told fields above self.old) }
+    {
+        let call = event_call(self.alloc, self.moment, Level::Info, fields, above)?;
+        Ok(self.calls.push(call)?)
+    }
+
+    // Draws an item in the innermost span.
+    fn place(&mut self, item: Item) -> Result<(), AllocError>
+        ensures { OnOk result (self.new ≡ placed item self.old) }
+    {
+        match item.shape {
+            Shape::Event => self.show_event(item),
+            Shape::Whole | Shape::Unended => self.place_span(item),
+        }
+    }
+
+    fn show_event(&mut self, item: Item) -> Result<(), AllocError>
+        ensures { OnOk result (self.new ≡ event_shown item self.old) }
+    {
+        let mut fields = Vec::new(self.alloc);
+        fields.push(message_field(self.alloc, item.name.as_str())?)?;
+        let mut fields = Fields::from(fields);
+        fields.append(item.fields)?;
+        let above = self.current();
+        self.push_event(fields, above)
+    }
+
+    // Draws a span, or leaves it out.
+    fn place_span(&mut self, item: Item) -> Result<(), AllocError>
+        ensures { OnOk result (self.new ≡ span_placed item self.old) }
+    {
+        if self.fits() {
+            return self.show_span(item);
+        }
+        self.leave_out(&item);
+        Ok(())
+    }
+
+    // Whether one more span isn't too deep.
+    fn fits(&self) -> bool
+        ensures { result ≡ fits self.now }
+    {
+        match self.cut.depth {
+            Some(depth) => self.frames.len() <= depth,
+            None => true,
+        }
+    }
+
+    fn show_span(&mut self, item: Item) -> Result<(), AllocError>
+        ensures { OnOk result (self.new ≡ span_shown item self.old) }
+    {
+        let end = span_end(&item, self.current_end());
+        let mut fields = span_fields(self.alloc, &item)?;
+        fields.append(item.fields)?;
+        self.open(item.name.as_str(), fields, end)
+    }
+
+    // Counts a span as left out in the innermost.
+    fn leave_out(&mut self, item: &Item)
+        ensures { self.new ≡ left_out item.now self.old }
+    {
+        if let Some(frame) = self.frames.as_mut_slice().last_mut() {
+            frame.left = added(item, frame.left);
+        }
+    }
+}
+
+fn frame_of(id: Option<Id>, above: Option<Id>, end: Option<Point>) -> Frame
+    ensures { result ≡ frame_of id above end }
+{
+    Frame {
+        id,
+        above,
+        end,
+        left: Left {
+            spans: 0,
+            time: 0,
+            lane: None,
+            until: 0,
+        },
+    }
+}
+
+// Whether an open span is left, with so many below it.
+fn is_left(until: Until, frame: &Frame, below: usize) -> bool
+    ensures { result ≡ is_left until frame.now below }
+{
+    match until {
+        Until::Depth(depth) => depth <= below,
+        Until::Ended(point) => match frame.end {
+            Some(end) => is_by(end, point),
+            None => false,
+        },
+    }
+}
+
+// Whether a point comes before another, or is the same.
+fn is_by(point: Point, other: Point) -> bool
+    ensures { result ≡ is_by point other }
+{
+    if point.time == other.time {
+        point.index <= other.index
+    } else {
+        point.time <= other.time
+    }
+}
+
+fn is_lane(lane: Lane, before: Option<Lane>) -> bool
+    ensures { result ≡ is_lane lane before }
+{
+    match before {
+        Some(before) => same_lane(lane, before),
+        None => false,
+    }
+}
+
+fn is_in_process(lane: Lane, before: Option<Lane>) -> bool
+    ensures { result ≡ is_in_process lane before }
+{
+    match before {
+        Some(before) => lane.process == before.process,
+        None => false,
+    }
+}
+
+// How many levels stand above the threads of a process.
+fn process_depth(lane: Lane) -> usize
+    ensures { result ≡ process_depth lane }
+{
+    match lane.process {
+        Some(_) => 2,
+        None => 1,
+    }
+}
+
+// How a process or a thread is called, by the last element that says it.
+fn name_in<'n>(names: &'n [Name], lane: Lane, unnamed: &'n str) -> &'n str
+    ensures { result.now ≡ name_in names.now lane unnamed.now }
+{
+    match told_name(names, lane) {
+        Some(name) => name,
+        None => unnamed,
+    }
+}
+
+fn told_name<'n>(names: &'n [Name], lane: Lane) -> Option<&'n str>
+    ensures { option_map (λ t. t.now) result ≡ told_name names.now lane }
+{
+    let found = names.iter().rev().find(|name| {
+        let name: &Name = name;
+        is_of_lane(name, lane)
+    })?;
+    Some(found.text.as_str())
+}
+
+fn is_of_lane(name: &Name, lane: Lane) -> bool
+    ensures { result ≡ is_of_lane lane name.now }
+{
+    same_lane(name.lane, lane)
+}
+
+// Where a span ends: at the latest where the one above does.
+fn span_end(item: &Item, above: Option<Point>) -> Option<Point>
+    ensures { result ≡ span_end item.now above }
+{
+    match item.shape {
+        Shape::Whole => Some(within(item.end, above)),
+        Shape::Event | Shape::Unended => above,
+    }
+}
+
+fn within(end: Point, above: Option<Point>) -> Point
+    ensures { result ≡ within end above }
+{
+    match above {
+        Some(above) => { if is_by(end, above) { end } else { above } }
+        None => end,
+    }
+}
+
+// How long a span took, where that is known.
+fn span_fields(alloc: Global, item: &Item) -> Result<Fields, AllocError>
+    ensures { IfOk result (λ fields. fields ≡ span_fields item.now) }
+{
+    let mut fields = Vec::new(alloc);
+    if let Shape::Whole = item.shape {
+        let length = item.end.time.saturating_sub(item.start.time);
+        fields.push(length_field(alloc, length)?)?;
+    }
+    Ok(Fields::from(fields))
+}
+
+fn length_field(alloc: Global, nanoseconds: u64) -> Result<Field, AllocError>
+    ensures { IfOk result (λ field. field ≡ length_field nanoseconds) }
+{
+    Ok(Field {
+        name: Text::from_str(alloc, "time")?,
+        value: length_text(alloc, nanoseconds)?,
+    })
+}
+
+// What was left out, and this span too. The time of a thread in which another span was left out already isn't counted again.
+fn added(item: &Item, left: Left) -> Left
+    ensures { result ≡ added item.now left }
+{
+    let until = counted_until(item, &left);
+    let end = extent(item);
+    Left {
+        spans: left.spans.saturating_add(1),
+        time: left
+            .time
+            .saturating_add(end.saturating_sub(item.start.time.max(until))),
+        lane: Some(item.lane),
+        until: until.max(end),
+    }
+}
+
+// Up to which time what was left out is counted in the thread of this span.
+fn counted_until(item: &Item, left: &Left) -> u64
+    ensures { result ≡ counted_until item.now left.now }
+{
+    if is_lane(item.lane, left.lane) {
+        left.until
+    } else {
+        0
+    }
+}
+
+// Up to when a span is known to last.
+fn extent(item: &Item) -> u64
+    ensures { result ≡ extent item.now }
+{
+    match item.shape {
+        Shape::Whole => item.end.time,
+        Shape::Event | Shape::Unended => item.start.time,
+    }
+}
