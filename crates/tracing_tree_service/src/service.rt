@@ -2,9 +2,8 @@
 
 use crate::stock::Stock;
 use std::alloc::AllocError;
-use tracing_tree_core::format::Output;
 use tracing_tree_tracer::Value::{Plain, Quoted, Whole};
-use tracing_tree_tracer::{Now, TraceFault, Tracer, within};
+use tracing_tree_tracer::{Calls, Now, TraceFault, Tracer, within};
 
 // Why a request isn't served.
 #[derive(Clone, Copy)]
@@ -67,8 +66,8 @@ fn parse(line: &str) -> Option<Request<'_>> {
 }
 
 /// Answers requests, one a line.
-pub fn serve<W: Output, N: Now>(
-    tracer: &mut Tracer<W, (), N>,
+pub fn serve<C: Calls, N: Now>(
+    tracer: &mut Tracer<C, N>,
     stock: &mut Stock,
     requests: &str,
 ) -> Result<(), TraceFault> {
@@ -95,8 +94,8 @@ pub fn serve<W: Output, N: Now>(
 }
 
 // Answers a request, and returns whether it was served.
-fn is_served<W: Output, N: Now>(
-    tracer: &mut Tracer<W, (), N>,
+fn is_served<C: Calls, N: Now>(
+    tracer: &mut Tracer<C, N>,
     stock: &mut Stock,
     line: &str,
 ) -> Result<bool, TraceFault> {
@@ -113,8 +112,8 @@ fn is_served<W: Output, N: Now>(
     }
 }
 
-fn answer<W: Output, N: Now>(
-    tracer: &mut Tracer<W, (), N>,
+fn answer<C: Calls, N: Now>(
+    tracer: &mut Tracer<C, N>,
     stock: &mut Stock,
     line: &str,
 ) -> Result<(), Trouble> {
@@ -138,8 +137,8 @@ fn answer<W: Output, N: Now>(
     }
 }
 
-fn put<W: Output, N: Now>(
-    tracer: &mut Tracer<W, (), N>,
+fn put<C: Calls, N: Now>(
+    tracer: &mut Tracer<C, N>,
     stock: &mut Stock,
     item: &str,
     count: u64,
@@ -150,8 +149,8 @@ fn put<W: Output, N: Now>(
     Ok(())
 }
 
-fn take<W: Output, N: Now>(
-    tracer: &mut Tracer<W, (), N>,
+fn take<C: Calls, N: Now>(
+    tracer: &mut Tracer<C, N>,
     stock: &mut Stock,
     item: &str,
     count: u64,

@@ -4,8 +4,9 @@ use Rattle.std.proofs.Common.{subst, ap, ◌∙◌, arith}
 use Rattle.std.proofs.lemmas.Grind.{common_steps}
 use Rattle.tracing_tree_base.specs.declared.context.Id.{Id}
 use Rattle.tracing_tree_base.specs.declared.context.Moment.{Moment}
-use Rattle.tracing_tree_layer.specs.Calls.Seen.{Seen}
-use Rattle.tracing_tree_layer.specs.Calls.Layers.{LayeredView}
+use Rattle.tracing_tree_base.specs.declared.context.Refusal.{Refusal}
+use Rattle.tracing_tree_layer.specs.declared.call.Call.{Call}
+use Rattle.tracing_tree_layer.specs.declared.call.Reply.{Reply}
 use Rattle.tracing_tree_tracer.specs.declared.tracer.TraceFault.{TraceFault}
 use Rattle.tracing_tree_tracer.specs.Tracers.{TracerView, AreClosed, AreClosedTo, IsClosed, IsClosedAs, current_of, outer_of}
 
@@ -13,33 +14,33 @@ use Rattle.tracing_tree_tracer.specs.Tracers.{TracerView, AreClosed, AreClosedTo
 pub length-outer : (spans : List Id) → length (outer_of spans) ≡ length spans - 1
 length-outer spans = grind (arith, common_steps)
 
-module _ {W FT N : Type 0} (see : LayeredView W FT → Seen) (tells : N → Option Moment → Type 0) where
+module _ {C N : Type 0} (answers : Call → Result Reply Refusal → C → C → Type 0) (tells : N → Option Moment → Type 0) where
   -- an accepted close leaves the spans around the current one
-  pub spans-closed : (found : Option Id) (went : Bool) (old new : TracerView W FT N)
-      → IsClosedAs see tells found (Ok went) old new → new.spans ≡ outer_of old.spans
+  pub spans-closed : (found : Option Id) (went : Bool) (old new : TracerView C N)
+      → IsClosedAs answers tells found (Ok went) old new → new.spans ≡ outer_of old.spans
   spans-closed None went old new (never, same) = cc
   spans-closed (Some id) went old new closed = ap (λ tracer. tracer.spans) closed.left
 
   -- one was closed, and then the others
-  pub closed-more : (depth : ℕ) (old between new : TracerView W FT N) (given : Result Bool TraceFault) (went : Bool)
+  pub closed-more : (depth : ℕ) (old between new : TracerView C N) (given : Result Bool TraceFault) (went : Bool)
       → given ≡ Ok went → (answer : Result (Unit {0}) TraceFault) → depth < length old.spans
-      → IsClosed see tells given old between → AreClosedTo see tells depth answer between new
-      → AreClosedTo see tells depth answer old new
+      → IsClosed answers tells given old between → AreClosedTo answers tells depth answer between new
+      → AreClosedTo answers tells depth answer old new
   closed-more depth old between new given went is_given answer is_deep given_closed others =
-      let ByGiven : Result Bool TraceFault → Type 0 = λ one. IsClosed see tells one old between in
+      let ByGiven : Result Bool TraceFault → Type 0 = λ one. IsClosed answers tells one old between in
       let closed = subst ByGiven is_given given_closed in
       let left : length between.spans ≡ length old.spans - 1
       = ap length (spans-closed (current_of old.spans) went old between closed) ∙ length-outer old.spans in
       let count : suc (length between.spans - depth) ≡ length old.spans - depth = omega arith in
-      let Closed : ℕ → Type 0 = λ n. AreClosed see tells n answer old new in
+      let Closed : ℕ → Type 0 = λ n. AreClosed answers tells n answer old new in
       subst Closed count (Ok went, between, closed, others)
 
   -- the first couldn't be closed
-  pub closed-none : (depth : ℕ) (old new : TracerView W FT N) (given : Result Bool TraceFault) (fault : TraceFault)
+  pub closed-none : (depth : ℕ) (old new : TracerView C N) (given : Result Bool TraceFault) (fault : TraceFault)
       → given ≡ Err fault → (answer : Result (Unit {0}) TraceFault) → answer ≡ Err fault → depth < length old.spans
-      → IsClosed see tells given old new → AreClosedTo see tells depth answer old new
+      → IsClosed answers tells given old new → AreClosedTo answers tells depth answer old new
   closed-none depth old new given fault is_given answer is_answer is_deep given_closed =
-      let ByGiven : Result Bool TraceFault → Type 0 = λ one. IsClosed see tells one old new in
+      let ByGiven : Result Bool TraceFault → Type 0 = λ one. IsClosed answers tells one old new in
       let count : suc (length old.spans - depth - 1) ≡ length old.spans - depth = omega arith in
-      let Closed : ℕ → Type 0 = λ n. AreClosed see tells n answer old new in
+      let Closed : ℕ → Type 0 = λ n. AreClosed answers tells n answer old new in
       subst Closed count (Err fault, new, subst ByGiven is_given given_closed, (is_answer, refl))

@@ -1,4 +1,4 @@
-mod Calls
 mod Closes
+mod Made
 mod Scopes
 mod Worked

@@ -1,3 +1,4 @@
 pub mod Values
+pub mod Replies
 pub mod Tracers
 pub mod Within

@@ -7,9 +7,6 @@ use Rattle.tracing_tree_base.specs.declared.context.Refusal.{Refusal}
 use Rattle.tracing_tree_base.specs.declared.field.Field.{Field}
 use Rattle.tracing_tree_base.specs.declared.style.Level.{Level}
 use Rattle.tracing_tree_core.specs.declared.registry.Parent.TheVariants.{Current}
-use Rattle.tracing_tree_layer.specs.Calls.Seen.{Seen}
-use Rattle.tracing_tree_layer.specs.Calls.Answered.{IsAnswered}
-use Rattle.tracing_tree_layer.specs.Calls.Layers.{LayeredView, Changes}
 use Rattle.tracing_tree_layer.specs.declared.call.Call.{Call}
 use Rattle.tracing_tree_layer.specs.declared.call.Call.TheVariants.{New, Record, Event, Close}
 use Rattle.tracing_tree_layer.specs.declared.call.Reply.{Reply}
@@ -24,10 +21,10 @@ pub record Teller : Type 0 where
   pub thread_id : ℕ
   pub thread_name : Option (List ℕ)
 
--- a tracer: its registry with its layer, its clock, who tells, and the spans that are open,
--- outermost first
-pub record TracerView (W FT N : Type 0) : Type 0 where
-  pub layered : LayeredView W FT
+-- a tracer: what takes its calls, its clock, who tells, and the spans that are open, outermost
+-- first
+pub record TracerView (C N : Type 0) : Type 0 where
+  pub layered : C
   pub clock : N
   pub teller : Teller
   pub spans : List Id
@@ -103,79 +100,82 @@ CameOf MadeWith Silent Unmade (Err NoSpan) = ⊥
 CameOf MadeWith Silent Unmade (Err NoMoment) = Silent × Unmade
 CameOf MadeWith Silent Unmade (Err Memory) = Unmade
 
-module _ {W FT : Type 0} (see : LayeredView W FT → Seen) where
+-- In what follows `answers` says what a call may be answered by what takes it, and what that
+-- leaves.
+module _ {C : Type 0} (answers : Call → Result Reply Refusal → C → C → Type 0) where
   -- this call was made and answered so
-  abbrev pub Made : Call → LayeredView W FT → LayeredView W FT → Result Reply Refusal → Type 0
-  Made call old new answer = Changes see (IsAnswered call answer) old new
+  abbrev pub Made : Call → C → C → Result Reply Refusal → Type 0
+  Made call old new answer = answers call answer old new
 
   -- the call of a moment that may be told was made and answered so
-  abbrev pub MadeAt : (Option Moment → Type 0) → (Moment → Call) → LayeredView W FT
-      → LayeredView W FT → Result Reply Refusal → Type 0
+  abbrev pub MadeAt : (Option Moment → Type 0) → (Moment → Call) → C → C → Result Reply Refusal
+      → Type 0
   MadeAt tells call old new answer =
       (moment : Moment) × tells (Some moment) × Made (call moment) old new answer
 
-module _ {W FT N : Type 0} where
+module _ {C N : Type 0} where
   -- what a method leaves that makes one call: these open spans, and nothing else changed if it
   -- made none
-  pub record Leaves (MadeFrom : LayeredView W FT → LayeredView W FT → Result Reply Refusal → Type 0)
-      (Silent : Type 0) (spans : List Id) (answer : Result Reply TraceFault)
-      (old new : TracerView W FT N) : Type 0 where
+  pub record Leaves (MadeFrom : C → C → Result Reply Refusal → Type 0) (Silent : Type 0)
+      (spans : List Id) (answer : Result Reply TraceFault) (old new : TracerView C N) : Type 0 where
     pub made : CameOf (MadeFrom old.layered new.layered) Silent (new.layered ≡ old.layered) answer
     pub left : new ≡ record old { layered = new.layered; spans = spans }
 
-module _ {W FT N : Type 0} (see : LayeredView W FT → Seen) (tells : N → Option Moment → Type 0) where
+module _ {C N : Type 0} (answers : Call → Result Reply Refusal → C → C → Type 0)
+    (tells : N → Option Moment → Type 0) where
   -- a span was opened
-  abbrev pub IsOpened : List ℕ → List Field → Result Id TraceFault → TracerView W FT N
-      → TracerView W FT N → Type 0
+  abbrev pub IsOpened : List ℕ → List Field → Result Id TraceFault → TracerView C N
+      → TracerView C N → Type 0
   IsOpened name fields answer old new =
-      Leaves (MadeAt see (tells old.clock) (open_call old.teller old.spans name fields))
+      Leaves (MadeAt answers (tells old.clock) (open_call old.teller old.spans name fields))
       (tells old.clock None) (after_open old.spans answer) (reply_as Span answer) old new
 
   -- an event was told
   abbrev pub IsTold : Level → List ℕ → List Field → Result (Unit {0}) TraceFault
-      → TracerView W FT N → TracerView W FT N → Type 0
+      → TracerView C N → TracerView C N → Type 0
   IsTold level message fields answer old new =
-      Leaves (MadeAt see (tells old.clock) (event_call old.teller old.spans level message fields))
+      Leaves (MadeAt answers (tells old.clock) (event_call old.teller old.spans level message fields))
       (tells old.clock None) old.spans (reply_as done answer) old new
 
   -- this span, which is the current one, was closed, if there is one
-  abbrev pub IsClosedAs : Option Id → Result Bool TraceFault → TracerView W FT N
-      → TracerView W FT N → Type 0
+  abbrev pub IsClosedAs : Option Id → Result Bool TraceFault → TracerView C N
+      → TracerView C N → Type 0
   IsClosedAs None answer old new = (answer ≡ Err NoSpan) × (new ≡ old)
   IsClosedAs (Some id) answer old new =
-      Leaves (MadeAt see (tells old.clock) (close_call old.teller old.spans id))
+      Leaves (MadeAt answers (tells old.clock) (close_call old.teller old.spans id))
       (tells old.clock None) (after_close old.spans answer) (reply_as Closed answer) old new
 
-  abbrev pub IsClosed : Result Bool TraceFault → TracerView W FT N → TracerView W FT N → Type 0
+  abbrev pub IsClosed : Result Bool TraceFault → TracerView C N → TracerView C N → Type 0
   IsClosed answer old new = IsClosedAs (current_of old.spans) answer old new
 
   -- after this close the others follow, unless it was refused
-  abbrev pub ThenCloses : (Result (Unit {0}) TraceFault → TracerView W FT N → TracerView W FT N → Type 0)
-      → Result Bool TraceFault → Result (Unit {0}) TraceFault → TracerView W FT N → TracerView W FT N
+  abbrev pub ThenCloses : (Result (Unit {0}) TraceFault → TracerView C N → TracerView C N → Type 0)
+      → Result Bool TraceFault → Result (Unit {0}) TraceFault → TracerView C N → TracerView C N
       → Type 0
   ThenCloses Others (Ok went) answer between new = Others answer between new
   ThenCloses Others (Err fault) answer between new = (answer ≡ Err fault) × (new ≡ between)
 
   -- so many spans were closed, each the current one, or as many as could be
-  abbrev pub AreClosed : ℕ → Result (Unit {0}) TraceFault → TracerView W FT N → TracerView W FT N
+  abbrev pub AreClosed : ℕ → Result (Unit {0}) TraceFault → TracerView C N → TracerView C N
       → Type 0
   AreClosed zero answer old new = (answer ≡ Ok tt) × (new ≡ old)
   AreClosed (suc n) answer old new =
-      (first : Result Bool TraceFault) × (between : TracerView W FT N)
+      (first : Result Bool TraceFault) × (between : TracerView C N)
       × IsClosed first old between × ThenCloses (AreClosed n) first answer between new
 
   -- all open spans but so many were closed
-  abbrev pub AreClosedTo : ℕ → Result (Unit {0}) TraceFault → TracerView W FT N → TracerView W FT N
+  abbrev pub AreClosedTo : ℕ → Result (Unit {0}) TraceFault → TracerView C N → TracerView C N
       → Type 0
   AreClosedTo depth answer old new = AreClosed (length old.spans - depth) answer old new
 
--- fields were put at the end of those of this span, which is the current one, if there is one
-abbrev pub IsRecordedAs : {W FT N : Type 0} → (LayeredView W FT → Seen) → List Field → Option Id
-    → Result (Unit {0}) TraceFault → TracerView W FT N → TracerView W FT N → Type 0
-IsRecordedAs see fields None answer old new = (answer ≡ Err NoSpan) × (new ≡ old)
-IsRecordedAs see fields (Some id) answer old new =
-    Leaves (Made see (record_call fields id)) ⊥ old.spans (reply_as done answer) old new
+module _ {C N : Type 0} (answers : Call → Result Reply Refusal → C → C → Type 0) where
+  -- fields were put at the end of those of this span, which is the current one, if there is one
+  abbrev pub IsRecordedAs : List Field → Option Id → Result (Unit {0}) TraceFault → TracerView C N
+      → TracerView C N → Type 0
+  IsRecordedAs fields None answer old new = (answer ≡ Err NoSpan) × (new ≡ old)
+  IsRecordedAs fields (Some id) answer old new =
+      Leaves (Made answers (record_call fields id)) ⊥ old.spans (reply_as done answer) old new
 
-abbrev pub IsRecorded : {W FT N : Type 0} → (LayeredView W FT → Seen) → List Field
-    → Result (Unit {0}) TraceFault → TracerView W FT N → TracerView W FT N → Type 0
-IsRecorded see fields answer old new = IsRecordedAs see fields (current_of old.spans) answer old new
+  abbrev pub IsRecorded : List Field → Result (Unit {0}) TraceFault → TracerView C N
+      → TracerView C N → Type 0
+  IsRecorded fields answer old new = IsRecordedAs fields (current_of old.spans) answer old new

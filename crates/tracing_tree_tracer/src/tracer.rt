@@ -1,22 +1,21 @@
-//! A tracer: a registry with a layer, the spans in which a service is, and what each call is handed.
+//! A tracer: what takes its calls, the spans in which a service is, and what each call is handed.
 
 ghost use Rattle.std.specs.Prelude.{◌≡◌, [], Some, None, IfOk, MatchResult, length};
-ghost use Rattle.tracing_tree_layer.specs.Calls.Layers.{seen};
 ghost use Rattle.tracing_tree_tracer.specs.Values.{fields_of};
 ghost use Rattle.tracing_tree_tracer.specs.Tracers.{current_of, context_in, open_call, event_call, close_call, AreClosedTo, IsOpened, IsTold, IsClosed, IsRecorded};
 
+use crate::calls::Calls;
 use crate::clock::Now;
 use crate::spans::Spans;
 use crate::value::{Value, event_fields, span_fields};
 use std::alloc::{AllocError, Global};
 use std::marker::Model;
 use thiserror::Error;
-use tracing_tree_core::format::{Context, Id, Output, Refusal};
+use tracing_tree_core::format::{Context, Id, Refusal};
 use tracing_tree_core::registry::{Attributes, Event, Parent, Record};
 use tracing_tree_core::style::Level;
 use tracing_tree_core::text::Text;
-use tracing_tree_core::time::{FormatTime, Moment};
-use tracing_tree_layer::Layered;
+use tracing_tree_core::time::Moment;
 use tracing_tree_layer::call::{Call, Reply};
 
 /// Why a tracer did nothing. After the first three no call was made, and nothing has changed.
@@ -61,10 +60,11 @@ impl From<AllocError> for TraceFault {
     }
 }
 
-/// What a service writes its tree with. It has the spans in which the service is, outermost first: the last is the current one.
+/// What a service, or one of its threads, writes its tree with. It has the spans in which the service is, outermost first: the last is
+/// the current one. Its calls go to a `Layered`, or to whatever else takes calls.
 #[derive(Drop)]
-pub struct Tracer<W: Output, FT: FormatTime, N: Now> {
-    layered: Layered<W, FT>,
+pub struct Tracer<C: Calls, N: Now> {
+    layered: C,
     clock: N,
     alloc: Global,
     target: Text,
@@ -73,10 +73,10 @@ pub struct Tracer<W: Output, FT: FormatTime, N: Now> {
     spans: Vec<Id>,
 }
 
-impl<W: Output, FT: FormatTime, N: Now> Model for Tracer<W, FT, N> {
+impl<C: Calls, N: Now> Model for Tracer<C, N> {
     ghost use Rattle.tracing_tree_tracer.specs.Tracers.{TracerView};
 
-    ghost Value = { TracerView W FT N };
+    ghost Value = { TracerView C N };
 
     ghost view = { λ t. record {
       layered = t.layered;
@@ -86,9 +86,9 @@ impl<W: Output, FT: FormatTime, N: Now> Model for Tracer<W, FT, N> {
     } };
 }
 
-impl<W: Output, FT: FormatTime, N: Now> Tracer<W, FT, N> {
+impl<C: Calls, N: Now> Tracer<C, N> {
     /// A tracer in no span, of thread 1, which has no name, with the empty text as its target. The layer may hold spans.
-    pub fn new(alloc: Global, layered: Layered<W, FT>, clock: N) -> Tracer<W, FT, N>
+    pub fn new(alloc: Global, layered: C, clock: N) -> Tracer<C, N>
         ensures { result ≡ record {
           layered = layered;
           clock = clock;
@@ -108,7 +108,7 @@ impl<W: Output, FT: FormatTime, N: Now> Tracer<W, FT, N> {
     }
 
     /// With this target of all that it tells from now on.
-    pub fn with_target(mut self, target: Text) -> Tracer<W, FT, N>
+    pub fn with_target(mut self, target: Text) -> Tracer<C, N>
         ensures { result ≡ record self { teller = record self.teller { target = target } } }
     {
         self.target = target;
@@ -116,7 +116,7 @@ impl<W: Output, FT: FormatTime, N: Now> Tracer<W, FT, N> {
     }
 
     /// In this thread from now on.
-    pub fn with_thread(mut self, id: u64, name: Option<Text>) -> Tracer<W, FT, N>
+    pub fn with_thread(mut self, id: u64, name: Option<Text>) -> Tracer<C, N>
         ensures { result ≡ record self {
           teller = record self.teller { thread_id = id; thread_name = name };
         } }
@@ -140,15 +140,15 @@ impl<W: Output, FT: FormatTime, N: Now> Tracer<W, FT, N> {
         self.spans.len()
     }
 
-    /// The registry with its layer.
-    pub fn layered(&self) -> &Layered<W, FT>
+    /// What takes the calls: the registry with its layer, or a thread's way to one.
+    pub fn layered(&self) -> &C
         ensures { result.now ≡ self.now.layered }
     {
         &self.layered
     }
 
-    /// The registry with its layer. Spans that are open stay so.
-    pub fn into_layered(self) -> Layered<W, FT>
+    /// What takes the calls. Spans that are open stay so.
+    pub fn into_layered(self) -> C
         ensures { result ≡ self.layered }
     {
         self.layered
@@ -156,7 +156,7 @@ impl<W: Output, FT: FormatTime, N: Now> Tracer<W, FT, N> {
 
     /// Opens a span with these fields in the current one, and returns its id. From now on it is the current one.
     pub fn open(&mut self, name: &str, fields: &[(&str, Value<'_>)]) -> Result<Id, TraceFault>
-        ensures { IsOpened (seen FT.FormatTime W.Output) N.tells name.now (fields_of fields.now)
+        ensures { IsOpened C.answers N.tells name.now (fields_of fields.now)
             result self.old self.new }
     {
         let moment = self.moment()?;
@@ -174,7 +174,7 @@ impl<W: Output, FT: FormatTime, N: Now> Tracer<W, FT, N> {
     ///
     /// `NoSpan` where no span is open.
     pub fn close(&mut self) -> Result<bool, TraceFault>
-        ensures { IsClosed (seen FT.FormatTime W.Output) N.tells result self.old self.new }
+        ensures { IsClosed C.answers N.tells result self.old self.new }
     {
         let Some(id) = self.current() else {
             return Err(TraceFault::NoSpan);
@@ -195,7 +195,7 @@ impl<W: Output, FT: FormatTime, N: Now> Tracer<W, FT, N> {
         message: &str,
         fields: &[(&str, Value<'_>)],
     ) -> Result<(), TraceFault>
-        ensures { IsTold (seen FT.FormatTime W.Output) N.tells level message.now
+        ensures { IsTold C.answers N.tells level message.now
             (fields_of fields.now) result self.old self.new }
     {
         let moment = self.moment()?;
@@ -208,7 +208,7 @@ impl<W: Output, FT: FormatTime, N: Now> Tracer<W, FT, N> {
 
     /// Tells an event of level TRACE, as `event` does.
     pub fn trace(&mut self, message: &str, fields: &[(&str, Value<'_>)]) -> Result<(), TraceFault>
-        ensures { IsTold (seen FT.FormatTime W.Output) N.tells Level.Trace message.now
+        ensures { IsTold C.answers N.tells Level.Trace message.now
             (fields_of fields.now) result self.old self.new }
     {
         self.event(Level::Trace, message, fields)
@@ -216,7 +216,7 @@ impl<W: Output, FT: FormatTime, N: Now> Tracer<W, FT, N> {
 
     /// Tells an event of level DEBUG, as `event` does.
     pub fn debug(&mut self, message: &str, fields: &[(&str, Value<'_>)]) -> Result<(), TraceFault>
-        ensures { IsTold (seen FT.FormatTime W.Output) N.tells Level.Debug message.now
+        ensures { IsTold C.answers N.tells Level.Debug message.now
             (fields_of fields.now) result self.old self.new }
     {
         self.event(Level::Debug, message, fields)
@@ -224,7 +224,7 @@ impl<W: Output, FT: FormatTime, N: Now> Tracer<W, FT, N> {
 
     /// Tells an event of level INFO, as `event` does.
     pub fn info(&mut self, message: &str, fields: &[(&str, Value<'_>)]) -> Result<(), TraceFault>
-        ensures { IsTold (seen FT.FormatTime W.Output) N.tells Level.Info message.now
+        ensures { IsTold C.answers N.tells Level.Info message.now
             (fields_of fields.now) result self.old self.new }
     {
         self.event(Level::Info, message, fields)
@@ -232,7 +232,7 @@ impl<W: Output, FT: FormatTime, N: Now> Tracer<W, FT, N> {
 
     /// Tells an event of level WARN, as `event` does.
     pub fn warn(&mut self, message: &str, fields: &[(&str, Value<'_>)]) -> Result<(), TraceFault>
-        ensures { IsTold (seen FT.FormatTime W.Output) N.tells Level.Warn message.now
+        ensures { IsTold C.answers N.tells Level.Warn message.now
             (fields_of fields.now) result self.old self.new }
     {
         self.event(Level::Warn, message, fields)
@@ -240,7 +240,7 @@ impl<W: Output, FT: FormatTime, N: Now> Tracer<W, FT, N> {
 
     /// Tells an event of level ERROR, as `event` does.
     pub fn error(&mut self, message: &str, fields: &[(&str, Value<'_>)]) -> Result<(), TraceFault>
-        ensures { IsTold (seen FT.FormatTime W.Output) N.tells Level.Error message.now
+        ensures { IsTold C.answers N.tells Level.Error message.now
             (fields_of fields.now) result self.old self.new }
     {
         self.event(Level::Error, message, fields)
@@ -250,7 +250,7 @@ impl<W: Output, FT: FormatTime, N: Now> Tracer<W, FT, N> {
     ///
     /// `NoSpan` where no span is open.
     pub fn record(&mut self, fields: &[(&str, Value<'_>)]) -> Result<(), TraceFault>
-        ensures { IsRecorded (seen FT.FormatTime W.Output) (fields_of fields.now) result self.old
+        ensures { IsRecorded C.answers (fields_of fields.now) result self.old
             self.new }
     {
         let Some(id) = self.current() else {
@@ -265,7 +265,7 @@ impl<W: Output, FT: FormatTime, N: Now> Tracer<W, FT, N> {
 
     /// Closes spans, innermost first, until no more than so many are open. At the first that can't be closed it ends.
     pub fn close_to(&mut self, depth: usize) -> Result<(), TraceFault>
-        ensures { AreClosedTo (seen FT.FormatTime W.Output) N.tells depth result self.old self.new }
+        ensures { AreClosedTo C.answers N.tells depth result self.old self.new }
     {
         if self.depth() <= depth {
             return Ok(());
@@ -346,16 +346,15 @@ impl<W: Output, FT: FormatTime, N: Now> Tracer<W, FT, N> {
     }
 }
 
-impl<W: Output, FT: FormatTime, N: Now> Spans for Tracer<W, FT, N> {
+impl<C: Calls, N: Now> Spans for Tracer<C, N> {
     ghost use Rattle.std.specs.Prelude.{length};
-    ghost use Rattle.tracing_tree_layer.specs.Calls.Layers.{seen};
     ghost use Rattle.tracing_tree_tracer.specs.Tracers.{AreClosedTo, IsOpened};
 
     ghost depth_of = { λ tracer. length tracer.spans };
 
-    ghost opens = { IsOpened (seen FT.FormatTime W.Output) N.tells };
+    ghost opens = { IsOpened C.answers N.tells };
 
-    ghost closes_to = { AreClosedTo (seen FT.FormatTime W.Output) N.tells };
+    ghost closes_to = { AreClosedTo C.answers N.tells };
 
     fn depth(&self) -> usize {
         self.depth()

@@ -19,12 +19,12 @@ const START: Moment = Moment {
     wall: Timestamp::UNIX_EPOCH,
 };
 
-fn tracer(alloc: Global) -> Tracer<Tape, (), Moment> {
+fn tracer(alloc: Global) -> Tracer<Layered<Tape, ()>, Moment> {
     Tracer::new(alloc, lined(alloc), START)
 }
 
 // The example of the README, line for line.
-fn serve(tracer: &mut Tracer<Tape, (), Moment>) -> Result<(), TraceFault> {
+fn serve(tracer: &mut Tracer<Layered<Tape, ()>, Moment>) -> Result<(), TraceFault> {
     tracer.open("conn", &[("peer", Quoted("82.9.9.9"))])?;
     tracer.info("connected", &[])?;
     within(tracer, "query", &[("sql", Quoted("select 1"))], |tracer| {
@@ -35,7 +35,7 @@ fn serve(tracer: &mut Tracer<Tape, (), Moment>) -> Result<(), TraceFault> {
 }
 
 // The registry and the layer, once the tracer is done with.
-fn into_layered(tracer: Tracer<Tape, (), Moment>) -> Layered<Tape, ()> {
+fn into_layered(tracer: Tracer<Layered<Tape, ()>, Moment>) -> Layered<Tape, ()> {
     tracer.into_layered()
 }
 
@@ -74,7 +74,7 @@ const OPENS: [Line<'static>; 2] = [
 
 const CLOSES: [Line<'static>; 1] = [(Step::Close, Ok(Given::Closed(true)), 1)];
 
-fn current(tracer: &Tracer<Tape, (), Moment>) -> Option<Id> {
+fn current(tracer: &Tracer<Layered<Tape, ()>, Moment>) -> Option<Id> {
     tracer.current()
 }
 
@@ -89,14 +89,14 @@ fn the_innermost_open_span_is_the_current_one(rt: HostRuntime) -> Result<(), Fai
     Ok(())
 }
 
-fn deferred(alloc: Global) -> Tracer<Tape, (), Moment> {
+fn deferred(alloc: Global) -> Tracer<Layered<Tape, ()>, Moment> {
     let layer = HierarchicalLayer::new(alloc, 2, false, Tape::new(alloc))
         .with_indent_lines(true)
         .with_deferred_spans(true);
     Tracer::new(alloc, Layered::new(alloc, layer), START)
 }
 
-fn record_more(tracer: &mut Tracer<Tape, (), Moment>) -> Result<(), TraceFault> {
+fn record_more(tracer: &mut Tracer<Layered<Tape, ()>, Moment>) -> Result<(), TraceFault> {
     open(tracer, "a", &[("k", Whole(1))])?;
     record(tracer, &[("l", Whole(2))])?;
     tell(tracer, Level::Info, "x", &[])
@@ -128,7 +128,7 @@ fn telling(alloc: Global) -> Layered<Tape, Uptime> {
 }
 
 // A tracer of the thread 7, main, in its third second.
-fn in_thread(alloc: Global) -> Result<Tracer<Tape, Uptime, Moment>, AllocError> {
+fn in_thread(alloc: Global) -> Result<Tracer<Layered<Tape, Uptime>, Moment>, AllocError> {
     let target = Text::from_str(alloc, "web")?;
     let name = Text::from_str(alloc, "main")?;
     Ok(
@@ -138,7 +138,7 @@ fn in_thread(alloc: Global) -> Result<Tracer<Tape, Uptime, Moment>, AllocError> 
     )
 }
 
-fn tell_timed(tracer: &mut Tracer<Tape, Uptime, Moment>) -> Result<(), TraceFault> {
+fn tell_timed(tracer: &mut Tracer<Layered<Tape, Uptime>, Moment>) -> Result<(), TraceFault> {
     tracer.info("x", &[])
 }
 

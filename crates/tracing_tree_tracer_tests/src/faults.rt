@@ -10,6 +10,7 @@ use std::test::*;
 use tracing_tree_core::format::{Refusal, Tape, Wrap};
 use tracing_tree_core::style::Level;
 use tracing_tree_core::time::Moment;
+use tracing_tree_layer::Layered;
 use tracing_tree_tracer::{Now, TraceFault, Tracer, within};
 
 // The start of 1970.
@@ -18,7 +19,7 @@ const START: Moment = Moment {
     wall: Timestamp::UNIX_EPOCH,
 };
 
-fn tracer(alloc: Global) -> Tracer<Tape, (), Moment> {
+fn tracer(alloc: Global) -> Tracer<Layered<Tape, ()>, Moment> {
     Tracer::new(alloc, lined(alloc), START)
 }
 
@@ -114,13 +115,13 @@ impl From<TraceFault> for Trouble {
     }
 }
 
-fn fail(tracer: &mut Tracer<Tape, (), Moment>) -> Result<u8, Trouble> {
+fn fail(tracer: &mut Tracer<Layered<Tape, ()>, Moment>) -> Result<u8, Trouble> {
     open(tracer, "b", &[])?;
     tell(tracer, Level::Info, "x", &[])?;
     Err(Trouble::Query)
 }
 
-fn fails(tracer: &mut Tracer<Tape, (), Moment>) -> Result<u8, Trouble> {
+fn fails(tracer: &mut Tracer<Layered<Tape, ()>, Moment>) -> Result<u8, Trouble> {
     within(tracer, "a", &[], |tracer| fail(tracer))
 }
 
@@ -134,13 +135,13 @@ fn a_span_closes_where_its_body_fails(rt: HostRuntime) -> Result<(), Fail> {
     Ok(())
 }
 
-fn close_twice(tracer: &mut Tracer<Tape, (), Moment>) -> Result<u8, TraceFault> {
+fn close_twice(tracer: &mut Tracer<Layered<Tape, ()>, Moment>) -> Result<u8, TraceFault> {
     close(tracer)?;
     close(tracer)?;
     Ok(7)
 }
 
-fn closes_too_much(tracer: &mut Tracer<Tape, (), Moment>) -> Result<u8, TraceFault> {
+fn closes_too_much(tracer: &mut Tracer<Layered<Tape, ()>, Moment>) -> Result<u8, TraceFault> {
     open(tracer, "a", &[])?;
     within(tracer, "b", &[], |tracer| close_twice(tracer))
 }

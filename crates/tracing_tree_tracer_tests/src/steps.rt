@@ -1,9 +1,10 @@
 //! What is done with a tracer, by functions and as lines of a table. The functions have no clauses, so that a test that calls them is soon
 //! proved.
 
-use tracing_tree_core::format::{Id, Output, Tape};
+use tracing_tree_core::format::{Id, Tape};
 use tracing_tree_core::style::Level;
-use tracing_tree_tracer::{Now, TraceFault, Tracer, Value};
+use tracing_tree_layer::Layered;
+use tracing_tree_tracer::{Calls, Now, TraceFault, Tracer, Value};
 
 /// A call of a tracer, without fields.
 #[derive(Clone, Copy)]
@@ -35,8 +36,8 @@ pub type Answer = Result<Given, TraceFault>;
 pub type Line<'a> = (Step<'a>, Answer, usize);
 
 /// Opens a span.
-pub fn open<W: Output, N: Now>(
-    tracer: &mut Tracer<W, (), N>,
+pub fn open<C: Calls, N: Now>(
+    tracer: &mut Tracer<C, N>,
     name: &str,
     fields: &[(&str, Value<'_>)],
 ) -> Result<Id, TraceFault> {
@@ -44,21 +45,21 @@ pub fn open<W: Output, N: Now>(
 }
 
 /// Closes the current span.
-pub fn close<W: Output, N: Now>(tracer: &mut Tracer<W, (), N>) -> Result<bool, TraceFault> {
+pub fn close<C: Calls, N: Now>(tracer: &mut Tracer<C, N>) -> Result<bool, TraceFault> {
     tracer.close()
 }
 
 /// Records fields of the current span.
-pub fn record<W: Output, N: Now>(
-    tracer: &mut Tracer<W, (), N>,
+pub fn record<C: Calls, N: Now>(
+    tracer: &mut Tracer<C, N>,
     fields: &[(&str, Value<'_>)],
 ) -> Result<(), TraceFault> {
     tracer.record(fields)
 }
 
 /// Tells an event by the method that is named after its level.
-pub fn tell<W: Output, N: Now>(
-    tracer: &mut Tracer<W, (), N>,
+pub fn tell<C: Calls, N: Now>(
+    tracer: &mut Tracer<C, N>,
     level: Level,
     message: &str,
     fields: &[(&str, Value<'_>)],
@@ -72,8 +73,8 @@ pub fn tell<W: Output, N: Now>(
     }
 }
 
-fn event<W: Output, N: Now>(
-    tracer: &mut Tracer<W, (), N>,
+fn event<C: Calls, N: Now>(
+    tracer: &mut Tracer<C, N>,
     level: Level,
     message: &str,
 ) -> Result<(), TraceFault> {
@@ -81,16 +82,16 @@ fn event<W: Output, N: Now>(
 }
 
 /// How many spans are open.
-pub fn depth<W: Output, N: Now>(tracer: &Tracer<W, (), N>) -> usize {
+pub fn depth<C: Calls, N: Now>(tracer: &Tracer<C, N>) -> usize {
     tracer.depth()
 }
 
 /// What was written.
-pub fn text<N: Now>(tracer: &Tracer<Tape, (), N>) -> &[u8] {
+pub fn text<N: Now>(tracer: &Tracer<Layered<Tape, ()>, N>) -> &[u8] {
     tracer.layered().writer().bytes()
 }
 
-fn take<W: Output, N: Now>(tracer: &mut Tracer<W, (), N>, step: Step<'_>) -> Answer {
+fn take<C: Calls, N: Now>(tracer: &mut Tracer<C, N>, step: Step<'_>) -> Answer {
     match step {
         Step::Open(name) => open(tracer, name, &[]).map(|id| Given::Span(id.0)),
         Step::Tell(level, message) => tell(tracer, level, message, &[]).map(|()| Given::Done),
@@ -102,8 +103,8 @@ fn take<W: Output, N: Now>(tracer: &mut Tracer<W, (), N>, step: Step<'_>) -> Ans
 
 /// Makes the calls up to the first that is answered, or leaves open, otherwise than its line says: returns that line's place, with what it
 /// was answered and how many spans were open.
-pub fn first_unlike<W: Output, N: Now>(
-    tracer: &mut Tracer<W, (), N>,
+pub fn first_unlike<C: Calls, N: Now>(
+    tracer: &mut Tracer<C, N>,
     lines: &[Line<'_>],
 ) -> Option<(usize, Answer, usize)> {
     for (place, (step, wanted, open)) in lines.iter().enumerate() {

@@ -4,38 +4,35 @@ use Rattle.std.proofs.Common.{subst, sym}
 use Rattle.tracing_tree_base.specs.declared.context.Id.{Id}
 use Rattle.tracing_tree_base.specs.declared.context.Moment.{Moment}
 use Rattle.tracing_tree_base.specs.declared.context.Refusal.{Refusal}
-use Rattle.tracing_tree_layer.specs.Calls.Seen.{Seen}
-use Rattle.tracing_tree_layer.specs.Calls.Answered.{IsAnswered}
-use Rattle.tracing_tree_layer.specs.Calls.Layers.{LayeredView, Changes}
 use Rattle.tracing_tree_layer.specs.declared.call.Call.{Call}
 use Rattle.tracing_tree_layer.specs.declared.call.Reply.{Reply}
 use Rattle.tracing_tree_tracer.specs.declared.tracer.TraceFault.{TraceFault}
 use Rattle.tracing_tree_tracer.specs.declared.tracer.TraceFault.TheVariants.{Refused}
 use Rattle.tracing_tree_tracer.specs.Tracers.{TracerView, IsClosedAs, Leaves, Made, MadeAt, reply_as}
 
-module _ {W FT : Type 0} (see : LayeredView W FT → Seen) where
-  -- the call that was made is this one, its answer this one, and it was made on this layer
+module _ {C : Type 0} (answers : Call → Result Reply Refusal → C → C → Type 0) where
+  -- the call that was made is this one, its answer this one, and it was made on this
   pub made_as : (given call : Call) → given ≡ call → (result answer : Result Reply Refusal) → result ≡ answer
-      → (inside old new : LayeredView W FT) → inside ≡ old → Changes see (IsAnswered given result) inside new
-      → Made see call old new answer
+      → (inside old new : C) → inside ≡ old → answers given result inside new
+      → Made answers call old new answer
   made_as given call is_call result answer is_answer inside old new is_old made =
-      let ByCall : Call → Type 0 = λ one. Made see one inside new result in
-      let ByAnswer : Result Reply Refusal → Type 0 = λ one. Made see call inside new one in
-      let ByOld : LayeredView W FT → Type 0 = λ one. Made see call one new answer in
+      let ByCall : Call → Type 0 = λ one. Made answers one inside new result in
+      let ByAnswer : Result Reply Refusal → Type 0 = λ one. Made answers call inside new one in
+      let ByOld : C → Type 0 = λ one. Made answers call one new answer in
       subst ByOld is_old (subst ByAnswer is_answer (subst ByCall is_call made))
 
   -- the same at a moment that was told
   pub made_at : (tells : Option Moment → Type 0) (call : Moment → Call) (moment : Moment) → tells (Some moment)
       → (given : Call) → given ≡ call moment → (result answer : Result Reply Refusal) → result ≡ answer
-      → (inside old new : LayeredView W FT) → inside ≡ old → Changes see (IsAnswered given result) inside new
-      → MadeAt see tells call old new answer
+      → (inside old new : C) → inside ≡ old → answers given result inside new
+      → MadeAt answers tells call old new answer
   made_at tells call moment told given is_call result answer is_answer inside old new is_old made =
       (moment, told, made_as given (call moment) is_call result answer is_answer inside old new is_old made)
 
 -- a call that was refused is all that a method makes
-pub leaves_refused : {W FT N A : Type 0}
-    (MadeFrom : LayeredView W FT → LayeredView W FT → Result Reply Refusal → Type 0) (Silent : Type 0)
-    (after : Result A TraceFault → List Id) (reply : A → Reply) (old new : TracerView W FT N) (refusal : Refusal)
+pub leaves_refused : {C N A : Type 0}
+    (MadeFrom : C → C → Result Reply Refusal → Type 0) (Silent : Type 0)
+    (after : Result A TraceFault → List Id) (reply : A → Reply) (old new : TracerView C N) (refusal : Refusal)
     (result : Result A TraceFault) → result ≡ Err (Refused refusal)
     → MadeFrom old.layered new.layered (Err refusal)
     → new ≡ record old { layered = new.layered; spans = after (Err (Refused refusal)) }
@@ -45,9 +42,9 @@ leaves_refused {A = A} MadeFrom Silent after reply old new refusal result is_ref
     subst ByResult (sym is_refused) (record { made = made; left = left })
 
 -- the span that was closed is the current one
-pub closed_as : {W FT N : Type 0} (see : LayeredView W FT → Seen) (tells : N → Option Moment → Type 0) (found : Option Id)
-    (id : Id) → found ≡ Some id → (answer : Result Bool TraceFault) (old new : TracerView W FT N)
-    → IsClosedAs see tells (Some id) answer old new → IsClosedAs see tells found answer old new
-closed_as see tells found id is_found answer old new closed =
-    let ByFound : Option Id → Type 0 = λ one. IsClosedAs see tells one answer old new in
+pub closed_as : {C N : Type 0} (answers : Call → Result Reply Refusal → C → C → Type 0) (tells : N → Option Moment → Type 0) (found : Option Id)
+    (id : Id) → found ≡ Some id → (answer : Result Bool TraceFault) (old new : TracerView C N)
+    → IsClosedAs answers tells (Some id) answer old new → IsClosedAs answers tells found answer old new
+closed_as answers tells found id is_found answer old new closed =
+    let ByFound : Option Id → Type 0 = λ one. IsClosedAs answers tells one answer old new in
     subst ByFound (sym is_found) closed
