@@ -1,0 +1,87 @@
+//! A thread's way to a layer that keeps the history of all threads.
+
+ghost use Rattle.std.specs.Prelude.{◌≡◌};
+ghost use Rattle.tracing_tree_shared.specs.Kept.{answer_given};
+
+use std::alloc::Global;
+use std::marker::Model;
+use std::sync::Wait;
+use std::sync::ledger::Ledger;
+use tracing_tree_core::format::Refusal;
+use tracing_tree_core::time::FormatTime;
+use tracing_tree_layer::call::{Call, Reply};
+use tracing_tree_shared::{Pass, Refused, SharedLayer};
+use tracing_tree_tracer::Calls;
+
+/// A thread's way to a [`SharedLayer`], with the thread's pass. Each call is drafted before the lock is waited for, and the pass gains
+/// the receipt of each call that is accepted.
+#[derive(Drop)]
+pub struct SharedCalls<'a, R, FT: FormatTime, L: Ledger> {
+    rt: &'a R,
+    alloc: Global,
+    layer: &'a SharedLayer<FT, L>,
+    pass: Pass<L>,
+}
+
+impl<'a, R, FT: FormatTime, L: Ledger> Model for SharedCalls<'a, R, FT, L> {
+    ghost use Rattle.tracing_tree_threads.specs.Ways.{SharedCallsView};
+
+    ghost Value = { SharedCallsView };
+
+    ghost view = { λ c. record { layer = c.layer.now; receipts = c.pass } };
+}
+
+impl<'a, R, FT: FormatTime, L: Ledger> SharedCalls<'a, R, FT, L> {
+    /// The way of the thread that has this pass to this layer.
+    pub fn new(
+        rt: &'a R,
+        alloc: Global,
+        layer: &'a SharedLayer<FT, L>,
+        pass: Pass<L>,
+    ) -> SharedCalls<'a, R, FT, L>
+        ensures { result ≡ record { layer = layer.now; receipts = pass } }
+    {
+        SharedCalls {
+            rt,
+            alloc,
+            layer,
+            pass,
+        }
+    }
+
+    /// The thread's pass.
+    pub fn pass(&self) -> &Pass<L>
+        ensures { result.now ≡ self.now.receipts }
+    {
+        &self.pass
+    }
+
+    /// The thread's pass, which `SharedLayer::finish` takes back.
+    pub fn into_pass(self) -> Pass<L>
+        ensures { result ≡ self.entry.receipts }
+    {
+        self.pass
+    }
+}
+
+/// A draft that is refused comes to the draft's cause.
+impl<'a, R: Wait, FT: FormatTime + Drop, L: Ledger> Calls for SharedCalls<'a, R, FT, L> {
+    ghost use Rattle.tracing_tree_threads.specs.Ways.{IsAnsweredShared};
+
+    ghost answers = { IsAnsweredShared FT.FormatTime };
+
+    fn call(&mut self, call: Call) -> Result<Reply, Refusal> {
+        let draft = self.layer.draft(self.alloc, call)?;
+        answer(self.layer.submit(self.rt, &mut self.pass, draft))
+    }
+}
+
+// The reply, or the cause for which the draft came back.
+fn answer(given: Result<Reply, Refused>) -> Result<Reply, Refusal>
+    ensures { result ≡ answer_given given }
+{
+    match given {
+        Ok(reply) => Ok(reply),
+        Err(refused) => Err(refused.cause),
+    }
+}

@@ -1,0 +1,64 @@
+//! A thread's way to a layer that keeps no history.
+
+ghost use Rattle.std.specs.Prelude.{◌≡◌};
+ghost use Rattle.tracing_tree_shared.specs.Streamed.{answer_numbered};
+
+use std::alloc::Global;
+use std::marker::Model;
+use std::sync::Wait;
+use tracing_tree_core::format::{Output, Refusal};
+use tracing_tree_core::time::FormatTime;
+use tracing_tree_layer::call::{Call, Reply};
+use tracing_tree_shared::{Numbered, Refused, StreamingLayer};
+use tracing_tree_tracer::Calls;
+
+/// A thread's way to a [`StreamingLayer`]. Each call is drafted before the lock is waited for.
+#[derive(Drop)]
+pub struct StreamingCalls<'a, R, W: Output, FT: FormatTime> {
+    rt: &'a R,
+    alloc: Global,
+    layer: &'a StreamingLayer<W, FT>,
+}
+
+impl<'a, R, W: Output, FT: FormatTime> Model for StreamingCalls<'a, R, W, FT> {
+    ghost use Rattle.tracing_tree_shared.specs.Streamed.{StreamingView};
+
+    ghost Value = { StreamingView };
+
+    ghost view = { λ c. c.layer.now };
+}
+
+impl<'a, R, W: Output, FT: FormatTime> StreamingCalls<'a, R, W, FT> {
+    /// A thread's way to this layer.
+    pub fn new(
+        rt: &'a R,
+        alloc: Global,
+        layer: &'a StreamingLayer<W, FT>,
+    ) -> StreamingCalls<'a, R, W, FT>
+        ensures { result ≡ layer.now }
+    {
+        StreamingCalls { rt, alloc, layer }
+    }
+}
+
+/// A draft that is refused comes to the draft's cause. Of an accepted call the number is left out.
+impl<'a, R: Wait, W: Output, FT: FormatTime> Calls for StreamingCalls<'a, R, W, FT> {
+    ghost use Rattle.tracing_tree_threads.specs.Ways.{IsAnsweredStreaming};
+
+    ghost answers = { IsAnsweredStreaming FT.FormatTime W.Output };
+
+    fn call(&mut self, call: Call) -> Result<Reply, Refusal> {
+        let draft = self.layer.draft(self.alloc, call)?;
+        answer(self.layer.submit(self.rt, draft))
+    }
+}
+
+// The reply, or the cause for which the draft came back.
+fn answer(given: Result<Numbered, Refused>) -> Result<Reply, Refusal>
+    ensures { result ≡ answer_numbered given }
+{
+    match given {
+        Ok(numbered) => Ok(numbered.reply),
+        Err(refused) => Err(refused.cause),
+    }
+}
