@@ -1,5 +1,6 @@
 pub mod Made
 pub mod Heard
+pub mod Ended
 pub mod Instants
 pub mod GoLines
 mod Worked

@@ -1,6 +1,6 @@
 -- What lines of another tool's output mean: a source takes a line's text and value in and gives calls
 -- and its next state out.
-use Rattle.std.specs.Prelude.{◌≡◌, ℕ, ◌+◌, Bool, true, false, if◌then◌else◌, List, [], ◌∷◌, ◌++◌, length, Option, Some, None, Result, Ok, Err, IfSome, MatchOption, ⊤}
+use Rattle.std.specs.Prelude.{◌≡◌, ℕ, ◌+◌, Bool, true, false, if◌then◌else◌, List, [], ◌∷◌, ◌++◌, length, Option, Some, None, Result, Ok, Err, IfSome, MatchOption, ⊤, ◌<◌}
 use Rattle.std.specs.Io.KnownBytes.{Appends}
 use Rattle.std.specs.Str.{is_utf8}
 use Rattle.json.specs.Json.{Json, document}
@@ -99,6 +99,14 @@ is_quiet NotACall = true
 is_quiet Read = true
 is_quiet Memory = true
 is_quiet (Refused refusal) = false
+
+-- what may end a run early after so many unknown lines: the notes only after one
+abbrev pub MayEnd : LineCause → ℕ → Type 0
+MayEnd NoSettings unknown = ⊥
+MayEnd NotACall unknown = 0 < unknown
+MayEnd Read unknown = ⊤
+MayEnd Memory unknown = ⊤
+MayEnd (Refused refusal) unknown = ⊤
 
 -- what a line lacks of which nothing is known
 abbrev pub lack_of : (Option Json → Lack) → List ℕ → Lack

@@ -1,11 +1,11 @@
 //! The run of a source over an input.
 
-ghost use Rattle.std.specs.Prelude.{◌≡◌, true, Err, IfErr, IfOk, MatchResult, option_map};
+ghost use Rattle.std.specs.Prelude.{◌≡◌, true, Err, IfErr, IfOk, IfSome, MatchResult, option_map};
 ghost use Rattle.std.specs.Io.Buffered.{reader_remaining};
 ghost use Rattle.json.specs.Json.{document};
 ghost use Rattle.json.specs.Value.{value_view};
 ghost use Rattle.tracing_tree_layer.specs.Calls.Layers.{seen, Changes, Flushes};
-ghost use Rattle.tracing_tree_sources.specs.Source.{HearsLine, HearsNext, MakesAll, MakesEach, RunsSource, Tells, is_quiet, lack_of};
+ghost use Rattle.tracing_tree_sources.specs.Source.{HearsLine, HearsNext, MakesAll, MakesEach, RunsSource, MayEnd, Tells, is_quiet, lack_of};
 
 use crate::notes::{Lack, Notes};
 use crate::source::Source;
@@ -34,7 +34,8 @@ pub struct SourceRun {
 ///
 /// A line of which nothing is known is counted and left out, and what it lacks is noted. The run ends early where the input can't
 /// be read, where memory is refused, where a call is refused, and at a skipped line after which the notes end it: `NotACall` is
-/// the cause then. What is drawn is passed on before each read of the input.
+/// the cause then, and never else. What is drawn is passed on before each read of the input.
+#[tactic(auto, using(crate::proofs::Ended::ends_line, crate::proofs::Ended::ends_noted))]
 pub fn run_source<S: Source, R: Read, W: Output, FT: FormatTime, N: Notes>(
     alloc: Global,
     source: &mut S,
@@ -42,9 +43,10 @@ pub fn run_source<S: Source, R: Read, W: Output, FT: FormatTime, N: Notes>(
     layered: &mut Layered<W, FT>,
     notes: &mut N,
 ) -> SourceRun
-    ensures { Changes (seen FT.FormatTime W.Output)
+    ensures run { Changes (seen FT.FormatTime W.Output)
         (RunsSource S.takes S.ends (reader_remaining R.remaining lines.old) source.old result)
         layered.old layered.new }
+    ensures cause { IfSome result.fault (λ fault. MayEnd fault.cause result.unknown) }
 {
     let mut line = Vec::new(alloc);
     let mut scratch = Scratch::new(alloc);
@@ -139,6 +141,7 @@ enum Judged {
 }
 
 // Reads one line, and makes the calls that it tells, or those that the end brings.
+#[tactic(auto, using(crate::proofs::Ended::ends_outside))]
 fn run_next<S: Source, B: BufRead, W: Output, FT: FormatTime>(
     alloc: Global,
     source: &mut S,
@@ -147,9 +150,10 @@ fn run_next<S: Source, B: BufRead, W: Output, FT: FormatTime>(
     scratch: &mut Scratch,
     layered: &mut Layered<W, FT>,
 ) -> Result<Judged, LineCause>
-    ensures { Changes (seen FT.FormatTime W.Output)
+    ensures next { Changes (seen FT.FormatTime W.Output)
         (HearsNext S.takes S.ends (B.remaining lines.old) (B.remaining lines.new) source.old
         source.new result) layered.old layered.new }
+    ensures cause { IfErr result (λ cause. MayEnd cause 0) }
 {
     match read_line(lines, line) {
         Ok(true) => match run_line(alloc, source, line.as_slice(), scratch, layered) {
@@ -185,8 +189,9 @@ fn run_line<S: Source, W: Output, FT: FormatTime>(
     scratch: &mut Scratch,
     layered: &mut Layered<W, FT>,
 ) -> Result<bool, LineCause>
-    ensures { Changes (seen FT.FormatTime W.Output)
+    ensures line { Changes (seen FT.FormatTime W.Output)
         (HearsLine S.takes line.now source.old source.new result) layered.old layered.new }
+    ensures cause { IfErr result (λ cause. MayEnd cause 0) }
 {
     if is_skipped(line) {
         return Ok(true);
@@ -226,8 +231,9 @@ fn run_end<S: Source, W: Output, FT: FormatTime>(
     source: &mut S,
     layered: &mut Layered<W, FT>,
 ) -> Result<(), LineCause>
-    ensures { Changes (seen FT.FormatTime W.Output) (MakesAll (S.ends source.old) result)
+    ensures end { Changes (seen FT.FormatTime W.Output) (MakesAll (S.ends source.old) result)
         layered.old layered.new }
+    ensures cause { IfErr result (λ cause. MayEnd cause 0) }
 {
     let Ok(calls) = source.end(alloc) else {
         return Err(LineCause::Memory);

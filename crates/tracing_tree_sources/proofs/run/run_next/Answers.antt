@@ -4,20 +4,20 @@ use Rattle.tracing_tree_layer.specs.Calls.Layers.{seen}
 use Rattle.tracing_tree_sources.proofs.Heard.{next_outside, next_stops}
 use Rattle.tracing_tree_sources.proofs.run.run_next.Goals as goal
 
-pub returns-in-Err-run_line : goal.returns-in-Err-run_line
-returns-in-Err-run_line g c =
+pub returns-in-Err-run_line-clause-next : goal.returns-in-Err-run_line-clause-next
+returns-in-Err-run_line-clause-next g c =
     let see = seen g.FT.FormatTime g.W.Output in
     let known = g.B.Read.remaining c.args.lines.now in
     let left = g.B.Read.remaining c.read_line.new.reader in
     let first : TakesLine known left c.read_line.new.line.items = subst (λ b. ReadsNext known left c.read_line.new.line.items (Ok b)) c.in-Ok-true.field-0-test c.in-Ok-true.ensures in
     record {
       changed = next_stops g.S.Source.takes g.S.Source.ends known left c.as_slice.result.now c.args.source.now c.run_line.new.source c.in-Err-run_line.cause
-          (see c.args.layered.now) (see c.run_line.new.layered) (subst (TakesLine known left) (sym c.as_slice.ensures.value) first) c.in-Err-run_line.ensures.changed;
-      fixed = c.in-Err-run_line.ensures.fixed;
+          (see c.args.layered.now) (see c.run_line.new.layered) (subst (TakesLine known left) (sym c.as_slice.ensures.value) first) c.in-Err-run_line.ensures.line.changed;
+      fixed = c.in-Err-run_line.ensures.line.fixed;
     }
 
-pub returns-in-Err : goal.returns-in-Err
-returns-in-Err g c = record {
+pub returns-in-Err-clause-next : goal.returns-in-Err-clause-next
+returns-in-Err-clause-next g c = record {
   changed = next_outside g.S.Source.takes g.S.Source.ends (g.B.Read.remaining c.args.lines.now) (g.B.Read.remaining c.read_line.new.reader) c.args.source.now c.args.source.now
       c.in-Err.cause (seen g.FT.FormatTime g.W.Output c.args.layered.now) c.in-Err.ensures;
   fixed = refl;

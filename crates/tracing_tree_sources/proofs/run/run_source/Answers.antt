@@ -17,8 +17,8 @@ loop-number-init g c = record {
   };
 }
 
-pub returns-in-Ok-End : goal.returns-in-Ok-End
-returns-in-Ok-End g c =
+pub returns-in-Ok-End-clause-run : goal.returns-in-Ok-End-clause-run
+returns-in-Ok-End-clause-run g c =
     let takes = g.S.Source.takes in
     let known = reader_remaining g.R.Read.remaining c.args.lines.now in
     let middle = reader_remaining g.R.Read.remaining c.loop-number.lines in
@@ -26,12 +26,12 @@ returns-in-Ok-End g c =
     let see = seen g.FT.FormatTime g.W.Output in
     let shown = change_then see (flushed takes known middle c.args.source.now c.loop-number.source c.loop-number.unknown)
     c.args.layered.now c.loop-number.layered c.show_before_read.new.layered c.loop-number.invariant.change c.show_before_read.ensures in
-    let next = rw (c.in-Ok-End.is, c.in-Ok-End.field-0-is) at c.run_next.ensures in
+    let next = rw (c.in-Ok-End.is, c.in-Ok-End.field-0-is) at c.run_next.ensures.next in
     change_then see (finishes takes g.S.Source.ends known middle left c.args.source.now c.loop-number.source c.run_next.new.source c.loop-number.unknown)
     c.args.layered.now c.show_before_read.new.layered c.run_next.new.layered shown next
 
-pub returns-in-Err : goal.returns-in-Err
-returns-in-Err g c =
+pub returns-in-Err-clause-run : goal.returns-in-Err-clause-run
+returns-in-Err-clause-run g c =
     let takes = g.S.Source.takes in
     let known = reader_remaining g.R.Read.remaining c.args.lines.now in
     let middle = reader_remaining g.R.Read.remaining c.loop-number.lines in
@@ -40,10 +40,10 @@ returns-in-Err g c =
     let shown = change_then see (flushed takes known middle c.args.source.now c.loop-number.source c.loop-number.unknown)
     c.args.layered.now c.loop-number.layered c.show_before_read.new.layered c.loop-number.invariant.change c.show_before_read.ensures in
     change_then see (stops takes g.S.Source.ends known middle left c.args.source.now c.loop-number.source c.run_next.new.source c.loop-number.unknown c.in-Err.cause)
-    c.args.layered.now c.show_before_read.new.layered c.run_next.new.layered shown c.in-Err.ensures
+    c.args.layered.now c.show_before_read.new.layered c.run_next.new.layered shown c.in-Err.ensures.next
 
-pub returns-in-Err-skip : goal.returns-in-Err-skip
-returns-in-Err-skip g c =
+pub returns-in-Err-skip-clause-run : goal.returns-in-Err-skip-clause-run
+returns-in-Err-skip-clause-run g c =
     let takes = g.S.Source.takes in
     let known = reader_remaining g.R.Read.remaining c.args.lines.now in
     let middle = reader_remaining g.R.Read.remaining c.loop-number.lines in
@@ -52,7 +52,7 @@ returns-in-Err-skip g c =
     let shown = change_then see (flushed takes known middle c.args.source.now c.loop-number.source c.loop-number.unknown)
     c.args.layered.now c.loop-number.layered c.show_before_read.new.layered c.loop-number.invariant.change c.show_before_read.ensures in
     let is : c.run_next.result ≡ Ok Unknown = cc in
-    let next = rw is at c.run_next.ensures in
+    let next = rw is at c.run_next.ensures.next in
     let after = change_then see (more takes known middle left c.args.source.now c.loop-number.source c.run_next.new.source c.loop-number.unknown (c.loop-number.unknown + 1) false refl)
     c.args.layered.now c.show_before_read.new.layered c.run_next.new.layered shown next in
     let now = see c.run_next.new.layered in
@@ -75,7 +75,7 @@ loop-number-preserved g c =
     elim c.match-run_next-2.branch [
       | in-Ok-Known w ↦
           let is : c.run_next.result ≡ Ok Known = cc in
-          let next = rw is at c.run_next.ensures in
+          let next = rw is at c.run_next.ensures.next in
           record {
             room = omega (arith, w.unknown-is, c.loop-number.invariant.room);
             change = rw w.unknown-is (change_then see (more takes known middle left c.args.source.now c.loop-number.source c.run_next.new.source c.loop-number.unknown c.loop-number.unknown true (omega arith))
@@ -83,7 +83,7 @@ loop-number-preserved g c =
           }
       | in-Ok-Unknown+in_default w ↦
           let is : c.run_next.result ≡ Ok Unknown = cc in
-          let next = rw is at c.run_next.ensures in
+          let next = rw is at c.run_next.ensures.next in
           record {
             room = omega (arith, w.unknown-is, c.loop-number.invariant.room);
             change = rw w.unknown-is (change_then see (more takes known middle left c.args.source.now c.loop-number.source c.run_next.new.source c.loop-number.unknown (c.loop-number.unknown + 1) false refl)
@@ -91,8 +91,8 @@ loop-number-preserved g c =
           }
     ]
 
-pub returns : goal.returns
-returns g c =
+pub returns-clause-run : goal.returns-clause-run
+returns-clause-run g c =
     let takes = g.S.Source.takes in
     let known = reader_remaining g.R.Read.remaining c.args.lines.now in
     let middle = reader_remaining g.R.Read.remaining c.loop-number.lines in
