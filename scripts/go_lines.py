@@ -61,11 +61,15 @@ class Run:
         self.counts[ending] += 1
         self.has_failed |= ending == "fail"
 
+    def leave(self, one):
+        self.count("unfinished")
+        self.finish(one, "unfinished", None)
+
     def end_package(self, ending, package, elapsed):
         self.has_failed |= ending == "fail"
-        for one in [it for it in self.running if it.package == package and it.test]:
-            self.count("unfinished")
-            self.finish(one, "unfinished", None)
+        left = [it for it in self.running if it.package == package and it.test]
+        for one in sorted(left, key=lambda it: it.test.encode(), reverse=True):
+            self.leave(one)
         self.finish(self.owner(package, ""), ending, elapsed)
 
     def end_test(self, ending, package, test, elapsed):
@@ -81,8 +85,12 @@ class Run:
         action, test = line["Action"], line.get("Test", "")
         if action == "run":
             one = self.owner(package, test)
+            if test and one.test == test:
+                self.leave(one)
+                one = self.owner(package, test)
             self.open(one)
-            self.running.append(Running(package, test, one.span))
+            if test:
+                self.running.append(Running(package, test, one.span))
         elif action in ("output", "build-output"):
             one = self.owner(package, test)
             one.part += line["Output"]

@@ -88,6 +88,52 @@ ttree: line 9: expected UTF-8' 1
     count 'on an empty file' want '' 0
 }
 
+# Tests that still run: where one of the same name begins, and where their package ends. The tree is made by hand of what docs/FORMATS.md
+# says.
+run_left() {
+    cat > "$room/left" << 'END_OF_LINES'
+{"Action":"run","Package":"p","Test":"TestA"}
+{"Action":"run","Package":"p","Test":"TestA/x"}
+{"Action":"run","Package":"p","Test":"TestB"}
+{"Action":"output","Package":"p","Test":"TestA/x","Output":"x\n"}
+{"Action":"run","Package":"p","Test":"TestB"}
+{"Action":"output","Package":"p","Test":"TestB","Output":"again\n"}
+{"Action":"run","Package":"q"}
+{"Action":"output","Package":"q","Output":"log\n"}
+{"Action":"pass","Package":"q"}
+{"Action":"fail","Package":"p"}
+END_OF_LINES
+    cat > "$room/want" << 'END_OF_TREE'
+┐p 
+└─┐TestA 
+  └─┐TestA/x 
+    ├─ INFO x
+├─ ERROR unfinished TestB
+└─┐TestB 
+  ├─ INFO again
+┐q 
+├─ INFO log
+├─ INFO pass
+┘
+┐p 
+└─┐TestB 
+  ├─ ERROR unfinished
+┌─┘
+└─┐TestA 
+  └─┐TestA/x 
+    ├─ ERROR unfinished
+  ┌─┘
+  ├─ ERROR unfinished
+┌─┘
+├─ ERROR fail
+┘
+ERROR passed=0, failed=0, skipped=0, unfinished=4
+END_OF_TREE
+    run "$room/left"
+    count 'on tests that still run' want '' 1
+    drawing "$room/left" 1
+}
+
 # Lines that are skipped: the first ten are told, and then how many there are.
 run_skipped() {
     local number notes=''
@@ -540,6 +586,7 @@ run_faults() {
 run_samples
 run_options
 run_odd
+run_left
 run_skipped
 run_levels
 run_failed

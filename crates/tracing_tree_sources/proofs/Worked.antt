@@ -4,7 +4,8 @@ use Rattle.std.specs.Prelude.{negsuc}
 use Rattle.json.specs.Json.{array, boolean, string, object, no_items, member, no_members}
 use Rattle.tracing_tree_sources.specs.Failed.{Untold, forgotten, is_inner, released, taken, verdict_of}
 use Rattle.tracing_tree_sources.specs.First.{begins_list, begins_with, format_by, format_of, format_of_line}
-use Rattle.tracing_tree_sources.specs.GoTest.{GoState, after_mark, go_lacks, is_frame, leads, up_to_space}
+use Rattle.tracing_tree_sources.specs.GoTest.{GoState, Tests, after_mark, begun, go_lacks, is_frame, leads, left_over, nothing_run, owner, ran, up_to_space}
+use Rattle.tracing_tree_sources.specs.GoTest.{above_held, held, kept}
 use Rattle.tracing_tree_sources.specs.declared.failed.Kept.{Kept}
 use Rattle.tracing_tree_sources.specs.declared.failed.Verdict.TheVariants.{Open, Good, Bad}
 use Rattle.tracing_tree_sources.specs.declared.first.Format.TheVariants.{Chrome, GoTest, Lines, Tracing}
@@ -14,7 +15,7 @@ use Rattle.tracing_tree_base.specs.declared.style.Level.TheVariants.{Trace, Debu
 use Rattle.tracing_tree_core.specs.Registry.Ids.{id_of}
 use Rattle.tracing_tree_sources.specs.Levels.{is_shown, shown_calls}
 use Rattle.tracing_tree_sources.specs.Moments.{moment_after, since_1970}
-use Rattle.tracing_tree_sources.specs.Told.{close_call, event_call, is_escaped, span_call}
+use Rattle.tracing_tree_sources.specs.Told.{close_call, event_call, is_escaped, message_field, span_call}
 use Rattle.tracing_tree_sources.specs.TracingLine.{bare_thread, kind_of, level_in}
 use Rattle.tracing_tree_sources.specs.declared.tracing.line.Kind.TheVariants.{Event, Enter, New}
 
@@ -62,6 +63,31 @@ settings_are_lines = refl
 
 pub an_action_without_a_package : go_lacks (Some (object (member (codes "Action") (string (codes "run")) no_members))) ≡ Package
 an_action_without_a_package = refl
+
+module _ (moment : Moment) where
+  abbrev two_that_run : Tests
+  two_that_run = (codes "TestA", begun (codes "p") (codes "TestA") None) ∷ (codes "TestA/b", begun (codes "p") (codes "TestA/b") None) ∷ []
+
+  pub the_longest_beginning_that_runs : owner two_that_run (codes "TestA/b/c") ≡ codes "TestA/b"
+  the_longest_beginning_that_runs = refl
+
+  pub no_test_runs_between : owner two_that_run (codes "TestA/x/y") ≡ codes "TestA"
+  no_test_runs_between = refl
+
+  pub a_longer_name_is_the_packages : owner two_that_run (codes "TestAll") ≡ []
+  a_longer_name_is_the_packages = refl
+
+  pub what_stands_in_a_test_ends_first : (left_over two_that_run (nothing_run 1 moment)).calls
+      ≡ event_call moment Error (message_field (codes "unfinished TestA/b") ∷ []) None
+      ∷ event_call moment Error (message_field (codes "unfinished TestA") ∷ []) None ∷ []
+  what_stands_in_a_test_ends_first = refl
+
+  abbrev run_twice : GoState
+  run_twice = ran (codes "p") (codes "TestA") (ran (codes "p") (codes "TestA") (nothing_run 1 moment))
+
+  pub a_test_that_runs_again_ends_first : run_twice.tally.unfinished ≡ 1
+  unfolding above_held held kept
+  a_test_that_runs_again_ends_first = refl
 
 -- ---- what failed
 

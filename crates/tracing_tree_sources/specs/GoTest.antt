@@ -1,5 +1,5 @@
 -- Go's tests: what each line of `go test -json` tells.
-use Rattle.std.specs.Prelude.{◌≡◌, ℕ, pos, ◌+◌, ◌-◌, ◌^◌, ◌==◌, ◌&&◌, ◌||◌, nat_le, min, Bool, true, false, not, if◌then◌else◌, List, [], ◌∷◌, ◌++◌, length, take, drop, slice_get, Option, Some, None, is_some, unwrap_or, option_map, option_and_then, codes, bytes_eq}
+use Rattle.std.specs.Prelude.{◌≡◌, ℕ, zero, suc, pos, ◌+◌, ◌-◌, ◌^◌, ◌==◌, ◌&&◌, ◌||◌, min, Bool, true, false, not, if◌then◌else◌, List, [], ◌∷◌, ◌++◌, length, take, drop, Option, Some, None, is_some, unwrap_or, option_map, option_and_then, codes, bytes_eq}
 use Rattle.std.specs.List.{starts_with, ends_with, position_or_len}
 use Rattle.json.specs.Json.{Json}
 use Rattle.json.specs.Find.{get, as_number}
@@ -12,6 +12,7 @@ use Rattle.tracing_tree_base.specs.declared.style.Level.{Level}
 use Rattle.tracing_tree_base.specs.declared.style.Level.TheVariants.{Info, Warn, Error}
 use Rattle.tracing_tree_layer.specs.declared.call.Call.{Call}
 use Rattle.tracing_tree.specs.Lines.Spelled.{is_skipped}
+use Rattle.tracing_tree_sources.specs.GoNames.{named, put, without}
 use Rattle.tracing_tree_sources.specs.Source.{Step}
 use Rattle.tracing_tree_sources.specs.Values.{text_at}
 use Rattle.tracing_tree_sources.specs.declared.notes.Lack.{Lack}
@@ -23,13 +24,17 @@ use Rattle.tracing_tree_sources.specs.declared.go_test.Ending.TheVariants.{Passe
 use Rattle.tracing_tree_sources.specs.declared.go_test.Running.{Running}
 use Rattle.tracing_tree_sources.specs.declared.go_test.Tally.{Tally}
 
--- What is known of the tests that run: the id of the next span, the moment of the last line, what runs,
--- how many tests came to which end, the package whose build tells lines, whether something failed,
--- and the calls that were told and not handed out yet.
+-- what runs of a package by the names of its tests; the package itself has the empty name
+abbrev pub Tests : Type 0
+Tests = List (List ℕ × Running)
+
+-- What is known of the tests that run: the id of the next span, the moment of the last line, what runs
+-- by the packages' paths, how many tests came to which end, the package whose build tells lines, whether
+-- something failed, and the calls that were told and not handed out yet.
 pub record GoState : Type 0 where
   pub next : ℕ
   pub moment : Moment
-  pub running : List Running
+  pub packages : List (List ℕ × Tests)
   pub tally : Tally
   pub building : List ℕ
   pub has_failed : Bool
@@ -40,7 +45,7 @@ abbrev pub nothing_run : ℕ → Moment → GoState
 nothing_run next moment = record {
   next = next;
   moment = moment;
-  running = [];
+  packages = [];
   tally = record { passed = 0; failed = 0; skipped = 0; unfinished = 0 };
   building = [];
   has_failed = false;
@@ -158,7 +163,21 @@ quiet_told ending name elapsed above s =
 abbrev pub name_of : Running → List ℕ
 name_of one = if is_empty one.test then one.path else one.test
 
--- ---- what runs, outside the list while it is told of
+-- ---- packages
+
+-- what runs of a package
+abbrev pub tests_of : List ℕ → GoState → Tests
+tests_of path s = unwrap_or (named path s.packages) []
+
+-- nothing runs of a package
+abbrev pub without_package : List ℕ → GoState → GoState
+without_package path s = record s { packages = without path s.packages }
+
+-- this runs of a package
+abbrev pub with_package : List ℕ → Tests → GoState → GoState
+with_package path tests s = record s { packages = put path tests s.packages }
+
+-- ---- what runs, taken out while it is told of
 
 pub record Held : Type 0 where
   pub one : Running
@@ -167,8 +186,10 @@ pub record Held : Type 0 where
 abbrev pub holds : Running → GoState → Held
 holds one state = record { one = one; state = state }
 
-abbrev pub kept : Held → GoState
-kept h = record h.state { running = h.state.running ++ h.one ∷ [] }
+unfoldable pub kept : Held → GoState
+kept h =
+    with_package h.one.path (put h.one.test h.one (tests_of h.one.path h.state))
+    (without_package h.one.path h.state)
 
 -- its span is opened, unless it is open
 abbrev pub opened_as : Option Id → Held → Held
@@ -216,44 +237,50 @@ abbrev pub begun : List ℕ → List ℕ → Option Id → Running
 begun path test above =
     record { path = path; test = test; above = above; span = None; part = [] }
 
--- what runs under the longest beginning of a name: the longest so far, and where it stands
-pub record Longest : Type 0 where
-  pub longest : ℕ
-  pub found : Option ℕ
+-- what runs under this name; a package that isn't known yet begins
+abbrev pub running_as : List ℕ → List ℕ → Tests → Running
+running_as path name tests = unwrap_or (named name tests) (begun path [] None)
 
-abbrev pub owner_from : List ℕ → List ℕ → List Running → ℕ → Longest → Longest
-owner_from path test [] at best = best
-owner_from path test (one ∷ others) at best =
-    owner_from path test others (at + 1)
-    (if bytes_eq one.path path && leads one.test test && nat_le best.longest (length one.test)
-    then record { longest = length one.test; found = Some at } else best)
+-- of a name and its beginnings at a `/` that are at most so long, the longest that runs; else the
+-- empty name, which is the package's
+abbrev pub owner_within : Tests → List ℕ → ℕ → List ℕ
+owner_within tests test zero = []
+owner_within tests test (suc n) =
+    if ends_word 47 (drop (suc n) test) && is_some (named (take (suc n) test) tests)
+    then take (suc n) test else owner_within tests test n
 
-abbrev pub owner : List Running → List ℕ → List ℕ → Option ℕ
-owner running path test =
-    (owner_from path test running 0 (record { longest = 0; found = None })).found
+-- the longest beginning of a name that runs
+abbrev pub owner : Tests → List ℕ → List ℕ
+owner tests test = owner_within tests test (length test)
 
-abbrev pub held_one : Option Running → ℕ → List ℕ → GoState → Held
-held_one (Some one) at path s =
-    let others : List Running = take at s.running ++ drop (at + 1) s.running in
-    record { one = one; state = record s { running = others } }
-held_one None at path s = record { one = begun path [] None; state = s }
+-- what runs under the longest beginning of a name is taken out
+unfoldable pub held : List ℕ → List ℕ → GoState → Held
+held path test s =
+    let tests : Tests = tests_of path s in
+    let name : List ℕ = owner tests test in
+    holds (running_as path name tests)
+    (with_package path (without name tests) (without_package path s))
 
-abbrev pub held_at : Option ℕ → List ℕ → GoState → Held
-held_at (Some at) path s = held_one (slice_get s.running at) at path s
-held_at None path s = record { one = begun path [] None; state = s }
-
--- what runs under the longest beginning of a name is taken out of the list; a package that isn't
--- known yet begins
-abbrev pub held : List ℕ → List ℕ → GoState → Held
-held path test s = held_at (owner s.running path test) path s
+-- a test that still runs ends unfinished
+abbrev pub left_one : Running → GoState → GoState
+left_one one s = finished Unfinished None (holds one (counted Unfinished s))
 
 -- ---- actions
 
--- a test begins
+-- what a test stands in that begins; if one of its name runs already, that one ends unfinished
+unfoldable pub above_held : List ℕ → List ℕ → GoState → Held
+above_held path test s =
+    let h = held path test s in
+    if is_empty test || not (bytes_eq h.one.test test) then h
+    else held path test (left_one h.one h.state)
+
+-- a test begins in what is held, or its package
+abbrev pub begun_in : List ℕ → List ℕ → Held → GoState
+begun_in path test h =
+    if is_empty test then kept h else kept (holds (begun path test h.one.span) (kept h))
+
 abbrev pub ran : List ℕ → List ℕ → GoState → GoState
-ran path test s =
-    let h = opened (held path test s) in
-    kept (record { one = begun path test h.one.span; state = kept h })
+ran path test s = begun_in path test (opened (above_held path test s))
 
 -- the line that this text ends is told
 abbrev pub told_if_ended : List ℕ → Held → Held
@@ -267,28 +294,25 @@ more_printed text h = record h { one = record h.one { part = h.one.part ++ text 
 abbrev pub printed : List ℕ → List ℕ → List ℕ → GoState → GoState
 printed path test text s = kept (told_if_ended text (more_printed text (held path test s)))
 
--- a package's test that still runs ends unfinished; what else runs is kept
-abbrev pub left_one : List ℕ → Running → GoState → GoState
-left_one path one s =
-    if bytes_eq one.path path && not (is_empty one.test)
-    then finished Unfinished None (holds one (counted Unfinished s))
-    else kept (holds one s)
+-- tests that still run end unfinished, from the last name on, so that a test ends after those in it
+abbrev pub left_over : Tests → GoState → GoState
+left_over [] s = s
+left_over (test ∷ later) s = left_one test.1 (left_over later s)
 
-abbrev pub left_over : List ℕ → List Running → GoState → GoState
-left_over path [] s = s
-left_over path (one ∷ others) s = left_over path others (left_one path one s)
-
+-- nothing runs of a package any more but the package itself
 abbrev pub all_left_over : List ℕ → GoState → GoState
-all_left_over path s = left_over path s.running (record s { running = [] })
+all_left_over path s = left_over (without [] (tests_of path s)) (without_package path s)
 
 abbrev pub failed_by : Ending → GoState → GoState
 failed_by Failed s = record s { has_failed = true }
 failed_by ending s = s
 
 -- a package ends
-abbrev pub package_ended : Ending → List ℕ → Option (List ℕ) → GoState → GoState
+unfoldable pub package_ended : Ending → List ℕ → Option (List ℕ) → GoState → GoState
 package_ended ending path elapsed s =
-    finished ending elapsed (held path [] (all_left_over path (failed_by ending s)))
+    let noted : GoState = failed_by ending s in
+    finished ending elapsed
+    (holds (running_as path [] (tests_of path noted)) (all_left_over path noted))
 
 -- a test ends that runs, or that didn't
 abbrev pub test_ended : Ending → List ℕ → Option (List ℕ) → Held → GoState

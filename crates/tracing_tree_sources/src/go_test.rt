@@ -1,9 +1,11 @@
 //! Go's tests: the lines of `go test -json`.
 
 ghost use Rattle.std.specs.Prelude.{◌≡◌, ◌++◌, ◌∷◌, ◌<◌, [], Bool, true, false, IfOk, IfSome, OnOk, Option, None, Some, option_map, length, bytes_eq, codes, unwrap_or};
+ghost use Rattle.tracing_tree_sources.specs.GoNames.{without};
 ghost use Rattle.json.specs.Value.{value_view};
-ghost use Rattle.tracing_tree_sources.specs.GoTest.{acted, after_mark, all_left_over, failed_by, takes_plain, takes_value_as, test_ended, told_if_ended, begun, counted, elapsed_in, ended, ends_line, ends_word, event_told, finished, frames, go_ends, held, holds, is_frame, is_package_frame, kept, is_end_frame, is_step_frame, lack_in, leads, left_one, left_over, level_of, line_of, line_told, name_of, nothing_run, opened, owner, package_ended, package_of, printed, quiet_told, ran, takes_text, takes_timed, takes_value, timed, test_of, up_to_space, without_line_end, without_spaces, word_of};
+ghost use Rattle.tracing_tree_sources.specs.GoTest.{acted, after_mark, failed_by, takes_plain, takes_value_as, test_ended, told_if_ended, begun, counted, elapsed_in, ended, ends_line, ends_word, event_told, finished, frames, go_ends, holds, is_frame, is_package_frame, kept, is_end_frame, is_step_frame, lack_in, leads, level_of, line_of, line_told, name_of, nothing_run, opened, package_ended, package_of, printed, quiet_told, ran, takes_text, takes_timed, takes_value, timed, test_of, up_to_space, without_line_end, without_spaces, word_of, above_held, left_one, left_over, owner, held, running_as, tests_of, with_package, without_package};
 
+mod names;
 mod text;
 
 use crate::moments::moment_after;
@@ -12,11 +14,12 @@ use crate::source::Source;
 use crate::told::{close_call, event_call, message_field, span_call};
 use crate::values::text_at;
 use json::Value;
+use names::Named;
 use std::alloc::{AllocError, Global};
 use std::marker::Model;
 use std::mem;
 pub(crate) use text::{after_mark, leads};
-use text::{ends_line, is_frame, is_package_frame, up_to_space, without_line_end};
+use text::{ends_line, ends_word, is_frame, is_package_frame, up_to_space, without_line_end};
 use tracing_tree::call::Call;
 use tracing_tree::field::{Field, Fields};
 use tracing_tree::format::Id;
@@ -80,14 +83,16 @@ struct Running {
 }
 
 /// What is known of the tests that run. A test's parent is the longest beginning of its name, at a `/`, that runs, or its
-/// package. A test that tells nothing before its end is one event in the span above it.
+/// package. A test that tells nothing before its end is one event in the span above it. If a test begins while one of its name
+/// runs, that one ends as unfinished first. A line takes time for the length of its names, and hardly more where many tests run.
 #[derive(Drop)]
 pub struct GoTest {
     alloc: Global,
     // The id that the next span gets.
     next: u64,
     moment: Moment,
-    running: Vec<Running>,
+    // What runs by the packages' paths, and of each by the tests' names. The package itself has the empty name.
+    packages: Named<Named<Running>>,
     tally: Tally,
     // The package whose build tells lines that aren't JSON.
     building: Text,
@@ -103,7 +108,7 @@ impl Model for GoTest {
     ghost view = { λ g. record {
       next = g.next;
       moment = g.moment;
-      running = g.running.items;
+      packages = g.packages;
       tally = g.tally;
       building = g.building;
       has_failed = g.has_failed;
@@ -120,7 +125,7 @@ impl GoTest {
             alloc,
             next,
             moment,
-            running: Vec::new(alloc),
+            packages: Named::new(alloc),
             tally: Tally {
                 passed: 0,
                 failed: 0,
@@ -191,7 +196,7 @@ impl GoTest {
         let mut owner = self.take_owner(path.as_str(), "")?;
         self.open(&mut owner)?;
         self.push_event(Level::Error, line, None, owner.span)?;
-        Ok(self.running.push(owner)?)
+        self.keep(owner)
     }
 
     // A line that is a JSON value. Returns whether it is known.
@@ -269,16 +274,31 @@ impl GoTest {
         Ok(true)
     }
 
-    // A test begins.
+    // A test begins, or its package.
     fn run(&mut self, path: &str, test: &str) -> Result<(), AllocError>
         ensures { OnOk result (self.new ≡ ran path.now test.now self.old) }
     {
-        let mut owner = self.take_owner(path, test)?;
+        let mut owner = self.take_above(path, test)?;
         self.open(&mut owner)?;
         let above = owner.span;
-        self.running.push(owner)?;
+        self.keep(owner)?;
+        if test.is_empty() {
+            return Ok(());
+        }
         let begun = self.begun(path, test, above)?;
-        Ok(self.running.push(begun)?)
+        self.keep(begun)
+    }
+
+    // What a test stands in that begins. If one of its name runs already, that one ends.
+    fn take_above(&mut self, path: &str, test: &str) -> Result<Running, AllocError>
+        ensures { IfOk result (λ one. holds one self.new ≡ above_held path.now test.now self.old) }
+    {
+        let owner = self.take_owner(path, test)?;
+        if test.is_empty() || owner.test.as_str() != test {
+            return Ok(owner);
+        }
+        self.leave_one(owner)?;
+        self.take_owner(path, test)
     }
 
     fn begun(&self, path: &str, test: &str, above: Option<Id>) -> Result<Running, AllocError>
@@ -300,7 +320,7 @@ impl GoTest {
         let mut owner = self.take_owner(path, test)?;
         add_to_part(self.alloc, &mut owner, text)?;
         self.tell_if_ended(&mut owner, text)?;
-        Ok(self.running.push(owner)?)
+        self.keep(owner)
     }
 
     // Tells the line that this text ends.
@@ -372,7 +392,7 @@ impl GoTest {
         let mut owner = owner;
         self.open(&mut owner)?;
         self.push_quiet(ending, test, elapsed, owner.span)?;
-        Ok(self.running.push(owner)?)
+        self.keep(owner)
     }
 
     fn end_package(
@@ -385,9 +405,10 @@ impl GoTest {
             (option_map (λ e. e.now) elapsed.entry) self.old) }
     {
         self.note_failed(ending);
-        self.leave_all_over(path)?;
-        let owner = self.take_owner(path, "")?;
-        self.finish(owner, ending, elapsed)
+        let mut tests = self.take_package(path);
+        let package = self.take_running(&mut tests, path, "".as_bytes())?;
+        self.leave_over(tests)?;
+        self.finish(package, ending, elapsed)
     }
 
     fn note_failed(&mut self, ending: Ending)
@@ -399,39 +420,22 @@ impl GoTest {
         }
     }
 
-    fn take_running(&mut self) -> Vec<Running>
-        ensures running { result.items ≡ self.old.running }
-        ensures rest { self.new ≡ record self.old { running = [] } }
+    // Ends the tests of a package that still run, from the last name on, so that a test ends after those in it.
+    fn leave_over(&mut self, tests: Named<Running>) -> Result<(), AllocError>
+        ensures { OnOk result (self.new ≡ left_over tests self.old) }
     {
-        mem::replace(&mut self.running, Vec::new(self.alloc))
-    }
-
-    // Ends the tests of a package that still run.
-    fn leave_all_over(&mut self, path: &str) -> Result<(), AllocError>
-        ensures { OnOk result (self.new ≡ all_left_over path.now self.old) }
-    {
-        let running = self.take_running();
-        self.leave_over(running, path)
-    }
-
-    // Ends the tests of a package among these, and keeps the others.
-    fn leave_over(&mut self, running: Vec<Running>, path: &str) -> Result<(), AllocError>
-        ensures { OnOk result (self.new ≡ left_over path.now running.items self.old) }
-    {
-        for one in running {
-            self.leave_one(one, path)?;
+        let mut tests = tests;
+        while let Some(one) = tests.take_last() {
+            self.leave_one(one)?;
         }
         Ok(())
     }
 
-    fn leave_one(&mut self, one: Running, path: &str) -> Result<(), AllocError>
-        ensures { OnOk result (self.new ≡ left_one path.now one self.old) }
+    fn leave_one(&mut self, one: Running) -> Result<(), AllocError>
+        ensures { OnOk result (self.new ≡ left_one one self.old) }
     {
-        if one.path.as_str() == path && !one.test.as_str().is_empty() {
-            self.count(Ending::Unfinished);
-            return self.finish(one, Ending::Unfinished, None);
-        }
-        Ok(self.running.push(one)?)
+        self.count(Ending::Unfinished);
+        self.finish(one, Ending::Unfinished, None)
     }
 
     fn count(&mut self, ending: Ending)
@@ -535,12 +539,57 @@ impl GoTest {
         Ok(())
     }
 
-    // What runs under the longest beginning of this name, taken out of the list. A package that isn't known yet begins.
+    // Takes out what runs under the longest beginning of this name.
     fn take_owner(&mut self, path: &str, test: &str) -> Result<Running, AllocError>
         ensures { IfOk result (λ one. holds one self.new ≡ held path.now test.now self.old) }
     {
-        match owner(self.running.as_slice(), path, test) {
-            Some(at) => Ok(self.running.remove(at)),
+        let mut tests = self.take_package(path);
+        let name = owner(&tests, test.as_bytes());
+        let one = self.take_running(&mut tests, path, name)?;
+        self.put_package(path, tests)?;
+        Ok(one)
+    }
+
+    // Puts back what runs.
+    fn keep(&mut self, one: Running) -> Result<(), AllocError>
+        ensures { OnOk result (self.new ≡ kept (holds one self.old)) }
+    {
+        let path = one.path.clone()?;
+        let name = key(self.alloc, one.test.as_str())?;
+        let mut tests = self.take_package(path.as_str());
+        tests.put(name, one)?;
+        self.put_package(path.as_str(), tests)
+    }
+
+    // Puts back what runs of a package.
+    fn put_package(&mut self, path: &str, tests: Named<Running>) -> Result<(), AllocError>
+        ensures { OnOk result (self.new ≡ with_package path.now tests self.old) }
+    {
+        let path = key(self.alloc, path)?;
+        self.packages.put(path, tests)
+    }
+
+    // Takes out what runs of a package.
+    fn take_package(&mut self, path: &str) -> Named<Running>
+        ensures tests { result ≡ tests_of path.now self.old }
+        ensures rest { self.new ≡ without_package path.now self.old }
+    {
+        let tests = self.packages.take(path.as_bytes());
+        tests.unwrap_or(Named::new(self.alloc))
+    }
+
+    // Takes out what runs under this name. A package that isn't known yet begins.
+    fn take_running(
+        &self,
+        tests: &mut Named<Running>,
+        path: &str,
+        name: &[u8],
+    ) -> Result<Running, AllocError>
+        ensures one { IfOk result (λ one. one ≡ running_as path.now name.now tests.old) }
+        ensures rest { tests.new ≡ without name.now tests.old }
+    {
+        match tests.take(name) {
+            Some(one) => Ok(one),
             None => self.begun(path, "", None),
         }
     }
@@ -670,23 +719,23 @@ fn name_of(one: &Running) -> &str
     }
 }
 
-// Where what runs under the longest beginning of this name stands in the list.
-fn owner(running: &[Running], path: &str, test: &str) -> Option<usize>
-    ensures owner { result ≡ owner running.now path.now test.now }
-    ensures within { IfSome result (λ at. at < length running.now) }
+// What a package or a test is kept under.
+fn key(alloc: Global, name: &str) -> Result<Vec<u8>, AllocError>
+    ensures { IfOk result (λ key. key.items ≡ name.now) }
 {
-    let mut longest = 0;
-    let mut found = None;
-    let mut at = 0;
-    let mut rest = running;
-    while let [one, others @ ..] = rest {
-        let name = one.test.as_str().as_bytes();
-        if one.path.as_str() == path && leads(name, test.as_bytes()) && longest <= name.len() {
-            longest = name.len();
-            found = Some(at);
+    Vec::from_slice(alloc, name.as_bytes())
+}
+
+// The longest beginning of a name, at a `/`, that runs; else the empty name, which is the package's.
+fn owner<'t>(tests: &Named<Running>, test: &'t [u8]) -> &'t [u8]
+    ensures { result.now ≡ owner tests.now test.now }
+{
+    let mut length = test.len();
+    while length > 0 {
+        if ends_word(b'/', &test[length..]) && tests.has(&test[..length]) {
+            break;
         }
-        at += 1;
-        rest = others;
+        length -= 1;
     }
-    found
+    &test[..length]
 }

@@ -1,15 +1,13 @@
-use Rattle.std.proofs.Common.{◌≡◌, ◌+◌, ◌<◌, length, IfSome, None}
-use Rattle.tracing_tree_sources.specs.GoTest.{owner_from}
+use Rattle.std.proofs.Common.{◌≡◌, ◌≤◌, length}
+use Rattle.tracing_tree_sources.specs.GoTest.{owner, owner_within}
 use Rattle.tracing_tree_sources.proofs.go_test.owner.Given as goal
 
--- the search goes on from the longest so far
-abbrev pub invariant-loop-rest : goal.invariant-loop-rest
-invariant-loop-rest l = record {
-  place : l.at + length l.rest ≡ length l.fn.running;
-  before : IfSome l.found (λ at. at < l.at);
-  same : owner_from l.fn.path l.fn.test l.fn.running 0 (record { longest = 0; found = None })
-      ≡ owner_from l.fn.path l.fn.test l.rest l.at (record { longest = l.longest; found = l.found });
+-- no longer beginning runs
+abbrev pub invariant-loop-length : goal.invariant-loop-length
+invariant-loop-length l = record {
+  within : l.length ≤ length l.fn.test;
+  same : owner l.fn.tests l.fn.test ≡ owner_within l.fn.tests l.fn.test l.length;
 }
 
-abbrev pub decreases-loop-rest : goal.decreases-loop-rest
-decreases-loop-rest l = length l.rest
+abbrev pub decreases-loop-length : goal.decreases-loop-length
+decreases-loop-length l = l.length

@@ -1,0 +1,65 @@
+//! What has a name.
+
+ghost use Rattle.std.specs.Prelude.{◌≡◌, ◌++◌, ◌∷◌, ℕ, List, [], IfNone, IfSome, OnOk, is_some};
+ghost use Rattle.tracing_tree_sources.specs.GoNames.{named, put, without};
+
+use std::alloc::{AllocError, Global};
+use std::collections::BTreeMap;
+use std::marker::Model;
+
+// What has a name, in the order of the names' bytes.
+#[derive(Drop)]
+pub(super) struct Named<X> {
+    entries: BTreeMap<Vec<u8>, X>,
+}
+
+impl<X> Model for Named<X> {
+    ghost use Rattle.std.specs.Prelude.{ℕ, List};
+    ghost use Rattle.tracing_tree_sources.specs.GoNames.{by_bytes};
+
+    ghost Value = { List (List ℕ × X) };
+
+    ghost view = { λ n. by_bytes n.entries.entries };
+}
+
+impl<X: Drop> Named<X> {
+    pub(super) fn new(alloc: Global) -> Named<X>
+        ensures { result ≡ [] }
+    {
+        Named {
+            entries: BTreeMap::new(alloc),
+        }
+    }
+
+    // Whether something has this name.
+    pub(super) fn has(&self, name: &[u8]) -> bool
+        ensures { result ≡ is_some (named name.now self.now) }
+    {
+        self.entries.contains_key(name)
+    }
+
+    // Takes out what has this name.
+    pub(super) fn take(&mut self, name: &[u8]) -> Option<X>
+        ensures one { result ≡ named name.now self.old }
+        ensures rest { self.new ≡ without name.now self.old }
+    {
+        self.entries.remove(name)
+    }
+
+    // Takes out what has the last name.
+    pub(super) fn take_last(&mut self) -> Option<X>
+        ensures none { IfNone result (self.old ≡ []) }
+        ensures one { IfSome result (λ one. (name : List ℕ) × (self.old ≡ self.new ++ (name, one) ∷ [])) }
+    {
+        let (_, one) = self.entries.pop_last()?;
+        Some(one)
+    }
+
+    // Puts something under this name.
+    pub(super) fn put(&mut self, name: Vec<u8>, one: X) -> Result<(), AllocError>
+        ensures { OnOk result (self.new ≡ put name.items one self.old) }
+    {
+        self.entries.insert(name, one)?;
+        Ok(())
+    }
+}
