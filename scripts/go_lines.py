@@ -13,6 +13,7 @@ STEPS = ("=== RUN   ", "=== PAUSE ", "=== CONT  ", "=== NAME  ", "--- PASS: ", "
 class Running:
     def __init__(self, package, test, above):
         self.package, self.test, self.above, self.span, self.part = package, test, above, None, ""
+        self.has_begun = bool(test)
 
 
 class Run:
@@ -62,14 +63,21 @@ class Run:
         self.has_failed |= ending == "fail"
 
     def leave(self, one):
-        self.count("unfinished")
+        if one.test:
+            self.count("unfinished")
+        else:
+            self.has_failed = True
         self.finish(one, "unfinished", None)
+
+    def left(self, package):
+        left = [it for it in self.running if it.package == package]
+        return sorted(left, key=lambda it: it.test.encode(), reverse=True)
 
     def end_package(self, ending, package, elapsed):
         self.has_failed |= ending == "fail"
-        left = [it for it in self.running if it.package == package and it.test]
-        for one in sorted(left, key=lambda it: it.test.encode(), reverse=True):
-            self.leave(one)
+        for one in self.left(package):
+            if one.test:
+                self.leave(one)
         self.finish(self.owner(package, ""), ending, elapsed)
 
     def end_test(self, ending, package, test, elapsed):
@@ -89,10 +97,12 @@ class Run:
                 self.leave(one)
                 one = self.owner(package, test)
             self.open(one)
+            one.has_begun = True
             if test:
                 self.running.append(Running(package, test, one.span))
         elif action in ("output", "build-output"):
             one = self.owner(package, test)
+            one.has_begun |= action == "output"
             one.part += line["Output"]
             if line["Output"].endswith("\n"):
                 self.tell(one)
@@ -113,6 +123,10 @@ class Run:
             self.event("ERROR", text, None, one.span if one else None)
 
     def end(self):
+        for package in sorted({it.package for it in self.running}, key=str.encode):
+            for one in self.left(package):
+                if one.has_begun:
+                    self.leave(one)
         names = {"pass": "passed", "fail": "failed", "skip": "skipped", "unfinished": "unfinished"}
         fields = [[name, str(self.counts[it])] for it, name in names.items()]
         self.call(None, call="event", level="ERROR" if self.has_failed else "INFO", fields=fields)

@@ -88,8 +88,8 @@ ttree: line 9: expected UTF-8' 1
     count 'on an empty file' want '' 0
 }
 
-# Tests that still run: where one of the same name begins, and where their package ends. The tree is made by hand of what docs/FORMATS.md
-# says.
+# Tests that still run: where one of the same name begins, and where their package or the input ends. Each tree is made by hand of what
+# docs/FORMATS.md says.
 run_left() {
     cat > "$room/left" << 'END_OF_LINES'
 {"Action":"run","Package":"p","Test":"TestA"}
@@ -132,6 +132,45 @@ END_OF_TREE
     run "$room/left"
     count 'on tests that still run' want '' 1
     drawing "$room/left" 1
+    cat > "$room/ended" << 'END_OF_LINES'
+{"Action":"start","Package":"p"}
+{"Action":"run","Package":"p","Test":"TestA"}
+{"Action":"output","Package":"p","Test":"TestA","Output":"=== RUN   TestA\n"}
+{"Action":"run","Package":"p","Test":"TestA/x"}
+{"Action":"output","Package":"p","Test":"TestA/x","Output":"half"}
+{"Action":"run","Package":"q","Test":"TestB"}
+{"Action":"pass","Package":"q","Test":"TestB","Elapsed":0.5}
+{"ImportPath":"r","Action":"build-output","Output":"r warns\n"}
+END_OF_LINES
+    cat > "$room/want" << 'END_OF_TREE'
+┐p 
+└─┐TestA 
+┐q 
+├─ INFO pass TestB, elapsed=0.5
+┐r 
+├─ INFO r warns
+┐p 
+└─┐TestA 
+  └─┐TestA/x 
+    ├─ INFO half
+    ├─ ERROR unfinished
+  ┌─┘
+  ├─ ERROR unfinished
+┌─┘
+├─ ERROR unfinished
+┘
+┐q 
+├─ ERROR unfinished
+┘
+ERROR passed=1, failed=0, skipped=0, unfinished=2
+END_OF_TREE
+    run "$room/ended"
+    count 'on an input that ends while tests run' want '' 1
+    drawing "$room/ended" 1
+    echo '{"ImportPath":"r","Action":"build-output","Output":"r warns\n"}' > "$room/ended"
+    printf '┐r \n├─ INFO r warns\nINFO passed=0, failed=0, skipped=0, unfinished=0\n' > "$room/want"
+    run "$room/ended"
+    count 'on a build alone' want '' 0
 }
 
 # Lines that are skipped: the first ten are told, and then how many there are.
@@ -145,7 +184,7 @@ run_skipped() {
     run "$room/many"
     count 'on twelve lines that tell nothing' want "${notes}ttree: lines skipped: 12" 1
     { head -n 1 "$room/odd"; echo '[1]'; tail -n 2 "$room/odd"; } > "$room/strict"
-    python3 "$top/scripts/go_lines.py" < <(head -n 1 "$room/odd") | head -n -1 | "$tree" > "$room/want"
+    python3 "$top/scripts/go_lines.py" < <(head -n 1 "$room/odd") | head -n -3 | "$tree" > "$room/want"
     run --strict "$room/strict"
     count 'with --strict' want 'ttree: line 2: "Action": expected a text' 1
     expect "$room/odd" 's/^//'
@@ -438,7 +477,12 @@ END_OF_LINES
 └─┐TestA 
   ├─ INFO one
 ├─ INFO log
-ERROR passed=2, failed=2, skipped=2, unfinished=1
+└─┐TestA 
+  ├─ ERROR unfinished
+┌─┘
+├─ ERROR unfinished
+┘
+ERROR passed=2, failed=2, skipped=2, unfinished=2
 END_OF_TREE
 }
 

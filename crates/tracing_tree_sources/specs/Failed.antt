@@ -5,7 +5,7 @@ use Rattle.json.specs.Json.{Json, document}
 use Rattle.tracing_tree_base.specs.declared.context.Moment.{Moment}
 use Rattle.tracing_tree_layer.specs.declared.call.Call.{Call}
 use Rattle.tracing_tree_sources.specs.Source.{Step}
-use Rattle.tracing_tree_sources.specs.GoTest.{GoState, go_ends, go_takes, leads, nothing_run, package_of, takes_json, takes_text, test_of, timed}
+use Rattle.tracing_tree_sources.specs.GoTest.{GoState, all_ended, go_takes, leads, nothing_run, package_of, takes_json, takes_text, tally_call, test_of, timed}
 use Rattle.tracing_tree_sources.specs.Values.{text_at}
 use Rattle.tracing_tree_sources.specs.declared.failed.Kept.{Kept}
 use Rattle.tracing_tree_sources.specs.declared.failed.Verdict.{Verdict}
@@ -192,4 +192,5 @@ all_released (untold ∷ others) shown =
     all_released others (released [] (taken untold shown)).shown
 
 abbrev pub failed_ends : FailedState → List Call
-failed_ends s = (all_released s.packages s.shown).calls ++ go_ends s.whole
+failed_ends s =
+    (all_ended (all_released s.packages s.shown)).calls ++ tally_call (all_ended s.whole) ∷ []

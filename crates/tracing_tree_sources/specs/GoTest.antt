@@ -234,8 +234,18 @@ finished ending elapsed h =
     span_ended ending elapsed last.one.span last
 
 abbrev pub begun : List ℕ → List ℕ → Option Id → Running
-begun path test above =
-    record { path = path; test = test; above = above; span = None; part = [] }
+begun path test above = record {
+  path = path;
+  test = test;
+  above = above;
+  span = None;
+  part = [];
+  has_begun = not (is_empty test);
+}
+
+-- it has begun, and not only its build
+abbrev pub started : Held → Held
+started h = record h { one = record h.one { has_begun = true } }
 
 -- what runs under this name; a package that isn't known yet begins
 abbrev pub running_as : List ℕ → List ℕ → Tests → Running
@@ -261,9 +271,15 @@ held path test s =
     holds (running_as path name tests)
     (with_package path (without name tests) (without_package path s))
 
--- a test that still runs ends unfinished
+-- a test that ends unfinished is counted; a package that does has failed
+abbrev pub noted_left : Running → GoState → GoState
+noted_left one s =
+    if is_empty one.test then record s { has_failed = true } else counted Unfinished s
+
+-- what still runs ends unfinished; a package doesn't run before it has begun
 abbrev pub left_one : Running → GoState → GoState
-left_one one s = finished Unfinished None (holds one (counted Unfinished s))
+left_one one s =
+    if one.has_begun then finished Unfinished None (holds one (noted_left one s)) else s
 
 -- ---- actions
 
@@ -280,7 +296,7 @@ begun_in path test h =
     if is_empty test then kept h else kept (holds (begun path test h.one.span) (kept h))
 
 abbrev pub ran : List ℕ → List ℕ → GoState → GoState
-ran path test s = begun_in path test (opened (above_held path test s))
+ran path test s = begun_in path test (started (opened (above_held path test s)))
 
 -- the line that this text ends is told
 abbrev pub told_if_ended : List ℕ → Held → Held
@@ -290,11 +306,17 @@ told_if_ended text h = if ends_line text then line_told h else h
 abbrev pub more_printed : List ℕ → Held → Held
 more_printed text h = record h { one = record h.one { part = h.one.part ++ text } }
 
--- a test prints
-abbrev pub printed : List ℕ → List ℕ → List ℕ → GoState → GoState
-printed path test text s = kept (told_if_ended text (more_printed text (held path test s)))
+-- it has begun where a test prints, and not a build
+abbrev pub started_if : Bool → Held → Held
+started_if is_started h =
+    record h { one = record h.one { has_begun = h.one.has_begun || is_started } }
 
--- tests that still run end unfinished, from the last name on, so that a test ends after those in it
+-- a test prints, or a build
+abbrev pub printed : Bool → List ℕ → List ℕ → List ℕ → GoState → GoState
+printed is_started path test text s =
+    kept (told_if_ended text (more_printed text (started_if is_started (held path test s))))
+
+-- what still runs of a package ends unfinished, from the last name on, so that a test ends after those in it
 abbrev pub left_over : Tests → GoState → GoState
 left_over [] s = s
 left_over (test ∷ later) s = left_one test.1 (left_over later s)
@@ -367,15 +389,16 @@ package_of value = package_or_path (text_at (codes "Package") value) where
   package_or_path (Some path) = Some path
   package_or_path None = option_map up_to_space (text_at (codes "ImportPath") value)
 
-abbrev pub printed_if : List ℕ → List ℕ → Option (List ℕ) → GoState → Option GoState
-printed_if path test None s = None
-printed_if path test (Some text) s = Some (printed path test text s)
+abbrev pub printed_if : Bool → List ℕ → List ℕ → Option (List ℕ) → GoState → Option GoState
+printed_if is_started path test None s = None
+printed_if is_started path test (Some text) s = Some (printed is_started path test text s)
 
 abbrev pub acted : List ℕ → List ℕ → List ℕ → Json → GoState → Option GoState
 acted action path test value s =
     if bytes_eq action (codes "run") then Some (ran path test s)
     else if bytes_eq action (codes "output") || bytes_eq action (codes "build-output")
-    then printed_if path test (text_at (codes "Output") value) s
+    then
+    printed_if (bytes_eq action (codes "output")) path test (text_at (codes "Output") value) s
     else if bytes_eq action (codes "pass") || bytes_eq action (codes "bench")
     then Some (ended Passed path test (elapsed_in value) s)
     else if bytes_eq action (codes "fail")
@@ -427,7 +450,7 @@ abbrev pub go_lacks : Option Json → Lack
 go_lacks None = Object
 go_lacks (Some value) = lack_in value
 
--- at the end one line counts the tests
+-- the line that counts the tests
 abbrev pub tally_fields : Tally → List Field
 tally_fields tally =
     whole_field (codes "passed") (pos tally.passed)
@@ -435,6 +458,20 @@ tally_fields tally =
     ∷ whole_field (codes "skipped") (pos tally.skipped)
     ∷ whole_field (codes "unfinished") (pos tally.unfinished) ∷ []
 
+abbrev pub tally_call : GoState → Call
+tally_call s =
+    event_call s.moment (if s.has_failed then Error else Info) (tally_fields s.tally) None
+
+-- what runs of one package after the other ends unfinished
+abbrev pub packages_left : List (List ℕ × Tests) → GoState → GoState
+packages_left [] s = s
+packages_left (one ∷ others) s = packages_left others (left_over one.1 s)
+
+-- nothing runs any more
+abbrev pub all_ended : GoState → GoState
+all_ended s = packages_left s.packages (record s { packages = [] })
+
 abbrev pub go_ends : GoState → List Call
 go_ends s =
-    event_call s.moment (if s.has_failed then Error else Info) (tally_fields s.tally) None ∷ []
+    let ended : GoState = all_ended s in
+    ended.calls ++ tally_call ended ∷ []

@@ -323,9 +323,10 @@ impl Source for Failed {
     fn end(&mut self, alloc: Global) -> Result<Vec<Call>, AllocError> {
         let packages = mem::replace(&mut self.packages, Vec::new(alloc));
         release_all(&mut self.shown, alloc, packages)?;
+        self.shown.leave_all()?;
+        self.whole.leave_all()?;
         let mut calls = self.shown.told();
-        let mut last = self.whole.end(alloc)?;
-        calls.append(&mut last)?;
+        calls.push(self.whole.tally_call(alloc)?)?;
         Ok(calls)
     }
 }

@@ -1,9 +1,9 @@
 //! Go's tests: the lines of `go test -json`.
 
-ghost use Rattle.std.specs.Prelude.{◌≡◌, ◌++◌, ◌∷◌, ◌<◌, [], Bool, true, false, IfOk, IfSome, OnOk, Option, None, Some, option_map, length, bytes_eq, codes, unwrap_or};
+ghost use Rattle.std.specs.Prelude.{◌≡◌, ◌++◌, ◌∷◌, ◌<◌, [], Bool, true, false, IfOk, IfSome, ◌||◌, OnOk, Option, None, Some, option_map, length, bytes_eq, codes, unwrap_or};
 ghost use Rattle.tracing_tree_sources.specs.GoNames.{without};
 ghost use Rattle.json.specs.Value.{value_view};
-ghost use Rattle.tracing_tree_sources.specs.GoTest.{acted, after_mark, failed_by, takes_plain, takes_value_as, test_ended, told_if_ended, begun, counted, elapsed_in, ended, ends_line, ends_word, event_told, finished, frames, go_ends, holds, is_frame, is_package_frame, kept, is_end_frame, is_step_frame, lack_in, leads, level_of, line_of, line_told, name_of, nothing_run, opened, package_ended, package_of, printed, quiet_told, ran, takes_text, takes_timed, takes_value, timed, test_of, up_to_space, without_line_end, without_spaces, word_of, above_held, left_one, left_over, owner, held, running_as, tests_of, with_package, without_package};
+ghost use Rattle.tracing_tree_sources.specs.GoTest.{acted, after_mark, failed_by, takes_plain, takes_value_as, test_ended, told_if_ended, begun, counted, elapsed_in, ended, ends_line, ends_word, event_told, finished, frames, go_ends, holds, is_frame, is_package_frame, kept, is_end_frame, is_step_frame, lack_in, leads, level_of, line_of, line_told, name_of, nothing_run, opened, package_ended, package_of, printed, quiet_told, ran, takes_text, takes_timed, takes_value, timed, test_of, up_to_space, without_line_end, without_spaces, word_of, above_held, all_ended, left_one, noted_left, packages_left, tally_call, left_over, owner, held, running_as, tests_of, with_package, without_package};
 
 mod names;
 mod text;
@@ -14,7 +14,7 @@ use crate::source::Source;
 use crate::told::{close_call, event_call, message_field, span_call};
 use crate::values::text_at;
 use json::Value;
-use names::Named;
+use names::{Named, key};
 use std::alloc::{AllocError, Global};
 use std::marker::Model;
 use std::mem;
@@ -80,11 +80,13 @@ struct Running {
     span: Option<Id>,
     // The beginning of a line whose end isn't printed yet.
     part: Text,
+    // Whether it has begun, and not only its build.
+    has_begun: bool,
 }
 
 /// What is known of the tests that run. A test's parent is the longest beginning of its name, at a `/`, that runs, or its
 /// package. A test that tells nothing before its end is one event in the span above it. If a test begins while one of its name
-/// runs, that one ends as unfinished first. A line takes time for the length of its names, and hardly more where many tests run.
+/// runs, that one ends as unfinished first, and so does at the end of the input what still runs. A line takes time for the length of its names, and hardly more where many tests run.
 #[derive(Drop)]
 pub struct GoTest {
     alloc: Global,
@@ -263,7 +265,7 @@ impl GoTest {
             let Some(text) = text_at(value, "Output") else {
                 return Ok(false);
             };
-            self.output(path, test, text)?;
+            self.output(action, path, test, text)?;
         } else if action == "pass" || action == "bench" {
             self.end(Ending::Passed, path, test, value)?;
         } else if action == "fail" {
@@ -280,6 +282,7 @@ impl GoTest {
     {
         let mut owner = self.take_above(path, test)?;
         self.open(&mut owner)?;
+        owner.has_begun = true;
         let above = owner.span;
         self.keep(owner)?;
         if test.is_empty() {
@@ -310,14 +313,17 @@ impl GoTest {
             above,
             span: None,
             part: Text::from_str(self.alloc, "")?,
+            has_begun: !test.is_empty(),
         })
     }
 
-    // A test prints.
-    fn output(&mut self, path: &str, test: &str, text: &str) -> Result<(), AllocError>
-        ensures { OnOk result (self.new ≡ printed path.now test.now text.now self.old) }
+    // A test prints, or a build.
+    fn output(&mut self, action: &str, path: &str, test: &str, text: &str) -> Result<(), AllocError>
+        ensures { OnOk result (self.new ≡ printed (bytes_eq action.now (codes "output")) path.now
+            test.now text.now self.old) }
     {
         let mut owner = self.take_owner(path, test)?;
+        start_if(action == "output", &mut owner);
         add_to_part(self.alloc, &mut owner, text)?;
         self.tell_if_ended(&mut owner, text)?;
         self.keep(owner)
@@ -420,7 +426,7 @@ impl GoTest {
         }
     }
 
-    // Ends the tests of a package that still run, from the last name on, so that a test ends after those in it.
+    // Ends what still runs of a package, from the last name on, so that a test ends after those in it.
     fn leave_over(&mut self, tests: Named<Running>) -> Result<(), AllocError>
         ensures { OnOk result (self.new ≡ left_over tests self.old) }
     {
@@ -434,8 +440,58 @@ impl GoTest {
     fn leave_one(&mut self, one: Running) -> Result<(), AllocError>
         ensures { OnOk result (self.new ≡ left_one one self.old) }
     {
-        self.count(Ending::Unfinished);
+        if !one.has_begun {
+            return Ok(());
+        }
+        self.note_left(&one);
         self.finish(one, Ending::Unfinished, None)
+    }
+
+    // Counts a test that ends unfinished. A package that does has failed.
+    fn note_left(&mut self, one: &Running)
+        ensures { self.new ≡ noted_left one.now self.old }
+    {
+        if one.test.as_str().is_empty() {
+            self.has_failed = true;
+        } else {
+            self.count(Ending::Unfinished);
+        }
+    }
+
+    // Ends what still runs, one package after the other.
+    pub(crate) fn leave_all(&mut self) -> Result<(), AllocError>
+        ensures { OnOk result (self.new ≡ all_ended self.old) }
+    {
+        let packages = mem::replace(&mut self.packages, Named::new(self.alloc));
+        self.leave_packages(packages)
+    }
+
+    fn leave_packages(&mut self, packages: Named<Named<Running>>) -> Result<(), AllocError>
+        ensures { OnOk result (self.new ≡ packages_left packages self.old) }
+    {
+        let mut packages = packages;
+        while let Some(tests) = packages.take_first() {
+            self.leave_over(tests)?;
+        }
+        Ok(())
+    }
+
+    // The line that counts the tests.
+    pub(crate) fn tally_call(&self, alloc: Global) -> Result<Call, AllocError>
+        ensures { IfOk result (λ call. call ≡ tally_call self.now) }
+    {
+        let tally = self.tally;
+        let mut fields = Vec::with_capacity(alloc, 4)?;
+        fields.push(Field::whole(alloc, "passed", i128::from(tally.passed))?)?;
+        fields.push(Field::whole(alloc, "failed", i128::from(tally.failed))?)?;
+        fields.push(Field::whole(alloc, "skipped", i128::from(tally.skipped))?)?;
+        fields.push(Field::whole(alloc, "unfinished", i128::from(tally.unfinished))?)?;
+        let level = if self.has_failed {
+            Level::Error
+        } else {
+            Level::Info
+        };
+        event_call(alloc, self.moment, level, Fields::from(fields), None)
     }
 
     fn count(&mut self, ending: Ending)
@@ -629,19 +685,9 @@ impl Source for GoTest {
     }
 
     fn end(&mut self, alloc: Global) -> Result<Vec<Call>, AllocError> {
-        let tally = self.tally;
-        let mut fields = Vec::with_capacity(alloc, 4)?;
-        fields.push(Field::whole(alloc, "passed", i128::from(tally.passed))?)?;
-        fields.push(Field::whole(alloc, "failed", i128::from(tally.failed))?)?;
-        fields.push(Field::whole(alloc, "skipped", i128::from(tally.skipped))?)?;
-        fields.push(Field::whole(alloc, "unfinished", i128::from(tally.unfinished))?)?;
-        let level = if self.has_failed {
-            Level::Error
-        } else {
-            Level::Info
-        };
-        let mut calls = Vec::new(alloc);
-        calls.push(event_call(alloc, self.moment, level, Fields::from(fields), None)?)?;
+        self.leave_all()?;
+        let mut calls = self.told();
+        calls.push(self.tally_call(alloc)?)?;
         Ok(calls)
     }
 }
@@ -708,6 +754,15 @@ fn add_to_part(alloc: Global, one: &mut Running, text: &str) -> Result<(), Alloc
     Ok(())
 }
 
+// It has begun where a test prints, and not a build.
+fn start_if(is_started: bool, one: &mut Running)
+    ensures { one.new ≡ record one.old { has_begun = one.old.has_begun || is_started } }
+{
+    if is_started {
+        one.has_begun = true;
+    }
+}
+
 // The name that a span or a line shows.
 fn name_of(one: &Running) -> &str
     ensures { result.now ≡ name_of one.now }
@@ -717,13 +772,6 @@ fn name_of(one: &Running) -> &str
     } else {
         one.test.as_str()
     }
-}
-
-// What a package or a test is kept under.
-fn key(alloc: Global, name: &str) -> Result<Vec<u8>, AllocError>
-    ensures { IfOk result (λ key. key.items ≡ name.now) }
-{
-    Vec::from_slice(alloc, name.as_bytes())
 }
 
 // The longest beginning of a name, at a `/`, that runs; else the empty name, which is the package's.

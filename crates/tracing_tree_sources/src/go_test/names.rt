@@ -1,6 +1,6 @@
 //! What has a name.
 
-ghost use Rattle.std.specs.Prelude.{◌≡◌, ◌++◌, ◌∷◌, ℕ, List, [], IfNone, IfSome, OnOk, is_some};
+ghost use Rattle.std.specs.Prelude.{◌≡◌, ◌++◌, ◌∷◌, ℕ, List, [], IfNone, IfOk, IfSome, OnOk, is_some};
 ghost use Rattle.tracing_tree_sources.specs.GoNames.{named, put, without};
 
 use std::alloc::{AllocError, Global};
@@ -55,6 +55,15 @@ impl<X: Drop> Named<X> {
         Some(one)
     }
 
+    // Takes out what has the first name.
+    pub(super) fn take_first(&mut self) -> Option<X>
+        ensures none { IfNone result (self.old ≡ []) }
+        ensures one { IfSome result (λ one. (name : List ℕ) × (self.old ≡ (name, one) ∷ self.new)) }
+    {
+        let (_, one) = self.entries.pop_first()?;
+        Some(one)
+    }
+
     // Puts something under this name.
     pub(super) fn put(&mut self, name: Vec<u8>, one: X) -> Result<(), AllocError>
         ensures { OnOk result (self.new ≡ put name.items one self.old) }
@@ -62,4 +71,11 @@ impl<X: Drop> Named<X> {
         self.entries.insert(name, one)?;
         Ok(())
     }
+}
+
+// The bytes of a name.
+pub(super) fn key(alloc: Global, name: &str) -> Result<Vec<u8>, AllocError>
+    ensures { IfOk result (λ key. key.items ≡ name.now) }
+{
+    Vec::from_slice(alloc, name.as_bytes())
 }

@@ -1,6 +1,6 @@
-use Rattle.std.proofs.Common.{◌≡◌, false, ap, ◌∙◌, subst}
-use Rattle.std.specs.Prelude.{OnOk}
-use Rattle.tracing_tree_sources.specs.GoTest.{GoState, Held, above_held, begun, holds, is_empty, kept, opened}
+use Rattle.std.proofs.Common.{◌≡◌, Bool, false, sym, ap, ◌∙◌, subst}
+use Rattle.std.specs.Prelude.{OnOk, if◌then◌else◌}
+use Rattle.tracing_tree_sources.specs.GoTest.{GoState, Held, above_held, begun, holds, is_empty, kept, opened, started}
 use Rattle.tracing_tree_sources.specs.declared.go_test.Running.{Running}
 use Rattle.tracing_tree_sources.proofs.go_test.GoTest.run.Goals as goal
 
@@ -9,9 +9,11 @@ returns c =
     let path = c.args.path.now in
     let test = c.args.test.now in
     let empty : is_empty test ≡ false = cc in
-    let above : Held = opened (above_held path test c.args.self.now) in
-    let shown : holds c.open.new.one c.open.new.self ≡ above = c.in_ok-open.ensures ∙ ap opened c.in_ok-owner.ensures in
-    let left : c.keep.new.self ≡ kept above = c.in_ok-keep.ensures ∙ ap kept shown in
+    let before : Held = opened (above_held path test c.args.self.now) in
+    let above : Held = started before in
+    let shown : holds c.open.new.one c.open.new.self ≡ before = c.in_ok-open.ensures ∙ ap opened c.in_ok-owner.ensures in
+    let left : c.keep.new.self ≡ kept above = c.in_ok-keep.ensures ∙ ap (λ (h : Held). kept (started h)) shown in
     let one : c.in_ok-begun.begun ≡ begun path test above.one.span = c.in_ok-begun.ensures ∙ ap (λ (h : Held). begun path test h.one.span) shown in
     let done : Running → GoState → Type 0 = λ one s. OnOk c.keep-2.result (c.keep-2.new.self ≡ kept (holds one s)) in
-    rw empty (subst (done (begun path test above.one.span)) left (subst (λ one. done one c.keep.new.self) one c.keep-2.ensures))
+    let ends : Bool → Type 0 = λ is_package. OnOk c.keep-2.result (c.keep-2.new.self ≡ (if is_package then kept above else kept (holds (begun path test above.one.span) (kept above)))) in
+    subst ends (sym empty) (subst (done (begun path test above.one.span)) left (subst (λ one. done one c.keep.new.self) one c.keep-2.ensures))
