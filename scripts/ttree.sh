@@ -16,7 +16,7 @@ runs=0
 right=0
 
 run() {
-    timeout 120 "$ttree" "$@" > "$room/out" 2> "$room/err"
+    timeout 300 "$ttree" "$@" > "$room/out" 2> "$room/err"
     status=$?
 }
 
