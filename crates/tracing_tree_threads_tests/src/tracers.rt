@@ -33,6 +33,7 @@ fn thread_at(place: usize) -> u64 {
 
 // An amount under which each row is drawn, and one under which a row at level 1 is past all memory.
 const NARROW: usize = 2;
+
 const WIDE: usize = 1 << 62;
 
 // With lines and this amount; each row begins with the thread that made its call.
@@ -48,21 +49,27 @@ fn telling(alloc: Global, amount: usize) -> Layered<Tape, ()>
     Layered::new(alloc, layer)
 }
 
-// A connection with twenty queries.
+// How many queries a connection has.
+const QUERIES: u8 = 20;
+
+// A connection with its queries.
 fn serve<C: Calls>(tracer: &mut Tracer<C, Moment>) -> Result<(), TraceFault> {
     tracer.open("conn", &[("peer", Quoted("82.9.9.9"))])?;
-    for at in 0..20 {
+    for at in 0..QUERIES {
         query(tracer, at)?;
     }
-    tracer.record(&[("served", Whole(20))])?;
+    tracer.record(&[("served", Whole(i128::from(QUERIES)))])?;
     tracer.close()?;
     Ok(())
 }
 
-fn query<C: Calls>(tracer: &mut Tracer<C, Moment>, at: i128) -> Result<(), TraceFault> {
-    within(tracer, "query", &[("at", Whole(at))], |tracer| {
-        tracer.warn("slow", &[("ms", Whole(271))])
-    })
+fn query<C: Calls>(tracer: &mut Tracer<C, Moment>, at: u8) -> Result<(), TraceFault> {
+    within(
+        tracer,
+        "query",
+        &[("at", Whole(i128::from(at)))],
+        |tracer| { tracer.warn("slow", &[("ms", Whole(271))]) },
+    )
 }
 
 // A tracer of this thread over what takes its calls.
@@ -127,7 +134,12 @@ fn passes_with<L: Ledger + Send + Sync, R: Threads + Wait + Sync>(
     requires parts { blank.parts ≡ L.parts }
     requires four { L.parts ≡ 4 }
 {
-    let (layer, passes) = SharedLayer::<(), L>::open(alloc, blank, telling(alloc, NARROW), THREADS)?;
+    let (layer, passes) = SharedLayer::<(), L>::open(
+        alloc,
+        blank,
+        telling(alloc, NARROW),
+        THREADS,
+    )?;
     let mut jobs = Vec::new(alloc);
     for (at, pass) in passes.into_iter().enumerate() {
         jobs.push((thread_at(at), pass))?;
