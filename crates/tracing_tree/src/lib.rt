@@ -5,7 +5,8 @@
 //! - [`tracer::Tracer`] for a service that opens spans and tells events in them. It knows the current span, the thread, the clock and
 //!   the target.
 //! - [`Layered`] for calls by hand: each names its span and its moment, and is drawn whole or refused with a reason.
-//! - [`shared::StreamingLayer`] for several threads that write one tree, and [`shared::SharedLayer`] where their history is wanted too.
+//! - [`shared::StreamingLayer`] for several threads that write one tree, and [`shared::SharedLayer`] where their history is wanted too. Each
+//!   thread has a tracer of its own over [`tracer::StreamingCalls`] or [`tracer::SharedCalls`], its way to the layer.
 //! - [`HierarchicalLayer`] alone for a service that keeps its spans itself, over any [`registry::LookupSpan`].
 //! - [`run_lines`] for calls that are spelled as lines of JSON, and [`rows::read_rows`] for the text of a drawing.
 //!

@@ -33,9 +33,9 @@ pub record IsAnsweredShared {FT : Type 0} (time : FormatTime FT) (call : Call)
   pub same : new.layer ≡ old.layer
 
 -- there is a registry with a layer on which a call is answered so
-abbrev pub IsAnsweredOnSomeWriter : {W FT : Type 0} → FormatTime FT → Output W → Call
+abbrev pub IsAnsweredOnSomeLayer : {W FT : Type 0} → FormatTime FT → Output W → Call
     → Result Reply Refusal → Type 0
-IsAnsweredOnSomeWriter {W} {FT} time output call answer =
+IsAnsweredOnSomeLayer {W} {FT} time output call answer =
     (old : LayeredView W FT) × (new : LayeredView W FT)
     × IsAnsweredOrLacks call answer (seen time output old) (seen time output new)
 
@@ -43,5 +43,5 @@ IsAnsweredOnSomeWriter {W} {FT} time output call answer =
 -- behind a lock no more can be said.
 pub record IsAnsweredStreaming {W FT : Type 0} (time : FormatTime FT) (output : Output W)
     (call : Call) (answer : Result Reply Refusal) (old new : StreamingView) : Type 0 where
-  pub answered : (answer ≡ Err Memory) ⊎ IsAnsweredOnSomeWriter time output call answer
+  pub answered : (answer ≡ Err Memory) ⊎ IsAnsweredOnSomeLayer time output call answer
   pub same : new ≡ old

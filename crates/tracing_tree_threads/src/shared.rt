@@ -64,7 +64,7 @@ impl<'a, R, FT: FormatTime, L: Ledger> SharedCalls<'a, R, FT, L> {
     }
 }
 
-/// A draft that is refused comes to the draft's cause.
+/// Where the layer refuses a call, the answer is the cause, and the draft is dropped.
 impl<'a, R: Wait, FT: FormatTime + Drop, L: Ledger> Calls for SharedCalls<'a, R, FT, L> {
     ghost use Rattle.tracing_tree_threads.specs.Ways.{IsAnsweredShared};
 

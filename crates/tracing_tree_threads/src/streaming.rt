@@ -41,7 +41,7 @@ impl<'a, R, W: Output, FT: FormatTime> StreamingCalls<'a, R, W, FT> {
     }
 }
 
-/// A draft that is refused comes to the draft's cause. Of an accepted call the number is left out.
+/// Where the layer refuses a call, the answer is the cause, and the draft is dropped. Of an accepted call the number is left out.
 impl<'a, R: Wait, W: Output, FT: FormatTime> Calls for StreamingCalls<'a, R, W, FT> {
     ghost use Rattle.tracing_tree_threads.specs.Ways.{IsAnsweredStreaming};
 
