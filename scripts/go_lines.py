@@ -1,46 +1,51 @@
 #!/usr/bin/env python3
-"""Writes the calls that lines of `go test -json` tell, as lines for the program: go_lines.py < INPUT > LINES
+"""Writes the calls that lines of `go test -json` tell, as lines for the program: go_lines.py [--failed] < INPUT > LINES
 
-A plain evaluation of 'Go's tests' in docs/FORMATS.md, written from that page alone. The tests draw these lines and compare the tree with
-that of `ttree`."""
-import json, re, sys
+A plain evaluation of 'Go's tests' and 'What failed' in docs/FORMATS.md, written from that page alone. The tests draw these lines and
+compare the tree with that of `ttree`. `go_lines.py --random SEED` writes lines of Go's tests that come in any order."""
+import json, random, re, sys
 
 LEVELS = {"pass": "INFO", "fail": "ERROR", "skip": "WARN", "unfinished": "ERROR"}
+VERDICTS = {"pass": "good", "bench": "good", "skip": "good", "fail": "bad", "build-fail": "bad"}
 ENDINGS = {"pass": "pass", "bench": "pass", "fail": "fail", "skip": "skip"}
 STEPS = ("=== RUN   ", "=== PAUSE ", "=== CONT  ", "=== NAME  ", "--- PASS: ", "--- FAIL: ", "--- SKIP: ", "--- BENCH: ")
 
 
 class Running:
-    def __init__(self, package, test, above):
-        self.package, self.test, self.above, self.span, self.part = package, test, above, None, ""
+    def __init__(self, package, test):
+        self.package, self.test, self.span, self.part = package, test, None, ""
         self.has_begun = bool(test)
 
 
 class Run:
-    def __init__(self):
-        self.running, self.next, self.building, self.has_failed = [], 1, "", False
+    def __init__(self, write=print):
+        self.write, self.running, self.next, self.building, self.has_failed = write, [], 1, "", False
         self.counts = dict.fromkeys(("pass", "fail", "skip", "unfinished"), 0)
 
     def call(self, current, **words):
         if current is not None:
             words["current"] = current
-        print(json.dumps(words, ensure_ascii=False))
+        self.write(json.dumps(words, ensure_ascii=False))
 
     def event(self, level, text, elapsed, current):
         if text.strip(" \t\r"):
             fields = [["message", shown(text)]] + ([["elapsed", elapsed]] if elapsed is not None else [])
             self.call(current, call="event", level=level, fields=fields)
 
+    def above(self, one):
+        found = [it for it in self.running if it is not one and it.span and it.package == one.package and (not it.test or one.test.startswith(it.test + "/"))]
+        return max(found, key=lambda it: len(it.test)).span if found else None
+
     def open(self, one):
         if one.span is None:
-            self.call(one.above, call="new", name=shown(one.test or one.package))
+            self.call(self.above(one), call="new", name=shown(one.test or one.package))
             one.span, self.next = self.next, self.next + 1
 
     def owner(self, package, test):
         found = [it for it in self.running if it.package == package and (not it.test or test == it.test or test.startswith(it.test + "/"))]
         if found:
             return max(found, key=lambda it: len(it.test))
-        self.running.append(Running(package, "", None))
+        self.running.append(Running(package, ""))
         return self.running[-1]
 
     def tell(self, one):
@@ -54,9 +59,9 @@ class Run:
         if one.part:
             self.tell(one)
         if one.span is None:
-            return self.event(LEVELS[ending], f"{ending} {one.test or one.package}", elapsed, one.above)
+            return self.event(LEVELS[ending], f"{ending} {one.test or one.package}", elapsed, self.above(one))
         self.event(LEVELS[ending], ending, elapsed, one.span)
-        return self.call(one.above, call="close", id=one.span)
+        return self.call(self.above(one), call="close", id=one.span)
 
     def count(self, ending):
         self.counts[ending] += 1
@@ -89,7 +94,7 @@ class Run:
         return self.event(LEVELS[ending], f"{ending} {test}", elapsed, one.span)
 
     def act(self, line):
-        package = line.get("Package") or line["ImportPath"].split(" ")[0]
+        package = package_of(line)
         action, test = line["Action"], line.get("Test", "")
         if action == "run":
             one = self.owner(package, test)
@@ -99,7 +104,7 @@ class Run:
             self.open(one)
             one.has_begun = True
             if test:
-                self.running.append(Running(package, test, one.span))
+                self.running.append(Running(package, test))
         elif action in ("output", "build-output"):
             one = self.owner(package, test)
             one.has_begun |= action == "output"
@@ -123,13 +128,90 @@ class Run:
             self.event("ERROR", text, None, one.span if one else None)
 
     def end(self):
+        self.leave_all()
+        self.tell_counts()
+
+    def leave_all(self):
         for package in sorted({it.package for it in self.running}, key=str.encode):
             for one in self.left(package):
                 if one.has_begun:
                     self.leave(one)
+
+    def tell_counts(self, write=None):
+        self.write = write or self.write
         names = {"pass": "passed", "fail": "failed", "skip": "skipped", "unfinished": "unfinished"}
         fields = [[name, str(self.counts[it])] for it, name in names.items()]
         self.call(None, call="event", level="ERROR" if self.has_failed else "INFO", fields=fields)
+
+
+class Failed:
+    """What failed: a run that is told, and one that takes all lines and counts."""
+
+    def __init__(self):
+        self.whole, self.shown, self.kept = Run(lambda _: None), Run(), {}
+
+    def act(self, line):
+        self.whole.act(line)
+        package, test, verdict = package_of(line), line.get("Test", ""), VERDICTS.get(line["Action"], "open")
+        if verdict == "open" or "/" in test:
+            self.kept.setdefault(package, []).append(line)
+        elif verdict == "bad" or self.runs(package, test):
+            self.release(package, self.take(package, test)) if test else self.release_package(package)
+            self.shown.act(line)
+        else:
+            self.take(package, test) if test else self.kept.pop(package, None)
+
+    def runs(self, package, test):
+        return any((it.package, it.test) == (package, test) for it in self.shown.running)
+
+    def take(self, package, outermost):
+        lines = self.kept.get(package, [])
+        self.kept[package] = [it for it in lines if outermost_of(it) != outermost]
+        return [it for it in lines if outermost_of(it) == outermost]
+
+    def release(self, package, lines):
+        ended = {it: {line["Test"] for line in lines if VERDICTS.get(line["Action"]) == it} for it in ("good", "bad")}
+        for line in lines:
+            test = line.get("Test", "")
+            if test not in ended["good"] - ended["bad"] or self.runs(package, test):
+                self.shown.act(line)
+
+    def release_package(self, package):
+        names = {outermost_of(it) for it in self.kept.get(package, [])} - {""}
+        for outermost in [*sorted(names, key=str.encode), ""]:
+            self.release(package, self.take(package, outermost))
+        self.kept.pop(package, None)
+
+    def plain(self, text):
+        self.whole.plain(text)
+        self.shown.plain(text)
+
+    def end(self):
+        for package in sorted(self.kept, key=str.encode):
+            self.release_package(package)
+        self.shown.leave_all()
+        self.whole.leave_all()
+        self.whole.tell_counts(print)
+
+
+def outermost_of(line):
+    return line.get("Test", "").split("/")[0]
+
+
+def package_of(line):
+    return line.get("Package") or line["ImportPath"].split(" ")[0]
+
+
+def random_lines(seed):
+    draw = random.Random(seed)
+    names = ["TestA", "TestA/x", "TestA/x/y", "TestA/y", "TestA//z", "TestB", "TestB/x"]
+    for _ in range(draw.randint(5, 40)):
+        line = {"Action": draw.choice(["run", "run", "output", "output", "output", "pass", "fail", "skip"]), "Package": draw.choice("ppq")}
+        if draw.random() < 0.9:
+            line["Test"] = draw.choice(names)
+        if line["Action"] == "output":
+            line["Output"] = draw.choice(["one\n", "two\n", "part", "=== RUN   TestA\n"])
+        print(json.dumps(line))
 
 
 def shown(text):
@@ -148,7 +230,9 @@ def is_frame(one, line):
 
 
 def main():
-    run = Run()
+    if sys.argv[1:2] == ["--random"]:
+        return random_lines(int(sys.argv[2]))
+    run = Failed() if sys.argv[1:] == ["--failed"] else Run()
     print(json.dumps({"indent_lines": True, "bracketed_fields": False, "span_retrace": True, "close_retrace": True}))
     for text in sys.stdin.buffer.read().decode().split("\n"):
         if text.strip(" \t\r"):

@@ -30,9 +30,9 @@ count() {
     fi
 }
 
-# What the first program draws of this input, under settings that this expression of sed changes.
+# What the first program draws of this input, under settings that this expression of sed changes; other arguments are go_lines.py's.
 expect() {
-    python3 "$top/scripts/go_lines.py" < "$1" | sed "1$2" | "$tree" > "$room/want"
+    python3 "$top/scripts/go_lines.py" "${@:3}" < "$1" | sed "1$2" | "$tree" > "$room/want"
 }
 
 # The drawing of an input with a status.
@@ -132,6 +132,7 @@ END_OF_TREE
     run "$room/left"
     count 'on tests that still run' want '' 1
     drawing "$room/left" 1
+    run_late
     cat > "$room/ended" << 'END_OF_LINES'
 {"Action":"start","Package":"p"}
 {"Action":"run","Package":"p","Test":"TestA"}
@@ -343,6 +344,7 @@ END_OF_TREE
     run_failed_apart
     run_failed_builds
     run_failed_ends
+    run_failed_in_part
     "$tree" < "$top/examples/server.jsonl" > "$room/drawn"
     failed_of "$top/examples/server.jsonl" 0 < "$room/drawn"
     cat > "$room/want" << 'END_OF_TREE'
@@ -359,6 +361,79 @@ ERROR passed=2, failed=2, skipped=1, unfinished=0
 END_OF_TREE
     run --failed --level error "$top/examples/go-test.jsonl"
     count 'with --failed and --level error' want '' 1
+}
+
+# Tests that print for the first time, or end, after the test in which they began.
+run_late() {
+    cat > "$room/late" << 'END_OF_LINES'
+{"Action":"run","Package":"p","Test":"TestA"}
+{"Action":"run","Package":"p","Test":"TestA/x"}
+{"Action":"run","Package":"p","Test":"TestA/x/deep"}
+{"Action":"run","Package":"p","Test":"TestA/y"}
+{"Action":"output","Package":"p","Test":"TestA","Output":"a\n"}
+{"Action":"fail","Package":"p","Test":"TestA"}
+{"Action":"output","Package":"p","Test":"TestA/x/deep","Output":"deep\n"}
+{"Action":"pass","Package":"p","Test":"TestA/x"}
+{"Action":"pass","Package":"p","Test":"TestA/x/deep"}
+{"Action":"skip","Package":"p","Test":"TestA/y"}
+{"Action":"run","Package":"p","Test":"TestB"}
+{"Action":"run","Package":"p","Test":"TestB/x"}
+{"Action":"run","Package":"p","Test":"TestB"}
+{"Action":"output","Package":"p","Test":"TestB/x","Output":"of the first\n"}
+{"Action":"output","Package":"p","Test":"TestB","Output":"of the second\n"}
+{"Action":"fail","Package":"p"}
+END_OF_LINES
+    cat > "$room/want" << 'END_OF_TREE'
+┐p 
+└─┐TestA 
+  └─┐TestA/x 
+  ├─ INFO a
+  ├─ ERROR fail
+  └─┐TestA/x 
+    └─┐TestA/x/deep 
+      ├─ INFO deep
+    ├─ INFO pass
+    └─┐TestA/x/deep 
+      ├─ INFO pass
+    ┌─┘
+  ┌─┘
+┌─┘
+├─ WARN skip TestA/y
+└─┐TestB 
+  ├─ ERROR unfinished
+┌─┘
+└─┐TestB/x 
+  ├─ INFO of the first
+└─┐TestB 
+  ├─ INFO of the second
+└─┐TestB/x 
+  ├─ ERROR unfinished
+┌─┘
+└─┐TestB 
+  ├─ ERROR unfinished
+┌─┘
+├─ ERROR fail
+┘
+ERROR passed=2, failed=1, skipped=1, unfinished=3
+END_OF_TREE
+    run "$room/late"
+    count 'on tests that outlast the one in which they began' want '' 1
+    drawing "$room/late" 1
+}
+
+# Lines of Go's tests that come in any order, with --failed and without.
+run_random() {
+    local seed options status_of
+    for seed in $(seq 1 20); do
+        python3 "$top/scripts/go_lines.py" --random "$seed" > "$room/random"
+        for options in '' --failed; do
+            expect "$room/random" 's/^//' $options
+            status_of=0
+            tail -n 1 "$room/want" | grep -q '^INFO' || status_of=1
+            run --from go-test $options "$room/random"
+            count "$options on random lines of Go's tests, seed $seed" want '' "$status_of"
+        done
+    done
 }
 
 # Two packages whose lines come in turn, and a line that is no test's.
@@ -483,6 +558,71 @@ END_OF_LINES
 ├─ ERROR unfinished
 ┘
 ERROR passed=2, failed=2, skipped=2, unfinished=2
+END_OF_TREE
+}
+
+# A test in a test that failed passes later, a name runs twice, a test never ends, and a package passes in which a test failed.
+run_failed_in_part() {
+    cat > "$room/part" << 'END_OF_LINES'
+{"Action":"output","Package":"p","Output":"own\n"}
+{"Action":"run","Package":"p","Test":"TestB"}
+{"Action":"run","Package":"p","Test":"TestB/x"}
+{"Action":"output","Package":"p","Test":"TestB/x","Output":"x\n"}
+{"Action":"run","Package":"p","Test":"TestB/y"}
+{"Action":"output","Package":"p","Test":"TestB/y","Output":"y\n"}
+{"Action":"pass","Package":"p","Test":"TestB/y"}
+{"Action":"fail","Package":"p","Test":"TestB"}
+{"Action":"run","Package":"p","Test":"TestC"}
+{"Action":"run","Package":"p","Test":"TestC/x"}
+{"Action":"pass","Package":"p","Test":"TestC/x"}
+{"Action":"run","Package":"p","Test":"TestC/x"}
+{"Action":"output","Package":"p","Test":"TestC/x","Output":"second\n"}
+{"Action":"fail","Package":"p","Test":"TestC/x"}
+{"Action":"fail","Package":"p","Test":"TestC"}
+{"Action":"run","Package":"p","Test":"TestD"}
+{"Action":"output","Package":"p","Test":"TestD","Output":"d\n"}
+{"Action":"output","Package":"p","Test":"TestB/x","Output":"later\n"}
+{"Action":"pass","Package":"p","Test":"TestB/x"}
+{"Action":"fail","Package":"p"}
+{"Action":"run","Package":"q","Test":"TestA"}
+{"Action":"fail","Package":"q","Test":"TestA"}
+{"Action":"output","Package":"q","Output":"log\n"}
+{"Action":"pass","Package":"q"}
+END_OF_LINES
+    failed_of "$room/part" 1 << 'END_OF_TREE'
+┐p 
+└─┐TestB 
+  └─┐TestB/x 
+    ├─ INFO x
+  ├─ ERROR fail
+└─┐TestC 
+  ├─ INFO pass TestC/x
+  └─┐TestC/x 
+    ├─ INFO second
+    ├─ ERROR fail
+  ┌─┘
+  ├─ ERROR fail
+┌─┘
+└─┐TestB 
+  └─┐TestB/x 
+    ├─ INFO later
+    ├─ INFO pass
+  ┌─┘
+┌─┘
+└─┐TestD 
+  ├─ INFO d
+├─ INFO own
+└─┐TestD 
+  ├─ ERROR unfinished
+┌─┘
+├─ ERROR fail
+┘
+┐q 
+├─ ERROR fail TestA
+├─ INFO log
+├─ INFO pass
+┘
+ERROR passed=3, failed=4, skipped=0, unfinished=1
 END_OF_TREE
 }
 
@@ -634,6 +774,7 @@ run_left
 run_skipped
 run_levels
 run_failed
+run_random
 run_times_and_threads
 run_lines
 run_terminal

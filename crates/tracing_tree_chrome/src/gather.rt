@@ -41,7 +41,7 @@ pub(crate) struct Later {
 pub(crate) struct Item {
     pub(crate) lane: Lane,
     pub(crate) start: Point,
-    // That of a whole element stands before all that start at its time. That of a span without an end has the last time that there is.
+    // The end of an `X` stands before all elements at its time. A span without an end lasts to the last time that there is.
     pub(crate) end: Point,
     pub(crate) name: Text,
     pub(crate) fields: Fields,

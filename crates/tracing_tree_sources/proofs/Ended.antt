@@ -1,5 +1,5 @@
 -- What may end a run over a source.
-use Rattle.std.proofs.Common.{◌≡◌, ℕ, ◌+◌, ◌<◌, true, Result, Ok, Err, IfErr, subst, arith}
+use Rattle.std.proofs.Common.{◌≡◌, ℕ, ◌+◌, true, Result, Ok, Err, IfErr, subst, arith}
 use Rattle.std.specs.Prelude.{⊤, MatchResult}
 use Rattle.tracing_tree.specs.Lines.Runs.{is_from_outside}
 use Rattle.tracing_tree.specs.declared.lines.LineCause.{LineCause}

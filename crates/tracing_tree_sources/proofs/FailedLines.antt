@@ -1,6 +1,6 @@
 -- Lines of Go's tests that are kept.
 use Rattle.std.proofs.Common.{◌≡◌, ℕ, Bool, true, false, List, [], Option, Some, None, is_some, option_map, refl, ap, ◌∙◌}
-use Rattle.std.specs.Prelude.{◌||◌, unwrap_or, if◌then◌else◌}
+use Rattle.std.specs.Prelude.{◌&&◌, ◌||◌, not, unwrap_or, if◌then◌else◌}
 use Rattle.json.specs.Json.{Json}
 use Rattle.tracing_tree_layer.specs.declared.call.Call.{Call}
 use Rattle.tracing_tree_sources.specs.Source.{Step, Tells}
@@ -19,7 +19,14 @@ or-added true false = refl
 or-added false true = refl
 or-added false false = refl
 
-module _ (whole after : GoState) (shown : GoState) (packages : List Untold) where
+-- what is in a set where a key was taken out, if it was in it and isn't the key
+pub and-removed : (key has : Bool) → (if key then false else has) ≡ (has && not key)
+and-removed true true = refl
+and-removed true false = refl
+and-removed false true = refl
+and-removed false false = refl
+
+module _ (whole after : GoState) (shown : GoState) (packages : List (List ℕ × Untold)) where
   pub knows_as : {X : Type 0} (known : Option (Step GoState)) (items : X → List Call) (told : Option X) (is : Bool) → is ≡ is_some told → Tells known whole after (option_map items told) →
       Knows known (record { whole = whole; shown = shown; packages = packages }) (record { whole = after; shown = shown; packages = packages }) is
   knows_as None items None is e h = (ap (λ w. record { whole = w; shown = shown; packages = packages }) h, e)

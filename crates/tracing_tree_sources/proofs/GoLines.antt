@@ -1,13 +1,14 @@
 -- Lines of Go's tests.
-use Rattle.std.proofs.Common.{◌≡◌, ℕ, Bool, true, false, List, [], ◌∷◌, ◌++◌, Option, Some, None, drop, option_map, refl, sym, ap, subst, ◌∙◌, MatchOption}
+use Rattle.std.proofs.Common.{◌≡◌, ℕ, Bool, true, false, List, [], ◌∷◌, ◌++◌, Option, Some, None, drop, option_map, refl, sym, ap, subst, ◌∙◌, MatchOption, append-nil, append_assoc}
 use Rattle.std.specs.Borrow.{Bor}
 use Rattle.std.specs.Str.Pattern.{FindsTextPrefix, StripsPrefix}
 use Rattle.std.proofs.lemmas.Str.Pattern.{starts_text}
 use Rattle.json.specs.Json.{Json}
+use Rattle.tracing_tree_base.specs.declared.context.Id.{Id}
 use Rattle.tracing_tree_layer.specs.declared.call.Call.{Call}
 use Rattle.tracing_tree_sources.specs.Source.{Tells}
-use Rattle.tracing_tree_sources.specs.declared.go_test.Running.{Running}
-use Rattle.tracing_tree_sources.specs.GoTest.{GoState, Tests, after_mark, begins, handed_out, left_one, left_over, takes_json, takes_timed, takes_value, takes_value_as, timed}
+use Rattle.tracing_tree_sources.specs.declared.go_test.running.Running.{Running}
+use Rattle.tracing_tree_sources.specs.GoTest.{GoState, Tests, after_mark, begins, handed_out, left_one, left_over, placed, takes_json, takes_timed, takes_value, takes_value_as, timed}
 
 pub strips : (r : Option (Bor (List ℕ))) (mark line : List ℕ) →
     MatchOption r (FindsTextPrefix mark line None) (λ x. StripsPrefix (FindsTextPrefix mark) line x.now) → option_map (λ s. s.now) r ≡ after_mark mark line
@@ -51,7 +52,11 @@ taken_back value old at left new known on h is back =
     let taken : GoState → Type 0 = λ s. takes_value_as (takes_json value s) s left known in
     put_back (takes_json value (timed value old)) value old left new known (subst taken on h) is back
 
--- the test of the last name ends first
-pub from_the_last : (tests : Tests) (name : List ℕ) (one : Running) (s : GoState) → left_over (tests ++ (name, one) ∷ []) s ≡ left_over tests (left_one one s)
-from_the_last [] name one s = refl
-from_the_last (test ∷ later) name one s = ap (left_one test.1) (from_the_last later name one s)
+-- the test of the last name ends first, and stands in all others
+pub from_the_last : (root : Option Id) (earlier tests : Tests) (name : List ℕ) (one : Running) (s : GoState) →
+    left_over root earlier (tests ++ (name, one) ∷ []) s ≡ left_over root earlier tests (left_one (placed root (earlier ++ tests) one) s)
+from_the_last root earlier [] name one s = ap (λ others. left_one (placed root others one) s) (sym (append-nil earlier))
+from_the_last root earlier (test ∷ later) name one s =
+    ap (left_one (placed root earlier test.1))
+    (from_the_last root (earlier ++ test ∷ []) later name one s
+    ∙ ap (λ others. left_over root (earlier ++ test ∷ []) later (left_one (placed root others one) s)) (append_assoc earlier (test ∷ []) later))

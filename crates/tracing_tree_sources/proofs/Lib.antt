@@ -2,7 +2,7 @@ pub mod Made
 pub mod Heard
 pub mod Ended
 pub mod Instants
-pub mod GoNames
+pub mod NamedLists
 pub mod GoLines
 mod Worked
 pub mod Leveled

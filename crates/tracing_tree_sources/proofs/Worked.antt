@@ -1,12 +1,13 @@
 -- Examples computed from the definitions of Go's tests, of what failed of them, of tracing's lines and of levels.
-use Rattle.std.proofs.Common.{◌≡◌, ℕ, List, Bool, true, false, None, Some, [], ◌∷◌, codes, refl}
+use Rattle.std.proofs.Common.{◌≡◌, ℕ, List, true, false, None, Some, [], ◌∷◌, codes, refl}
 use Rattle.std.specs.Prelude.{negsuc}
 use Rattle.json.specs.Json.{array, boolean, string, object, no_items, member, no_members}
-use Rattle.tracing_tree_sources.specs.Failed.{Untold, forgotten, is_inner, released, taken, verdict_of}
+use Rattle.tracing_tree_sources.specs.Failed.{FailedState, Untold, forgotten, is_inner, is_over, none_failed, outermost, released, verdict_of}
 use Rattle.tracing_tree_sources.specs.First.{begins_list, begins_with, format_by, format_of, format_of_line}
-use Rattle.tracing_tree_sources.specs.GoTest.{GoState, Tests, after_mark, begun, go_lacks, is_frame, leads, left_over, nothing_run, owner, ran, up_to_space}
+use Rattle.tracing_tree_sources.specs.GoTest.{GoState, Tests, after_mark, begun, go_lacks, is_frame, left_over, nothing_run, owner, placed, ran, up_to_space}
 use Rattle.tracing_tree_sources.specs.GoTest.{above_held, held, kept}
 use Rattle.tracing_tree_sources.specs.declared.failed.Kept.{Kept}
+use Rattle.tracing_tree_sources.specs.declared.failed.Verdict.{Verdict}
 use Rattle.tracing_tree_sources.specs.declared.failed.Verdict.TheVariants.{Open, Good, Bad}
 use Rattle.tracing_tree_sources.specs.declared.first.Format.TheVariants.{Chrome, GoTest, Lines, Tracing}
 use Rattle.tracing_tree_sources.specs.declared.notes.Lack.TheVariants.{Package}
@@ -27,15 +28,6 @@ frame_of_another = refl
 
 pub frame_of_a_package : is_frame [] (codes "ok  \texample.com/ok\t0.003s") ≡ true
 frame_of_a_package = refl
-
-pub subtest_without_the_test_between : leads (codes "TestSum") (codes "TestSum/a/b") ≡ true
-subtest_without_the_test_between = refl
-
-pub a_longer_name_is_no_subtest : leads (codes "TestSum") (codes "TestSums") ≡ false
-a_longer_name_is_no_subtest = refl
-
-pub every_test_is_in_its_package : leads [] (codes "TestSum") ≡ true
-every_test_is_in_its_package = refl
 
 pub heading_of_a_build : after_mark (codes "# ") (codes "# q [q.test]") ≡ Some (codes "q [q.test]")
 heading_of_a_build = refl
@@ -66,7 +58,7 @@ an_action_without_a_package = refl
 
 module _ (moment : Moment) where
   abbrev two_that_run : Tests
-  two_that_run = (codes "TestA", begun (codes "p") (codes "TestA") None) ∷ (codes "TestA/b", begun (codes "p") (codes "TestA/b") None) ∷ []
+  two_that_run = (codes "TestA", begun (codes "p") (codes "TestA")) ∷ (codes "TestA/b", begun (codes "p") (codes "TestA/b")) ∷ []
 
   pub the_longest_beginning_that_runs : owner two_that_run (codes "TestA/b/c") ≡ codes "TestA/b"
   the_longest_beginning_that_runs = refl
@@ -77,10 +69,19 @@ module _ (moment : Moment) where
   pub a_longer_name_is_the_packages : owner two_that_run (codes "TestAll") ≡ []
   a_longer_name_is_the_packages = refl
 
-  pub what_stands_in_a_test_ends_first : (left_over two_that_run (nothing_run 1 moment)).calls
+  pub what_stands_in_a_test_ends_first : (left_over None [] two_that_run (nothing_run 1 moment)).calls
       ≡ event_call moment Error (message_field (codes "unfinished TestA/b") ∷ []) None
       ∷ event_call moment Error (message_field (codes "unfinished TestA") ∷ []) None ∷ []
   what_stands_in_a_test_ends_first = refl
+
+  abbrev one_with_a_span : Tests
+  one_with_a_span = (codes "TestA", record (begun (codes "p") (codes "TestA")) { span = Some (id_of 7) }) ∷ []
+
+  pub a_test_stands_in_the_longest_beginning_with_a_span : (placed (Some (id_of 3)) one_with_a_span (begun (codes "p") (codes "TestA/b/c"))).above ≡ Some (id_of 7)
+  a_test_stands_in_the_longest_beginning_with_a_span = refl
+
+  pub once_that_ended_it_stands_in_the_package : (placed (Some (id_of 3)) [] (begun (codes "p") (codes "TestA/b/c"))).above ≡ Some (id_of 3)
+  once_that_ended_it_stands_in_the_package = refl
 
   abbrev run_twice : GoState
   run_twice = ran (codes "p") (codes "TestA") (ran (codes "p") (codes "TestA") (nothing_run 1 moment))
@@ -103,21 +104,28 @@ a_pause_ends_nothing = refl
 pub a_test_in_another : (is_inner (codes "TestSum/small") ≡ true) × (is_inner (codes "TestSum") ≡ false)
 a_test_in_another = (refl, refl)
 
-module _ (line : List ℕ) (shown : GoState) where
-  abbrev kept_of : List ℕ → Bool → Kept
-  kept_of test is_good = record { test = test; is_good = is_good; line = line }
+pub outermost_of_a_test : (outermost (codes "TestSum/a/b") ≡ codes "TestSum") × (outermost (codes "TestSum") ≡ codes "TestSum")
+outermost_of_a_test = (refl, refl)
+
+module _ (line : List ℕ) (moment : Moment) where
+  abbrev kept_of : List ℕ → Verdict → Kept
+  kept_of test verdict = record { test = test; verdict = verdict; line = line }
+
+  pub what_passed_in_a_failed_test_isnt_told : released (codes "p") (kept_of (codes "TestA/x") Open ∷ kept_of (codes "TestA/x") Good ∷ []) (nothing_run 1 moment) ≡ nothing_run 1 moment
+  what_passed_in_a_failed_test_isnt_told = refl
+
+  pub what_passed_and_failed_isnt_over : is_over (kept_of (codes "TestA/x") Good ∷ kept_of (codes "TestA/x") Bad ∷ []) (codes "TestA/x") ≡ false
+  what_passed_and_failed_isnt_over = refl
 
   abbrev lines_of_two : Untold
-  lines_of_two = record { path = codes "p"; kept = kept_of (codes "TestA/x") true ∷ kept_of (codes "TestAll") false ∷ [] }
+  lines_of_two = (codes "TestA", kept_of (codes "TestA/x") Good ∷ []) ∷ (codes "TestAll", kept_of (codes "TestAll") Open ∷ []) ∷ []
 
-  abbrev lines_of_one : Untold
-  lines_of_one = record { path = codes "p"; kept = kept_of (codes "TestAll") false ∷ [] }
+  abbrev two_kept : FailedState
+  two_kept = record (none_failed 1 moment) { packages = (codes "p", lines_of_two) ∷ [] }
 
-  pub what_a_test_has_in_it_is_forgotten_with_it : forgotten (codes "TestA") lines_of_two ≡ lines_of_one
+  pub what_a_test_has_in_it_is_forgotten_with_it : (forgotten (codes "p") (codes "TestA") two_kept).packages
+      ≡ (codes "p", (codes "TestAll", kept_of (codes "TestAll") Open ∷ []) ∷ []) ∷ []
   what_a_test_has_in_it_is_forgotten_with_it = refl
-
-  pub what_passed_in_a_failed_test_isnt_told : released (codes "TestA") (taken lines_of_two shown) ≡ taken lines_of_one shown
-  what_passed_in_a_failed_test_isnt_told = refl
 
 -- ---- tracing
 

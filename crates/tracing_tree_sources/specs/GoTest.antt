@@ -12,7 +12,7 @@ use Rattle.tracing_tree_base.specs.declared.style.Level.{Level}
 use Rattle.tracing_tree_base.specs.declared.style.Level.TheVariants.{Info, Warn, Error}
 use Rattle.tracing_tree_layer.specs.declared.call.Call.{Call}
 use Rattle.tracing_tree.specs.Lines.Spelled.{is_skipped}
-use Rattle.tracing_tree_sources.specs.GoNames.{named, put, without}
+use Rattle.tracing_tree_sources.specs.Names.{named, put, without}
 use Rattle.tracing_tree_sources.specs.Source.{Step}
 use Rattle.tracing_tree_sources.specs.Values.{text_at}
 use Rattle.tracing_tree_sources.specs.declared.notes.Lack.{Lack}
@@ -21,7 +21,7 @@ use Rattle.tracing_tree_sources.specs.Moments.{moment_after}
 use Rattle.tracing_tree_sources.specs.Told.{close_call, event_call, message_field, span_call}
 use Rattle.tracing_tree_sources.specs.declared.go_test.Ending.{Ending}
 use Rattle.tracing_tree_sources.specs.declared.go_test.Ending.TheVariants.{Passed, Failed, Skipped, Unfinished}
-use Rattle.tracing_tree_sources.specs.declared.go_test.Running.{Running}
+use Rattle.tracing_tree_sources.specs.declared.go_test.running.Running.{Running}
 use Rattle.tracing_tree_sources.specs.declared.go_test.Tally.{Tally}
 
 -- what runs of a package by the names of its tests; the package itself has the empty name
@@ -58,12 +58,6 @@ nothing_run next moment = record {
 abbrev pub ends_word : ℕ → List ℕ → Bool
 ends_word byte [] = true
 ends_word byte (b ∷ rest) = b == byte
-
--- a name is this one or a beginning of it at a `/`, as the empty name of a package is
-abbrev pub leads : List ℕ → List ℕ → Bool
-leads name test =
-    (length name == 0)
-    || (starts_with (λ a b. a == b) test name && ends_word 47 (drop (length name) test))
 
 abbrev pub is_empty : List ℕ → Bool
 is_empty text = length text == 0
@@ -169,6 +163,10 @@ name_of one = if is_empty one.test then one.path else one.test
 abbrev pub tests_of : List ℕ → GoState → Tests
 tests_of path s = unwrap_or (named path s.packages) []
 
+-- this test runs, or with an empty name its package
+abbrev pub runs : List ℕ → List ℕ → GoState → Bool
+runs path test s = is_some (named test (tests_of path s))
+
 -- nothing runs of a package
 abbrev pub without_package : List ℕ → GoState → GoState
 without_package path s = record s { packages = without path s.packages }
@@ -233,11 +231,11 @@ finished ending elapsed h =
     let last = part_told h in
     span_ended ending elapsed last.one.span last
 
-abbrev pub begun : List ℕ → List ℕ → Option Id → Running
-begun path test above = record {
+abbrev pub begun : List ℕ → List ℕ → Running
+begun path test = record {
   path = path;
   test = test;
-  above = above;
+  above = None;
   span = None;
   part = [];
   has_begun = not (is_empty test);
@@ -249,7 +247,7 @@ started h = record h { one = record h.one { has_begun = true } }
 
 -- what runs under this name; a package that isn't known yet begins
 abbrev pub running_as : List ℕ → List ℕ → Tests → Running
-running_as path name tests = unwrap_or (named name tests) (begun path [] None)
+running_as path name tests = unwrap_or (named name tests) (begun path [])
 
 -- of a name and its beginnings at a `/` that are at most so long, the longest that runs; else the
 -- empty name, which is the package's
@@ -263,13 +261,39 @@ owner_within tests test (suc n) =
 abbrev pub owner : Tests → List ℕ → List ℕ
 owner tests test = owner_within tests test (length test)
 
+-- its span, if it runs and has one
+abbrev pub span_in : Tests → List ℕ → Option Id
+span_in tests name = option_and_then (λ (one : Running). one.span) (named name tests)
+
+-- the span of the beginning of a name that is so long, if it ends at a `/` and runs
+abbrev pub span_at : Tests → List ℕ → ℕ → Option Id
+span_at tests test n =
+    if ends_word 47 (drop n test) then span_in tests (take n test) else None
+
+-- of the beginnings of a name that are at most so long, the span of the longest that runs and has one;
+-- else the package's
+abbrev pub above_within : Option Id → Tests → List ℕ → ℕ → Option Id
+above_within root tests test zero = root
+above_within root tests test (suc n) =
+    found_or (span_at tests test (suc n)) (above_within root tests test n) where
+      found_or : Option Id → Option Id → Option Id
+      found_or (Some id) shorter = Some id
+      found_or None shorter = shorter
+
+-- it stands in the test with the longest beginning of its name that still runs and has a span, else in
+-- the package, whose span `root` is: what it began in may have ended
+abbrev pub placed : Option Id → Tests → Running → Running
+placed root others one =
+    record one { above = above_within root others one.test (length one.test) }
+
 -- what runs under the longest beginning of a name is taken out
 unfoldable pub held : List ℕ → List ℕ → GoState → Held
 held path test s =
     let tests : Tests = tests_of path s in
     let name : List ℕ = owner tests test in
-    holds (running_as path name tests)
-    (with_package path (without name tests) (without_package path s))
+    let others : Tests = without name tests in
+    holds (placed (span_in others []) others (running_as path name tests))
+    (with_package path others (without_package path s))
 
 -- a test that ends unfinished is counted; a package that does has failed
 abbrev pub noted_left : Running → GoState → GoState
@@ -293,7 +317,7 @@ above_held path test s =
 -- a test begins in what is held, or its package
 abbrev pub begun_in : List ℕ → List ℕ → Held → GoState
 begun_in path test h =
-    if is_empty test then kept h else kept (holds (begun path test h.one.span) (kept h))
+    if is_empty test then kept h else kept (holds (begun path test) (kept h))
 
 abbrev pub ran : List ℕ → List ℕ → GoState → GoState
 ran path test s = begun_in path test (started (opened (above_held path test s)))
@@ -317,13 +341,18 @@ printed is_started path test text s =
     kept (told_if_ended text (more_printed text (started_if is_started (held path test s))))
 
 -- what still runs of a package ends unfinished, from the last name on, so that a test ends after those in it
-abbrev pub left_over : Tests → GoState → GoState
-left_over [] s = s
-left_over (test ∷ later) s = left_one test.1 (left_over later s)
+-- and stands in those of earlier names
+abbrev pub left_over : Option Id → Tests → Tests → GoState → GoState
+left_over root earlier [] s = s
+left_over root earlier (test ∷ later) s =
+    left_one (placed root earlier test.1)
+    (left_over root (earlier ++ test ∷ []) later s)
 
 -- nothing runs of a package any more but the package itself
 abbrev pub all_left_over : List ℕ → GoState → GoState
-all_left_over path s = left_over (without [] (tests_of path s)) (without_package path s)
+all_left_over path s =
+    let tests : Tests = tests_of path s in
+    left_over (running_as path [] tests).span [] (without [] tests) (without_package path s)
 
 abbrev pub failed_by : Ending → GoState → GoState
 failed_by Failed s = record s { has_failed = true }
@@ -462,10 +491,18 @@ abbrev pub tally_call : GoState → Call
 tally_call s =
     event_call s.moment (if s.has_failed then Error else Info) (tally_fields s.tally) None
 
+-- what still runs of a package ends unfinished, and the package after it
+abbrev pub package_left : Tests → GoState → GoState
+package_left tests s =
+    left_last (named [] tests) (left_over (span_in tests []) [] (without [] tests) s) where
+      left_last : Option Running → GoState → GoState
+      left_last None s = s
+      left_last (Some own) s = left_one own s
+
 -- what runs of one package after the other ends unfinished
 abbrev pub packages_left : List (List ℕ × Tests) → GoState → GoState
 packages_left [] s = s
-packages_left (one ∷ others) s = packages_left others (left_over one.1 s)
+packages_left (one ∷ others) s = packages_left others (package_left one.1 s)
 
 -- nothing runs any more
 abbrev pub all_ended : GoState → GoState

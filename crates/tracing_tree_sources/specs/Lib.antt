@@ -3,7 +3,7 @@ pub mod Blanks
 pub mod Source
 pub mod Told
 pub mod Moments
-pub mod GoNames
+pub mod Names
 pub mod GoTest
 pub mod Failed
 pub mod TracingLine

@@ -1,13 +1,14 @@
 //! What failed of Go's tests.
 
-ghost use Rattle.std.specs.Prelude.{◌≡◌, ◌++◌, ◌∷◌, ◌<◌, ◌||◌, ℕ, List, [], IfOk, IfSome, OnOk, bytes_eq, length, option_map, position};
+ghost use Rattle.std.specs.Prelude.{◌≡◌, ◌++◌, ◌∷◌, ◌&&◌, ◌||◌, ℕ, List, [], not, IfOk, OnOk, option_map};
 ghost use Rattle.std.specs.BTreeSet.{contains_text};
-ghost use Rattle.json.specs.Json.{document};
 ghost use Rattle.json.specs.Value.{value_view};
 ghost use Rattle.tracing_tree_sources.specs.GoTest.{go_takes};
-ghost use Rattle.tracing_tree_sources.specs.Failed.{Knows, all_released, begun, forgotten, found, is_good, is_inner, is_over, kept_shown, line_kept, line_shown, line_taken, none_failed, package_found, path_of, put_back, released, released_each, released_one, says_over, settled, settled_as, taken, value_taken, verdict_in, verdict_of};
+ghost use Rattle.tracing_tree_sources.specs.Failed.{Knows, all_released, forgotten, is_bad, is_good, is_inner, is_open, is_over, kept_in, kept_shown, line_kept, line_shown, line_taken, none_failed, outermost, package_released, path_of, released, released_each, released_one, says, someone_says, told_of, tests_released, untold_of, value_taken, verdict_in, verdict_of, with_line, with_untold, without_untold};
+ghost use Rattle.tracing_tree_sources.specs.Names.{without};
 
-use crate::go_test::{GoTest, leads, package_of, test_of};
+use crate::go_test::{GoTest, package_of, test_of};
+use crate::names::{Named, key};
 use crate::notes::Lack;
 use crate::source::Source;
 use crate::values::{text_at, value_of};
@@ -35,29 +36,46 @@ enum Verdict {
 struct Kept {
     // Empty where the line is the package's.
     test: Text,
-    // Whether the line says that its test passed or was skipped.
-    is_good: bool,
+    // What it says of that test's end.
+    verdict: Verdict,
     line: Text,
 }
 
-// A package of which lines are kept, in the order in which they came.
+// Lines that aren't told yet, in the order in which they came.
 #[derive(Drop)]
-struct Package {
-    path: Text,
+struct Lines {
     kept: Vec<Kept>,
 }
 
-impl Model for Package {
-    ghost use Rattle.tracing_tree_sources.specs.Failed.{Untold};
+impl Model for Lines {
+    ghost use Rattle.std.specs.Prelude.{List};
+    ghost use Rattle.tracing_tree_sources.specs.declared.failed.Kept.{Kept};
 
-    ghost Value = { Untold };
+    ghost Value = { List Kept };
 
-    ghost view = { λ p. record { path = p.path; kept = p.kept.items } };
+    ghost view = { λ l. l.kept.items };
+}
+
+impl Lines {
+    fn new(alloc: Global) -> Lines
+        ensures { result ≡ [] }
+    {
+        Lines {
+            kept: Vec::new(alloc),
+        }
+    }
+
+    fn push(&mut self, one: Kept) -> Result<(), AllocError>
+        ensures { OnOk result (self.new ≡ self.old ++ one ∷ []) }
+    {
+        Ok(self.kept.push(one)?)
+    }
 }
 
 /// Go's tests without those that passed or were skipped, and without packages in which nothing failed. A line is kept until the
-/// outermost test that it belongs to ends, or its package, so that what failed of a test is told in one piece. A line that isn't
-/// JSON is told at once.
+/// outermost test that it belongs to ends, or its package, so that what failed of a test is told in one piece. What was told in
+/// part is told to its end. A line that isn't JSON is told at once. A line takes time for the length of its names, and hardly
+/// more where many tests run.
 #[derive(Drop)]
 pub struct Failed {
     alloc: Global,
@@ -65,8 +83,8 @@ pub struct Failed {
     whole: GoTest,
     // Takes the lines that are told.
     shown: GoTest,
-    // Those of which lines are kept.
-    packages: Vec<Package>,
+    // What is kept, by the packages' paths, and of each by the names of the outermost tests. The package's own lines have the empty name.
+    packages: Named<Named<Lines>>,
 }
 
 impl Model for Failed {
@@ -77,134 +95,8 @@ impl Model for Failed {
     ghost view = { λ f. record {
       whole = f.whole;
       shown = f.shown;
-      packages = f.packages.items;
+      packages = f.packages;
     } };
-}
-
-impl Package {
-    // Keeps a line of this test.
-    fn keep(
-        &mut self,
-        alloc: Global,
-        test: &str,
-        verdict: Verdict,
-        line: &str,
-    ) -> Result<(), AllocError>
-        ensures { OnOk result (self.new ≡ line_kept test.now verdict line.now self.old) }
-    {
-        let one = Kept {
-            test: Text::from_str(alloc, test)?,
-            is_good: is_good(verdict),
-            line: Text::from_str(alloc, line)?,
-        };
-        Ok(self.kept.push(one)?)
-    }
-
-    // Forgets the lines of a test and of those in it.
-    fn forget(&mut self, test: &str)
-        ensures { self.new ≡ forgotten test.now self.old }
-    {
-        self.kept.retain(|one| !leads(test.as_bytes(), one.test.as_str().as_bytes()));
-    }
-
-    fn take_kept(&mut self, alloc: Global) -> Vec<Kept>
-        ensures kept { result.items ≡ self.old.kept }
-        ensures rest { self.new ≡ record self.old { kept = [] } }
-    {
-        mem::replace(&mut self.kept, Vec::new(alloc))
-    }
-
-    // Tells a line, if it belongs to this test and not to one that is over; keeps it if it belongs to another.
-    fn release_one(
-        &mut self,
-        shown: &mut GoTest,
-        alloc: Global,
-        one: Kept,
-        test: &str,
-        over: &BTreeSet<String>,
-    ) -> Result<(), AllocError>
-        ensures { OnOk result (taken self.new shown.new
-            ≡ released_one test.now (contains_text over.now) one (taken self.old shown.old)) }
-    {
-        if !leads(test.as_bytes(), one.test.as_str().as_bytes()) {
-            return Ok(self.kept.push(one)?);
-        }
-        if over.contains(one.test.as_str()) {
-            return Ok(());
-        }
-        show_kept(shown, alloc, &one)
-    }
-
-    fn release_each(
-        &mut self,
-        shown: &mut GoTest,
-        alloc: Global,
-        kept: Vec<Kept>,
-        test: &str,
-        over: &BTreeSet<String>,
-    ) -> Result<(), AllocError>
-        ensures { OnOk result (taken self.new shown.new
-            ≡ released_each test.now (contains_text over.now) kept.items (taken self.old shown.old)) }
-    {
-        for one in kept {
-            self.release_one(shown, alloc, one, test, over)?;
-        }
-        Ok(())
-    }
-
-    // Tells what is kept of this test and of those in it, without the ones that are over.
-    fn release(&mut self, shown: &mut GoTest, alloc: Global, test: &str) -> Result<(), AllocError>
-        ensures { OnOk result (taken self.new shown.new ≡ released test.now (taken self.old shown.old)) }
-    {
-        let kept = self.take_kept(alloc);
-        let over = tests_over(alloc, kept.as_slice())?;
-        self.release_each(shown, alloc, kept, test, &over)
-    }
-
-    // Takes a line of the package.
-    fn settle(
-        &mut self,
-        shown: &mut GoTest,
-        alloc: Global,
-        line: &str,
-        value: &Value<'_>,
-    ) -> Result<(), AllocError>
-        ensures { OnOk result (taken self.new shown.new
-            ≡ settled line.now (value_view value.now) (taken self.old shown.old)) }
-    {
-        let test = test_of(value);
-        let verdict = verdict_in(value);
-        if is_inner(test) {
-            return self.keep(alloc, test, verdict, line);
-        }
-        self.settle_as(shown, alloc, verdict, test, line, value)
-    }
-
-    // Takes a line of the package itself or of an outermost test.
-    fn settle_as(
-        &mut self,
-        shown: &mut GoTest,
-        alloc: Global,
-        verdict: Verdict,
-        test: &str,
-        line: &str,
-        value: &Value<'_>,
-    ) -> Result<(), AllocError>
-        ensures { OnOk result (taken self.new shown.new
-            ≡ settled_as verdict test.now line.now (value_view value.now) (taken self.old shown.old)) }
-    {
-        match verdict {
-            Verdict::Open => self.keep(alloc, test, verdict, line),
-            Verdict::Good => {
-                self.forget(test);
-                Ok(())
-            }
-            Verdict::Bad => {
-                self.release(shown, alloc, test)?;
-                show(shown, line, Some(value))
-            }
-        }
-    }
 }
 
 impl Failed {
@@ -216,7 +108,7 @@ impl Failed {
             alloc,
             whole: GoTest::new(alloc, next, moment)?,
             shown: GoTest::new(alloc, next, moment)?,
-            packages: Vec::new(alloc),
+            packages: Named::new(alloc),
         })
     }
 
@@ -261,35 +153,83 @@ impl Failed {
         }
     }
 
+    // Keeps a line, or tells or forgets what is kept where it ends an outermost test or a package.
     fn take_value(&mut self, line: &str, value: &Value<'_>) -> Result<(), AllocError>
         ensures { OnOk result (self.new ≡ value_taken line.now (value_view value.now) self.old) }
     {
-        let mut untold = self.take_package(path_of(value))?;
-        untold.settle(&mut self.shown, self.alloc, line, value)?;
-        self.put_back(untold)
-    }
-
-    // A package, taken out of the list. One that the list doesn't have yet begins.
-    fn take_package(&mut self, path: &str) -> Result<Package, AllocError>
-        ensures untold { IfOk result (λ untold. found untold self.new.packages
-            ≡ package_found path.now self.old.packages) }
-        ensures rest { self.new ≡ record self.old { packages = self.new.packages } }
-    {
-        match place_of(self.packages.as_slice(), path) {
-            Some(at) => Ok(self.packages.remove(at)),
-            None => begun(self.alloc, path),
+        let path = path_of(value);
+        let test = test_of(value);
+        let verdict = verdict_in(value);
+        if is_open(verdict) || is_inner(test) {
+            return self.keep(path, test, verdict, line);
         }
+        if is_good(verdict) && !self.shown.runs(path.as_bytes(), test.as_bytes()) {
+            return self.forget(path, test);
+        }
+        self.tell(path, test)?;
+        show(&mut self.shown, line, Some(value))
     }
 
-    // Puts a package back into the list, if lines of it are kept.
-    fn put_back(&mut self, untold: Package) -> Result<(), AllocError>
-        ensures { OnOk result (self.new
-            ≡ record self.old { packages = put_back untold self.old.packages }) }
+    // Keeps a line of this test.
+    fn keep(
+        &mut self,
+        path: &str,
+        test: &str,
+        verdict: Verdict,
+        line: &str,
+    ) -> Result<(), AllocError>
+        ensures { OnOk result (self.new ≡ line_kept path.now test.now verdict line.now self.old) }
     {
-        if untold.kept.is_empty() {
+        let one = Kept {
+            test: Text::from_str(self.alloc, test)?,
+            verdict,
+            line: Text::from_str(self.alloc, line)?,
+        };
+        let mut untold = self.take_untold(path);
+        add_line(self.alloc, &mut untold, outermost(test), one)?;
+        self.put_untold(path, untold)
+    }
+
+    // Forgets what is kept of an outermost test, or of a package where the name is empty.
+    fn forget(&mut self, path: &str, test: &str) -> Result<(), AllocError>
+        ensures { OnOk result (self.new ≡ forgotten path.now test.now self.old) }
+    {
+        let mut untold = self.take_untold(path);
+        if test.is_empty() {
             return Ok(());
         }
-        Ok(self.packages.push(untold)?)
+        drop(untold.take(test.as_bytes()));
+        self.put_untold(path, untold)
+    }
+
+    // Tells what is kept of an outermost test, or of a package where the name is empty.
+    fn tell(&mut self, path: &str, test: &str) -> Result<(), AllocError>
+        ensures { OnOk result (self.new ≡ told_of path.now test.now self.old) }
+    {
+        let mut untold = self.take_untold(path);
+        if test.is_empty() {
+            return release_package(&mut self.shown, self.alloc, path.as_bytes(), untold);
+        }
+        let lines = take_lines(self.alloc, &mut untold, test);
+        self.put_untold(path, untold)?;
+        release(&mut self.shown, self.alloc, path.as_bytes(), lines)
+    }
+
+    // Takes out what is kept of a package.
+    fn take_untold(&mut self, path: &str) -> Named<Lines>
+        ensures untold { result ≡ untold_of path.now self.old }
+        ensures rest { self.new ≡ without_untold path.now self.old }
+    {
+        let untold = self.packages.take(path.as_bytes());
+        untold.unwrap_or(Named::new(self.alloc))
+    }
+
+    // Puts back what is kept of a package.
+    fn put_untold(&mut self, path: &str, untold: Named<Lines>) -> Result<(), AllocError>
+        ensures { OnOk result (self.new ≡ with_untold path.now untold self.old) }
+    {
+        let path = key(self.alloc, path)?;
+        self.packages.put(path, untold)
     }
 }
 
@@ -321,7 +261,7 @@ impl Source for Failed {
     }
 
     fn end(&mut self, alloc: Global) -> Result<Vec<Call>, AllocError> {
-        let packages = mem::replace(&mut self.packages, Vec::new(alloc));
+        let packages = mem::replace(&mut self.packages, Named::new(alloc));
         release_all(&mut self.shown, alloc, packages)?;
         self.shown.leave_all()?;
         self.whole.leave_all()?;
@@ -331,34 +271,101 @@ impl Source for Failed {
     }
 }
 
-fn begun(alloc: Global, path: &str) -> Result<Package, AllocError>
-    ensures { IfOk result (λ untold. untold ≡ begun path.now) }
+// Takes out the lines of an outermost test, or with an empty name the package's own.
+fn take_lines(alloc: Global, untold: &mut Named<Lines>, test: &str) -> Lines
+    ensures lines { result ≡ kept_in test.now untold.old }
+    ensures rest { untold.new ≡ without test.now untold.old }
 {
-    Ok(Package {
-        path: Text::from_str(alloc, path)?,
-        kept: Vec::new(alloc),
-    })
+    let lines = untold.take(test.as_bytes());
+    lines.unwrap_or(Lines::new(alloc))
 }
 
-// Where the package of this path stands in the list.
-fn place_of(packages: &[Package], path: &str) -> Option<usize>
-    ensures place { result ≡ position (λ untold. bytes_eq untold.path path.now) packages.now }
-    ensures within { IfSome result (λ at. at < length packages.now) }
+// Adds a line to those of an outermost test, or with an empty name to the package's own.
+fn add_line(
+    alloc: Global,
+    untold: &mut Named<Lines>,
+    test: &str,
+    one: Kept,
+) -> Result<(), AllocError>
+    ensures { OnOk result (untold.new ≡ with_line test.now one untold.old) }
 {
-    packages
-        .iter()
-        .position(|untold| untold.path.as_str() == path)
+    let mut lines = take_lines(alloc, untold, test);
+    lines.push(one)?;
+    untold.put(key(alloc, test)?, lines)
 }
 
 // Tells what is kept of packages that didn't end.
-fn release_all(shown: &mut GoTest, alloc: Global, packages: Vec<Package>) -> Result<(), AllocError>
-    ensures { OnOk result (shown.new ≡ all_released packages.items shown.old) }
+fn release_all(
+    shown: &mut GoTest,
+    alloc: Global,
+    packages: Named<Named<Lines>>,
+) -> Result<(), AllocError>
+    ensures { OnOk result (shown.new ≡ all_released packages shown.old) }
 {
-    for untold in packages {
-        let mut untold = untold;
-        untold.release(shown, alloc, "")?;
+    let mut packages = packages;
+    while let Some((path, untold)) = packages.take_first() {
+        release_package(shown, alloc, path.as_slice(), untold)?;
     }
     Ok(())
+}
+
+// Tells what is kept of a package: one outermost test after the other, and then its own lines.
+fn release_package(
+    shown: &mut GoTest,
+    alloc: Global,
+    path: &[u8],
+    untold: Named<Lines>,
+) -> Result<(), AllocError>
+    ensures { OnOk result (shown.new ≡ package_released path.now untold shown.old) }
+{
+    let mut untold = untold;
+    let own = take_lines(alloc, &mut untold, "");
+    release_tests(shown, alloc, path, untold)?;
+    release(shown, alloc, path, own)
+}
+
+fn release_tests(
+    shown: &mut GoTest,
+    alloc: Global,
+    path: &[u8],
+    tests: Named<Lines>,
+) -> Result<(), AllocError>
+    ensures { OnOk result (shown.new ≡ tests_released path.now tests shown.old) }
+{
+    let mut tests = tests;
+    while let Some((_, lines)) = tests.take_first() {
+        release(shown, alloc, path, lines)?;
+    }
+    Ok(())
+}
+
+// Tells lines of a package, without those of tests that passed or were skipped.
+fn release(shown: &mut GoTest, alloc: Global, path: &[u8], lines: Lines) -> Result<(), AllocError>
+    ensures { OnOk result (shown.new ≡ released path.now lines shown.old) }
+{
+    let over = tests_over(alloc, lines.kept.as_slice())?;
+    for one in lines.kept {
+        release_one(shown, alloc, path, &over, &one)?;
+    }
+    Ok(())
+}
+
+// Tells a line, unless its test is over and was not told in part.
+fn release_one(
+    shown: &mut GoTest,
+    alloc: Global,
+    path: &[u8],
+    over: &BTreeSet<String>,
+    one: &Kept,
+) -> Result<(), AllocError>
+    ensures { OnOk result (shown.new
+        ≡ released_one path.now (contains_text over.now) one.now shown.old) }
+{
+    let test = one.test.as_str();
+    if over.contains(test) && !shown.runs(path, test.as_bytes()) {
+        return Ok(());
+    }
+    show_kept(shown, alloc, one)
 }
 
 // Tells a line.
@@ -385,28 +392,51 @@ fn show_kept(shown: &mut GoTest, alloc: Global, one: &Kept) -> Result<(), AllocE
     show(shown, line, value.as_ref())
 }
 
-// The tests that passed or were skipped, as these lines say.
+// The tests that passed or were skipped, as these lines say, and of which none says that they failed.
 fn tests_over(alloc: Global, kept: &[Kept]) -> Result<BTreeSet<String>, AllocError>
     ensures { IfOk result (λ over. contains_text over ≡ is_over kept.now) }
 {
-    let mut over = BTreeSet::new(alloc);
+    let mut over = good_tests(alloc, kept)?;
     let mut rest = kept;
     while let [one, others @ ..] = rest {
-        note_over(alloc, &mut over, one)?;
+        forget_bad(&mut over, one);
         rest = others;
     }
     Ok(over)
 }
 
-// Adds the test of a line that says that it passed or was skipped.
-fn note_over(alloc: Global, over: &mut BTreeSet<String>, one: &Kept) -> Result<(), AllocError>
-    ensures { OnOk result ((test : List ℕ) → contains_text over.new test
-        ≡ (contains_text over.old test || says_over one.now test)) }
+// The tests of which a line says that they passed or were skipped.
+fn good_tests(alloc: Global, kept: &[Kept]) -> Result<BTreeSet<String>, AllocError>
+    ensures { IfOk result (λ good. contains_text good ≡ someone_says is_good kept.now) }
 {
-    if one.is_good {
-        over.insert(String::from_str(alloc, one.test.as_str())?)?;
+    let mut good = BTreeSet::new(alloc);
+    let mut rest = kept;
+    while let [one, others @ ..] = rest {
+        note_good(alloc, &mut good, one)?;
+        rest = others;
+    }
+    Ok(good)
+}
+
+// Adds the test of a line that says that it passed or was skipped.
+fn note_good(alloc: Global, good: &mut BTreeSet<String>, one: &Kept) -> Result<(), AllocError>
+    ensures { OnOk result ((test : List ℕ) → contains_text good.new test
+        ≡ (contains_text good.old test || says is_good one.now test)) }
+{
+    if is_good(one.verdict) {
+        good.insert(String::from_str(alloc, one.test.as_str())?)?;
     }
     Ok(())
+}
+
+// Takes out the test of a line that says that it failed.
+fn forget_bad(over: &mut BTreeSet<String>, one: &Kept)
+    ensures { (test : List ℕ) → contains_text over.new test
+        ≡ (contains_text over.old test && not (says is_bad one.now test)) }
+{
+    if is_bad(one.verdict) {
+        over.remove(one.test.as_str());
+    }
 }
 
 fn verdict_in(value: &Value<'_>) -> Verdict
@@ -430,13 +460,22 @@ fn verdict_of(action: &str) -> Verdict
     }
 }
 
+fn is_open(verdict: Verdict) -> bool
+    ensures { result ≡ is_open verdict }
+{
+    matches!(verdict, Verdict::Open)
+}
+
 fn is_good(verdict: Verdict) -> bool
     ensures { result ≡ is_good verdict }
 {
-    match verdict {
-        Verdict::Good => true,
-        Verdict::Open | Verdict::Bad => false,
-    }
+    matches!(verdict, Verdict::Good)
+}
+
+fn is_bad(verdict: Verdict) -> bool
+    ensures { result ≡ is_bad verdict }
+{
+    matches!(verdict, Verdict::Bad)
 }
 
 // Whether this is the name of a test in another.
@@ -444,6 +483,16 @@ fn is_inner(test: &str) -> bool
     ensures { result ≡ is_inner test.now }
 {
     test.as_bytes().contains(&b'/')
+}
+
+// The name of the outermost test in which a test stands.
+fn outermost(test: &str) -> &str
+    ensures { result.now ≡ outermost test.now }
+{
+    match test.split_once('/') {
+        Some((front, _)) => front,
+        None => test,
+    }
 }
 
 // The package of a line that is known.

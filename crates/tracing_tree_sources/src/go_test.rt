@@ -1,24 +1,25 @@
 //! Go's tests: the lines of `go test -json`.
 
 ghost use Rattle.std.specs.Prelude.{◌≡◌, ◌++◌, ◌∷◌, ◌<◌, [], Bool, true, false, IfOk, IfSome, ◌||◌, OnOk, Option, None, Some, option_map, length, bytes_eq, codes, unwrap_or};
-ghost use Rattle.tracing_tree_sources.specs.GoNames.{without};
+ghost use Rattle.tracing_tree_sources.specs.Names.{without};
 ghost use Rattle.json.specs.Value.{value_view};
-ghost use Rattle.tracing_tree_sources.specs.GoTest.{acted, after_mark, failed_by, takes_plain, takes_value_as, test_ended, told_if_ended, begun, counted, elapsed_in, ended, ends_line, ends_word, event_told, finished, frames, go_ends, holds, is_frame, is_package_frame, kept, is_end_frame, is_step_frame, lack_in, leads, level_of, line_of, line_told, name_of, nothing_run, opened, package_ended, package_of, printed, quiet_told, ran, takes_text, takes_timed, takes_value, timed, test_of, up_to_space, without_line_end, without_spaces, word_of, above_held, all_ended, left_one, noted_left, packages_left, tally_call, left_over, owner, held, running_as, tests_of, with_package, without_package};
+ghost use Rattle.tracing_tree_sources.specs.GoTest.{acted, after_mark, failed_by, takes_plain, takes_value_as, test_ended, told_if_ended, begun, counted, elapsed_in, ended, ends_line, ends_word, event_told, finished, frames, go_ends, holds, is_frame, is_package_frame, kept, is_end_frame, is_step_frame, lack_in, level_of, line_of, line_told, name_of, nothing_run, opened, package_ended, package_of, printed, quiet_told, ran, takes_text, takes_timed, takes_value, timed, test_of, up_to_space, without_line_end, without_spaces, word_of, above_held, all_ended, left_one, noted_left, package_left, packages_left, placed, runs, tally_call, left_over, owner, held, running_as, tests_of, with_package, without_package};
 
-mod names;
+mod running;
 mod text;
 
 use crate::moments::moment_after;
+use crate::names::{Named, key};
 use crate::notes::Lack;
 use crate::source::Source;
 use crate::told::{close_call, event_call, message_field, span_call};
 use crate::values::text_at;
 use json::Value;
-use names::{Named, key};
+use running::{Running, owner, span_in};
 use std::alloc::{AllocError, Global};
 use std::marker::Model;
 use std::mem;
-pub(crate) use text::{after_mark, leads};
+pub(crate) use text::after_mark;
 use text::{ends_line, ends_word, is_frame, is_package_frame, up_to_space, without_line_end};
 use tracing_tree::call::Call;
 use tracing_tree::field::{Field, Fields};
@@ -67,21 +68,6 @@ impl Ending {
             Ending::Skipped => Level::Warn,
         }
     }
-}
-
-// A test that runs, or its package, which has no test's name.
-#[derive(Drop)]
-struct Running {
-    path: Text,
-    test: Text,
-    // The span in which it stands.
-    above: Option<Id>,
-    // Its own, once it has told something.
-    span: Option<Id>,
-    // The beginning of a line whose end isn't printed yet.
-    part: Text,
-    // Whether it has begun, and not only its build.
-    has_begun: bool,
 }
 
 /// What is known of the tests that run. A test's parent is the longest beginning of its name, at a `/`, that runs, or its
@@ -152,6 +138,16 @@ impl GoTest {
         ensures { result ≡ self.now.tally }
     {
         self.tally
+    }
+
+    // Whether this test runs, or with an empty name its package.
+    pub(crate) fn runs(&self, path: &[u8], test: &[u8]) -> bool
+        ensures { result ≡ runs path.now test.now self.now }
+    {
+        match self.packages.get(path) {
+            Some(tests) => tests.has(test),
+            None => false,
+        }
     }
 
     // Hands out the calls.
@@ -283,12 +279,11 @@ impl GoTest {
         let mut owner = self.take_above(path, test)?;
         self.open(&mut owner)?;
         owner.has_begun = true;
-        let above = owner.span;
         self.keep(owner)?;
         if test.is_empty() {
             return Ok(());
         }
-        let begun = self.begun(path, test, above)?;
+        let begun = Running::begun(self.alloc, path, test)?;
         self.keep(begun)
     }
 
@@ -304,27 +299,14 @@ impl GoTest {
         self.take_owner(path, test)
     }
 
-    fn begun(&self, path: &str, test: &str, above: Option<Id>) -> Result<Running, AllocError>
-        ensures { IfOk result (λ one. one ≡ begun path.now test.now above) }
-    {
-        Ok(Running {
-            path: Text::from_str(self.alloc, path)?,
-            test: Text::from_str(self.alloc, test)?,
-            above,
-            span: None,
-            part: Text::from_str(self.alloc, "")?,
-            has_begun: !test.is_empty(),
-        })
-    }
-
     // A test prints, or a build.
     fn output(&mut self, action: &str, path: &str, test: &str, text: &str) -> Result<(), AllocError>
         ensures { OnOk result (self.new ≡ printed (bytes_eq action.now (codes "output")) path.now
             test.now text.now self.old) }
     {
         let mut owner = self.take_owner(path, test)?;
-        start_if(action == "output", &mut owner);
-        add_to_part(self.alloc, &mut owner, text)?;
+        owner.start_if(action == "output");
+        owner.add_to_part(self.alloc, text)?;
         self.tell_if_ended(&mut owner, text)?;
         self.keep(owner)
     }
@@ -344,7 +326,7 @@ impl GoTest {
     fn tell_part(&mut self, owner: &mut Running) -> Result<(), AllocError>
         ensures { OnOk result (holds owner.new self.new ≡ line_told (holds owner.old self.old)) }
     {
-        let part = take_part(self.alloc, owner)?;
+        let part = owner.take_part(self.alloc)?;
         self.tell_line(owner, part.as_str())
     }
 
@@ -413,7 +395,7 @@ impl GoTest {
         self.note_failed(ending);
         let mut tests = self.take_package(path);
         let package = self.take_running(&mut tests, path, "".as_bytes())?;
-        self.leave_over(tests)?;
+        self.leave_over(package.span, tests)?;
         self.finish(package, ending, elapsed)
     }
 
@@ -426,15 +408,33 @@ impl GoTest {
         }
     }
 
-    // Ends what still runs of a package, from the last name on, so that a test ends after those in it.
-    fn leave_over(&mut self, tests: Named<Running>) -> Result<(), AllocError>
-        ensures { OnOk result (self.new ≡ left_over tests self.old) }
+    // Ends what still runs of a package with this span, from the last name on, so that a test ends after those in it.
+    fn leave_over(
+        &mut self,
+        package_span: Option<Id>,
+        tests: Named<Running>,
+    ) -> Result<(), AllocError>
+        ensures { OnOk result (self.new ≡ left_over package_span [] tests self.old) }
     {
         let mut tests = tests;
         while let Some(one) = tests.take_last() {
-            self.leave_one(one)?;
+            self.leave_placed(package_span, &tests, one)?;
         }
         Ok(())
+    }
+
+    // Ends one test, which stands in these others.
+    fn leave_placed(
+        &mut self,
+        package_span: Option<Id>,
+        others: &Named<Running>,
+        one: Running,
+    ) -> Result<(), AllocError>
+        ensures { OnOk result (self.new ≡ left_one (placed package_span others.now one) self.old) }
+    {
+        let mut one = one;
+        one.place(package_span, others);
+        self.leave_one(one)
     }
 
     fn leave_one(&mut self, one: Running) -> Result<(), AllocError>
@@ -470,10 +470,24 @@ impl GoTest {
         ensures { OnOk result (self.new ≡ packages_left packages self.old) }
     {
         let mut packages = packages;
-        while let Some(tests) = packages.take_first() {
-            self.leave_over(tests)?;
+        while let Some((_, tests)) = packages.take_first() {
+            self.leave_package(tests)?;
         }
         Ok(())
+    }
+
+    // Ends what still runs of a package, and the package after it.
+    fn leave_package(&mut self, tests: Named<Running>) -> Result<(), AllocError>
+        ensures { OnOk result (self.new ≡ package_left tests self.old) }
+    {
+        let mut tests = tests;
+        let span = span_in(&tests, "".as_bytes());
+        let package = tests.take("".as_bytes());
+        self.leave_over(span, tests)?;
+        match package {
+            Some(package) => self.leave_one(package),
+            None => Ok(()),
+        }
     }
 
     // The line that counts the tests.
@@ -528,10 +542,7 @@ impl GoTest {
                 let call = close_call(self.moment, id, one.above);
                 Ok(self.calls.push(call)?)
             }
-            None => {
-                let name = name_of(&one);
-                self.push_quiet(ending, name, elapsed, one.above)
-            }
+            None => { self.push_quiet(ending, one.name(), elapsed, one.above) }
         }
     }
 
@@ -585,7 +596,7 @@ impl GoTest {
         let call = span_call(
             self.alloc,
             self.moment,
-            name_of(one),
+            one.name(),
             Fields::new(self.alloc),
             one.above,
         )?;
@@ -601,7 +612,8 @@ impl GoTest {
     {
         let mut tests = self.take_package(path);
         let name = owner(&tests, test.as_bytes());
-        let one = self.take_running(&mut tests, path, name)?;
+        let mut one = self.take_running(&mut tests, path, name)?;
+        one.place(span_in(&tests, "".as_bytes()), &tests);
         self.put_package(path, tests)?;
         Ok(one)
     }
@@ -646,7 +658,7 @@ impl GoTest {
     {
         match tests.take(name) {
             Some(one) => Ok(one),
-            None => self.begun(path, "", None),
+            None => Running::begun(self.alloc, path, ""),
         }
     }
 }
@@ -733,57 +745,4 @@ pub(crate) fn package_of<'v>(value: &'v Value<'_>) -> Option<&'v str>
             Some(up_to_space(path))
         }
     }
-}
-
-// Takes what is printed of a line.
-fn take_part(alloc: Global, one: &mut Running) -> Result<Text, AllocError>
-    ensures part { IfOk result (λ part. part ≡ one.old.part) }
-    ensures rest { OnOk result (one.new ≡ record one.old { part = [] }) }
-{
-    let empty = Text::from_str(alloc, "")?;
-    Ok(mem::replace(&mut one.part, empty))
-}
-
-// Puts a text behind what is printed of a line.
-fn add_to_part(alloc: Global, one: &mut Running, text: &str) -> Result<(), AllocError>
-    ensures { OnOk result (one.new ≡ record one.old { part = one.old.part ++ text.now }) }
-{
-    let mut line = String::from_str(alloc, one.part.as_str())?;
-    line.push_str(text)?;
-    one.part = Text::from(line);
-    Ok(())
-}
-
-// It has begun where a test prints, and not a build.
-fn start_if(is_started: bool, one: &mut Running)
-    ensures { one.new ≡ record one.old { has_begun = one.old.has_begun || is_started } }
-{
-    if is_started {
-        one.has_begun = true;
-    }
-}
-
-// The name that a span or a line shows.
-fn name_of(one: &Running) -> &str
-    ensures { result.now ≡ name_of one.now }
-{
-    if one.test.as_str().is_empty() {
-        one.path.as_str()
-    } else {
-        one.test.as_str()
-    }
-}
-
-// The longest beginning of a name, at a `/`, that runs; else the empty name, which is the package's.
-fn owner<'t>(tests: &Named<Running>, test: &'t [u8]) -> &'t [u8]
-    ensures { result.now ≡ owner tests.now test.now }
-{
-    let mut length = test.len();
-    while length > 0 {
-        if ends_word(b'/', &test[length..]) && tests.has(&test[..length]) {
-            break;
-        }
-        length -= 1;
-    }
-    &test[..length]
 }

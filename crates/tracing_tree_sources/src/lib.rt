@@ -11,6 +11,7 @@ pub mod first;
 pub mod go_test;
 pub mod level;
 mod moments;
+mod names;
 pub mod notes;
 pub mod run;
 pub mod source;

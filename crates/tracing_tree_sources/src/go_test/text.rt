@@ -1,14 +1,7 @@
 //! Texts of Go's tests: names, and lines that only frame.
 
 ghost use Rattle.std.specs.Prelude.{◌≡◌, option_map};
-ghost use Rattle.tracing_tree_sources.specs.GoTest.{after_mark, ends_line, ends_word, frames, is_end_frame, is_frame, is_package_frame, is_step_frame, leads, up_to_space, without_line_end, without_spaces};
-
-// Whether a name is this one or a beginning of it at a `/`, as the empty name of a package is.
-pub(crate) fn leads(name: &[u8], test: &[u8]) -> bool
-    ensures { result ≡ leads name.now test.now }
-{
-    name.is_empty() || test.starts_with(name) && ends_word(b'/', &test[name.len()..])
-}
+ghost use Rattle.tracing_tree_sources.specs.GoTest.{after_mark, ends_line, ends_word, frames, is_end_frame, is_frame, is_package_frame, is_step_frame, up_to_space, without_line_end, without_spaces};
 
 // Whether nothing or this byte begins what is left.
 pub(super) fn ends_word(byte: u8, rest: &[u8]) -> bool

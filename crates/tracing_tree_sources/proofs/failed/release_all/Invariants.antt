@@ -1,11 +1,10 @@
 use Rattle.std.proofs.Common.{◌≡◌, length}
-use Rattle.std.specs.Vec.Iter.{into_iter_items, into_iter_len}
 use Rattle.tracing_tree_sources.specs.Failed.{all_released}
 use Rattle.tracing_tree_sources.proofs.failed.release_all.Given as goal
 
--- the others are left to be told of
-abbrev pub invariant-loop-untold : goal.invariant-loop-untold
-invariant-loop-untold l = record {
-  same : all_released l.fn.packages.items l.fn.shown ≡ all_released (into_iter_items l.untold-iterator) l.shown;
-  len : into_iter_len l.untold-iterator ≡ length (into_iter_items l.untold-iterator);
-}
+-- the later packages are left to be told
+abbrev pub invariant-loop-path : goal.invariant-loop-path
+invariant-loop-path l = all_released l.fn.packages l.fn.shown ≡ all_released l.packages l.shown
+
+abbrev pub decreases-loop-path : goal.decreases-loop-path
+decreases-loop-path l = length l.packages

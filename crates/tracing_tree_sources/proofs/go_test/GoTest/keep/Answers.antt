@@ -1,6 +1,6 @@
 use Rattle.std.proofs.Common.{◌≡◌, ap, ◌∙◌, subst}
 use Rattle.std.specs.Prelude.{OnOk}
-use Rattle.tracing_tree_sources.specs.GoNames.{put}
+use Rattle.tracing_tree_sources.specs.Names.{put}
 use Rattle.tracing_tree_sources.specs.GoTest.{GoState, kept, tests_of, with_package, without_package}
 use Rattle.tracing_tree_sources.proofs.go_test.GoTest.keep.Goals as goal
 

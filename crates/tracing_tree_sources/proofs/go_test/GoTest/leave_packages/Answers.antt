@@ -6,5 +6,5 @@ pub loop-tests-preserved : goal.loop-tests-preserved
 loop-tests-preserved c =
     let later = c.take_first.new.self in
     let s = c.loop-tests.self in
-    c.loop-tests.invariant ∙ ap (λ packages. packages_left packages s) c.in-Some.ensures.one.1
-    ∙ ap (packages_left later) (sym c.in_ok-leave_over.ensures)
+    c.loop-tests.invariant ∙ ap (λ packages. packages_left packages s) c.in-Some.ensures.one
+    ∙ ap (packages_left later) (sym c.in_ok-leave_package.ensures)

@@ -1,6 +1,6 @@
 use Rattle.std.proofs.Common.{List, ℕ, [], ap, ◌∙◌}
 use Rattle.std.specs.Prelude.{unwrap_or}
-use Rattle.tracing_tree_sources.specs.GoNames.{named, without}
+use Rattle.tracing_tree_sources.specs.Names.{named, without}
 use Rattle.tracing_tree_sources.specs.GoTest.{GoState, Tests, tests_of, without_package}
 use Rattle.tracing_tree_sources.proofs.go_test.GoTest.take_package.Goals as goal
 
