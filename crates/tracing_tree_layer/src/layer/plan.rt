@@ -143,7 +143,7 @@ impl<S: LookupSpan> Planner<'_, S> {
         let Some(current) = context.current else {
             return Ok(());
         };
-        if self.spans.span(current).is_some() && self.retraces() {
+        if self.retraces() && self.spans.span(current).is_some() {
             return self.retrace_to(plan, current);
         }
         Ok(())
