@@ -18,8 +18,8 @@ ghost use Rattle.tracing_tree_layer.specs.Calls.Layers.{is_fresh, IsFlushed};
 ghost use Rattle.tracing_tree_base.specs.Drawing.Writers.{seen_writer};
 ghost use Rattle.tracing_tree_layer.specs.Rows.Drawn.{failed_by, has_no_id, DoesTurn, IsBlank, IsReady, Sends};
 
-pub use block::{push_event_head, push_event_tail};
 use crate::told::ToldEvent;
+pub use block::{push_event_head, push_event_tail};
 use drawing::CallDrawing;
 use page::Page;
 use plan::Plan;
