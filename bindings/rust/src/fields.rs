@@ -34,9 +34,20 @@ impl Fields {
     }
 }
 
-// Whether `Debug` shows a text as it is, between quotes. All bytes are looked at, several at a time.
+// The bytes that `Debug` shows as they are.
+const SHOWN: [bool; 256] = {
+    let mut shown = [false; 256];
+    let mut byte = b' ';
+    while byte <= b'~' {
+        shown[byte as usize] = !matches!(byte, b'"' | b'\\');
+        byte += 1;
+    }
+    shown
+};
+
+// Whether `Debug` shows a text as it is, between quotes.
 fn is_shown_as_it_is(text: &str) -> bool {
-    text.bytes().fold(true, |all, byte| all & matches!(byte, b' ' | b'!' | b'#'..=b'[' | b']'..=b'~'))
+    text.bytes().all(|byte| SHOWN[usize::from(byte)])
 }
 
 // Each value is shown as `Debug` shows it. The usual types are written without its machinery.
@@ -60,17 +71,7 @@ impl Visit for Fields {
     }
 
     fn record_u64(&mut self, field: &Field, value: u64) {
-        let mut digits = [b'0'; 20];
-        let (mut at, mut rest) = (digits.len(), value);
-        loop {
-            at -= 1;
-            digits[at] += (rest % 10) as u8;
-            rest /= 10;
-            if rest == 0 {
-                break;
-            }
-        }
-        self.0.text().push_str(std::str::from_utf8(&digits[at..]).unwrap_or_default());
+        self.0.push_digits(value);
         self.0.end(field.name());
     }
 

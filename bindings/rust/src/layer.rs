@@ -1,5 +1,6 @@
 //! The layer's part of the work: what `tracing` tells goes to the library, and the text that comes back goes to the writer.
 
+use crate::entered;
 use crate::fields::Fields;
 use crate::spans::{Kept, Spans};
 use crate::time::{monotonic, wall, FormatTime};
@@ -189,8 +190,8 @@ where
 {
     fn on_new_span(&self, attrs: &Attributes<'_>, id: &Id, ctx: Context<'_, S>) {
         let Some(_in_call) = InCall::enter() else { return };
-        let current = attrs.is_contextual().then(|| ctx.current_span());
-        let named = current.as_ref().map_or(attrs.parent(), |current| current.id());
+        let current = if attrs.is_contextual() { entered::current(self.number) } else { None };
+        let named = current.as_ref().or(attrs.parent());
         let opened = self.own_timer.then(Instant::now);
         let fields = Fields::of(|visit| attrs.record(visit));
         self.with_context(|context| {
@@ -217,10 +218,10 @@ where
         fields.with(|fields| self.call(None, |tree, spans| tree.record(spans.get(id)?.id, fields).ok()));
     }
 
-    fn on_event(&self, event: &Event<'_>, ctx: Context<'_, S>) {
+    fn on_event(&self, event: &Event<'_>, _: Context<'_, S>) {
         let Some(_in_call) = InCall::enter() else { return };
         let time = self.own_timer.then(|| {
-            let opened = locked(&self.state).as_ref().and_then(|state| state.spans.current(&ctx)?.opened);
+            let opened = locked(&self.state).as_ref().and_then(|state| state.spans.current(self.number)?.opened);
             self.time(opened)
         });
         let fields = Fields::of(|visit| event.record(visit));
@@ -230,7 +231,7 @@ where
                     if let Some((moment, elapsed)) = &time {
                         tree.set_time(&sys::Time { moment: moment.as_str().into(), elapsed: elapsed.as_str().into() }).ok()?;
                     }
-                    let current = spans.current(&ctx).map_or(0, |kept| kept.id);
+                    let current = spans.current(self.number).map_or(0, |kept| kept.id);
                     let named = event.parent().and_then(|id| spans.get(id));
                     let told = sys::Event {
                         target: event.metadata().target().into(),
@@ -246,6 +247,14 @@ where
                 })
             })
         });
+    }
+
+    fn on_enter(&self, id: &Id, _: Context<'_, S>) {
+        entered::enter(self.number, id);
+    }
+
+    fn on_exit(&self, id: &Id, _: Context<'_, S>) {
+        entered::leave(self.number, id);
     }
 
     fn on_close(&self, id: Id, _: Context<'_, S>) {

@@ -18,6 +18,7 @@
 #![deny(missing_docs)]
 #![deny(unsafe_code)]
 
+mod entered;
 mod fields;
 mod layer;
 mod spans;
@@ -47,6 +48,8 @@ where
     timer: FT,
     // Whether the timer is none of the library's.
     own_timer: bool,
+    // What tells this layer from others.
+    number: u64,
 }
 
 impl Default for HierarchicalLayer {
@@ -70,6 +73,7 @@ impl HierarchicalLayer {
             late: layer::Late::default(),
             timer: (),
             own_timer: false,
+            number: entered::new_layer(),
         }
     }
 }
@@ -129,6 +133,7 @@ where
             late: self.late,
             timer: self.timer,
             own_timer: self.own_timer,
+            number: self.number,
         }
     }
 
@@ -153,6 +158,7 @@ where
             state: self.state,
             late: self.late,
             own_timer: set.is_none(),
+            number: self.number,
             timer,
         }
     }

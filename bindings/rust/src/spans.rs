@@ -1,5 +1,6 @@
 //! The ids that the spans of `tracing` have in the tree.
 
+use crate::entered;
 use std::collections::HashMap;
 use std::hash::{BuildHasherDefault, Hasher};
 use std::time::Instant;
@@ -39,14 +40,10 @@ impl Spans {
         self.kept.remove(&id.into_u64())
     }
 
-    /// The current span; where it is hidden from this layer, the next one around it that isn't.
+    /// The span that this thread is in. A span that a filter hides from the layer isn't entered for it.
     #[inline(always)]
-    pub(crate) fn current<S>(&self, ctx: &Context<'_, S>) -> Option<Kept>
-    where
-        S: Subscriber + for<'span> LookupSpan<'span>,
-    {
-        let current = ctx.current_span();
-        self.get(current.id()?).or_else(|| self.get(&ctx.lookup_current()?.id()))
+    pub(crate) fn current(&self, layer: u64) -> Option<Kept> {
+        self.get(&entered::current(layer)?)
     }
 
     /// The parent of a new span; where it is hidden from this layer, the next one around it that isn't.

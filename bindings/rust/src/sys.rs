@@ -52,6 +52,22 @@ impl Fields {
         &mut self.text
     }
 
+    /// Writes a number to the end of the text.
+    pub fn push_digits(&mut self, number: u64) {
+        let mut digits = [0; 20];
+        let (mut at, mut rest) = (digits.len(), number);
+        loop {
+            at -= 1;
+            digits[at] = b'0' + (rest % 10) as u8;
+            rest /= 10;
+            if rest == 0 {
+                break;
+            }
+        }
+        // SAFETY: these are digits.
+        self.text.push_str(unsafe { std::str::from_utf8_unchecked(&digits[at..]) });
+    }
+
     /// What was written since the last field is the value of this one.
     #[inline]
     pub fn end(&mut self, name: &'static str) {

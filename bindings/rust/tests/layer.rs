@@ -368,6 +368,31 @@ fn spans_that_a_filter_hides() {
     assert_eq!(sink.text(), format!("INFO in no span\n┐a \n├─ INFO in a\n{b}{c}┘\n"));
 }
 
+/// The layer's current span is the registry's, also where a span is entered twice and left out of order.
+#[test]
+fn spans_that_are_entered_again() {
+    fn tell() {
+        let current = tracing::Span::current();
+        info!("in {}", current.metadata().map_or("none", |metadata| metadata.name()));
+    }
+    let text = drawn(plain(), || {
+        let a = info_span!("a");
+        let b = a.in_scope(|| info_span!("b"));
+        let in_a = a.enter();
+        let in_b = b.enter();
+        let again = a.enter();
+        tell();
+        drop(in_b);
+        tell();
+        drop(in_a);
+        tell();
+        drop(again);
+        tell();
+    });
+    let shown = "┐a \n└─┐b \n  ├─ INFO in b\n├─ INFO in a\n├─ INFO in a\nINFO in none\n┌─┘\n┘\n";
+    assert_eq!(text, shown);
+}
+
 /// `tracing` gives ids anew: far more spans than it has ids in one place.
 #[test]
 fn ids_that_are_given_anew() {

@@ -7,6 +7,7 @@ pub mod DateTexts
 pub mod Written
 pub mod FrameTexts
 pub mod LineLaws
+pub mod Spaces
 pub mod MarkLaws
 pub mod TimerTexts
 pub mod Worked

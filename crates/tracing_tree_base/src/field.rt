@@ -1,6 +1,6 @@
 //! Fields, and lists of fields, which contracts see as lists.
 
-ghost use Rattle.std.specs.Prelude.{◌≡◌, ◌++◌, ◌<◌, [], false, IfOk, OnOk, OnErr, IsAscii, codes, string_bytes};
+ghost use Rattle.std.specs.Prelude.{◌≡◌, ◌++◌, ◌<◌, ◌∷◌, [], false, IfOk, OnOk, OnErr, IsAscii, codes, string_bytes};
 ghost use Rattle.std.specs.Fmt.{digits};
 ghost use Rattle.tracing_tree_base.specs.Drawing.Texts.{rendered_field, whole_field, truth_field, text_field, quoted, escaped};
 
@@ -138,6 +138,16 @@ impl Fields {
         Fields {
             alloc,
             kept: Kept::Many(Vec::new(alloc)),
+        }
+    }
+
+    /// One field. Takes no memory.
+    pub fn one(alloc: Global, field: Field) -> Fields
+        ensures { result ≡ field ∷ [] }
+    {
+        Fields {
+            alloc,
+            kept: Kept::One(field),
         }
     }
 

@@ -14,7 +14,7 @@ pub use crate::field::{Field, Fields};
 pub use buffers::Buffers;
 pub use config::Config;
 pub use draw::{push_frame, push_row};
-pub use event::{FmtEvent, push_event_field, push_named, push_shown};
+pub use event::{FmtEvent, push_event_field, push_event_texts, push_named, push_shown};
 pub use output::{Output, OutputFault, Tape, Wrap};
 use std::alloc::AllocError;
 

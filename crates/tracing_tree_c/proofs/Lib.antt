@@ -1,3 +1,4 @@
 pub mod Handles
 pub mod Makes
+pub mod Fields
 pub mod Raws

@@ -144,12 +144,6 @@ pub record IsUtf8Event (given : EventRef) (fields : List FieldRef)
   pub fields_too : IsUtf8Fields fields
   pub context : IsUtf8Context when
 
-pub record IsSmallEvent (given : EventRef) (fields : List FieldRef)
-    (when : ContextRef) : Type 0 where
-  pub target : IsSmallText given.target.now
-  pub no_fields : HasNoFields fields
-  pub context : IsSmallContext when
-
 pub record IsEventOf (given : EventRef) (fields : List FieldRef) (when : ContextRef)
     (call : Call) : Type 0 where
   pub level : Level

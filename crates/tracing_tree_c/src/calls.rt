@@ -3,11 +3,11 @@
 ghost use Rattle.std.specs.Prelude.{◌≡◌, ◌<◌, ◌≤◌, ◌++◌, ⊤, None, drop, length};
 ghost use Rattle.tracing_tree_core.specs.Registry.Ids.{id_of};
 ghost use Rattle.tracing_tree_layer.specs.declared.call.Call.TheVariants.{Clone};
-ghost use Rattle.tracing_tree_c.specs.Foreign.{IsUtf8Fields, IsUtf8Context, IsUtf8New, IsUtf8Event, IsSmallContext, IsSmallNew, IsSmallEvent, IsKnownNew, IsKnownEvent, HasNoFields, IsNewOf, IsEventOf, IsRecordOf, IsCloseOf};
+ghost use Rattle.tracing_tree_c.specs.Foreign.{IsUtf8Fields, IsUtf8Context, IsUtf8New, IsUtf8Event, IsSmallContext, IsSmallNew, IsKnownNew, IsKnownEvent, HasNoFields, IsNewOf, IsEventOf, IsRecordOf, IsCloseOf};
 ghost use Rattle.tracing_tree_c.specs.Exports.{Answers, AnswersOpening, AnswersTime, AnswersWith, Copies, id_after, went_after};
 
 use crate::foreign::{
-    AttributesRef, ContextRef, EventRef, FieldRef, TimeRef, close_in, event_in, new_in, record_in,
+    AttributesRef, ContextRef, EventRef, FieldRef, TimeRef, context_in, event_in, new_in, record_in,
 };
 use crate::settings::SettingsRef;
 use crate::tree::Tree;
@@ -51,7 +51,7 @@ pub extern "C" fn tt_raw_new_span(
         tree.old.inner.kept tree.new.inner.kept }
 {
     let read = new_in(alloc, attributes, fields, context, false);
-    let outcome = tree.perform(alloc, read);
+    let outcome = tree.make(alloc, read);
     *id = outcome.id_or(*id);
     outcome.status()
 }
@@ -66,7 +66,7 @@ pub extern "C" fn tt_raw_event(
     context: &ContextRef,
 ) -> u32
     ensures { Answers (IsKnownEvent event.now) (IsUtf8Event event.now fields.now context.now)
-        (IsSmallEvent event.now fields.now context.now)
+        (IsSmallContext context.now)
         (IsEventOf event.now fields.now context.now) result
         tree.old.inner.kept tree.new.inner.kept }
 {
@@ -92,7 +92,7 @@ pub extern "C" fn tt_utf8_new_span(
         tree.old.inner.kept tree.new.inner.kept }
 {
     let read = new_in(alloc, attributes, fields, context, true);
-    let made = tree.perform(alloc, read);
+    let made = tree.make(alloc, read);
     *id = made.id_or(*id);
     made.status()
 }
@@ -108,7 +108,7 @@ pub extern "C" fn tt_utf8_event(
 ) -> u32
     requires { IsUtf8Event event.now fields.now context.now }
     ensures { Answers (IsKnownEvent event.now) (IsUtf8Event event.now fields.now context.now)
-        (IsSmallEvent event.now fields.now context.now)
+        (IsSmallContext context.now)
         (IsEventOf event.now fields.now context.now) result
         tree.old.inner.kept tree.new.inner.kept }
 {
@@ -149,8 +149,8 @@ pub extern "C" fn tt_raw_close(
         (IsCloseOf id context.now) result
         went.old went.new tree.old.inner.kept tree.new.inner.kept }
 {
-    let read = close_in(alloc, id, context);
-    let outcome = tree.perform(alloc, read);
+    let read = context_in(alloc, context, false);
+    let outcome = tree.close(alloc, Id(id), read);
     *went = outcome.went_or(*went);
     outcome.status()
 }

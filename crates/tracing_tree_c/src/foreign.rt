@@ -1,19 +1,23 @@
 //! What C hands over, and how it is read.
 
-ghost use Rattle.std.specs.Prelude.{◌≡◌, ⊤, IsTrue, IsUtf8};
-ghost use Rattle.tracing_tree_c.specs.Trees.{call_of, written_of};
-ghost use Rattle.tracing_tree_c.specs.Foreign.{Reads, IsUtf8Field, IsUtf8Fields, IsUtf8Context, IsUtf8New, IsUtf8Event, IsUtf8Time, IsSmallTime, IsSmallText, IsSmallField, IsSmallContext, IsSmallNew, IsSmallEvent, IsKnownNew, IsKnownEvent, HasNoFields, IsContextOf, IsNewOf, IsEventOf, IsRecordOf, IsCloseOf, field_of, fields_of, level_of, parent_of, current_of, thread_name_of};
+ghost use Rattle.std.specs.Prelude.{◌≡◌, ◌++◌, ◌∷◌, [], ◌↔◌, ⊤, IsTrue, IsUtf8, OnOk, string_bytes};
+ghost use Rattle.tracing_tree_base.specs.Drawing.Texts.{event_fields};
+ghost use Rattle.tracing_tree_c.specs.Trees.{call_of, new_call, written_of};
+ghost use Rattle.tracing_tree_c.specs.Foreign.{Reads, IsUtf8Field, IsUtf8Fields, IsUtf8Context, IsUtf8New, IsUtf8Event, IsUtf8Time, IsSmallTime, IsSmallText, IsSmallField, IsSmallContext, IsSmallNew, IsKnownNew, IsKnownEvent, HasNoFields, IsContextOf, IsNewOf, IsEventOf, IsRecordOf, IsCloseOf, field_of, fields_of, level_of, parent_of, current_of, thread_name_of};
 
 use crate::timer::Written;
 use jiff::Timestamp;
 use std::alloc::{AllocError, AllocFailed, Global};
+use std::marker::Model;
 use tracing_tree_core::field::{Field, Fields};
-use tracing_tree_core::format::{Context, Id};
-use tracing_tree_core::registry::{Attributes, Event, Parent, Record};
+use tracing_tree_core::format::{Config, Context, Id, push_event_texts};
+use tracing_tree_core::registry::{Attributes, Parent, Record};
 use tracing_tree_core::style::Level;
 use tracing_tree_core::text::Text;
 use tracing_tree_core::time::Moment;
 use tracing_tree_layer::call::Call;
+use tracing_tree_layer::layer::push_event_head;
+use tracing_tree_layer::told::ToldEvent;
 
 /// Why what C handed over was not read.
 #[derive(Clone, Copy, Debug, PartialEq, Eq)]
@@ -119,20 +123,30 @@ pub struct TimeRef<'a> {
     pub elapsed: &'a [u8],
 }
 
-// A text. `NotUtf8` exactly where it isn't UTF-8. A trusted one isn't looked at: the caller must ensure that it is UTF-8.
+// A text that stays where C has it. `NotUtf8` exactly where it isn't UTF-8. A trusted one isn't looked at: the caller must ensure
+// that it is UTF-8.
+#[inline(always)]
+fn str_in<'a>(bytes: &'a [u8], trusted: bool) -> Result<&'a str, Unreadable>
+    requires { IsTrue trusted → IsUtf8 bytes.now }
+    ensures { Reads ⊤ (IsUtf8 bytes.now) ⊤ (λ text. text.now ≡ bytes.now) result }
+{
+    if trusted {
+        return Ok(unsafe { str::from_utf8_unchecked(bytes) });
+    }
+    match str::from_utf8(bytes) {
+        Ok(text) => Ok(text),
+        Err(_) => Err(Unreadable::NotUtf8),
+    }
+}
+
+// A copy of a text, as `str_in` reads it.
 #[inline(always)]
 fn text_in(alloc: Global, bytes: &[u8], trusted: bool) -> Result<Text, Unreadable>
     requires { IsTrue trusted → IsUtf8 bytes.now }
     ensures { Reads ⊤ (IsUtf8 bytes.now) (IsSmallText bytes.now) (λ text. text ≡ bytes.now) result }
 {
-    if trusted {
-        let text = unsafe { str::from_utf8_unchecked(bytes) };
-        return Ok(Text::from_str(alloc, text)?);
-    }
-    match str::from_utf8(bytes) {
-        Ok(text) => Ok(Text::from_str(alloc, text)?),
-        Err(_) => Err(Unreadable::NotUtf8),
-    }
+    let text = str_in(bytes, trusted)?;
+    Ok(Text::from_str(alloc, text)?)
 }
 
 #[inline(always)]
@@ -148,6 +162,30 @@ fn field_in(alloc: Global, given: &FieldRef, trusted: bool) -> Result<Field, Unr
 
 #[inline(always)]
 fn fields_in(alloc: Global, given: &[FieldRef], trusted: bool) -> Result<Fields, Unreadable>
+    requires { IsTrue trusted → IsUtf8Fields given.now }
+    ensures { Reads ⊤ (IsUtf8Fields given.now) (HasNoFields given.now)
+        (λ fields. fields ≡ fields_of given.now) result }
+{
+    if given.len() == 1 {
+        return field_alone_in(alloc, &given[0], trusted);
+    }
+    many_fields_in(alloc, given, trusted)
+}
+
+// One field alone, which takes no list.
+#[inline(always)]
+fn field_alone_in(alloc: Global, given: &FieldRef, trusted: bool) -> Result<Fields, Unreadable>
+    requires { IsTrue trusted → IsUtf8Field given.now }
+    ensures { Reads ⊤ (IsUtf8Field given.now) (IsSmallField given.now)
+        (λ fields. fields ≡ field_of given.now ∷ []) result }
+{
+    match field_in(alloc, given, trusted) {
+        Ok(field) => Ok(Fields::one(alloc, field)),
+        Err(fault) => Err(fault),
+    }
+}
+
+fn many_fields_in(alloc: Global, given: &[FieldRef], trusted: bool) -> Result<Fields, Unreadable>
     requires { IsTrue trusted → IsUtf8Fields given.now }
     ensures { Reads ⊤ (IsUtf8Fields given.now) (HasNoFields given.now)
         (λ fields. fields ≡ fields_of given.now) result }
@@ -209,7 +247,11 @@ fn thread_name_in(
 }
 
 #[inline(always)]
-fn context_in(alloc: Global, given: &ContextRef, trusted: bool) -> Result<Context, Unreadable>
+pub(crate) fn context_in(
+    alloc: Global,
+    given: &ContextRef,
+    trusted: bool,
+) -> Result<Context, Unreadable>
     requires { IsTrue trusted → IsUtf8Context given.now }
     ensures { Reads ⊤ (IsUtf8Context given.now) (IsSmallContext given.now)
         (IsContextOf given.now) result }
@@ -227,6 +269,13 @@ fn context_in(alloc: Global, given: &ContextRef, trusted: bool) -> Result<Contex
     })
 }
 
+/// A new span with what goes with it.
+#[derive(Drop)]
+pub struct Made {
+    pub attributes: Attributes,
+    pub context: Context,
+}
+
 // A new span. The caller must ensure that trusted texts are UTF-8.
 #[inline(always)]
 pub(crate) fn new_in(
@@ -235,11 +284,11 @@ pub(crate) fn new_in(
     fields: &[FieldRef],
     when: &ContextRef,
     trusted: bool,
-) -> Result<Call, Unreadable>
+) -> Result<Made, Unreadable>
     requires { IsTrue trusted → IsUtf8New given.now fields.now when.now }
     ensures { Reads (IsKnownNew given.now) (IsUtf8New given.now fields.now when.now)
         (IsSmallNew given.now fields.now when.now)
-        (IsNewOf given.now fields.now when.now) result }
+        (λ made. IsNewOf given.now fields.now when.now (new_call made)) result }
 {
     let parent = parent_in(given.parent_kind, given.parent).ok_or(Unreadable::Unknown)?;
     let name = text_in(alloc, given.name, trusted)?;
@@ -252,39 +301,132 @@ pub(crate) fn new_in(
         parent,
         fields,
     };
-    Ok(Call::New(attributes, context))
+    Ok(Made {
+        attributes,
+        context,
+    })
 }
 
-/// An event with what goes with it. It stays where it is read, since nothing of it is kept.
+/// An event whose texts lie where C has them, since nothing of it is kept.
 #[derive(Drop)]
-pub struct Told {
-    pub event: Event,
+pub struct EventTexts<'a> {
+    level: Level,
+    parent: Parent,
+    target: &'a str,
+    fields: &'a [FieldRef<'a>],
+}
+
+impl<'a> Model for EventTexts<'a> {
+    ghost use Rattle.tracing_tree_core.specs.declared.registry.Event.{Event};
+    ghost use Rattle.tracing_tree_c.specs.Foreign.{IsUtf8Fields, fields_of};
+
+    ghost Value = { Event };
+
+    ghost view = { λ e. record {
+      level = e.level;
+      target = e.target.now;
+      parent = e.parent;
+      fields = fields_of e.fields.now;
+    } };
+
+    ghost invariant = { λ e. IsUtf8Fields e.fields.now };
+}
+
+impl ToldEvent for EventTexts<'_> {
+    ghost told = { λ event. event };
+
+    fn parent(&self) -> Parent {
+        self.parent
+    }
+
+    fn push_tail(&self, out: &mut String, config: &Config) -> Result<(), AllocError> {
+        push_event_head(out, config, self.level, self.target)?;
+        push_fields(out, self.fields)
+    }
+}
+
+/// An event with what goes with it.
+#[derive(Drop)]
+pub struct Told<'a> {
+    pub event: EventTexts<'a>,
     pub context: Context,
+}
+
+impl FieldRef<'_> {
+    // Name and value. The caller must ensure that they are UTF-8.
+    #[inline(always)]
+    fn texts(&self) -> (&str, &str)
+        requires { IsUtf8Field self.now }
+        ensures name { result.0.now ≡ self.now.name.now }
+        ensures value { result.1.now ≡ self.now.value.now }
+    {
+        unsafe {
+            (
+                str::from_utf8_unchecked(self.name),
+                str::from_utf8_unchecked(self.value),
+            )
+        }
+    }
+
+    // Whether name and value are UTF-8.
+    fn is_text(&self) -> bool
+        ensures { IsTrue result ↔ IsUtf8Field self.now }
+    {
+        str::from_utf8(self.name).is_ok() && str::from_utf8(self.value).is_ok()
+    }
+}
+
+// Whether all fields are UTF-8.
+fn are_texts(fields: &[FieldRef]) -> bool
+    ensures { IsTrue result ↔ IsUtf8Fields fields.now }
+{
+    for field in fields {
+        if !field.is_text() {
+            return false;
+        }
+    }
+    true
+}
+
+// Appends the fields of an event, a space before the first. The caller must ensure that they are UTF-8.
+fn push_fields(out: &mut String, fields: &[FieldRef]) -> Result<(), AllocError>
+    requires { IsUtf8Fields fields.now }
+    ensures { OnOk result
+        (string_bytes out.new ≡ string_bytes out.old ++ event_fields (fields_of fields.now)) }
+{
+    let mut comma = false;
+    for field in fields {
+        let (name, value) = field.texts();
+        push_event_texts(out, &mut comma, name, value)?;
+    }
+    Ok(())
 }
 
 // An event. The caller must ensure that trusted texts are UTF-8.
 #[inline(always)]
-pub(crate) fn event_in(
+pub(crate) fn event_in<'a>(
     alloc: Global,
-    given: &EventRef,
-    fields: &[FieldRef],
+    given: &EventRef<'a>,
+    fields: &'a [FieldRef<'a>],
     when: &ContextRef,
     trusted: bool,
-) -> Result<Told, Unreadable>
+) -> Result<Told<'a>, Unreadable>
     requires { IsTrue trusted → IsUtf8Event given.now fields.now when.now }
     ensures { Reads (IsKnownEvent given.now) (IsUtf8Event given.now fields.now when.now)
-        (IsSmallEvent given.now fields.now when.now)
+        (IsSmallContext when.now)
         (λ told. IsEventOf given.now fields.now when.now (call_of told)) result }
 {
     let level = level_in(given.level).ok_or(Unreadable::Unknown)?;
     let parent = parent_in(given.parent_kind, given.parent).ok_or(Unreadable::Unknown)?;
-    let target = text_in(alloc, given.target, trusted)?;
-    let fields = fields_in(alloc, fields, trusted)?;
+    let target = str_in(given.target, trusted)?;
+    if !trusted && !are_texts(fields) {
+        return Err(Unreadable::NotUtf8);
+    }
     let context = context_in(alloc, when, trusted)?;
-    let event = Event {
+    let event = EventTexts {
         level,
-        target,
         parent,
+        target,
         fields,
     };
     Ok(Told { event, context })
@@ -307,12 +449,4 @@ pub(crate) fn time_in(alloc: Global, given: &TimeRef) -> Result<Written, Unreada
     let moment = text_in(alloc, given.moment, false)?;
     let elapsed = text_in(alloc, given.elapsed, false)?;
     Ok(Written { moment, elapsed })
-}
-
-// A handle that goes.
-pub(crate) fn close_in(alloc: Global, id: u64, when: &ContextRef) -> Result<Call, Unreadable>
-    ensures { Reads ⊤ (IsUtf8Context when.now) (IsSmallContext when.now)
-        (IsCloseOf id when.now) result }
-{
-    Ok(Call::Close(Id(id), context_in(alloc, when, false)?))
 }

@@ -3,11 +3,11 @@
 ghost use Rattle.std.specs.Prelude.{◌≡◌, ◌<◌, Some, None, option_map};
 ghost use Rattle.std.specs.Option.{is_some};
 ghost use Rattle.tracing_tree_c.specs.Exports.{Opens, id_after, opening_status, refusal_status, status_of, went_after};
-ghost use Rattle.tracing_tree_c.specs.Trees.{IsCalled, IsLifted, Performs, SetsTime, blank, call_of, is_lost, read_call, seen_tree, timed};
+ghost use Rattle.tracing_tree_c.specs.Trees.{IsCalled, IsLifted, Performs, SetsTime, blank, call_of, is_lost, read_call, read_close, read_new, seen_tree, timed};
 ghost use Rattle.tracing_tree_c.specs.Settings.{opened};
 ghost use Rattle.tracing_tree_base.specs.Time.Clock.{clock_timer};
 
-use crate::foreign::{TimeRef, Told, Unreadable, time_in};
+use crate::foreign::{Made, TimeRef, Told, Unreadable, time_in};
 use crate::handle::Handle;
 use crate::lent::Lent;
 use crate::raw::RawBox;
@@ -15,7 +15,8 @@ use crate::settings::{SIZE, SettingsRef};
 use crate::timer::{TreeTimer, Written};
 use std::alloc::Global;
 use std::mem;
-use tracing_tree_core::format::Refusal;
+use tracing_tree_core::format::{Context, Id, Refusal};
+use tracing_tree_core::registry::Attributes;
 use tracing_tree_core::time::Clock;
 use tracing_tree_layer::call::{Call, Reply};
 use tracing_tree_layer::layer::HierarchicalLayer;
@@ -76,9 +77,46 @@ impl Drawing {
         ensures { IsCalled (call_of told.now) result self.old self.new }
     {
         self.clear(alloc);
-        let reply = self.layered.call_event(&told.event, &told.context, None);
+        let reply = self.layered.call_told(&told.event, &told.context);
         if !is_lost(reply) {
             return reply;
+        }
+        drop(self.layered.recover(Lent::new(alloc)));
+        Err(Refusal::Memory)
+    }
+}
+
+impl Drawing {
+    // Makes a span, as `call` makes its call, from attributes that are moved once.
+    #[inline(always)]
+    #[tactic(auto, using(crate::proofs::Makes::lost_is))]
+    fn make(
+        &mut self,
+        alloc: Global,
+        attributes: Attributes,
+        context: &Context,
+    ) -> Result<Reply, Refusal>
+        ensures { IsCalled (Call.New attributes context.now) result self.old self.new }
+    {
+        self.clear(alloc);
+        let made = self.layered.call_new_span(attributes, context);
+        if !is_lost(made) {
+            return made;
+        }
+        drop(self.layered.recover(Lent::new(alloc)));
+        Err(Refusal::Memory)
+    }
+
+    // Takes a handle of a span away, as `call` makes its call.
+    #[inline(always)]
+    #[tactic(auto, using(crate::proofs::Makes::lost_is))]
+    fn close(&mut self, alloc: Global, id: Id, context: &Context) -> Result<Reply, Refusal>
+        ensures { IsCalled (Call.Close id context.now) result self.old self.new }
+    {
+        self.clear(alloc);
+        let closed = self.layered.call_close(id, context);
+        if !is_lost(closed) {
+            return closed;
         }
         drop(self.layered.recover(Lent::new(alloc)));
         Err(Refusal::Memory)
@@ -308,13 +346,61 @@ impl Tree {
     // Draws an event if it was read. The text of the call before is gone then.
     #[inline(always)]
     pub(crate) fn tell(&mut self, alloc: Global, read: Result<Told, Unreadable>) -> Outcome
-        ensures { Performs (read_call read) result self.old.inner.kept self.new.inner.kept }
+        ensures { Performs (read_call read.entry) result self.old.inner.kept self.new.inner.kept }
     {
         let Some(mut drawing) = self.lift(alloc) else {
             return Outcome::Missing;
         };
         let outcome = match read {
             Ok(told) => Outcome::Answered(drawing.tell(alloc, &told)),
+            Err(fault) => {
+                drawing.clear(alloc);
+                Outcome::NotRead(fault)
+            }
+        };
+        self.lower(drawing);
+        outcome
+    }
+
+    // Makes a span if it was read. The text of the call before is gone then.
+    #[inline(always)]
+    pub(crate) fn make(&mut self, alloc: Global, read: Result<Made, Unreadable>) -> Outcome
+        ensures { Performs (read_new read) result self.old.inner.kept self.new.inner.kept }
+    {
+        let Some(mut drawing) = self.lift(alloc) else {
+            return Outcome::Missing;
+        };
+        let outcome = match read {
+            Ok(
+                Made {
+                    attributes,
+                    context,
+                },
+            ) => Outcome::Answered(drawing.make(alloc, attributes, &context)),
+            Err(fault) => {
+                drawing.clear(alloc);
+                Outcome::NotRead(fault)
+            }
+        };
+        self.lower(drawing);
+        outcome
+    }
+
+    // Takes a handle of a span away if what goes with it was read. The text of the call before is gone then.
+    #[inline(always)]
+    pub(crate) fn close(
+        &mut self,
+        alloc: Global,
+        id: Id,
+        read: Result<Context, Unreadable>,
+    ) -> Outcome
+        ensures { Performs (read_close id read) result self.old.inner.kept self.new.inner.kept }
+    {
+        let Some(mut drawing) = self.lift(alloc) else {
+            return Outcome::Missing;
+        };
+        let outcome = match read {
+            Ok(context) => Outcome::Answered(drawing.close(alloc, id, &context)),
             Err(fault) => {
                 drawing.clear(alloc);
                 Outcome::NotRead(fault)

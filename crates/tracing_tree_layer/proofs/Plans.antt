@@ -1,9 +1,11 @@
 -- Plans come to the turns of the definitions.
-use Rattle.std.proofs.Common.{◌≡◌, ◌&&◌, ℕ, ◌≤◌, length, subst, Bool, true, false, not, List, [], ◌∷◌, ◌++◌, map, Option, Some, None, is_some, if◌then◌else◌, refl, sym, ap, ◌∙◌, append_assoc, append-nil}
+use Rattle.std.proofs.Common.{◌≡◌, ◌&&◌, ℕ, ◌≤◌, length, drop, arith, subst, Bool, true, false, not, List, [], ◌∷◌, ◌++◌, map, Option, Some, None, is_some, if◌then◌else◌, refl, sym, ap, ◌∙◌, append_assoc, append-nil}
 use Rattle.std.specs.Option.{option_map_or, option_or}
 use Rattle.std.specs.List.{common_prefix_len}
 use Rattle.tracing_tree_core.specs.Registry.Ids.{same_id}
 use Rattle.tracing_tree_layer.proofs.Reading.Parts.{common-right}
+use Rattle.tracing_tree_layer.proofs.Reading.Changes.{same-refl}
+use Rattle.std.proofs.Math.Seq.{drop-length}
 use Rattle.std.proofs.lemmas.List.{map-append}
 use Rattle.tracing_tree_base.specs.Drawing.Settings.{Settings, retraces}
 use Rattle.tracing_tree_core.specs.Registry.Forest.{Forest, IsForest, is_printed, parent_of, path_of, path_of_any, fresh_ids, mark_all}
@@ -193,3 +195,20 @@ last_paths_part_once forest formed (Some j) i = paths_part_once forest formed j 
 -- what is shared is part of the new path
 pub common_within : (old new : List Id) (n : ℕ) → n ≡ common_prefix_len same_id old new → n ≤ length new
 common_within old new n e = subst (λ k. k ≤ length new) (sym e) (common-right old new)
+
+-- a path shares all of itself with itself
+whole-shared : (path : List Id) → common_prefix_len same_id path path ≡ length path
+whole-shared [] = refl
+whole-shared (i ∷ path) = let rest = whole-shared path in rw (same-refl i) (omega (arith, rest))
+
+-- nothing is fresh before the last span itself
+fresh-there : (forest : Forest) (i : Id) → fresh_ids forest (Some i) i ≡ []
+fresh-there forest i = let path = path_of forest i in ap (λ n. drop n path) (whole-shared path) ∙ drop-length path
+
+-- so a plan that retraces to the last span stays as it is
+pub retraced-there : (settings : Settings) (forest : Forest) (i : Id) (plan : PlanView) → plan.last ≡ Some i → plan ≡ retraced_plan settings forest i plan
+retraced-there settings forest i plan there =
+    let none = ap (λ last. fresh_ids forest last i) there ∙ fresh-there forest i in
+    let rows-same = ap (λ ids. plan.rows ++ planned_fresh_rows settings (marked_by plan forest) forest ids) none ∙ append-nil plan.rows in
+    let fresh-same = ap (λ ids. plan.fresh ++ ids) none ∙ append-nil plan.fresh in
+    (λ k. record { rows = sym rows-same k; fresh = sym fresh-same k; last = there k })

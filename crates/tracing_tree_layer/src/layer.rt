@@ -18,7 +18,8 @@ ghost use Rattle.tracing_tree_layer.specs.Calls.Layers.{is_fresh, IsFlushed};
 ghost use Rattle.tracing_tree_base.specs.Drawing.Writers.{seen_writer};
 ghost use Rattle.tracing_tree_layer.specs.Rows.Drawn.{failed_by, has_no_id, DoesTurn, IsBlank, IsReady, Sends};
 
-pub use block::push_event_tail;
+use crate::told::ToldEvent;
+pub use block::{push_event_head, push_event_tail};
 use drawing::CallDrawing;
 use page::Page;
 use plan::Plan;
@@ -26,7 +27,7 @@ use std::alloc::Global;
 use std::marker::Model;
 use std::mem;
 use tracing_tree_core::format::{Buffers, Config, Context, Id, Output, Refusal};
-use tracing_tree_core::registry::{Event, LookupSpan};
+use tracing_tree_core::registry::LookupSpan;
 use tracing_tree_core::time::FormatTime;
 
 /// Draws spans and events as a tree into a writer. (`HierarchicalLayer` of the Rust crate.)
@@ -242,23 +243,23 @@ impl<W: Output, FT: FormatTime> HierarchicalLayer<W, FT> {
     }
 
     // Draws an event so many spans deep. A tail that was drawn before is used.
-    pub(crate) fn write_event<S: LookupSpan>(
+    pub(crate) fn write_event<S: LookupSpan, E: ToldEvent>(
         &mut self,
-        event: &Event,
+        event: &E,
         tail: Option<&str>,
         depth: usize,
         spans: &mut S,
         context: &Context,
     ) -> Result<(), Refusal>
         requires sound { self.old.failed ≡ false }
-        requires depth { depth ≡ event_depth (S.forest spans.old) event.now context.now }
-        requires tail { IfSome tail (λ t. t.now ≡ event_tail self.old.settings event.now) }
+        requires depth { depth ≡ event_depth (S.forest spans.old) (E.told event.now) context.now }
+        requires tail { IfSome tail (λ t. t.now ≡ event_tail self.old.settings (E.told event.now)) }
         ensures { let old = self.old in
             let forest = S.forest spans.old in
             let timer = FT.timer old.timer in
-            let turn = turn_of_event old.settings timer context.now forest old.last event.now in
+            let turn = turn_of_event old.settings timer context.now forest old.last (E.told event.now) in
             let faults = timer_faults_at old.settings timer forest context.now in
-            let wide = is_event_too_wide old.settings timer forest event.now context.now in
+            let wide = is_event_too_wide old.settings timer forest (E.told event.now) context.now in
             DoesTurn (seen_writer W.Output) turn faults wide result old self.new
             forest (S.forest spans.new) }
     {

@@ -1,5 +1,7 @@
 //! A registry with a layer, which take each call whole, or refuse it and say why.
 
+mod lent;
+
 ghost use Rattle.std.specs.Prelude.{◌≡◌, ◌≢◌, ◌<◌, [], false, None, OnErr, IfOk, IfSome, length};
 ghost use Rattle.tracing_tree_core.specs.Registry.Ids.{id_of};
 ghost use Rattle.tracing_tree_core.specs.Registry.Forest.{empty_forest, if_live, path_of_any};
@@ -11,6 +13,7 @@ ghost use Rattle.tracing_tree_layer.specs.Rows.Block.{event_tail};
 
 use crate::call::{Call, Reply};
 use crate::layer::HierarchicalLayer;
+use crate::told::ToldEvent;
 use std::alloc::{AllocError, Global};
 use std::marker::Model;
 use tracing_tree_core::field::Fields;
@@ -256,18 +259,18 @@ impl<W: Output, FT: FormatTime> Layered<W, FT> {
     }
 
     // The spans stay. Retracing may mark them as printed and change the last span.
-    fn event(
+    fn event<E: ToldEvent>(
         &mut self,
-        event: &Event,
+        event: &E,
         context: &Context,
         tail: Option<&str>,
     ) -> Result<Reply, Refusal>
         requires sound { self.old.layer.failed ≡ false }
-        requires tail { IfSome tail (λ t. t.now ≡ event_tail self.old.layer.settings event.now) }
+        requires tail { IfSome tail (λ t. t.now ≡ event_tail self.old.layer.settings (E.told event.now)) }
         ensures { Changes (seen FT.FormatTime W.Output)
-            (IsAnswered (Call.Event event.now context.now) result) self.old self.new }
+            (IsAnswered (Call.Event (E.told event.now) context.now) result) self.old self.new }
     {
-        let depth = depth(&self.registry, event.parent.named(context.current));
+        let depth = depth(&self.registry, event.parent().named(context.current));
         let spans = &mut self.registry;
         self.layer.write_event(event, tail, depth, spans, context)?;
         Ok(Reply::Done)

@@ -9,6 +9,7 @@ pub mod call;
 pub mod difference;
 pub mod layer;
 pub mod layered;
+pub mod told;
 
 pub use call::{Call, Reply};
 pub use difference::DifferenceIter;

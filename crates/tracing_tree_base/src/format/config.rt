@@ -369,8 +369,21 @@ impl Config {
         Ok(prefix)
     }
 
-    // Appends the prefix, or a beginning of it.
+    // Appends the prefix, or a beginning of it. Most settings show none.
+    #[inline(always)]
     pub(crate) fn push_prefix(&self, out: &mut String, context: &Context) -> Result<(), AllocError>
+        ensures ok { let prefix = prefix_text self.now context.now in
+            OnOk result (string_bytes out.new ≡ string_bytes out.old ++ prefix) }
+        ensures extended { IsExtended (string_bytes out.old) (string_bytes out.new) }
+    {
+        if self.render_thread_ids || self.render_thread_names {
+            return self.push_thread(out, context);
+        }
+        Ok(())
+    }
+
+    // Appends number and name of the thread, as far as they are shown, or a beginning of that.
+    fn push_thread(&self, out: &mut String, context: &Context) -> Result<(), AllocError>
         ensures ok { let prefix = prefix_text self.now context.now in
             OnOk result (string_bytes out.new ≡ string_bytes out.old ++ prefix) }
         ensures extended { IsExtended (string_bytes out.old) (string_bytes out.new) }

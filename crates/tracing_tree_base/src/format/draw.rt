@@ -4,11 +4,14 @@ ghost use Rattle.std.specs.List.{repeat};
 ghost use Rattle.std.specs.Prelude.{◌≡◌, ◌+◌, ◌*◌, ◌^◌, ◌<◌, ◌++◌, ◌∷◌, [], true, false, Err, OnOk, OnErr, IfErr, string_bytes, encode_utf8, if◌then◌else◌};
 ghost use Rattle.std.specs.Str.Lines.{strip_carriage_return};
 ghost use Rattle.tracing_tree_base.specs.Drawing.Frames.{HasRoom, corner_pieces, frame_pieces, pushed_text, row_of, span_pieces};
-ghost use Rattle.tracing_tree_base.specs.Drawing.Picture.{drawn_row, edge_frame, first_frame, frame_text, horizontal, is_last_before_wrap, is_too_wide, later_frame, lined_frame, mark_after_corner, mark_before_corner, mark_line, picture, row_frame, shift_of, unnamed_row, wrapped_level};
+ghost use Rattle.tracing_tree_base.specs.Drawing.Picture.{drawn_row, edge_frame, first_frame, frame_text, horizontal, is_last_before_wrap, is_too_wide, later_frame, lined_frame, mark_after_corner, mark_before_corner, mark_line, picture, row_frame, shift_of, space, unnamed_row, wrapped_level};
 ghost use Rattle.tracing_tree_base.specs.Drawing.Texts.{IsExtended, prefix_text};
 
 use super::{Config, Context, Refusal, SpanMode};
 use std::alloc::AllocError;
+
+// Spaces that stand ready. More of them are appended one by one.
+const SPACES: &str = "                                                                ";
 
 // A row that is being drawn: everything but its block.
 #[derive(Clone, Copy)]
@@ -97,7 +100,7 @@ impl LineFront {
             (string_bytes out.new ≡ string_bytes out.old ++ pushed_text self.now) }
         ensures extended { IsExtended (string_bytes out.old) (string_bytes out.new) }
     {
-        push_repeated(out, " ", self.spaces)?;
+        push_spaces(out, self.spaces)?;
         out.push_str(self.branch)?;
         if self.filled > 0 {
             push_repeated(out, self.filler, self.filled)?;
@@ -250,6 +253,18 @@ fn push_repeated(out: &mut String, text: &str, times: usize) -> Result<(), Alloc
     Ok(())
 }
 
+// Appends so many spaces, or fewer.
+fn push_spaces(out: &mut String, count: usize) -> Result<(), AllocError>
+    ensures ok { OnOk result
+        (string_bytes out.new ≡ string_bytes out.old ++ repeat count (space ∷ [])) }
+    ensures extended { IsExtended (string_bytes out.old) (string_bytes out.new) }
+{
+    if count > SPACES.len() {
+        return push_repeated(out, " ", count);
+    }
+    out.push_str(&SPACES[..count])
+}
+
 // A line before a line end loses one carriage return.
 fn without_return(line: &str) -> &str
     ensures { result.now ≡ strip_carriage_return line.now }
@@ -324,23 +339,23 @@ impl RowDrawing<'_> {
         let mut frame = self.frame(true);
         let mut rest = block;
         while let Some((line, others)) = rest.split_once('\n') {
-            self.line(out, frame, without_return(line))?;
+            self.line(out, &frame, without_return(line))?;
             frame = self.frame(false);
             rest = others;
         }
         if self.config.indent_lines() {
-            return self.line(out, frame, without_return(rest));
+            return self.line(out, &frame, without_return(rest));
         }
         if rest.is_empty() {
             return Ok(());
         }
-        self.line(out, frame, rest)
+        self.line(out, &frame, rest)
     }
 
     // Appends one line, or a beginning of it.
-    fn line(&self, out: &mut String, frame: LineFront, text: &str) -> Result<(), AllocError>
+    fn line(&self, out: &mut String, frame: &LineFront, text: &str) -> Result<(), AllocError>
         ensures ok { OnOk result (string_bytes out.new ≡ string_bytes out.old
-            ++ (prefix_text self.now.config.now self.now.context.now ++ pushed_text frame
+            ++ (prefix_text self.now.config.now self.now.context.now ++ pushed_text frame.now
             ++ text.now ++ 10 ∷ [])) }
         ensures extended { IsExtended (string_bytes out.old) (string_bytes out.new) }
     {

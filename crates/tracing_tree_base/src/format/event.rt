@@ -1,6 +1,7 @@
 //! The fields of spans and events, as they stand in a row.
 
 ghost use Rattle.std.specs.Prelude.{◌≡◌, ◌++◌, OnOk, OnErr, string_bytes};
+ghost use Rattle.tracing_tree_base.specs.declared.field.Field.{Field};
 ghost use Rattle.tracing_tree_base.specs.Drawing.Texts.{comma_after, event_field, named_value, shown_field};
 
 use super::Buffers;
@@ -44,7 +45,23 @@ pub fn push_event_field(out: &mut String, comma: &mut bool, field: &Field) -> Re
     ensures err { OnErr result (string_bytes out.new ≡ string_bytes out.old) }
     ensures kept { OnErr result (comma.new ≡ comma.old) }
 {
-    let (name, value) = (field.name.as_str(), field.value.as_str());
+    push_event_texts(out, comma, field.name.as_str(), field.value.as_str())
+}
+
+/// The same of a field that is lent as two texts.
+pub fn push_event_texts(
+    out: &mut String,
+    comma: &mut bool,
+    name: &str,
+    value: &str,
+) -> Result<(), AllocError>
+    ensures text { (field : Field) → field.name ≡ name.now → field.value ≡ value.now
+        → OnOk result (string_bytes out.new ≡ string_bytes out.old ++ event_field comma.old field) }
+    ensures comma { (field : Field) → field.name ≡ name.now → field.value ≡ value.now
+        → OnOk result (comma.new ≡ comma_after comma.old field) }
+    ensures err { OnErr result (string_bytes out.new ≡ string_bytes out.old) }
+    ensures kept { OnErr result (comma.new ≡ comma.old) }
+{
     if name.starts_with("log.") {
         return Ok(());
     }

@@ -4,6 +4,7 @@ use Rattle.tracing_tree_base.specs.Drawing.Settings.{Settings}
 use Rattle.tracing_tree_base.specs.Drawing.Texts.{styled, label, span_fields, shown_level, event_fields}
 use Rattle.tracing_tree_base.specs.Time.Clock.{Timer}
 use Rattle.tracing_tree_core.specs.Registry.Spans.{ShownSpan}
+use Rattle.tracing_tree_base.specs.declared.style.Level.{Level}
 use Rattle.tracing_tree_base.specs.declared.style.Style.TheVariants.{Dimmed, BoldGreen}
 use Rattle.tracing_tree_base.specs.declared.format.SpanMode.{SpanMode}
 use Rattle.tracing_tree_base.specs.declared.format.SpanMode.TheVariants.{Close}
@@ -41,6 +42,12 @@ span_block settings (Close false) span = shown_label settings (Close false)
 span_block settings mode span = shown_label settings mode ++ span_text settings span
 
 -- ---- events
+
+-- level and target
+abbrev pub event_head : Settings → Level → List ℕ → List ℕ
+event_head settings level target =
+    shown_level settings.ansi level
+    ++ (if settings.targets then 32 ∷ styled settings.ansi Dimmed target else [])
 
 -- level, target and fields
 abbrev pub event_tail : Settings → Event → List ℕ

@@ -3,7 +3,7 @@
 ghost use Rattle.std.specs.Prelude.{◌≡◌, ◌++◌, true, OnOk, OnErr, string_bytes};
 ghost use Rattle.tracing_tree_base.specs.declared.style.Style.TheVariants.{BoldGreen};
 ghost use Rattle.tracing_tree_base.specs.Drawing.Texts.{label, styled, named_value, shown_field, span_fields, event_field, comma_after, event_fields};
-ghost use Rattle.tracing_tree_layer.specs.Rows.Block.{shown_target, span_text, span_block, event_tail};
+ghost use Rattle.tracing_tree_layer.specs.Rows.Block.{shown_target, span_text, span_block, event_head, event_tail};
 
 use std::alloc::AllocError;
 use tracing_tree_core::field::Field;
@@ -11,7 +11,7 @@ use tracing_tree_core::format::{
     Config, SpanMode, push_event_field, push_named, push_shown, write_span_mode,
 };
 use tracing_tree_core::registry::{Event, SpanRef};
-use tracing_tree_core::style::{Style, push_level, push_styled};
+use tracing_tree_core::style::{Level, Style, push_level, push_styled};
 
 // The fields of a span. Only in the first place is a message shown alone.
 fn push_span_fields(out: &mut String, fields: &[Field]) -> Result<(), AllocError>
@@ -101,12 +101,27 @@ pub fn push_event_tail(out: &mut String, config: &Config, event: &Event) -> Resu
     ensures { OnOk result
         (string_bytes out.new ≡ string_bytes out.old ++ event_tail config.now event.now) }
 {
-    push_level(out, config.ansi(), event.level)?;
-    if config.targets() {
-        out.push_str(" ")?;
-        push_styled(out, config.ansi(), Style::Dimmed, event.target.as_str())?;
-    }
+    push_event_head(out, config, event.level, event.target.as_str())?;
     push_event_fields(out, event.fields.as_slice())
+}
+
+/// Appends level and target of an event, as they stand before its fields. After an error a beginning
+/// may stand in `out`.
+pub fn push_event_head(
+    out: &mut String,
+    config: &Config,
+    level: Level,
+    target: &str,
+) -> Result<(), AllocError>
+    ensures { OnOk result
+        (string_bytes out.new ≡ string_bytes out.old ++ event_head config.now level target.now) }
+{
+    push_level(out, config.ansi(), level)?;
+    if !config.targets() {
+        return Ok(());
+    }
+    out.push_str(" ")?;
+    push_styled(out, config.ansi(), Style::Dimmed, target)
 }
 
 // The fields of an event, a space before the first.

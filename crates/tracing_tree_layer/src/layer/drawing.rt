@@ -8,12 +8,13 @@ ghost use Rattle.tracing_tree_layer.specs.Rows.Plan.{row_of_planned, rows_of_pla
 ghost use Rattle.tracing_tree_layer.specs.Calls.Refused.{is_event_too_wide, timer_faults_at, lacks_elapsed};
 ghost use Rattle.tracing_tree_layer.specs.Rows.Drawn.{DrawsRows, Drafts, IsBlank, IsUntimed, has_no_id};
 
-use super::block::{push_event_tail, push_span_block};
+use super::block::push_span_block;
 use super::page::Page;
 use super::plan::{Plan, PlannedRow, Planner};
+use crate::told::ToldEvent;
 use std::alloc::{AllocError, Global};
 use tracing_tree_core::format::{Buffers, Config, Context, Id, Refusal, SpanMode};
-use tracing_tree_core::registry::{Event, LookupSpan};
+use tracing_tree_core::registry::LookupSpan;
 use tracing_tree_core::time::FormatTime;
 
 // A call that is being drawn: the settings, the live spans, and what was handed in with it.
@@ -65,27 +66,27 @@ impl<S: LookupSpan> CallDrawing<'_, S> {
     // An event so many spans deep, after the rows of the spans that it stands in, where they are to
     // be shown. Its own width is tested before any memory is taken. A tail that was drawn before is
     // used.
-    pub(super) fn event<FT: FormatTime>(
+    pub(super) fn event<FT: FormatTime, E: ToldEvent>(
         &self,
         page: &mut Page,
         plan: &mut Plan,
         timer: &FT,
-        event: &Event,
+        event: &E,
         tail: Option<&str>,
         depth: usize,
     ) -> Result<(), Refusal>
         requires blank { IsBlank page.old.bufs }
-        requires tail { IfSome tail (λ t. t.now ≡ event_tail self.now.config.now event.now) }
-        requires depth { depth ≡ event_depth (S.forest self.now.spans.now) event.now
+        requires tail { IfSome tail (λ t. t.now ≡ event_tail self.now.config.now (E.told event.now)) }
+        requires depth { depth ≡ event_depth (S.forest self.now.spans.now) (E.told event.now)
             self.now.context.now }
         ensures { let settings = self.now.config.now in
             let context = self.now.context.now in
             let forest = S.forest self.now.spans.now in
             let timer = FT.timer timer.now in
             let last = page.old.bufs.current_span in
-            let turn = turn_of_event settings timer context forest last event.now in
+            let turn = turn_of_event settings timer context forest last (E.told event.now) in
             let faults = timer_faults_at settings timer forest context in
-            let wide = is_event_too_wide settings timer forest event.now context in
+            let wide = is_event_too_wide settings timer forest (E.told event.now) context in
             Drafts settings forest turn faults wide result page.old page.new plan.new }
     {
         let level = self.event_level(depth);
@@ -141,26 +142,26 @@ impl<S: LookupSpan> CallDrawing<'_, S> {
     }
 
     // The row of an event at this level, which isn't too wide.
-    fn event_row<FT: FormatTime>(
+    fn event_row<FT: FormatTime, E: ToldEvent>(
         &self,
         page: &mut Page,
         timer: &FT,
-        event: &Event,
+        event: &E,
         tail: Option<&str>,
         level: usize,
     ) -> Result<(), Refusal>
         requires blank { IsBlank page.old.bufs }
-        requires tail { IfSome tail (λ t. t.now ≡ event_tail self.now.config.now event.now) }
+        requires tail { IfSome tail (λ t. t.now ≡ event_tail self.now.config.now (E.told event.now)) }
         requires level { let forest = S.forest self.now.spans.now in
-            let parent = event_parent forest event.now self.now.context.now in
+            let parent = event_parent forest (E.told event.now) self.now.context.now in
             level ≡ event_level self.now.config.now (path_of_any forest parent) }
         requires fits { is_event_too_wide self.now.config.now (FT.timer timer.now)
-            (S.forest self.now.spans.now) event.now self.now.context.now ≡ false }
+            (S.forest self.now.spans.now) (E.told event.now) self.now.context.now ≡ false }
         ensures { let settings = self.now.config.now in
             let context = self.now.context.now in
             let forest = S.forest self.now.spans.now in
             let timer = FT.timer timer.now in
-            let row = event_row settings timer forest event.now context in
+            let row = event_row settings timer forest (E.told event.now) context in
             let faults = timer_faults_at settings timer forest context in
             DrawsRows settings (row ∷ []) faults result page.old page.new }
     {
@@ -181,18 +182,18 @@ impl<S: LookupSpan> CallDrawing<'_, S> {
     }
 
     // The block of an event's row.
-    fn event_block<FT: FormatTime>(
+    fn event_block<FT: FormatTime, E: ToldEvent>(
         &self,
         bufs: &mut Buffers,
         timer: &FT,
-        event: &Event,
+        event: &E,
         tail: Option<&str>,
     ) -> Result<(), Refusal>
-        requires { IfSome tail (λ t. t.now ≡ event_tail self.now.config.now event.now) }
+        requires { IfSome tail (λ t. t.now ≡ event_tail self.now.config.now (E.told event.now)) }
         ensures ok { let settings = self.now.config.now in
             let context = self.now.context.now in
             let since = time_in_current (S.forest self.now.spans.now) context in
-            let block = event_block settings (FT.timer timer.now) context.moment since event.now in
+            let block = event_block settings (FT.timer timer.now) context.moment since (E.told event.now) in
             let block = bufs.old.current_buf ++ block in
             OnOk result (bufs.new ≡ record bufs.old { current_buf = block }) }
         ensures has { let forest = S.forest self.now.spans.now in
@@ -209,18 +210,18 @@ impl<S: LookupSpan> CallDrawing<'_, S> {
     }
 
     // Appends the timer's texts, level, target and fields.
-    fn push_event<FT: FormatTime>(
+    fn push_event<FT: FormatTime, E: ToldEvent>(
         &self,
         out: &mut String,
         timer: &FT,
-        event: &Event,
+        event: &E,
         tail: Option<&str>,
     ) -> Result<(), Refusal>
-        requires { IfSome tail (λ t. t.now ≡ event_tail self.now.config.now event.now) }
+        requires { IfSome tail (λ t. t.now ≡ event_tail self.now.config.now (E.told event.now)) }
         ensures ok { let settings = self.now.config.now in
             let context = self.now.context.now in
             let since = time_in_current (S.forest self.now.spans.now) context in
-            let block = event_block settings (FT.timer timer.now) context.moment since event.now in
+            let block = event_block settings (FT.timer timer.now) context.moment since (E.told event.now) in
             OnOk result (string_bytes out.new ≡ string_bytes out.old ++ block) }
         ensures has { let forest = S.forest self.now.spans.now in
             let timer = FT.timer timer.now in
@@ -235,7 +236,7 @@ impl<S: LookupSpan> CallDrawing<'_, S> {
         self.elapsed(out, timer)?;
         match tail {
             Some(tail) => out.push_str(tail)?,
-            None => push_event_tail(out, self.config, event)?,
+            None => event.push_tail(out, self.config)?,
         }
         Ok(())
     }

@@ -1,12 +1,12 @@
 //! What a call is going to do, before any of it is done: its rows about spans, the spans that become
 //! printed, and the last span afterwards.
 
-ghost use Rattle.std.specs.Prelude.{◌≡◌, ◌≢◌, ◌≤◌, ◌++◌, ◌∷◌, [], Some, None, OnOk, OnErr, IfOk, drop, length};
+ghost use Rattle.std.specs.Prelude.{◌≡◌, ◌≢◌, ◌≤◌, ◌-◌, ◌++◌, ◌∷◌, [], Some, None, OnOk, OnErr, IfOk, drop, length};
 ghost use Rattle.std.specs.List.{common_prefix_len, list_any};
 ghost use Rattle.tracing_tree_base.specs.Drawing.Settings.{retraces};
 ghost use Rattle.tracing_tree_core.specs.Registry.Ids.{same_id};
 ghost use Rattle.tracing_tree_core.specs.Registry.Paths.{PartOnce};
-ghost use Rattle.tracing_tree_core.specs.Registry.Forest.{IsForest, is_printed, path_of_any};
+ghost use Rattle.tracing_tree_core.specs.Registry.Forest.{IsForest, is_printed, path_of, path_of_any};
 ghost use Rattle.tracing_tree_layer.specs.Rows.CloseRetrace.{retraces_before_close};
 ghost use Rattle.tracing_tree_layer.specs.Rows.Turns.{current_of};
 ghost use Rattle.tracing_tree_layer.specs.Rows.Plan.{ids_of, empty_plan, with_rows, marked_by, planned_row, planned_parent, planned_fresh, planned_fresh_rows, retraced_plan, closed_plan, plan_of_new, plan_before_event, plan_of_close, plan_of_closes};
@@ -98,6 +98,14 @@ impl Plan {
         self.fresh.extend_from_slice(ids)
     }
 
+    // The span becomes printed.
+    fn print_one(&mut self, id: Id) -> Result<(), AllocError>
+        ensures { OnOk result (self.new ≡ record self.old { fresh = self.old.fresh ++ id ∷ [] }) }
+    {
+        self.fresh.push(id)?;
+        Ok(())
+    }
+
     // The span is the last one from now on.
     fn reach(&mut self, id: Id)
         ensures { self.new ≡ record self.old { last = Some id } }
@@ -123,7 +131,7 @@ impl<S: LookupSpan> Planner<'_, S> {
         if self.config.deferred_spans() {
             return Ok(());
         }
-        plan.print(&[id])?;
+        plan.print_one(id)?;
         if self.config.span_retrace() {
             return self.retrace_to(plan, id);
         }
@@ -143,7 +151,7 @@ impl<S: LookupSpan> Planner<'_, S> {
         let Some(current) = context.current else {
             return Ok(());
         };
-        if self.spans.span(current).is_some() && self.retraces() {
+        if self.retraces() && self.spans.span(current).is_some() {
             return self.retrace_to(plan, current);
         }
         Ok(())
@@ -220,6 +228,9 @@ impl<S: LookupSpan> Planner<'_, S> {
         ensures { let forest = S.forest self.now.spans.now in
             OnOk result (plan.new ≡ retraced_plan self.now.config.now forest id plan.old) }
     {
+        if plan.last() == Some(id) {
+            return Ok(());
+        }
         let old = self.path(plan.allocator(), plan.last())?;
         let new = self.path(plan.allocator(), Some(id))?;
         let fresh = beyond(old.as_slice(), new.as_slice());
@@ -282,9 +293,20 @@ impl<S: LookupSpan> Planner<'_, S> {
         ensures { let row = planned_row (S.forest self.now.spans.now) mode id in
             OnOk result (plan.new ≡ with_rows (row ∷ []) plan.old) }
     {
-        let path = self.path(plan.allocator(), Some(id))?;
-        let level = path.len().saturating_sub(1);
+        let level = self.level(plan.allocator(), id)?;
         plan.push_row(PlannedRow { mode, id, level })
+    }
+
+    // How many spans stand above this one.
+    fn level(&self, alloc: Global, id: Id) -> Result<usize, AllocError>
+        ensures { let path = path_of (S.forest self.now.spans.now) id in
+            IfOk result (λ level. level ≡ length path - 1) }
+    {
+        let length = match self.spans.kept_path(id) {
+            Some(ids) => ids.len(),
+            None => self.spans.path(alloc, id)?.len(),
+        };
+        Ok(length.saturating_sub(1))
     }
 
     // Whether the span is printed already, or becomes printed by what is planned so far.

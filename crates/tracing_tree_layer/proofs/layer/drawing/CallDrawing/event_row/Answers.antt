@@ -8,7 +8,7 @@ pub returns : goal.returns
 returns g c =
     let self = c.args.self.now in
     let timer = g.FT.FormatTime.timer c.args.timer.now in
-    let row = event_row self.config.now timer (g.S.LookupSpan.forest self.spans.now) c.args.event.now self.context.now in
+    let row = event_row self.config.now timer (g.S.LookupSpan.forest self.spans.now) (g.E.ToldEvent.told c.args.event.now) self.context.now in
     let P : Bool → Type 0 = λ faults. DrawsRows self.config.now (row ∷ []) faults c.add_row.result c.args.page.now c.add_row.new.self in
     subst P (sym c.in_ok-event_block.ensures.has)
     (draws_like self.config.now row c.args.level (c.args.page.now.bufs.current_buf ++ row.block) c.add_row.result c.args.page.now _ c.add_row.new.self

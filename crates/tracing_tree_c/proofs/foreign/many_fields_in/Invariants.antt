@@ -1,7 +1,7 @@
 use Rattle.std.proofs.Common.{◌≡◌, ◌++◌, ◌+◌, ◌≤◌, drop, length, vec_len}
 use Rattle.std.specs.Prelude.{vec_capacity}
 use Rattle.tracing_tree_c.specs.Foreign.{IsUtf8Fields, fields_of}
-use Rattle.tracing_tree_c.proofs.foreign.fields_in.Given as goal
+use Rattle.tracing_tree_c.proofs.foreign.many_fields_in.Given as goal
 
 -- what is read so far and the rest are all, all can be read exactly where the rest can, and there is
 -- room for the rest
