@@ -11,11 +11,13 @@ use Rattle.tracing_tree.specs.Lines.Spelled.{input_lines, is_skipped}
 use Rattle.tracing_tree.specs.Lines.Reads.{TakesLine, HasNoLine}
 use Rattle.tracing_tree.specs.Lines.Runs.{is_from_outside}
 use Rattle.tracing_tree.specs.declared.lines.LineCause.{LineCause}
+use Rattle.tracing_tree.specs.declared.lines.LineFault.{LineFault}
 use Rattle.tracing_tree.specs.declared.lines.LineCause.TheVariants.{Settings as NoSettings, NotACall, Read, Memory, Refused}
 use Rattle.tracing_tree_sources.specs.Source.{Breaks, CountsUnknown, EndsAt, Heard, HearsLine, HearsNext, Makes, MakesAll, MayEnd, Step, StopsIn, Tells, calls_of, hear, hear_line, heard_step, next_calls, next_unknown, nothing_heard, then_heard}
+use Rattle.tracing_tree_sources.specs.declared.run.SourceRun.{SourceRun}
 use Rattle.tracing_tree_sources.specs.declared.run.Judged.TheVariants.{End}
 use Rattle.tracing_tree_sources.proofs.Ended.{IsOfNotes}
-use Rattle.tracing_tree_sources.proofs.Made.{makes_none, makes_then, makes_flushed, stops_before}
+use Rattle.tracing_tree_sources.proofs.Made.{makes_none, makes_then, makes_flushed, stops_after, stops_before, stops_more}
 
 outside : (cause : LineCause) (calls : List Call) (s : Seen) → is_from_outside cause ≡ true → Breaks cause calls s s
 outside NoSettings calls s h = cc
@@ -277,6 +279,29 @@ module _ {S : Type 0} (takes : S → List ℕ → Option Json → Option (Step S
           });
           counts = noted_counts cause before.unknown (hear_line takes before.source line).unknown unknown of_notes (subst Q (sym so_far.reached) unknown_is) so_far.counted;
         }
+
+    ends_with_rest : (source : S) (others : List (List ℕ)) (cause : LineCause) (old new : Seen) → StopsIn (next_calls takes ends source others) cause old new →
+        StopsIn ((hear takes source others).calls ++ ends (hear takes source others).source) cause old new
+    ends_with_rest source [] cause old new h = h
+    ends_with_rest source (line ∷ others) cause old new h =
+        let heard : Heard S = hear_line takes source line in
+        let later : Heard S = hear takes heard.source others in
+        let P : List Call → Type 0 = λ calls. StopsIn calls cause old new in
+        subst P (sym (append_assoc heard.calls later.calls (ends later.source)))
+        (stops_more heard.calls (later.calls ++ ends later.source) cause old new h)
+
+    -- a beginning of all calls was made where a run ended early
+    pub beginning : (lines : List (List ℕ)) (source : S) (run : SourceRun) (fault : LineFault) (old new : Seen) →
+        EndsAt takes ends lines source run fault old new → StopsIn (calls_of takes ends source lines) fault.cause old new
+    beginning lines source run fault old new h =
+        let before : Heard S = hear takes source h.before in
+        let later : Heard S = hear takes before.source h.others in
+        let P : List Call → Type 0 = λ calls. StopsIn calls fault.cause old new in
+        let Q : List (List ℕ) → Type 0 = λ lines. StopsIn (calls_of takes ends source lines) fault.cause old new in
+        subst Q h.split (subst P
+        (sym (ap (λ (h : Heard S). h.calls ++ ends h.source) (hear_append source h.before h.others) ∙ append_assoc before.calls later.calls (ends later.source)))
+        (stops_after before.calls (later.calls ++ ends later.source) fault.cause old h.between new h.makes
+        (ends_with_rest before.source h.others fault.cause h.between new h.stops)))
 
     -- the end of the input is reached
     pub finishes : (known middle left : Option (List ℕ)) (begun source after : S) (number unknown : ℕ) (old now next : Seen) →
