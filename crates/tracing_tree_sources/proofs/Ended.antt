@@ -44,3 +44,30 @@ pub ends_noted : {L E : Type 0} (lack : Result L E) (result : Result ⊤ LineCau
     MatchResult lack (λ _. IfErr result (λ cause. cause ≡ NotACall)) (λ _. result ≡ Err Memory) → result ≡ Err cause → MayEnd cause (unknown + 1)
 ends_noted (Ok lack) result cause unknown h is = noted cause unknown (subst (λ r. IfErr r (λ cause. cause ≡ NotACall)) is h)
 ends_noted (Err e) result cause unknown h is = refused cause (unknown + 1) (of_error result cause is h)
+
+-- the notes end a run for this cause, or memory does that is refused for what is noted
+abbrev pub IsOfNotes : LineCause → Type 0
+IsOfNotes NoSettings = ⊥
+IsOfNotes NotACall = ⊤
+IsOfNotes Read = ⊥
+IsOfNotes Memory = ⊤
+IsOfNotes (Refused refusal) = ⊥
+
+by_notes : (cause : LineCause) → cause ≡ NotACall → IsOfNotes cause
+by_notes NotACall e = tt
+by_notes NoSettings e = cc
+by_notes Read e = cc
+by_notes Memory e = cc
+by_notes (Refused refusal) e = cc
+
+by_memory : (cause : LineCause) → cause ≡ Memory → IsOfNotes cause
+by_memory Memory e = tt
+by_memory NotACall e = cc
+by_memory NoSettings e = cc
+by_memory Read e = cc
+by_memory (Refused refusal) e = cc
+
+pub of_notes : {L E : Type 0} (lack : Result L E) (result : Result ⊤ LineCause) (cause : LineCause) →
+    MatchResult lack (λ _. IfErr result (λ cause. cause ≡ NotACall)) (λ _. result ≡ Err Memory) → result ≡ Err cause → IsOfNotes cause
+of_notes (Ok lack) result cause h is = by_notes cause (subst (λ r. IfErr r (λ cause. cause ≡ NotACall)) is h)
+of_notes (Err e) result cause h is = by_memory cause (of_error result cause is h)

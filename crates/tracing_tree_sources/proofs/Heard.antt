@@ -1,5 +1,5 @@
 -- What a source's lines told, one line more, and what a run over them leaves at its end.
-use Rattle.std.proofs.Common.{◌≡◌, ℕ, ◌+◌, Bool, true, false, List, [], ◌++◌, Option, Some, None, IfSome, Result, Ok, Err, refl, sym, ap, subst, ◌∙◌, arith, append_assoc, append-nil}
+use Rattle.std.proofs.Common.{◌≡◌, ℕ, ◌+◌, Bool, true, false, List, [], ◌∷◌, ◌++◌, Option, Some, None, IfSome, Result, Ok, Err, inl, inr, length, refl, sym, ap, subst, ◌∙◌, arith, append_assoc, append-nil, length-append}
 use Rattle.std.specs.Prelude.{⊤, if◌then◌else◌, IsUtf8}
 use Rattle.std.specs.Str.{is_utf8}
 use Rattle.std.proofs.lemmas.Str.{is_utf8-from_IsUtf8, IsUtf8-from_is_utf8}
@@ -11,10 +11,13 @@ use Rattle.tracing_tree.specs.Lines.Spelled.{input_lines, is_skipped}
 use Rattle.tracing_tree.specs.Lines.Reads.{TakesLine, HasNoLine}
 use Rattle.tracing_tree.specs.Lines.Runs.{is_from_outside}
 use Rattle.tracing_tree.specs.declared.lines.LineCause.{LineCause}
+use Rattle.tracing_tree.specs.declared.lines.LineFault.{LineFault}
 use Rattle.tracing_tree.specs.declared.lines.LineCause.TheVariants.{Settings as NoSettings, NotACall, Read, Memory, Refused}
-use Rattle.tracing_tree_sources.specs.Source.{Breaks, is_quiet, Heard, HearsLine, HearsNext, Makes, MakesAll, Step, StopsIn, Tells, calls_of, hear, hear_line, heard_step, nothing_heard, then_heard}
+use Rattle.tracing_tree_sources.specs.Source.{Breaks, CountsUnknown, EndsAt, Heard, HearsLine, HearsNext, Makes, MakesAll, MayEnd, Step, StopsIn, Tells, calls_of, hear, hear_line, heard_step, next_calls, next_unknown, nothing_heard, then_heard}
+use Rattle.tracing_tree_sources.specs.declared.run.SourceRun.{SourceRun}
 use Rattle.tracing_tree_sources.specs.declared.run.Judged.TheVariants.{End}
-use Rattle.tracing_tree_sources.proofs.Made.{makes_none, makes_then, makes_flushed, stops_before, stops_after, stops_more}
+use Rattle.tracing_tree_sources.proofs.Ended.{IsOfNotes}
+use Rattle.tracing_tree_sources.proofs.Made.{makes_none, makes_then, makes_flushed, stops_after, stops_before, stops_more}
 
 outside : (cause : LineCause) (calls : List Call) (s : Seen) → is_from_outside cause ≡ true → Breaks cause calls s s
 outside NoSettings calls s h = cc
@@ -23,12 +26,12 @@ outside Read calls s h = refl
 outside Memory calls s h = refl
 outside (Refused refusal) calls s h = cc
 
-quiet : (cause : LineCause) (calls : List Call) (s : Seen) → is_quiet cause ≡ true → Breaks cause calls s s
-quiet NoSettings calls s h = refl
-quiet NotACall calls s h = refl
-quiet Read calls s h = refl
-quiet Memory calls s h = refl
-quiet (Refused refusal) calls s h = cc
+of_notes_breaks : (cause : LineCause) (calls : List Call) (s : Seen) → IsOfNotes cause → Breaks cause calls s s
+of_notes_breaks NoSettings calls s h = absurd h
+of_notes_breaks NotACall calls s h = refl
+of_notes_breaks Read calls s h = absurd h
+of_notes_breaks Memory calls s h = refl
+of_notes_breaks (Refused refusal) calls s h = absurd h
 
 -- a line that isn't UTF-8
 pub no_text : (line : List ℕ) → ¬ (IsUtf8 line) → is_utf8 line ≡ false
@@ -93,24 +96,13 @@ module _ {S : Type 0} (takes : S → List ℕ → Option Json → Option (Step S
     next_outside None left before after cause s h = tt
     next_outside (Some input) left before after cause s h = stops_before _ cause s (outside cause _ s h)
 
-    -- the notes end the run, or memory does
-    pub next_quiet : (known left : Option (List ℕ)) (before after : S) (cause : LineCause) (s : Seen) → is_quiet cause ≡ true →
-        HearsNext takes ends known left before after (Err cause) s s
-    next_quiet None left before after cause s h = tt
-    next_quiet (Some input) left before after cause s h = stops_before _ cause s (quiet cause _ s h)
-
     pub next_stops : (known left : Option (List ℕ)) (line : List ℕ) (before after : S) (cause : LineCause) (old new : Seen) →
         TakesLine known left line → HearsLine takes line before after (Err cause) old new → HearsNext takes ends known left before after (Err cause) old new
     next_stops None left line before after cause old new first h = tt
     next_stops (Some input) None line before after cause old new first h = absurd first
     next_stops (Some input) (Some rest) line before after cause old new first h =
-        let heard : Heard S = hear_line takes before line in
-        let later : Heard S = hear takes heard.source (input_lines rest) in
-        let P : List Call → Type 0 = λ calls. StopsIn calls cause old new in
-        let Q : List (List ℕ) → Type 0 = λ lines. StopsIn (calls_of takes ends before lines) cause old new in
-        subst Q (sym first)
-        (subst P (sym (append_assoc heard.calls later.calls (ends later.source)))
-        (stops_more heard.calls (later.calls ++ ends later.source) cause old new h))
+        let Q : List (List ℕ) → Type 0 = λ lines. StopsIn (next_calls takes ends before lines) cause old new in
+        subst Q (sym first) h
 
     pub next_ends : (known left : Option (List ℕ)) (before after : S) (old new : Seen) → HasNoLine known → Makes (ends before) old new →
         HearsNext takes ends known left before after (Ok End) old new
@@ -121,24 +113,12 @@ module _ {S : Type 0} (takes : S → List ℕ → Option Json → Option (Step S
         HearsNext takes ends known left before after (Err cause) old new
     end_stops None left before after cause old new none h = tt
     end_stops (Some input) left before after cause old new none h =
-        let Q : List (List ℕ) → Type 0 = λ lines. StopsIn (calls_of takes ends before lines) cause old new in
+        let Q : List (List ℕ) → Type 0 = λ lines. StopsIn (next_calls takes ends before lines) cause old new in
         subst Q (sym none) h
 
-  -- ---- the run so far
+  -- ---- lines after lines
 
-  -- these calls were made of the lines before the others, and the source is where these lines left it
-  pub record IsSoFar (lines others : List (List ℕ)) (begun source : S) (unknown : ℕ) (old now : Seen) : Type 0 where
-    pub calls : List Call
-    pub hears : hear takes begun lines ≡ then_heard (record { calls = calls; source = source; unknown = unknown }) (hear takes source others)
-    pub makes : Makes calls old now
-
-  abbrev pub IsKnownSoFar : Option (List ℕ) → Option (List ℕ) → S → S → ℕ → Seen → Seen → Type 0
-  IsKnownSoFar None middle begun source unknown old now = ⊤
-  IsKnownSoFar (Some input) None begun source unknown old now = ⊥
-  IsKnownSoFar (Some input) (Some rest) begun source unknown old now =
-      IsSoFar (input_lines input) (input_lines rest) begun source unknown old now
-
-  then_nothing : (h : Heard S) (source : S) → h ≡ then_heard (record { calls = []; source = source; unknown = 0 }) h
+  then_nothing : (h : Heard S) (source : S) → h ≡ then_heard (nothing_heard source) h
   then_nothing h source =
       let e : h.unknown ≡ 0 + h.unknown = omega arith in
       λ i. record { calls = h.calls; source = h.source; unknown = e i }
@@ -148,68 +128,193 @@ module _ {S : Type 0} (takes : S → List ℕ → Option Json → Option (Step S
       let e : a.unknown + (b.unknown + c.unknown) ≡ (a.unknown + b.unknown) + c.unknown = omega arith in
       λ i. record { calls = sym (append_assoc a.calls b.calls c.calls) i; source = c.source; unknown = e i }
 
-  pub starts : (known : Option (List ℕ)) (source : S) (s : Seen) → IsKnownSoFar known known source source 0 s s
+  pub hear_append : (source : S) (first second : List (List ℕ)) →
+      hear takes source (first ++ second) ≡ then_heard (hear takes source first) (hear takes (hear takes source first).source second)
+  hear_append source [] second = then_nothing (hear takes source second) source
+  hear_append source (line ∷ lines) second =
+      let heard : Heard S = hear_line takes source line in
+      let later : Heard S = hear takes heard.source lines in
+      ap (then_heard heard) (hear_append heard.source lines second) ∙ then_then heard later (hear takes later.source second)
+
+  hear_one : (source : S) (line : List ℕ) → hear takes source (line ∷ []) ≡ hear_line takes source line
+  hear_one source line =
+      let heard : Heard S = hear_line takes source line in
+      let e : heard.unknown + 0 ≡ heard.unknown = omega arith in
+      λ i. record { calls = append-nil heard.calls i; source = heard.source; unknown = e i }
+
+  hear_more : (source : S) (lines : List (List ℕ)) (line : List ℕ) →
+      hear takes source (lines ++ line ∷ []) ≡ then_heard (hear takes source lines) (hear_line takes (hear takes source lines).source line)
+  hear_more source lines line =
+      hear_append source lines (line ∷ []) ∙ ap (then_heard (hear takes source lines)) (hear_one (hear takes source lines).source line)
+
+  -- ---- the run so far
+
+  -- the calls of the lines before the others were made, and the source is where these lines left it
+  pub record IsSoFar (lines others : List (List ℕ)) (begun source : S) (number unknown : ℕ) (old now : Seen) : Type 0 where
+    pub before : List (List ℕ)
+    pub split : before ++ others ≡ lines
+    pub numbered : number ≡ length before + 1
+    pub reached : (hear takes begun before).source ≡ source
+    pub counted : unknown ≡ (hear takes begun before).unknown
+    pub makes : Makes (hear takes begun before).calls old now
+
+  abbrev pub IsKnownSoFar : Option (List ℕ) → Option (List ℕ) → S → S → ℕ → ℕ → Seen → Seen → Type 0
+  IsKnownSoFar None middle begun source number unknown old now = ⊤
+  IsKnownSoFar (Some input) None begun source number unknown old now = ⊥
+  IsKnownSoFar (Some input) (Some rest) begun source number unknown old now =
+      IsSoFar (input_lines input) (input_lines rest) begun source number unknown old now
+
+  pub starts : (known : Option (List ℕ)) (source : S) (s : Seen) → IsKnownSoFar known known source source 1 0 s s
   starts None source s = tt
   starts (Some input) source s = record {
-    calls = [];
-    hears = then_nothing (hear takes source (input_lines input)) source;
+    before = [];
+    split = refl;
+    numbered = refl;
+    reached = refl;
+    counted = refl;
     makes = makes_none s;
   }
 
-  pub flushed : (known middle : Option (List ℕ)) (begun source : S) (unknown : ℕ) (old now next : Seen) →
-      IsKnownSoFar known middle begun source unknown old now → Flushes now next → IsKnownSoFar known middle begun source unknown old next
-  flushed None middle begun source unknown old now next so_far h = tt
-  flushed (Some x) None begun source unknown old now next so_far h = absurd so_far
-  flushed (Some x) (Some y) begun source unknown old now next so_far h = record {
-    calls = so_far.calls;
-    hears = so_far.hears;
-    makes = makes_flushed so_far.calls old now next so_far.makes h;
+  pub flushed : (known middle : Option (List ℕ)) (begun source : S) (number unknown : ℕ) (old now next : Seen) →
+      IsKnownSoFar known middle begun source number unknown old now → Flushes now next → IsKnownSoFar known middle begun source number unknown old next
+  flushed None middle begun source number unknown old now next so_far h = tt
+  flushed (Some x) None begun source number unknown old now next so_far h = absurd so_far
+  flushed (Some x) (Some y) begun source number unknown old now next so_far h = record {
+    before = so_far.before;
+    split = so_far.split;
+    numbered = so_far.numbered;
+    reached = so_far.reached;
+    counted = so_far.counted;
+    makes = makes_flushed (hear takes begun so_far.before).calls old now next so_far.makes h;
   }
 
   -- one line more
-  pub more : (known middle left : Option (List ℕ)) (begun source after : S) (unknown sum : ℕ) (is_known : Bool) → sum ≡ unknown + (if is_known then 0 else 1) → (old now next : Seen) →
-      IsKnownSoFar known middle begun source unknown old now → (line : List ℕ) × TakesLine middle left line × HearsLine takes line source after (Ok is_known) now next →
-      IsKnownSoFar known left begun after sum old next
-  more None middle left begun source after unknown sum is_known count old now next so_far h = tt
-  more (Some x) None left begun source after unknown sum is_known count old now next so_far h = absurd so_far
-  more (Some x) (Some y) None begun source after unknown sum is_known count old now next so_far h = absurd h.1
-  more (Some x) (Some y) (Some z) begun source after unknown sum is_known count old now next so_far (line, first, (made, left_is, unknown_is)) =
+  pub more : (known middle left : Option (List ℕ)) (begun source after : S) (number unknown sum : ℕ) (is_known : Bool) → sum ≡ unknown + (if is_known then 0 else 1) → (old now next : Seen) →
+      IsKnownSoFar known middle begun source number unknown old now → (line : List ℕ) × TakesLine middle left line × HearsLine takes line source after (Ok is_known) now next →
+      IsKnownSoFar known left begun after (number + 1) sum old next
+  more None middle left begun source after number unknown sum is_known count old now next so_far h = tt
+  more (Some x) None left begun source after number unknown sum is_known count old now next so_far h = absurd so_far
+  more (Some x) (Some y) None begun source after number unknown sum is_known count old now next so_far h = absurd h.1
+  more (Some x) (Some y) (Some z) begun source after number unknown sum is_known count old now next so_far (line, first, (made, left_is, unknown_is)) =
+      let before : Heard S = hear takes begun so_far.before in
       let heard : Heard S = hear_line takes source line in
-      let before : Heard S = record { calls = so_far.calls; source = source; unknown = unknown } in
-      let total : unknown + heard.unknown ≡ sum = ap (λ n. unknown + n) unknown_is ∙ sym count in
-      let P : S → Type 0 = λ s. IsSoFar (input_lines x) (input_lines z) begun s sum old next in
-      let Q : ℕ → Type 0 = λ n. IsSoFar (input_lines x) (input_lines z) begun heard.source n old next in
-      subst P (sym left_is) (subst Q total (record {
-        calls = so_far.calls ++ heard.calls;
-        hears = so_far.hears ∙ ap (λ lines. then_heard before (hear takes source lines)) first
-            ∙ then_then before heard (hear takes heard.source (input_lines z));
-        makes = makes_then so_far.calls heard.calls old now next so_far.makes made;
-      }))
+      let P : S → Type 0 = λ s. hear takes begun (so_far.before ++ line ∷ []) ≡ then_heard before (hear_line takes s line) in
+      let all : hear takes begun (so_far.before ++ line ∷ []) ≡ then_heard before heard = subst P so_far.reached (hear_more begun so_far.before line) in
+      let Q : List Call → Type 0 = λ calls. Makes calls old next in
+      record {
+        before = so_far.before ++ line ∷ [];
+        split = append_assoc so_far.before (line ∷ []) (input_lines z) ∙ ap (λ lines. so_far.before ++ lines) (sym first) ∙ so_far.split;
+        numbered = omega (arith, so_far.numbered, length-append so_far.before (line ∷ []));
+        reached = ap (λ (h : Heard S). h.source) all ∙ sym left_is;
+        counted = count ∙ ap (λ n. n + (if is_known then 0 else 1)) so_far.counted ∙ ap (λ n. before.unknown + n) (sym unknown_is) ∙ sym (ap (λ (h : Heard S). h.unknown) all);
+        makes = subst Q (sym (ap (λ (h : Heard S). h.calls) all)) (makes_then before.calls heard.calls old now next so_far.makes made);
+      }
+
+  -- ---- the end of a run
+
+  outside_counts : (cause : LineCause) (before here unknown : ℕ) → MayEnd cause 0 → unknown ≡ before → CountsUnknown cause before here unknown
+  outside_counts NoSettings before here unknown h e = absurd h
+  outside_counts NotACall before here unknown h e = absurd (omega (arith, h))
+  outside_counts Read before here unknown h e = e
+  outside_counts Memory before here unknown h e = inl e
+  outside_counts (Refused refusal) before here unknown h e = e
+
+  noted_counts : (cause : LineCause) (before here unknown : ℕ) → IsOfNotes cause → here ≡ 1 → unknown ≡ before → CountsUnknown cause before here (unknown + 1)
+  noted_counts NoSettings before here unknown h one e = absurd h
+  noted_counts NotACall before here unknown h one e = (one, ap (λ n. n + 1) e)
+  noted_counts Read before here unknown h one e = absurd h
+  noted_counts Memory before here unknown h one e = inr (ap (λ n. n + 1) e ∙ ap (λ n. before + n) (sym one))
+  noted_counts (Refused refusal) before here unknown h one e = absurd h
 
   module _ (ends : S → List Call) where
-    pub stops : (known middle left : Option (List ℕ)) (begun source after : S) (unknown : ℕ) (cause : LineCause) (old now next : Seen) →
-        IsKnownSoFar known middle begun source unknown old now → HearsNext takes ends middle left source after (Err cause) now next →
-        IfSome known (λ input. StopsIn (calls_of takes ends begun (input_lines input)) cause old next)
-    stops None middle left begun source after unknown cause old now next so_far h = tt
-    stops (Some x) None left begun source after unknown cause old now next so_far h = absurd so_far
-    stops (Some x) (Some y) left begun source after unknown cause old now next so_far h =
-        let later : Heard S = hear takes source (input_lines y) in
-        let P : List Call → Type 0 = λ calls. StopsIn calls cause old next in
-        subst P (sym (ap (λ (h : Heard S). h.calls ++ ends h.source) so_far.hears ∙ append_assoc so_far.calls later.calls (ends later.source)))
-        (stops_after so_far.calls (later.calls ++ ends later.source) cause old now next so_far.makes h)
+    -- the next line ends the run, or the end does
+    pub stops : (known middle left : Option (List ℕ)) (begun source after : S) (number unknown : ℕ) (cause : LineCause) → MayEnd cause 0 → (old now next : Seen) →
+        IsKnownSoFar known middle begun source number unknown old now → HearsNext takes ends middle left source after (Err cause) now next →
+        IfSome known (λ input. EndsAt takes ends (input_lines input) begun
+        (record { unknown = unknown; fault = Some (record { line = number; cause = cause }) }) (record { line = number; cause = cause }) old next)
+    stops None middle left begun source after number unknown cause may old now next so_far h = tt
+    stops (Some x) None left begun source after number unknown cause may old now next so_far h = absurd so_far
+    stops (Some x) (Some y) left begun source after number unknown cause may old now next so_far h =
+        let before : Heard S = hear takes begun so_far.before in
+        let P : S → Type 0 = λ s. StopsIn (next_calls takes ends s (input_lines y)) cause now next in
+        record {
+          before = so_far.before;
+          others = input_lines y;
+          split = so_far.split;
+          number = so_far.numbered;
+          between = now;
+          makes = so_far.makes;
+          stops = subst P (sym so_far.reached) h;
+          counts = outside_counts cause before.unknown (next_unknown takes before.source (input_lines y)) unknown may so_far.counted;
+        }
 
-    pub finishes : (known middle left : Option (List ℕ)) (begun source after : S) (unknown : ℕ) (old now next : Seen) →
-        IsKnownSoFar known middle begun source unknown old now → HearsNext takes ends middle left source after (Ok End) now next →
+    -- the notes end the run after an unknown line, or memory for what is noted
+    pub stops_noted : (known middle left : Option (List ℕ)) (begun source after : S) (number unknown : ℕ) (cause : LineCause) → IsOfNotes cause → (old now next : Seen) →
+        IsKnownSoFar known middle begun source number unknown old now →
+        (line : List ℕ) × TakesLine middle left line × HearsLine takes line source after (Ok false) now next →
+        IfSome known (λ input. EndsAt takes ends (input_lines input) begun
+        (record { unknown = unknown + 1; fault = Some (record { line = number; cause = cause }) }) (record { line = number; cause = cause }) old next)
+    stops_noted None middle left begun source after number unknown cause of_notes old now next so_far h = tt
+    stops_noted (Some x) None left begun source after number unknown cause of_notes old now next so_far h = absurd so_far
+    stops_noted (Some x) (Some y) None begun source after number unknown cause of_notes old now next so_far h = absurd h.1
+    stops_noted (Some x) (Some y) (Some z) begun source after number unknown cause of_notes old now next so_far (line, first, (made, left_is, unknown_is)) =
+        let before : Heard S = hear takes begun so_far.before in
+        let heard : Heard S = hear_line takes source line in
+        let P : S → Type 0 = λ s. StopsIn (hear_line takes s line).calls cause now next in
+        let Q : S → Type 0 = λ s. (hear_line takes s line).unknown ≡ 1 in
+        record {
+          before = so_far.before;
+          others = line ∷ input_lines z;
+          split = ap (λ lines. so_far.before ++ lines) (sym first) ∙ so_far.split;
+          number = so_far.numbered;
+          between = now;
+          makes = so_far.makes;
+          stops = subst P (sym so_far.reached) (record {
+            made = heard.calls;
+            rest = [];
+            split = append-nil heard.calls;
+            between = next;
+            makes = made;
+            breaks = of_notes_breaks cause [] next of_notes;
+          });
+          counts = noted_counts cause before.unknown (hear_line takes before.source line).unknown unknown of_notes (subst Q (sym so_far.reached) unknown_is) so_far.counted;
+        }
+
+    ends_with_rest : (source : S) (others : List (List ℕ)) (cause : LineCause) (old new : Seen) → StopsIn (next_calls takes ends source others) cause old new →
+        StopsIn ((hear takes source others).calls ++ ends (hear takes source others).source) cause old new
+    ends_with_rest source [] cause old new h = h
+    ends_with_rest source (line ∷ others) cause old new h =
+        let heard : Heard S = hear_line takes source line in
+        let later : Heard S = hear takes heard.source others in
+        let P : List Call → Type 0 = λ calls. StopsIn calls cause old new in
+        subst P (sym (append_assoc heard.calls later.calls (ends later.source)))
+        (stops_more heard.calls (later.calls ++ ends later.source) cause old new h)
+
+    -- a beginning of all calls was made where a run ended early
+    pub beginning : (lines : List (List ℕ)) (source : S) (run : SourceRun) (fault : LineFault) (old new : Seen) →
+        EndsAt takes ends lines source run fault old new → StopsIn (calls_of takes ends source lines) fault.cause old new
+    beginning lines source run fault old new h =
+        let before : Heard S = hear takes source h.before in
+        let later : Heard S = hear takes before.source h.others in
+        let P : List Call → Type 0 = λ calls. StopsIn calls fault.cause old new in
+        let Q : List (List ℕ) → Type 0 = λ lines. StopsIn (calls_of takes ends source lines) fault.cause old new in
+        subst Q h.split (subst P
+        (sym (ap (λ (h : Heard S). h.calls ++ ends h.source) (hear_append source h.before h.others) ∙ append_assoc before.calls later.calls (ends later.source)))
+        (stops_after before.calls (later.calls ++ ends later.source) fault.cause old h.between new h.makes
+        (ends_with_rest before.source h.others fault.cause h.between new h.stops)))
+
+    -- the end of the input is reached
+    pub finishes : (known middle left : Option (List ℕ)) (begun source after : S) (number unknown : ℕ) (old now next : Seen) →
+        IsKnownSoFar known middle begun source number unknown old now → HearsNext takes ends middle left source after (Ok End) now next →
         IfSome known (λ input. Makes (calls_of takes ends begun (input_lines input)) old next × (unknown ≡ (hear takes begun (input_lines input)).unknown))
-    finishes None middle left begun source after unknown old now next so_far h = tt
-    finishes (Some x) None left begun source after unknown old now next so_far h = absurd so_far
-    finishes (Some x) (Some y) left begun source after unknown old now next so_far h =
-        let before : Heard S = record { calls = so_far.calls; source = source; unknown = unknown } in
-        let e : hear takes begun (input_lines x) ≡ then_heard before (nothing_heard source) =
-        so_far.hears ∙ ap (λ lines. then_heard before (hear takes source lines)) h.0 in
-        let P : List Call → Type 0 = λ calls. Makes calls old next in
-        let none : unknown ≡ unknown + 0 = omega arith in (
-          subst P (sym (ap (λ (h : Heard S). h.calls ++ ends h.source) e ∙ ap (λ calls. calls ++ ends source) (append-nil so_far.calls)))
-              (makes_then so_far.calls (ends source) old now next so_far.makes h.1),
-          none ∙ sym (ap (λ (h : Heard S). h.unknown) e),
+    finishes None middle left begun source after number unknown old now next so_far h = tt
+    finishes (Some x) None left begun source after number unknown old now next so_far h = absurd so_far
+    finishes (Some x) (Some y) left begun source after number unknown old now next so_far h =
+        let before : Heard S = hear takes begun so_far.before in
+        let whole : so_far.before ≡ input_lines x = sym (append-nil so_far.before) ∙ ap (λ lines. so_far.before ++ lines) (sym h.0) ∙ so_far.split in
+        let P : S → Type 0 = λ s. Makes (ends s) now next in
+        let Q : List (List ℕ) → Type 0 = λ lines. Makes (calls_of takes ends begun lines) old next × (unknown ≡ (hear takes begun lines).unknown) in
+        subst Q whole (
+          makes_then before.calls (ends before.source) old now next so_far.makes (subst P (sym so_far.reached) h.1),
+          so_far.counted,
         )

@@ -1,6 +1,6 @@
 -- What lines of another tool's output mean: a source takes a line's text and value in and gives calls
 -- and its next state out.
-use Rattle.std.specs.Prelude.{◌≡◌, ℕ, ◌+◌, Bool, true, false, if◌then◌else◌, List, [], ◌∷◌, ◌++◌, length, Option, Some, None, Result, Ok, Err, IfSome, MatchOption, ⊤, ◌<◌}
+use Rattle.std.specs.Prelude.{◌≡◌, ◌⊎◌, ℕ, ◌+◌, Bool, true, false, if◌then◌else◌, List, [], ◌∷◌, ◌++◌, length, Option, Some, None, Result, Ok, Err, IfSome, MatchOption, ⊤, ◌<◌}
 use Rattle.std.specs.Io.KnownBytes.{Appends}
 use Rattle.std.specs.Str.{is_utf8}
 use Rattle.json.specs.Json.{Json, document}
@@ -14,6 +14,7 @@ use Rattle.tracing_tree.specs.Lines.Spelled.{input_lines, is_skipped}
 use Rattle.tracing_tree.specs.Lines.Reads.{TakesLine}
 use Rattle.tracing_tree.specs.declared.lines.LineCause.{LineCause}
 use Rattle.tracing_tree.specs.declared.lines.LineCause.TheVariants.{Settings as NoSettings, NotACall, Read, Memory, Refused}
+use Rattle.tracing_tree.specs.declared.lines.LineFault.{LineFault}
 use Rattle.tracing_tree_sources.specs.declared.notes.Lack.{Lack}
 use Rattle.tracing_tree_sources.specs.declared.notes.Lack.TheVariants.{Utf8}
 use Rattle.tracing_tree_sources.specs.declared.run.SourceRun.{SourceRun}
@@ -108,6 +109,16 @@ MayEnd Read unknown = ⊤
 MayEnd Memory unknown = ⊤
 MayEnd (Refused refusal) unknown = ⊤
 
+-- How many unknown lines were counted where a run ended at a line: those before it, of which there were
+-- so many, and the line itself, of which as many are unknown, where the notes ended the run. Memory may
+-- be refused before the line is known and after.
+abbrev pub CountsUnknown : LineCause → ℕ → ℕ → ℕ → Type 0
+CountsUnknown NoSettings before here unknown = unknown ≡ before
+CountsUnknown NotACall before here unknown = (here ≡ 1) × (unknown ≡ before + 1)
+CountsUnknown Read before here unknown = unknown ≡ before
+CountsUnknown Memory before here unknown = (unknown ≡ before) ⊎ (unknown ≡ before + here)
+CountsUnknown (Refused refusal) before here unknown = unknown ≡ before
+
 -- what a line lacks of which nothing is known
 abbrev pub lack_of : (Option Json → Lack) → List ℕ → Lack
 lack_of lacks line = if is_utf8 line then lacks (document line) else Utf8
@@ -141,7 +152,12 @@ module _ {S : Type 0} (takes : S → List ℕ → Option Json → Option (Step S
   HearsLine line before after (Err cause) old new =
       StopsIn (hear_line takes before line).calls cause old new
 
-  -- What the next line did, or the end: then these were the calls of all that is left.
+  -- the calls of the next of these lines, or those of the end where there is none
+  abbrev pub next_calls : (S → List Call) → S → List (List ℕ) → List Call
+  next_calls ends source [] = ends source
+  next_calls ends source (line ∷ others) = (hear_line takes source line).calls
+
+  -- What the next line did, or the end. Where it ended the run, these were calls of its own.
   abbrev pub HearsNext : (S → List Call) → Option (List ℕ) → Option (List ℕ) → S → S
       → Result Judged LineCause → Seen → Seen → Type 0
   HearsNext ends known left before after (Ok End) old new =
@@ -151,7 +167,26 @@ module _ {S : Type 0} (takes : S → List ℕ → Option Json → Option (Step S
   HearsNext ends known left before after (Ok Unknown) old new =
       (line : List ℕ) × TakesLine known left line × HearsLine line before after (Ok false) old new
   HearsNext ends known left before after (Err cause) old new =
-      IfSome known (λ input. StopsIn (calls_of takes ends before (input_lines input)) cause old new)
+      IfSome known (λ input. StopsIn (next_calls ends before (input_lines input)) cause old new)
+
+  -- how many lines are unknown of the next alone
+  abbrev pub next_unknown : S → List (List ℕ) → ℕ
+  next_unknown source [] = 0
+  next_unknown source (line ∷ others) = (hear_line takes source line).unknown
+
+  -- A run ended at a line, or at the end of the input: the calls of all lines before it were made, and
+  -- a beginning of its own. The fault has its number.
+  pub record EndsAt (ends : S → List Call) (lines : List (List ℕ)) (source : S) (run : SourceRun)
+      (fault : LineFault) (old new : Seen) : Type 0 where
+    pub before : List (List ℕ)
+    pub others : List (List ℕ)
+    pub split : before ++ others ≡ lines
+    pub number : fault.line ≡ length before + 1
+    pub between : Seen
+    pub makes : Makes (hear takes source before).calls old between
+    pub stops : StopsIn (next_calls ends (hear takes source before).source others) fault.cause between new
+    pub counts : CountsUnknown fault.cause (hear takes source before).unknown
+        (next_unknown (hear takes source before).source others) run.unknown
 
   -- The drawing is that of the calls of the known lines, and of those that the end brings; each was
   -- accepted. Where something ended the run, it is that of a beginning of these calls.
@@ -160,7 +195,7 @@ module _ {S : Type 0} (takes : S → List ℕ → Option Json → Option (Step S
       MatchOption run.fault
       (Makes (calls_of takes ends source lines) old new
       × (run.unknown ≡ (hear takes source lines).unknown))
-      (λ fault. StopsIn (calls_of takes ends source lines) fault.cause old new)
+      (λ fault. EndsAt ends lines source run fault old new)
 
   -- the same over what is left of the input, where that is known
   abbrev pub RunsSource : (S → List Call) → Option (List ℕ) → S → SourceRun → Seen → Seen → Type 0

@@ -1,10 +1,13 @@
-use Rattle.std.proofs.Common.{◌≡◌, ◌+◌, refl, arith, true, false, Ok}
+use Rattle.std.proofs.Common.{◌≡◌, ◌+◌, ℕ, refl, subst, arith, true, false, Some, IfSome, Ok}
 use Rattle.std.specs.Io.Buffered.{reader_remaining}
 use Rattle.tracing_tree_layer.specs.Calls.Layers.{seen}
 use Rattle.tracing_tree_layer.proofs.Runs.{change_then}
 use Rattle.tracing_tree.specs.declared.lines.LineCause.TheVariants.{Read}
+use Rattle.tracing_tree.specs.Lines.Spelled.{input_lines}
+use Rattle.tracing_tree_sources.specs.Source.{EndsAt}
 use Rattle.tracing_tree_sources.specs.declared.run.Judged.TheVariants.{Known, Unknown}
-use Rattle.tracing_tree_sources.proofs.Heard.{starts, flushed, more, stops, finishes, next_outside, next_quiet}
+use Rattle.tracing_tree_sources.proofs.Ended.{of_notes as is_of_notes}
+use Rattle.tracing_tree_sources.proofs.Heard.{starts, flushed, more, stops, stops_noted, finishes, next_outside}
 use Rattle.tracing_tree_sources.proofs.run.run_source.Goals.{in-Ok-Known, in-Ok-Unknown+in_default}
 use Rattle.tracing_tree_sources.proofs.run.run_source.Goals as goal
 
@@ -24,10 +27,10 @@ returns-in-Ok-End-clause-run g c =
     let middle = reader_remaining g.R.Read.remaining c.loop-number.lines in
     let left = reader_remaining g.R.Read.remaining c.run_next.new.lines in
     let see = seen g.FT.FormatTime g.W.Output in
-    let shown = change_then see (flushed takes known middle c.args.source.now c.loop-number.source c.loop-number.unknown)
+    let shown = change_then see (flushed takes known middle c.args.source.now c.loop-number.source c.loop-number.number c.loop-number.unknown)
     c.args.layered.now c.loop-number.layered c.show_before_read.new.layered c.loop-number.invariant.change c.show_before_read.ensures in
     let next = rw (c.in-Ok-End.is, c.in-Ok-End.field-0-is) at c.run_next.ensures.next in
-    change_then see (finishes takes g.S.Source.ends known middle left c.args.source.now c.loop-number.source c.run_next.new.source c.loop-number.unknown)
+    change_then see (finishes takes g.S.Source.ends known middle left c.args.source.now c.loop-number.source c.run_next.new.source c.loop-number.number c.loop-number.unknown)
     c.args.layered.now c.show_before_read.new.layered c.run_next.new.layered shown next
 
 pub returns-in-Err-clause-run : goal.returns-in-Err-clause-run
@@ -37,9 +40,9 @@ returns-in-Err-clause-run g c =
     let middle = reader_remaining g.R.Read.remaining c.loop-number.lines in
     let left = reader_remaining g.R.Read.remaining c.run_next.new.lines in
     let see = seen g.FT.FormatTime g.W.Output in
-    let shown = change_then see (flushed takes known middle c.args.source.now c.loop-number.source c.loop-number.unknown)
+    let shown = change_then see (flushed takes known middle c.args.source.now c.loop-number.source c.loop-number.number c.loop-number.unknown)
     c.args.layered.now c.loop-number.layered c.show_before_read.new.layered c.loop-number.invariant.change c.show_before_read.ensures in
-    change_then see (stops takes g.S.Source.ends known middle left c.args.source.now c.loop-number.source c.run_next.new.source c.loop-number.unknown c.in-Err.cause)
+    change_then see (stops takes g.S.Source.ends known middle left c.args.source.now c.loop-number.source c.run_next.new.source c.loop-number.number c.loop-number.unknown c.in-Err.cause c.in-Err.ensures.cause)
     c.args.layered.now c.show_before_read.new.layered c.run_next.new.layered shown c.in-Err.ensures.next
 
 pub returns-in-Err-skip-clause-run : goal.returns-in-Err-skip-clause-run
@@ -49,19 +52,13 @@ returns-in-Err-skip-clause-run g c =
     let middle = reader_remaining g.R.Read.remaining c.loop-number.lines in
     let left = reader_remaining g.R.Read.remaining c.run_next.new.lines in
     let see = seen g.FT.FormatTime g.W.Output in
-    let shown = change_then see (flushed takes known middle c.args.source.now c.loop-number.source c.loop-number.unknown)
+    let shown = change_then see (flushed takes known middle c.args.source.now c.loop-number.source c.loop-number.number c.loop-number.unknown)
     c.args.layered.now c.loop-number.layered c.show_before_read.new.layered c.loop-number.invariant.change c.show_before_read.ensures in
     let is : c.run_next.result ≡ Ok Unknown = cc in
     let next = rw is at c.run_next.ensures.next in
-    let after = change_then see (more takes known middle left c.args.source.now c.loop-number.source c.run_next.new.source c.loop-number.unknown (c.loop-number.unknown + 1) false refl)
-    c.args.layered.now c.show_before_read.new.layered c.run_next.new.layered shown next in
-    let now = see c.run_next.new.layered in
-    record {
-      changed = stops takes g.S.Source.ends known left left c.args.source.now c.run_next.new.source c.run_next.new.source (c.loop-number.unknown + 1) c.in-Err-skip.cause
-          (see c.args.layered.now) now now after.changed
-          (next_quiet takes g.S.Source.ends left left c.run_next.new.source c.run_next.new.source c.in-Err-skip.cause now c.in-Err-skip.ensures.quiet);
-      fixed = after.fixed;
-    }
+    let of_notes = is_of_notes c.lack_of-lack.result c.skip.result c.in-Err-skip.cause c.skip.ensures.ended c.in-Err-skip.is in
+    change_then see (stops_noted takes g.S.Source.ends known middle left c.args.source.now c.loop-number.source c.run_next.new.source c.loop-number.number c.loop-number.unknown c.in-Err-skip.cause of_notes)
+    c.args.layered.now c.show_before_read.new.layered c.run_next.new.layered shown next
 
 pub loop-number-preserved : goal.loop-number-preserved
 loop-number-preserved g c =
@@ -70,7 +67,7 @@ loop-number-preserved g c =
     let middle = reader_remaining g.R.Read.remaining c.loop-number.lines in
     let left = reader_remaining g.R.Read.remaining c.run_next.new.lines in
     let see = seen g.FT.FormatTime g.W.Output in
-    let shown = change_then see (flushed takes known middle c.args.source.now c.loop-number.source c.loop-number.unknown)
+    let shown = change_then see (flushed takes known middle c.args.source.now c.loop-number.source c.loop-number.number c.loop-number.unknown)
     c.args.layered.now c.loop-number.layered c.show_before_read.new.layered c.loop-number.invariant.change c.show_before_read.ensures in
     elim c.match-run_next-2.branch [
       | in-Ok-Known w ↦
@@ -78,7 +75,7 @@ loop-number-preserved g c =
           let next = rw is at c.run_next.ensures.next in
           record {
             room = omega (arith, w.unknown-is, c.loop-number.invariant.room);
-            change = rw w.unknown-is (change_then see (more takes known middle left c.args.source.now c.loop-number.source c.run_next.new.source c.loop-number.unknown c.loop-number.unknown true (omega arith))
+            change = rw w.unknown-is (change_then see (more takes known middle left c.args.source.now c.loop-number.source c.run_next.new.source c.loop-number.number c.loop-number.unknown c.loop-number.unknown true (omega arith))
                 c.args.layered.now c.show_before_read.new.layered c.run_next.new.layered shown next);
           }
       | in-Ok-Unknown+in_default w ↦
@@ -86,7 +83,7 @@ loop-number-preserved g c =
           let next = rw is at c.run_next.ensures.next in
           record {
             room = omega (arith, w.unknown-is, c.loop-number.invariant.room);
-            change = rw w.unknown-is (change_then see (more takes known middle left c.args.source.now c.loop-number.source c.run_next.new.source c.loop-number.unknown (c.loop-number.unknown + 1) false refl)
+            change = rw w.unknown-is (change_then see (more takes known middle left c.args.source.now c.loop-number.source c.run_next.new.source c.loop-number.number c.loop-number.unknown (c.loop-number.unknown + 1) false refl)
                 c.args.layered.now c.show_before_read.new.layered c.run_next.new.layered shown next);
           }
     ]
@@ -98,9 +95,12 @@ returns-clause-run g c =
     let middle = reader_remaining g.R.Read.remaining c.loop-number.lines in
     let see = seen g.FT.FormatTime g.W.Output in
     let now = see c.loop-number.layered in
+    let last : c.loop-number.number ≡ 18446744073709551615 = omega arith in
+    let P : ℕ → Type 0 = λ number. IfSome known (λ input. EndsAt takes g.S.Source.ends (input_lines input) c.args.source.now
+    (record { unknown = c.loop-number.unknown; fault = Some (record { line = number; cause = Read }) }) (record { line = number; cause = Read }) (see c.args.layered.now) now) in
     record {
-      changed = stops takes g.S.Source.ends known middle middle c.args.source.now c.loop-number.source c.loop-number.source c.loop-number.unknown Read
+      changed = subst P last (stops takes g.S.Source.ends known middle middle c.args.source.now c.loop-number.source c.loop-number.source c.loop-number.number c.loop-number.unknown Read tt
           (see c.args.layered.now) now now c.loop-number.invariant.change.changed
-          (next_outside takes g.S.Source.ends middle middle c.loop-number.source c.loop-number.source Read now refl);
+          (next_outside takes g.S.Source.ends middle middle c.loop-number.source c.loop-number.source Read now refl));
       fixed = c.loop-number.invariant.change.fixed;
     }
