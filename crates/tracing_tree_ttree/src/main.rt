@@ -1,6 +1,9 @@
 //! The program `ttree`: another tool's output drawn as a tree.
 #![tactic(auto)]
 
+ghost use Rattle.std.specs.Prelude.{◌≡◌, option_map};
+ghost use Rattle.tracing_tree_ttree.specs.Texts.{whole_characters, whole_text};
+
 use clap::error::ErrorKind;
 use clap::{Arg, ArgAction, ArgMatches, Command, Error, value_parser};
 use jiff::{SignedDuration, Timestamp};
@@ -395,11 +398,19 @@ fn draw_tracing<R: AllocGlobal + Eprint + Print, I: Read + Drop>(
 }
 
 // The text of these bytes, without a character in which they end. The line end that the first line got doesn't count.
-fn whole_characters(bytes: &[u8]) -> Option<&str> {
-    let bytes = match bytes {
-        [front @ .., b'\n'] => front,
-        _ => bytes,
-    };
+fn whole_characters(bytes: &[u8]) -> Option<&str>
+    ensures { option_map (λ t. t.now) result ≡ whole_characters bytes.now }
+{
+    match bytes {
+        [front @ .., b'\n'] => whole_text(front),
+        _ => whole_text(bytes),
+    }
+}
+
+#[tactic(auto, using(crate::proofs::Utf8::is_text, crate::proofs::Utf8::is_no_text))]
+fn whole_text(bytes: &[u8]) -> Option<&str>
+    ensures { option_map (λ t. t.now) result ≡ whole_text bytes.now }
+{
     match from_utf8(bytes) {
         Ok(text) => Some(text),
         Err(error) if error.error_len().is_none() => from_utf8(&bytes[..error.valid_up_to()]).ok(),
