@@ -1,5 +1,5 @@
 -- Examples computed from the definitions of Go's tests, of what failed of them, of tracing's lines and of levels.
-use Rattle.std.proofs.Common.{◌≡◌, ℕ, List, true, false, None, Some, [], ◌∷◌, codes, refl}
+use Rattle.std.proofs.Common.{◌≡◌, ℕ, List, true, false, None, Some, [], ◌∷◌, codes, refl, arith}
 use Rattle.std.specs.Prelude.{negsuc}
 use Rattle.json.specs.Json.{array, boolean, string, object, no_items, member, no_members}
 use Rattle.tracing_tree_sources.specs.Failed.{FailedState, Untold, forgotten, is_inner, is_over, none_failed, outermost, released, verdict_of}
@@ -16,6 +16,8 @@ use Rattle.tracing_tree_base.specs.declared.style.Level.TheVariants.{Trace, Debu
 use Rattle.tracing_tree_core.specs.Registry.Ids.{id_of}
 use Rattle.tracing_tree_sources.specs.Levels.{is_shown, shown_calls}
 use Rattle.tracing_tree_sources.specs.Moments.{moment_after, since_1970}
+use Rattle.tracing_tree.specs.declared.lines.LineCause.TheVariants.{NotACall, Read}
+use Rattle.tracing_tree_sources.specs.Source.{CountsUnknown}
 use Rattle.tracing_tree_sources.specs.Told.{close_call, event_call, is_escaped, message_field, span_call}
 use Rattle.tracing_tree_sources.specs.TracingLine.{bare_thread, kind_of, level_in}
 use Rattle.tracing_tree_sources.specs.declared.tracing.line.Kind.TheVariants.{Event, Enter, New}
@@ -89,6 +91,17 @@ module _ (moment : Moment) where
   pub a_test_that_runs_again_ends_first : run_twice.tally.unfinished ≡ 1
   unfolding above_held held kept
   a_test_that_runs_again_ends_first = refl
+
+-- ---- where a run ends
+
+pub the_line_at_which_the_notes_end_a_run_is_counted : CountsUnknown NotACall 2 1 3
+the_line_at_which_the_notes_end_a_run_is_counted = (refl, refl)
+
+pub a_line_that_is_known_ends_no_run_by_the_notes : ¬ (CountsUnknown NotACall 2 0 2)
+a_line_that_is_known_ends_no_run_by_the_notes h = absurd (omega (arith, h.0))
+
+pub a_read_that_fails_is_no_line : CountsUnknown Read 2 1 2
+a_read_that_fails_is_no_line = refl
 
 -- ---- what failed
 
