@@ -1,12 +1,10 @@
 -- What a tree of borrowed texts stands for is what its line reads as.
-use Rattle.std.specs.Prelude.{◌≡◌, ℕ, ℤ, ◌==◌, ◌||◌, Bool, true, false, cond, List, [], ◌∷◌, drop, slice_index, Option, Some, None, is_some, option_map, option_and_then, if◌then◌else◌, Float, refl}
-use Rattle.std.proofs.Common.{sym, ap, ◌∙◌, Ordering, Less, Equal, Greater, true≢false}
+use Rattle.std.specs.Prelude.{◌≡◌, ℕ, ◌==◌, ◌||◌, Bool, true, false, List, [], ◌∷◌, drop, slice_index, Option, Some, None, option_map, option_and_then, if◌then◌else◌, Float, refl}
+use Rattle.std.proofs.Common.{sym, ap, ◌∙◌, Ordering, Less, Equal, Greater}
 use Rattle.std.proofs.lemmas.Bool.{and_parts}
 use Rattle.std.proofs.lemmas.Option.{same_Some, none-some}
-use Rattle.std.proofs.lemmas.Slice.Eq.{bytes_eq-Decides}
 use Rattle.std.specs.Cmp.Lexicographic.{slice_cmp}
 use Rattle.std.specs.Ordering.{nat_cmp, match_ordering}
-use Rattle.std.specs.Str.{bytes_eq}
 use Rattle.json.specs.Json as json
 use Rattle.json.specs.Token.{Token}
 use Rattle.json.specs.Lex.{tokens}
@@ -14,12 +12,11 @@ use Rattle.json.specs.Find as look
 use Rattle.serde_json.specs.Data.{Num, unsigned, negative, float, Data, null, boolean, number, string, array, object, Items, no_items, item, Members, no_members, member, put}
 use Rattle.std.specs.Float.{binary64, float_is_finite}
 use Rattle.fast_float.specs.Text.{Parts, scan, nearest}
-use Rattle.serde_json.specs.Find.{get, get_member, as_str, as_number, as_u64, as_i64}
+use Rattle.serde_json.specs.Find.{as_str, as_u64, as_i64}
 use Rattle.serde_json.specs.Read.{number_of, number_from, float_of, of_json, of_items, of_members, read}
 use Rattle.serde_json.specs.Written.{has_float, items_have_float, members_have_float}
-use Rattle.serde_json.proofs.Views.{get_member-put, get_member-put_other}
-use Rattle.tracing_tree.specs.Lines.Spelled.{unless_null, value_at, whole_value, signed_value}
-use Rattle.tracing_tree.specs.Lines.Borrowed.{HasNoFloat, whole_text, signed_text, number_data, is_whole_number, data_of, items_data, members_data, is_whole, items_are_whole, members_are_whole}
+use Rattle.tracing_tree.specs.Lines.Spelled.{field_value}
+use Rattle.tracing_tree.specs.Lines.Borrowed.{HasNoFloat, number_data, is_whole_number, data_of, items_data, members_data, is_whole, items_are_whole, members_are_whole}
 
 -- ---- a value that reads as data stands for it
 
@@ -88,7 +85,7 @@ mutual
       let parts = and_parts (is_whole j) (members_are_whole ms) e in
       ap (option_and_then (λ d. of_members ms (put k d found))) (whole_read j parts.0) ∙ whole_members_read ms (put k (data_of j) found) parts.1
 
-neither : (a b : Bool) → a ≡ false → b ≡ false → (a || b) ≡ false
+pub neither : (a b : Bool) → a ≡ false → b ≡ false → (a || b) ≡ false
 neither a b first second = rw (first, second)
 
 first_of : (a b : Bool) → (a || b) ≡ false → a ≡ false
@@ -141,51 +138,9 @@ mutual
       let parts = and_parts (is_whole j) (members_are_whole ms) e in
       members_no_float ms (put k (data_of j) found) parts.1 (no_float_put k (data_of j) found (whole_no_float j parts.0) none)
 
--- ---- what is found in a value
+-- ---- texts and fields
 
-abbrev later : Option Data → Option Data → Option Data
-later None earlier = earlier
-later (Some d) earlier = Some d
-
-put_at : (name k : List ℕ) (j : json.Json) (found : Members) (b : Bool) → bytes_eq k name ≡ b
-    → get_member name (put k (data_of j) found) ≡ later (option_map data_of (cond b (Some j) None)) (get_member name found)
-put_at name k j found true is =
-    let same : k ≡ name = (bytes_eq-Decides k name).0 is in
-    ap (λ key. get_member key (put k (data_of j) found)) (sym same) ∙ get_member-put k (data_of j) found
-put_at name k j found false is =
-    get_member-put_other name k (data_of j) found (λ same. true≢false (sym ((bytes_eq-Decides k name).1 (sym same)) ∙ is))
-
-last_of : (o : Option json.Json) (one : Option json.Json) (first earlier : Option Data) → first ≡ later (option_map data_of one) earlier
-    → later (option_map data_of o) first ≡ later (option_map data_of (look.later_or o one)) earlier
-last_of None one first earlier is = is
-last_of (Some j) one first earlier is = refl
-
-members_get : (name : List ℕ) (ms : json.Members) (found : Members)
-    → get_member name (members_data ms found) ≡ later (option_map data_of (look.get_member name ms)) (get_member name found)
-members_get name json.no_members found = refl
-members_get name (json.member k j ms) found =
-    members_get name ms (put k (data_of j) found)
-    ∙ last_of (look.get_member name ms) (cond (bytes_eq k name) (Some j) None) (get_member name (put k (data_of j) found)) (get_member name found)
-    (put_at name k j found (bytes_eq k name) refl)
-
-later_none : (o : Option Data) → later o None ≡ o
-later_none None = refl
-later_none (Some d) = refl
-
-no_key : (name : List ℕ) (o : Option Num) → get name (number_data o) ≡ None
-no_key name None = refl
-no_key name (Some n) = refl
-
--- the value of a key
-pub data_get : (name : List ℕ) (j : json.Json) → get name (data_of j) ≡ option_map data_of (look.get name j)
-data_get name json.null = refl
-data_get name (json.boolean b) = refl
-data_get name (json.number s) = no_key name (number_of s)
-data_get name (json.string s) = refl
-data_get name (json.array js) = refl
-data_get name (json.object ms) = members_get name ms no_members ∙ later_none (option_map data_of (look.get_member name ms))
-
-no_str : (o : Option Num) → as_str (number_data o) ≡ None
+pub no_str : (o : Option Num) → as_str (number_data o) ≡ None
 no_str None = refl
 no_str (Some n) = refl
 
@@ -198,49 +153,10 @@ data_str (json.string s) = refl
 data_str (json.array js) = refl
 data_str (json.object ms) = refl
 
-its_number : (o : Option Num) → as_number (number_data o) ≡ o
-its_number None = refl
-its_number (Some n) = refl
-
--- the number of a value
-pub data_number : (j : json.Json) → as_number (data_of j) ≡ option_and_then number_of (look.as_number j)
-data_number json.null = refl
-data_number (json.boolean b) = refl
-data_number (json.number s) = its_number (number_of s)
-data_number (json.string s) = refl
-data_number (json.array js) = refl
-data_number (json.object ms) = refl
-
--- a null is absent
-null_absent : (j : json.Json) → look.is_null j ≡ true → unless_null (data_of j) ≡ None
-null_absent json.null e = refl
-null_absent (json.boolean b) e = cc
-null_absent (json.number s) e = cc
-null_absent (json.string s) e = cc
-null_absent (json.array js) e = cc
-null_absent (json.object ms) e = cc
-
-number_there : (o : Option Num) → unless_null (number_data o) ≡ Some (number_data o)
-number_there None = refl
-number_there (Some n) = refl
-
--- another value is there
-value_there : (j : json.Json) → look.is_null j ≡ false → unless_null (data_of j) ≡ Some (data_of j)
-value_there json.null e = cc
-value_there (json.boolean b) e = refl
-value_there (json.number s) e = number_there (number_of s)
-value_there (json.string s) e = refl
-value_there (json.array js) e = refl
-value_there (json.object ms) e = refl
-
-pub key_missing : (name : List ℕ) (j : json.Json) → look.get name j ≡ None → value_at name (data_of j) ≡ None
-key_missing name j none = ap (option_and_then unless_null) (data_get name j ∙ ap (option_map data_of) none)
-
-pub key_null : (name : List ℕ) (j found : json.Json) → look.get name j ≡ Some found → look.is_null found ≡ true → value_at name (data_of j) ≡ None
-key_null name j found is nothing = ap (option_and_then unless_null) (data_get name j ∙ ap (option_map data_of) is) ∙ null_absent found nothing
-
-pub key_found : (name : List ℕ) (j found : json.Json) → look.get name j ≡ Some found → look.is_null found ≡ false → value_at name (data_of j) ≡ Some (data_of found)
-key_found name j found is there = ap (option_and_then unless_null) (data_get name j ∙ ap (option_map data_of) is) ∙ value_there found there
+-- a number is no field
+pub no_field : (o : Option Num) → field_value (number_data o) ≡ None
+no_field None = refl
+no_field (Some n) = refl
 
 -- ---- numbers
 
@@ -273,48 +189,6 @@ minus_text s e = rw e
 pub plain_text : (s : List ℕ) → (slice_index s 0 == 45) ≡ false → number_of s ≡ number_from false (scan s)
 unfolding number_of
 plain_text s e = rw e
-
-below_zero : (b : Bool) (z : ℤ) (o : Option Num) → option_and_then as_u64 o ≡ None → option_and_then as_u64 (if b then Some (negative z) else o) ≡ None
-below_zero true z o e = refl
-below_zero false z o e = e
-
--- a number after a minus is none without a sign
-pub minus_u64 : (p : Parts) → option_and_then as_u64 (number_from true p) ≡ None
-minus_u64 p = below_zero _ _ (float_of true p) (float_u64 true p)
-
-negative_or : (b : Bool) (z : ℤ) (o : Option Num) → option_and_then as_i64 o ≡ None → is_whole_number o ≡ false
-    → is_some (option_and_then as_i64 (if b then Some (negative z) else o)) ≡ is_whole_number (if b then Some (negative z) else o)
-negative_or true z o none other = refl
-negative_or false z o none other = ap is_some none ∙ sym other
-
--- a number after a minus is whole where it is one with a sign
-pub minus_whole : (p : Parts) → is_some (option_and_then as_i64 (number_from true p)) ≡ is_whole_number (number_from true p)
-minus_whole p = negative_or _ _ (float_of true p) (float_i64 true p) (float_whole true p)
-
-unsigned_or : (b : Bool) (n : ℕ) (o : Option Num) → option_and_then as_u64 o ≡ None → is_whole_number o ≡ false
-    → is_some (option_and_then as_u64 (if b then Some (unsigned n) else o)) ≡ is_whole_number (if b then Some (unsigned n) else o)
-unsigned_or true n o none other = refl
-unsigned_or false n o none other = ap is_some none ∙ sym other
-
--- a number without a minus is whole where it is one without a sign
-pub plain_whole : (p : Parts) → is_some (option_and_then as_u64 (number_from false p)) ≡ is_whole_number (number_from false p)
-plain_whole p = unsigned_or _ _ (float_of false p) (float_u64 false p) (float_whole false p)
-
--- the whole number of a value
-pub data_whole : (j : json.Json) → whole_value (data_of j) ≡ option_and_then whole_text (look.as_number j)
-data_whole j = ap (option_and_then as_u64) (data_number j) ∙ chained (look.as_number j)
-  where
-    chained : (o : Option (List ℕ)) → option_and_then as_u64 (option_and_then number_of o) ≡ option_and_then whole_text o
-    chained None = refl
-    chained (Some s) = refl
-
--- the whole number with a sign
-pub data_signed : (j : json.Json) → signed_value (data_of j) ≡ option_and_then signed_text (look.as_number j)
-data_signed j = ap (option_and_then as_i64) (data_number j) ∙ chained (look.as_number j)
-  where
-    chained : (o : Option (List ℕ)) → option_and_then as_i64 (option_and_then number_of o) ≡ option_and_then signed_text o
-    chained None = refl
-    chained (Some s) = refl
 
 -- ---- lines
 

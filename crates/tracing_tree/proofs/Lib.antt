@@ -2,6 +2,10 @@ pub mod Choices
 pub mod Pairs
 pub mod Moments
 pub mod BorrowedTrees
+pub mod NumberParts
+pub mod LineParts
+pub mod LineTokens
+pub mod ObjectLines
 pub mod SpelledLines
 pub mod LineEnds
 pub mod LineRuns

@@ -11,7 +11,7 @@ use Rattle.tracing_tree_layer.specs.declared.call.Call.{Call}
 use Rattle.tracing_tree.specs.declared.lines.LineCause.{LineCause}
 use Rattle.tracing_tree.specs.declared.lines.LineCause.TheVariants.{Settings as NoSettings, NotACall, Read, Memory, Refused}
 
-not_settings : NotACall ≡ NoSettings → ⊥
+pub not_settings : NotACall ≡ NoSettings → ⊥
 not_settings e = cc
 
 -- what spells a call is an object
@@ -35,7 +35,7 @@ object_value (object ms) other e = same_Some (object ms) other e
 object_of_read : (line : List ℕ) (value : Data) → read line ≡ Some value → line_object line ≡ only_object value
 object_of_read line value is = rw is
 
-line_spells : (line : List ℕ) (value : Data) (call : Call) → IsUtf8 line → read line ≡ Some value → ValueSpells value call → SpellsCall line call
+pub line_spells : (line : List ℕ) (value : Data) (call : Call) → IsUtf8 line → read line ≡ Some value → ValueSpells value call → SpellsCall line call
 line_spells line value call text is s = record {
   text = text;
   value = value;
@@ -46,7 +46,7 @@ line_spells line value call text is s = record {
   spelled = s.spelled;
 }
 
-value_spells : (line : List ℕ) (value : Data) (call : Call) → read line ≡ Some value → SpellsCall line call → ValueSpells value call
+pub value_spells : (line : List ℕ) (value : Data) (call : Call) → read line ≡ Some value → SpellsCall line call → ValueSpells value call
 value_spells line value call is s =
     subst (λ (v : Data). ValueSpells v call) (sym (object_value value s.value (sym (object_of_read line value is) ∙ s.object)))
     (record { no_float = s.no_float; moment = s.moment; timed = s.timed; spelled = s.spelled })

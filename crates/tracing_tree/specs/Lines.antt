@@ -6,3 +6,4 @@ pub mod Reads
 pub mod Steps
 pub mod CallKinds
 pub mod Borrowed
+pub mod Parts

@@ -1,8 +1,10 @@
 //! The program's lines: the first spells settings, each further one a call.
 
-mod borrowed;
 mod call;
 mod context;
+mod number;
+mod part;
+mod parts;
 pub(crate) mod read;
 mod settings;
 mod value;
@@ -17,7 +19,7 @@ ghost use Rattle.tracing_tree.specs.Lines.Steps.{EndsLines, JudgesLine};
 ghost use Rattle.tracing_tree_base.specs.Drawing.Writers.{seen_writer};
 
 use call::call_of_line;
-use json::Scratch;
+use json::{Invalid, Scratch};
 pub use read::{holds_line, is_skipped, read_line};
 use settings::{Setup, settings_of_line};
 use std::alloc::{AllocError, AllocFailed, Global};
@@ -72,6 +74,32 @@ impl From<AllocError> for LineCause {
 
     fn from(_error: AllocError) -> LineCause {
         LineCause::Memory
+    }
+}
+
+impl From<Invalid> for LineCause {
+    ghost use Rattle.std.specs.Prelude.{◌≡◌};
+    ghost use Rattle.tracing_tree.specs.declared.lines.LineCause.TheVariants.{NotACall};
+
+    ghost from_gives = { λ _ cause. cause ≡ NotACall };
+
+    fn from(_invalid: Invalid) -> LineCause {
+        LineCause::NotACall
+    }
+}
+
+impl From<json::Error> for LineCause {
+    ghost use Rattle.std.specs.Prelude.{◌≡◌};
+    ghost use Rattle.json.specs.declared.error.Error.TheVariants.{OutOfMemory};
+    ghost use Rattle.tracing_tree.specs.Lines.Parts.{cause_of};
+
+    ghost from_gives = { λ error cause. cause ≡ cause_of error };
+
+    fn from(error: json::Error) -> LineCause {
+        match error {
+            json::Error::OutOfMemory => LineCause::Memory,
+            _ => LineCause::NotACall,
+        }
     }
 }
 

@@ -1,29 +1,20 @@
 -- The data that a tree of borrowed texts stands for.
-use Rattle.std.specs.Prelude.{◌≡◌, ℕ, ℤ, ◌&&◌, Bool, true, false, not, List, Option, Some, None, Result, Ok, Err, IsUtf8, option_and_then}
+use Rattle.std.specs.Prelude.{◌≡◌, ℕ, ◌&&◌, Bool, true, false, not, List, Option, Some, None, Result, Ok, Err}
 use Rattle.std.specs.declared.alloc.Global.{Global}
 use Rattle.json.specs.Json as json
 use Rattle.json.specs.Value.{value_view}
 use Rattle.json.specs.declared.value.Value.{Value}
 use Rattle.serde_json.specs.Data.{Num, Data, null, boolean, number, string, array, object, Items, no_items, item, Members, no_members, put}
-use Rattle.serde_json.specs.Find.{as_u64, as_i64, as_str, is_float}
-use Rattle.serde_json.specs.Read.{number_of, of_json, read}
+use Rattle.serde_json.specs.Find.{is_float}
+use Rattle.serde_json.specs.Read.{number_of, read}
 use Rattle.serde_json.specs.Written.{has_float}
 use Rattle.tracing_tree.specs.Lines.Values.{IsUnlessMemory}
-use Rattle.tracing_tree_base.specs.declared.field.Field.{Field}
-use Rattle.tracing_tree.specs.Lines.Spelled.{◌>>=◌, SpellsCall}
+use Rattle.tracing_tree.specs.Lines.Spelled.{SpellsCall}
 use Rattle.tracing_tree_layer.specs.declared.call.Call.{Call}
 use Rattle.tracing_tree.specs.declared.lines.LineCause.{LineCause}
 use Rattle.tracing_tree.specs.declared.lines.LineCause.TheVariants.{NotACall}
 
 -- ---- numbers
-
--- a text as a whole number of 64 bits
-abbrev pub whole_text : List ℕ → Option ℕ
-whole_text text = option_and_then as_u64 (number_of text)
-
--- a text as a whole number of 64 bits with a sign
-abbrev pub signed_text : List ℕ → Option ℤ
-signed_text text = option_and_then as_i64 (number_of text)
 
 -- a number out of range stands for a value that no part of a call is read from
 abbrev pub number_data : Option Num → Data
@@ -58,13 +49,6 @@ abbrev mutual
 abbrev pub borrowed_data : Value Global → Data
 borrowed_data value = data_of (value_view value)
 
--- the field of a name and a value, both texts
-abbrev pub field_of : Data → Data → Option Field
-field_of name value = do
-  named ← as_str name
-  text ← as_str value
-  Some (record { name = named; value = text })
-
 -- each number in it is whole
 abbrev mutual
   pub is_whole : json.Json → Bool
@@ -85,11 +69,6 @@ abbrev mutual
 
 -- ---- lines
 
--- a line is a text, and reads as this tree
-abbrev pub ReadsTree : List ℕ → Result (Value Global) LineCause → Type 0
-ReadsTree line (Ok value) = IsUtf8 line × (read line ≡ of_json (value_view value))
-ReadsTree line (Err cause) = IsUnlessMemory NotACall (IsUtf8 line → read line ≡ None) cause
-
 -- a line has a value without floats, or spells no call
 pub record HasNoFloat (line : List ℕ) : Type 0 where
   pub value : Data
@@ -99,12 +78,4 @@ pub record HasNoFloat (line : List ℕ) : Type 0 where
 abbrev pub RefusesFloat : {A : Type 0} → List ℕ → Result A LineCause → Type 0
 RefusesFloat line (Ok done) = HasNoFloat line
 RefusesFloat line (Err cause) =
-    IsUnlessMemory NotACall ((call : Call) → ¬ SpellsCall line call) cause
-
--- the value of a line that has no float
-abbrev pub ReadsWhole : List ℕ → Result (Value Global) LineCause → Type 0
-ReadsWhole line (Ok value) =
-    IsUtf8 line × (read line ≡ Some (borrowed_data value))
-    × (has_float (borrowed_data value) ≡ false)
-ReadsWhole line (Err cause) =
     IsUnlessMemory NotACall ((call : Call) → ¬ SpellsCall line call) cause
