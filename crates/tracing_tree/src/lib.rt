@@ -13,13 +13,12 @@
 //! [`format::Tape`] keeps what is drawn in memory, and [`format::Wrap`] writes it to any `std::io::Write`.
 #![tactic(auto)]
 
-pub mod lines;
 pub mod rows;
 pub mod shared;
 pub mod tracer;
 
-pub use lines::{LineCause, LineFault, LinesRun, run_lines, status};
 pub use tracing_tree_core::{field, format, registry, style, text, time};
 pub use tracing_tree_layer::{
     Call, DifferenceIter, HierarchicalLayer, Layered, Reply, call, difference, layer, layered,
 };
+pub use tracing_tree_lines::{LineCause, LineFault, LinesRun, lines, run_lines, status};

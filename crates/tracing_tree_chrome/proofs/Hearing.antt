@@ -1,9 +1,9 @@
 -- Why no more was heard of a trace.
 use Rattle.std.proofs.Common.{◌≡◌, ℕ, ◌<◌, Bool, true, false, Result, Ok, Err, arith}
 use Rattle.json.specs.Json.{Items, no_items, item}
-use Rattle.tracing_tree.specs.declared.lines.LineCause.{LineCause}
-use Rattle.tracing_tree.specs.declared.lines.LineCause.TheVariants.{Settings as NoSettings, NotACall, Read, Memory, Refused}
-use Rattle.tracing_tree_sources.specs.GoTest.{one_more}
+use Rattle.tracing_tree_lines.specs.declared.lines.LineCause.{LineCause}
+use Rattle.tracing_tree_lines.specs.declared.lines.LineCause.TheVariants.{Settings as NoSettings, NotACall, Read, Memory, Refused}
+use Rattle.tracing_tree_sources.specs.Counts.{one_more}
 use Rattle.tracing_tree_sources.specs.declared.notes.Lack.{Lack}
 use Rattle.tracing_tree_chrome.specs.Element.{element_of}
 use Rattle.tracing_tree_chrome.specs.Trace.{EndsHearing, heard_all, heard_as, heard_cut, heard_unknown}

@@ -8,7 +8,7 @@ use Rattle.std.specs.Result.{OkIff, result_ok}
 use Rattle.std.specs.Str.{all_ascii_digits}
 use Rattle.std.specs.Str.Parse.{IsNumeral, digits_value, signed_digits_value, without_leading_sign, ParsesSigned, ParsesUnsigned}
 use mir.Syntax.{w128}
-use Rattle.tracing_tree_sources.specs.GoTest.{is_empty}
+use Rattle.tracing_tree_sources.specs.Marks.{is_empty}
 use Rattle.tracing_tree_chrome.specs.Element.{fits_i128, integer_of, is_digits, whole_of}
 
 digits : IsNumeralModel (λ ds. all_ascii_digits ds ≡ true) (digits_value 10)

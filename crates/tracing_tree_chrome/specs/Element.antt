@@ -6,9 +6,9 @@ use Rattle.std.specs.Str.Parse.{digits_value, signed_digits_value, without_leadi
 use Rattle.json.specs.Json.{Json, null, boolean, number, string, array, object}
 use Rattle.json.specs.Find.{get, as_number}
 use Rattle.tracing_tree_base.specs.declared.field.Field.{Field}
-use Rattle.tracing_tree_sources.specs.GoTest.{is_empty}
+use Rattle.tracing_tree_sources.specs.Marks.{is_empty}
 use Rattle.tracing_tree_sources.specs.Values.{text_at}
-use Rattle.tracing_tree_sources.specs.TracingLine.{event_fields}
+use Rattle.tracing_tree_sources.specs.Fields.{event_fields}
 use Rattle.tracing_tree_sources.specs.declared.notes.Lack.{Lack}
 use Rattle.tracing_tree_sources.specs.declared.notes.Lack.TheVariants.{Phase as NoPhase, Process as NoProcess, Thread as NoThread, Start as NoStart, Duration as NoDuration}
 use Rattle.tracing_tree_chrome.specs.declared.element.Lane.{Lane}

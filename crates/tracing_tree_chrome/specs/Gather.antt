@@ -3,7 +3,7 @@ use Rattle.std.specs.Prelude.{ℕ, ◌+◌, ◌-◌, ◌^◌, max, ℤ, Bool, fa
 use Rattle.std.specs.Option.{option_cmp, option_eq}
 use Rattle.std.specs.Ordering.{int_cmp, int_eq, nat_cmp, ordering_then}
 use Rattle.std.specs.declared.cmp.Ordering.{Ordering}
-use Rattle.tracing_tree_sources.specs.GoTest.{one_more}
+use Rattle.tracing_tree_sources.specs.Counts.{one_more}
 use Rattle.tracing_tree_chrome.specs.declared.element.Element.{Element}
 use Rattle.tracing_tree_chrome.specs.declared.element.Element.TheVariants.{Span, Begin, End, Instant, ProcessName, ThreadName, Other}
 use Rattle.tracing_tree_chrome.specs.declared.element.Entry.{Entry}

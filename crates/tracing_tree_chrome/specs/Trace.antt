@@ -5,14 +5,14 @@ use Rattle.tracing_tree_base.specs.declared.context.Moment.{Moment}
 use Rattle.tracing_tree_layer.specs.Calls.Seen.{Seen}
 use Rattle.tracing_tree_layer.specs.declared.call.Call.{Call}
 use Rattle.tracing_tree_base.specs.declared.context.Refusal.{Refusal}
-use Rattle.tracing_tree.specs.declared.lines.LineCause.{LineCause}
-use Rattle.tracing_tree.specs.declared.lines.LineCause.TheVariants.{Settings as NoSettings, NotACall, Read, Memory, Refused}
+use Rattle.tracing_tree_lines.specs.declared.lines.LineCause.{LineCause}
+use Rattle.tracing_tree_lines.specs.declared.lines.LineCause.TheVariants.{Settings as NoSettings, NotACall, Read, Memory, Refused}
 use Rattle.tracing_tree_chrome.specs.Element.{element_of}
 use Rattle.tracing_tree_chrome.specs.Gather.{GatheredState, all_items, gathered_one, item_cmp, nothing_gathered}
 use Rattle.tracing_tree_chrome.specs.Later.{marked}
 use Rattle.tracing_tree_chrome.specs.Text.{elements_in, is_cut, mended}
 use Rattle.tracing_tree_chrome.specs.Tree.{begun_tree, finished, stepped_all}
-use Rattle.tracing_tree_sources.specs.GoTest.{one_more}
+use Rattle.tracing_tree_sources.specs.Counts.{one_more}
 use Rattle.tracing_tree_sources.specs.Source.{Makes, StopsIn}
 use Rattle.tracing_tree_chrome.specs.declared.trace.Cut.{Cut}
 use Rattle.tracing_tree_chrome.specs.declared.trace.Heard.{Heard}

@@ -10,7 +10,7 @@ use Rattle.tracing_tree_layer.specs.declared.call.Call.{Call}
 use Rattle.tracing_tree_chrome.specs.Gather.{process_of, same_lane, same_number}
 use Rattle.tracing_tree_chrome.specs.Later.{is_long}
 use Rattle.tracing_tree_chrome.specs.Length.{length_text}
-use Rattle.tracing_tree_sources.specs.GoTest.{one_more}
+use Rattle.tracing_tree_sources.specs.Counts.{one_more}
 use Rattle.tracing_tree_sources.specs.Told.{close_call, event_call, message_field, span_call}
 use Rattle.tracing_tree_chrome.specs.declared.trace.Cut.{Cut}
 use Rattle.tracing_tree_chrome.specs.declared.element.Lane.{Lane}

@@ -7,7 +7,7 @@ ghost use Rattle.tracing_tree_chrome.specs.Text.{byte_read, closed, closer, elem
 use json::Value;
 use std::alloc::{AllocError, Global};
 use std::marker::Model;
-use tracing_tree::text::Text;
+use tracing_tree_core::text::Text;
 use tracing_tree_sources::blanks::{first_byte, is_blank};
 use tracing_tree_sources::values::array_at;
 

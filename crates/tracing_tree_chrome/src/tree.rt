@@ -11,12 +11,12 @@ use crate::length::length_text;
 use crate::trace::Cut;
 use std::alloc::{AllocError, Global};
 use std::marker::Model;
-use tracing_tree::call::Call;
-use tracing_tree::field::{Field, Fields};
-use tracing_tree::format::Id;
-use tracing_tree::style::Level;
-use tracing_tree::text::Text;
-use tracing_tree::time::Moment;
+use tracing_tree_core::field::{Field, Fields};
+use tracing_tree_core::format::Id;
+use tracing_tree_core::style::Level;
+use tracing_tree_core::text::Text;
+use tracing_tree_core::time::Moment;
+use tracing_tree_layer::call::Call;
 use tracing_tree_sources::told::{close_call, event_call, message_field, span_call};
 
 // How many spans were left out in a span, and how long they took together, in nanoseconds.

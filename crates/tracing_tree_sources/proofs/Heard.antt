@@ -7,12 +7,12 @@ use Rattle.json.specs.Json.{Json, document}
 use Rattle.tracing_tree_layer.specs.Calls.Seen.{Seen}
 use Rattle.tracing_tree_layer.specs.Calls.Layers.{Flushes}
 use Rattle.tracing_tree_layer.specs.declared.call.Call.{Call}
-use Rattle.tracing_tree.specs.Lines.Spelled.{input_lines, is_skipped}
-use Rattle.tracing_tree.specs.Lines.Reads.{TakesLine, HasNoLine}
-use Rattle.tracing_tree.specs.Lines.Runs.{is_from_outside}
-use Rattle.tracing_tree.specs.declared.lines.LineCause.{LineCause}
-use Rattle.tracing_tree.specs.declared.lines.LineFault.{LineFault}
-use Rattle.tracing_tree.specs.declared.lines.LineCause.TheVariants.{Settings as NoSettings, NotACall, Read, Memory, Refused}
+use Rattle.tracing_tree_lines.specs.Lines.Spelled.{input_lines, is_skipped}
+use Rattle.tracing_tree_lines.specs.Lines.Reads.{TakesLine, HasNoLine}
+use Rattle.tracing_tree_lines.specs.Lines.Runs.{is_from_outside}
+use Rattle.tracing_tree_lines.specs.declared.lines.LineCause.{LineCause}
+use Rattle.tracing_tree_lines.specs.declared.lines.LineFault.{LineFault}
+use Rattle.tracing_tree_lines.specs.declared.lines.LineCause.TheVariants.{Settings as NoSettings, NotACall, Read, Memory, Refused}
 use Rattle.tracing_tree_sources.specs.Source.{Breaks, CountsUnknown, EndsAt, Heard, HearsLine, HearsNext, Makes, MakesAll, MayEnd, Step, StopsIn, Tells, calls_of, hear, hear_line, heard_step, next_calls, next_unknown, nothing_heard, then_heard}
 use Rattle.tracing_tree_sources.specs.declared.run.SourceRun.{SourceRun}
 use Rattle.tracing_tree_sources.specs.declared.run.Judged.TheVariants.{End}

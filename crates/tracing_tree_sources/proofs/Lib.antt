@@ -2,8 +2,6 @@ pub mod Made
 pub mod Heard
 pub mod Ended
 pub mod Instants
-pub mod NamedLists
-pub mod GoLines
-mod Worked
+pub mod Marked
 pub mod Leveled
-pub mod FailedLines
+mod Worked

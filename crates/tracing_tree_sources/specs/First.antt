@@ -4,7 +4,7 @@ use Rattle.std.specs.Str.{is_utf8}
 use Rattle.json.specs.Json.{Json, document}
 use Rattle.json.specs.Find.{as_object, get}
 use Rattle.tracing_tree_sources.specs.Blanks.{after_blanks, first_byte}
-use Rattle.tracing_tree_sources.specs.TracingLine.{level_in}
+use Rattle.tracing_tree_sources.specs.Levels.{level_in}
 use Rattle.tracing_tree_sources.specs.Values.{array_at, text_at}
 use Rattle.tracing_tree_sources.specs.declared.first.Format.{Format}
 use Rattle.tracing_tree_sources.specs.declared.first.Format.TheVariants.{Lines, GoTest, Tracing, Chrome}

@@ -1,12 +1,18 @@
--- A source of which only events of a level and above are told.
-use Rattle.std.specs.Prelude.{ℕ, nat_le, Bool, true, List, Option, option_map}
+-- The level of a line, and a source of which only events of a level and above are told.
+use Rattle.std.specs.Prelude.{ℕ, nat_le, Bool, true, List, Option, option_map, option_and_then, codes}
 use Rattle.std.specs.List.{filter}
 use Rattle.json.specs.Json.{Json}
+use Rattle.tracing_tree_base.specs.Drawing.Texts.{level_named}
 use Rattle.tracing_tree_base.specs.declared.style.Level.{Level}
 use Rattle.tracing_tree_base.specs.declared.style.Level.TheVariants.{Trace, Debug, Info, Warn, Error}
 use Rattle.tracing_tree_layer.specs.declared.call.Call.{Call}
 use Rattle.tracing_tree_layer.specs.declared.call.Call.TheVariants.{New, Clone, Record, Event, Close}
 use Rattle.tracing_tree_sources.specs.Source.{Step}
+use Rattle.tracing_tree_sources.specs.Values.{text_at}
+
+-- the level that an object names
+abbrev pub level_in : Json → Option Level
+level_in value = option_and_then level_named (text_at (codes "level") value)
 
 -- a source, and the least level of an event that is told of it
 pub record Leveled (S : Type 0) : Type 0 where

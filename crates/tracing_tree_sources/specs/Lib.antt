@@ -1,12 +1,10 @@
 pub mod Values
 pub mod Blanks
+pub mod Counts
+pub mod Marks
 pub mod Source
 pub mod Told
+pub mod Fields
 pub mod Moments
-pub mod Names
-pub mod GoTest
-pub mod Failed
-pub mod TracingLine
-pub mod Tracing
 pub mod First
 pub mod Levels

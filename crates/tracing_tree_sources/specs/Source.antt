@@ -10,11 +10,11 @@ use Rattle.tracing_tree_layer.specs.Calls.Seen.{Seen, seen_later}
 use Rattle.tracing_tree_layer.specs.Calls.Headline.{run_from}
 use Rattle.tracing_tree_layer.specs.Calls.Answered.{IsAnswered}
 use Rattle.tracing_tree_layer.specs.declared.call.Call.{Call}
-use Rattle.tracing_tree.specs.Lines.Spelled.{input_lines, is_skipped}
-use Rattle.tracing_tree.specs.Lines.Reads.{TakesLine}
-use Rattle.tracing_tree.specs.declared.lines.LineCause.{LineCause}
-use Rattle.tracing_tree.specs.declared.lines.LineCause.TheVariants.{Settings as NoSettings, NotACall, Read, Memory, Refused}
-use Rattle.tracing_tree.specs.declared.lines.LineFault.{LineFault}
+use Rattle.tracing_tree_lines.specs.Lines.Spelled.{input_lines, is_skipped}
+use Rattle.tracing_tree_lines.specs.Lines.Reads.{TakesLine}
+use Rattle.tracing_tree_lines.specs.declared.lines.LineCause.{LineCause}
+use Rattle.tracing_tree_lines.specs.declared.lines.LineCause.TheVariants.{Settings as NoSettings, NotACall, Read, Memory, Refused}
+use Rattle.tracing_tree_lines.specs.declared.lines.LineFault.{LineFault}
 use Rattle.tracing_tree_sources.specs.declared.notes.Lack.{Lack}
 use Rattle.tracing_tree_sources.specs.declared.notes.Lack.TheVariants.{Utf8}
 use Rattle.tracing_tree_sources.specs.declared.run.SourceRun.{SourceRun}

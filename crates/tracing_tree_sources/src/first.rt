@@ -6,7 +6,7 @@ ghost use Rattle.json.specs.Value.{value_view};
 ghost use Rattle.tracing_tree_sources.specs.First.{begins_list, begins_with, format_by, format_of, format_of_line, format_of_value, is_of_tracing};
 
 use crate::blanks::{after_blanks, first_byte};
-use crate::tracing::level_in;
+use crate::level::level_in;
 use crate::values::{array_at, is_object, text_at, value_of};
 use json::{Scratch, Value};
 use simdutf8::basic::from_utf8;

@@ -1,15 +1,24 @@
-//! A source of which only events of a level and above are told.
+//! The level of a line, and a source of which only events of a level and above are told.
 
 ghost use Rattle.std.specs.Prelude.{◌≡◌};
-ghost use Rattle.tracing_tree_sources.specs.Levels.{is_shown, rank, shown_calls};
+ghost use Rattle.json.specs.Value.{value_view};
+ghost use Rattle.tracing_tree_sources.specs.Levels.{is_shown, level_in, rank, shown_calls};
 
 use crate::notes::Lack;
 use crate::source::Source;
+use crate::values::text_at;
 use json::Value;
 use std::alloc::{AllocError, Global};
 use std::marker::Model;
-use tracing_tree::call::Call;
-use tracing_tree::style::Level;
+use tracing_tree_core::style::Level;
+use tracing_tree_layer::call::Call;
+
+/// The level that an object names at `"level"`, in capitals. None where it names none.
+pub fn level_in(value: &Value<'_>) -> Option<Level>
+    ensures { result ≡ level_in (value_view value.now) }
+{
+    text_at(value, "level")?.parse().ok()
+}
 
 /// A source without its events below the least level. Every other call stays, in its order: an event changes no span, so the ids that
 /// the source counts are right.

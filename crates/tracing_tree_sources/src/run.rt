@@ -14,11 +14,11 @@ use json::{Error, Scratch, Value};
 use simdutf8::basic::from_utf8;
 use std::alloc::{AllocError, Global};
 use std::io::{BufRead, BufReader, Read};
-use tracing_tree::call::Call;
-use tracing_tree::format::{Output, Refusal};
-use tracing_tree::layered::Layered;
-use tracing_tree::lines::{LineCause, LineFault, holds_line, is_skipped, read_line};
-use tracing_tree::time::FormatTime;
+use tracing_tree_core::format::{Output, Refusal};
+use tracing_tree_core::time::FormatTime;
+use tracing_tree_layer::call::Call;
+use tracing_tree_layer::layered::Layered;
+use tracing_tree_lines::lines::{LineCause, LineFault, holds_line, is_skipped, read_line};
 
 /// What a run of a source leaves.
 #[derive(Clone, Copy, Debug)]

@@ -10,7 +10,7 @@ ghost use Rattle.tracing_tree_sources.specs.declared.notes.Lack.{Lack};
 use crate::notes::Lack;
 use json::Value;
 use std::alloc::{AllocError, Global};
-use tracing_tree::call::Call;
+use tracing_tree_layer::call::Call;
 
 /// A tool's output, line by line. A source keeps what it must know of earlier lines.
 pub trait Source {

@@ -4,13 +4,13 @@ ghost use Rattle.std.specs.Prelude.{◌≡◌, ◌++◌, IfOk, OnOk, [], ◌∷�
 ghost use Rattle.tracing_tree_sources.specs.Told.{all_on_thread, close_call, context_at, event_call, is_escaped, message_field, on_thread, shown, shown_char, span_call};
 
 use std::alloc::{AllocError, Global};
-use tracing_tree::call::Call;
-use tracing_tree::field::{Field, Fields};
-use tracing_tree::format::{Context, Id};
-use tracing_tree::registry::{Attributes, Event, Parent};
-use tracing_tree::style::Level;
-use tracing_tree::text::Text;
-use tracing_tree::time::Moment;
+use tracing_tree_core::field::{Field, Fields};
+use tracing_tree_core::format::{Context, Id};
+use tracing_tree_core::registry::{Attributes, Event, Parent};
+use tracing_tree_core::style::Level;
+use tracing_tree_core::text::Text;
+use tracing_tree_core::time::Moment;
+use tracing_tree_layer::call::Call;
 
 // The context of a call with this current span.
 fn context_at(moment: Moment, current: Option<Id>) -> Context
@@ -114,8 +114,8 @@ pub fn close_call(moment: Moment, id: Id, above: Option<Id>) -> Call
     Call::Close(id, context_at(moment, above))
 }
 
-// These calls on the thread of this name, if it has one.
-pub(crate) fn all_on_thread(
+/// These calls on the thread of this name, if it has one. `AllocError` where memory is refused.
+pub fn all_on_thread(
     alloc: Global,
     name: &Option<Text>,
     calls: Vec<Call>,

@@ -21,10 +21,11 @@ use tracing_tree::run_lines;
 use tracing_tree::style::Level;
 use tracing_tree::time::{Clock, Moment, Uptime, UtcDateTime};
 use tracing_tree_chrome::{Cut, run_trace};
+use tracing_tree_go_test::{Failed, GoTest};
 use tracing_tree_sources::{
-    AtLeast, Failed, Format, GoTest, Lack, Notes, Source, SourceRun, Tracing, first_format,
-    run_source,
+    AtLeast, Format, Lack, Notes, Source, SourceRun, first_format, run_source,
 };
+use tracing_tree_tracing::Tracing;
 
 // The input is read in parts of this size.
 const BLOCK: usize = 64 * 1024;

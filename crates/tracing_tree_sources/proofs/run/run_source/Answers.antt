@@ -2,8 +2,8 @@ use Rattle.std.proofs.Common.{◌≡◌, ◌+◌, ℕ, refl, subst, arith, true,
 use Rattle.std.specs.Io.Buffered.{reader_remaining}
 use Rattle.tracing_tree_layer.specs.Calls.Layers.{seen}
 use Rattle.tracing_tree_layer.proofs.Runs.{change_then}
-use Rattle.tracing_tree.specs.declared.lines.LineCause.TheVariants.{Read}
-use Rattle.tracing_tree.specs.Lines.Spelled.{input_lines}
+use Rattle.tracing_tree_lines.specs.declared.lines.LineCause.TheVariants.{Read}
+use Rattle.tracing_tree_lines.specs.Lines.Spelled.{input_lines}
 use Rattle.tracing_tree_sources.specs.Source.{EndsAt}
 use Rattle.tracing_tree_sources.specs.declared.run.Judged.TheVariants.{Known, Unknown}
 use Rattle.tracing_tree_sources.proofs.Ended.{of_notes as is_of_notes}

@@ -1,0 +1,4 @@
+pub mod NamedLists
+pub mod GoLines
+pub mod FailedLines
+mod Worked

@@ -1,0 +1,10 @@
+use Rattle.std.proofs.Common.{◌≡◌, length}
+use Rattle.tracing_tree_go_test.specs.Failed.{all_released}
+use Rattle.tracing_tree_go_test.proofs.failed.release_all.Given as goal
+
+-- the later packages are left to be told
+abbrev pub invariant-loop-path : goal.invariant-loop-path
+invariant-loop-path l = all_released l.fn.packages l.fn.shown ≡ all_released l.packages l.shown
+
+abbrev pub decreases-loop-path : goal.decreases-loop-path
+decreases-loop-path l = length l.packages

@@ -1,0 +1,18 @@
+use Rattle.std.proofs.Common.{◌≡◌, List, ℕ, Some, None, option_map, codes, sym, ap, ◌∙◌, subst}
+use Rattle.std.specs.Prelude.{OnOk}
+use Rattle.tracing_tree_sources.specs.Marks.{after_mark}
+use Rattle.tracing_tree_go_test.specs.GoTest.{GoState, package_ended, up_to_space}
+use Rattle.tracing_tree_go_test.specs.declared.go_test.Ending.TheVariants.{Failed}
+use Rattle.tracing_tree_go_test.proofs.go_test.GoTest.take_text.Goals as goal
+
+pub returns-in-Some-after_mark : goal.returns-in-Some-after_mark
+returns-in-Some-after_mark c =
+    let line = c.args.line.now in
+    let heading : after_mark (codes "# ") line ≡ None =
+    sym c.after_mark.ensures ∙ ap (option_map (λ s. s.now)) c.in_default.is in
+    let failure : after_mark (codes "FAIL\t") line ≡ Some c.in-Some-after_mark.rest.now =
+    sym c.after_mark-2.ensures ∙ ap (option_map (λ s. s.now)) c.in-Some-after_mark.is in
+    let named : List ℕ → Type 0 = λ path. OnOk c.end_package.result (c.end_package.new.self ≡ package_ended Failed path None c.set_building-in-Some-after_mark.new.self) in
+    let done : GoState → Type 0 = λ s. OnOk c.end_package.result (c.end_package.new.self ≡ package_ended Failed (up_to_space c.in-Some-after_mark.rest.now) None s) in
+    rw (heading, failure)
+    (subst done c.in_ok-set_building.ensures (subst named c.up_to_space-in-Some-after_mark.ensures c.end_package.ensures))

@@ -1,0 +1,443 @@
+-- Runs over lines: one line more, and what the run leaves at its end.
+use Rattle.std.proofs.Common.{◌≡◌, ℕ, ◌+◌, ◌<◌, ◌≤◌, true, false, not, List, [], ◌∷◌, ◌++◌, length, take, Option, Some, None, IfSome, Ok, Err, refl, sym, ap, subst, ◌∙◌, arith, append_assoc, append-nil, length-append, MatchBool}
+use Rattle.std.specs.Prelude.{slice_get, IsSomeAnd, ⊤}
+use Rattle.std.specs.Io.KnownBytes.{Appends}
+use Rattle.std.proofs.KnownBytes.{Appends-nil, Appends-trans, Appends-kept}
+use Rattle.std.proofs.Math.Seq.{take-append_seam}
+use Rattle.tracing_tree_base.specs.Drawing.Picture.{Row, draw}
+use Rattle.tracing_tree_base.specs.declared.context.Refusal.{Refusal}
+use Rattle.tracing_tree_base.specs.declared.context.Refusal.TheVariants as Refusals
+use Rattle.tracing_tree_layer.specs.Calls.State.{State}
+use Rattle.tracing_tree_base.specs.Drawing.Writers.{SeenWriter}
+use Rattle.tracing_tree_layer.specs.Calls.Seen.{Seen, seen_later}
+use Rattle.tracing_tree_layer.specs.Calls.Step.{turn_of, reply_of, state_after}
+use Rattle.tracing_tree_layer.specs.Calls.Refused.{cause_of}
+use Rattle.tracing_tree_layer.specs.Calls.Run.{Run, run_by_cause, no_call, then_run, call_text}
+use Rattle.tracing_tree_layer.specs.Calls.Answered.{IsAnswered, Writes}
+use Rattle.tracing_tree_layer.specs.Calls.Headline.{run_from}
+use Rattle.tracing_tree_lines.specs.Lines.Spelled.{input_lines, is_skipped, SpellsCall, SpellCalls}
+use Rattle.tracing_tree_lines.specs.Lines.Values.{IsUnlessMemory}
+use Rattle.tracing_tree_lines.specs.Lines.Runs.{EndsRun, IsLeftAfter, IsLeftByFault, is_from_outside, last_number, CountsCause}
+use Rattle.tracing_tree_lines.specs.Lines.Reads.{TakesLine, HasNoLine}
+use Rattle.tracing_tree_layer.specs.Calls.Layers.{Flushes}
+use Rattle.tracing_tree_lines.specs.Lines.Steps.{MakesCall, SkipsLine, FailsLine, JudgesLine, RunsOver, EndsLines}
+use Rattle.tracing_tree_layer.specs.declared.call.Call.{Call}
+use Rattle.tracing_tree_layer.specs.declared.call.Reply.{Reply}
+use Rattle.tracing_tree_lines.specs.declared.lines.Judged.{Judged}
+use Rattle.tracing_tree_lines.specs.declared.lines.Judged.TheVariants.{End, Skipped, Accepted}
+use Rattle.tracing_tree_lines.specs.declared.lines.LineCause.{LineCause}
+use Rattle.tracing_tree_lines.specs.declared.lines.LineCause.TheVariants.{Settings as NoSettings, NotACall, Read, Memory, Refused}
+use Rattle.tracing_tree_lines.specs.declared.lines.LineFault.{LineFault}
+use Rattle.tracing_tree_layer.proofs.DrawnLaws.{draw-append}
+use Rattle.tracing_tree_layer.proofs.RunLaws.{run-append}
+
+-- ---- one line
+
+-- the two causes differ
+not_settings : NotACall ≡ NoSettings → ⊥
+not_settings e = cc
+
+-- a line that no call was read of
+pub fails_line : (seen : Seen) (known left : Option (List ℕ)) (line : List ℕ) (cause : LineCause) →
+    TakesLine known left line → is_skipped line ≡ false → IsUnlessMemory NotACall ((call : Call) → ¬ (SpellsCall line call)) cause →
+    JudgesLine known left (Err cause) seen seen
+fails_line seen known left line NoSettings first judged reads = absurd (not_settings reads.0)
+fails_line seen known left line NotACall first judged reads = (record { line = line; first = first; nothing = (ap not judged, reads.1) }, refl)
+fails_line seen known left line Read first judged reads = absurd reads
+fails_line seen known left line Memory first judged reads = refl
+fails_line seen known left line (Refused refusal) first judged reads = absurd reads
+
+-- the count of the writer's faults after a line that ends no run
+pub calm_line : (known left : Option (List ℕ)) (judged : Judged) (old new : Seen) → JudgesLine known left (Ok judged) old new →
+    new.writer.faults ≡ old.writer.faults
+calm_line known left End old new h = ap (λ (s : Seen). s.writer.faults) h.1
+calm_line known left Skipped old new h = ap (λ (s : Seen). s.writer.faults) h.1
+calm_line known left Accepted old new h = h.1.answered.written.1
+
+-- the same after one that ends the run
+pub counts_line : (known left : Option (List ℕ)) (cause : LineCause) (old new : Seen) → JudgesLine known left (Err cause) old new →
+    CountsCause cause old.writer.faults new.writer.faults
+counts_line known left NoSettings old new h = absurd h
+counts_line known left NotACall old new h = ap (λ (s : Seen). s.writer.faults) h.1
+counts_line known left Read old new h = ap (λ (s : Seen). s.writer.faults) h
+counts_line known left Memory old new h = ap (λ (s : Seen). s.writer.faults) h
+counts_line known left (Refused Refusals.Writer) old new h = h.answered.written.rose
+counts_line known left (Refused (Refusals.NotHeld j)) old new h = h.answered.written.1
+counts_line known left (Refused Refusals.TooWide) old new h = h.answered.written.1
+counts_line known left (Refused Refusals.TooMany) old new h = h.answered.written.1
+counts_line known left (Refused Refusals.Memory) old new h = h.answered.written.1
+counts_line known left (Refused Refusals.Timer) old new h = h.answered.written.1
+counts_line known left (Refused Refusals.Failed) old new h = h.answered.written.1
+
+-- ---- spelled calls
+
+-- a skipped line more
+spells_blank : (lines : List (List ℕ)) (calls : List Call) (line : List ℕ) → SpellCalls lines calls → is_skipped line ≡ true → SpellCalls (lines ++ line ∷ []) calls
+spells_blank [] [] line h blank = (blank, tt)
+spells_blank [] (call ∷ calls) line h blank = absurd h
+spells_blank (other ∷ lines) [] line h blank = (h.0, spells_blank lines [] line h.1 blank)
+spells_blank (other ∷ lines) (call ∷ calls) line h blank =
+    elim (is_skipped other) as (λ b. MatchBool b (SpellCalls lines (call ∷ calls)) (SpellsCall other call × SpellCalls lines calls)
+    → MatchBool b (SpellCalls (lines ++ line ∷ []) (call ∷ calls)) (SpellsCall other call × SpellCalls (lines ++ line ∷ []) calls)) [
+      | true ↦ (λ k. spells_blank lines (call ∷ calls) line k blank)
+      | false ↦ (λ k. (k.0, spells_blank lines calls line k.1 blank))
+    ] h
+
+-- a line more that spells a call
+spells_call : (lines : List (List ℕ)) (calls : List Call) (line : List ℕ) (last : Call) → SpellCalls lines calls → is_skipped line ≡ false → SpellsCall line last →
+    SpellCalls (lines ++ line ∷ []) (calls ++ last ∷ [])
+spells_call [] [] line last h judged spelled = rw judged (spelled, tt)
+spells_call [] (call ∷ calls) line last h judged spelled = absurd h
+spells_call (other ∷ lines) [] line last h judged spelled = rw h.0 (spells_call lines [] line last h.1 judged spelled)
+spells_call (other ∷ lines) (call ∷ calls) line last h judged spelled =
+    elim (is_skipped other) as (λ b. MatchBool b (SpellCalls lines (call ∷ calls)) (SpellsCall other call × SpellCalls lines calls)
+    → MatchBool b (SpellCalls (lines ++ line ∷ []) (call ∷ calls ++ last ∷ [])) (SpellsCall other call × SpellCalls (lines ++ line ∷ []) (calls ++ last ∷ []))) [
+      | true ↦ (λ k. spells_call lines (call ∷ calls) line last k judged spelled)
+      | false ↦ (λ k. (k.0, spells_call lines calls line last k.1 judged spelled))
+    ] h
+
+-- ---- the run so far
+
+module _ (first : Seen) where
+  -- the run of an accepted call behind that of other calls
+  abbrev with_call : Run → Call → Run
+  with_call r call = record {
+    state = state_after first.settings first.timer r.state call;
+    rows = r.rows ++ (turn_of first.settings first.timer r.state.forest r.state.last call).rows;
+    replies = r.replies ++ reply_of r.state.forest call ∷ [];
+  }
+
+  -- one accepted call more
+  run_one_more : (calls : List Call) (last : Call) → cause_of first.settings first.timer (run_from first calls).state last ≡ None →
+      run_from first (calls ++ last ∷ []) ≡ with_call (run_from first calls) last
+  run_one_more calls last none =
+      let r : Run = run_from first calls in
+      let added : List Row = (turn_of first.settings first.timer r.state.forest r.state.last last).rows in
+      run-append first.settings first.timer first.state calls (last ∷ [])
+      ∙ ap (λ cause. then_run r (λ state. then_run (run_by_cause first.settings first.timer state last cause) no_call)) none
+      ∙ (λ i. record { state = state_after first.settings first.timer r.state last; rows = r.rows ++ append-nil added i; replies = r.replies ++ reply_of r.state.forest last ∷ [] })
+
+  -- what these lines have left when only the others are to be judged
+  pub record IsSoFar (lines others : List (List ℕ)) (accepted number : ℕ) (now : Seen) : Type 0 where
+    pub done : List (List ℕ)
+    pub apart : lines ≡ done ++ others
+    pub number_is : number ≡ length done + 2
+    pub calls : List Call
+    pub spelled : SpellCalls done calls
+    pub count : accepted ≡ length calls
+    pub left : now ≡ seen_later first (run_from first calls).state now.writer
+    pub taken : length (run_from first calls).replies ≡ length calls
+    pub appends : Appends first.writer.bytes now.writer.bytes (draw first.settings (run_from first calls).rows)
+
+  -- the same of the lines of an input, where it is known
+  abbrev pub IsKnownSoFar : Option (List ℕ) → Option (List ℕ) → ℕ → ℕ → Seen → Type 0
+  IsKnownSoFar None left accepted number now = ⊤
+  IsKnownSoFar (Some input) None accepted number now = ⊥
+  IsKnownSoFar (Some input) (Some rest) accepted number now = IsSoFar (input_lines input) (input_lines rest) accepted number now
+
+  -- no line is judged yet
+  pub starts : (known : Option (List ℕ)) → IsKnownSoFar known known 0 2 first
+  starts None = tt
+  starts (Some input) = record {
+    done = [];
+    apart = refl;
+    number_is = refl;
+    calls = [];
+    spelled = tt;
+    count = refl;
+    left = refl;
+    taken = refl;
+    appends = Appends-nil first.writer.bytes;
+  }
+
+  -- one line more is done
+  one_done : (lines done others after : List (List ℕ)) (line : List ℕ) → lines ≡ done ++ others → others ≡ line ∷ after → lines ≡ (done ++ line ∷ []) ++ after
+  one_done lines done others after line apart e = apart ∙ ap (λ rest. done ++ rest) e ∙ sym (append_assoc done (line ∷ []) after)
+
+  -- a skipped line more
+  pub skips : (known middle left : Option (List ℕ)) (accepted number : ℕ) (now next : Seen) →
+      IsKnownSoFar known middle accepted number now → SkipsLine middle left × (next ≡ now) → IsKnownSoFar known left accepted (number + 1) next
+  skips None middle left accepted number now next so_far h = tt
+  skips (Some x) None left accepted number now next so_far h = absurd so_far
+  skips (Some x) (Some y) None accepted number now next so_far h = absurd h.0.first
+  skips (Some x) (Some y) (Some z) accepted number now next so_far h =
+      let longer : IsSoFar (input_lines x) (input_lines z) accepted (number + 1) now = record {
+        done = so_far.done ++ h.0.line ∷ [];
+        apart = one_done _ so_far.done _ _ h.0.line so_far.apart h.0.first;
+        number_is = omega (arith, so_far.number_is, length-append so_far.done (h.0.line ∷ []));
+        calls = so_far.calls;
+        spelled = spells_blank so_far.done so_far.calls h.0.line so_far.spelled h.0.blank;
+        count = so_far.count;
+        left = so_far.left;
+        taken = so_far.taken;
+        appends = so_far.appends;
+      } in
+      subst (IsSoFar (input_lines x) (input_lines z) accepted (number + 1)) (sym h.1) longer
+
+  -- the writer is flushed
+  pub flushes : (known middle : Option (List ℕ)) (accepted number : ℕ) (now next : Seen) →
+      IsKnownSoFar known middle accepted number now → Flushes now next → IsKnownSoFar known middle accepted number next
+  flushes None middle accepted number now next so_far h = tt
+  flushes (Some x) None accepted number now next so_far h = absurd so_far
+  flushes (Some x) (Some y) accepted number now next so_far h = record {
+    done = so_far.done;
+    apart = so_far.apart;
+    number_is = so_far.number_is;
+    calls = so_far.calls;
+    spelled = so_far.spelled;
+    count = so_far.count;
+    left = h.same ∙ (λ i. record (so_far.left i) { writer = record (so_far.left i).writer { bytes = next.writer.bytes } })
+        ∙ ap (λ faults. seen_later first (run_from first so_far.calls).state (record next.writer { faults = faults })) (sym (ap (λ (s : Seen). s.writer.faults) h.same));
+    taken = so_far.taken;
+    appends = Appends-kept first.writer.bytes now.writer.bytes next.writer.bytes _ so_far.appends h.kept;
+  }
+
+  -- the text of a call behind the text of the run so far
+  adds_call : (r : Run) (call : Call) (old mid new : Option (List ℕ)) → Appends old mid (draw first.settings r.rows) →
+      Appends mid new (call_text first.settings first.timer r.state call) → Appends old new (draw first.settings (with_call r call).rows)
+  adds_call r call old mid new before more =
+      let added : List Row = (turn_of first.settings first.timer r.state.forest r.state.last call).rows in
+      subst (Appends old new) (sym (draw-append first.settings r.rows added))
+      (Appends-trans old mid new (draw first.settings r.rows) (draw first.settings added) before more)
+
+  -- an accepted call more
+  pub accepts : (known middle left : Option (List ℕ)) (accepted number : ℕ) (now next : Seen) →
+      IsKnownSoFar known middle accepted number now → (reply : Reply) × MakesCall middle left (Ok reply) now next →
+      IsKnownSoFar known left (accepted + 1) (number + 1) next
+  accepts None middle left accepted number now next so_far h = tt
+  accepts (Some x) None left accepted number now next so_far h = absurd so_far
+  accepts (Some x) (Some y) None accepted number now next so_far h = absurd h.1.first
+  accepts (Some x) (Some y) (Some z) accepted number now next so_far h =
+      let m = h.1 in
+      let r : Run = run_from first so_far.calls in
+      let from : IsAnswered m.call (Ok h.0) (seen_later first r.state now.writer) next =
+      subst (λ s. IsAnswered m.call (Ok h.0) s next) so_far.left m.answered in
+      let longer : run_from first (so_far.calls ++ m.call ∷ []) ≡ with_call r m.call = run_one_more so_far.calls m.call from.allowed.0 in
+      record {
+        done = so_far.done ++ m.line ∷ [];
+        apart = one_done _ so_far.done _ _ m.line so_far.apart m.first;
+        number_is = omega (arith, so_far.number_is, length-append so_far.done (m.line ∷ []));
+        calls = so_far.calls ++ m.call ∷ [];
+        spelled = spells_call so_far.done so_far.calls m.line m.call so_far.spelled m.judged m.spelled;
+        count = omega (arith, so_far.count, length-append so_far.calls (m.call ∷ []));
+        left = from.left ∙ ap (λ (r : Run). seen_later first r.state next.writer) (sym longer);
+        taken = ap (λ (r : Run). length r.replies) longer
+            ∙ omega (arith, so_far.taken, length-append so_far.calls (m.call ∷ []), length-append r.replies (reply_of r.state.forest m.call ∷ []));
+        appends = subst (λ (r : Run). Appends first.writer.bytes next.writer.bytes (draw first.settings r.rows)) (sym longer)
+            (adds_call r m.call first.writer.bytes now.writer.bytes next.writer.bytes so_far.appends from.written.0);
+      }
+
+  -- ---- the end of a run
+
+  -- the run came to this line, and this cause may end it there
+  abbrev MayEndAt : ℕ → LineCause → Type 0
+  MayEndAt number cause = (number ≤ last_number) × (number ≡ last_number → cause ≡ Read)
+
+  -- at an earlier line each cause may
+  may_end : (number : ℕ) (cause : LineCause) → number < last_number → MayEndAt number cause
+  may_end number cause below = (omega (arith, below), λ last. absurd (omega (arith, below, last)))
+
+  -- the line behind others
+  line_behind : (done after : List (List ℕ)) (line : List ℕ) → slice_get (done ++ line ∷ after) (length done) ≡ Some line
+  line_behind [] after line = refl
+  line_behind (other ∷ done) after line = line_behind done after line
+
+  -- a fault from outside leaves nothing, whatever the line is
+  left_outside : (state : State) (line : Option (List ℕ)) (number : ℕ) (cause : LineCause) → is_from_outside cause ≡ true →
+      IsLeftByFault first.writer.whole first.settings first.timer state line (Some (record { line = number; cause = cause })) []
+  left_outside state None number cause outside = refl
+  left_outside state (Some line) number NoSettings outside = refl
+  left_outside state (Some line) number NotACall outside = refl
+  left_outside state (Some line) number Read outside = refl
+  left_outside state (Some line) number Memory outside = refl
+  left_outside state (Some line) number (Refused refusal) outside = cc
+
+  -- what was written stays where nothing has changed
+  kept : (now next : Seen) (text : List ℕ) → next ≡ now → Appends first.writer.bytes now.writer.bytes text →
+      Appends first.writer.bytes next.writer.bytes (text ++ [])
+  kept now next text e h =
+      let P : Seen → Type 0 = λ s. Appends first.writer.bytes s.writer.bytes (text ++ []) in
+      subst P (sym e) (subst (Appends first.writer.bytes now.writer.bytes) (sym (append-nil text)) h)
+
+  -- the end of the input
+  pub finishes : (known middle : Option (List ℕ)) (accepted number : ℕ) (now next : Seen) → number < last_number →
+      IsKnownSoFar known middle accepted number now → HasNoLine middle × (next ≡ now) →
+      IfSome known (λ input. RunsOver (input_lines input) accepted None first next)
+  finishes None middle accepted number now next below so_far h = tt
+  finishes (Some x) None accepted number now next below so_far h = absurd so_far
+  finishes (Some x) (Some y) accepted number now next below so_far h =
+      let lines = input_lines x in
+      let all : lines ≡ so_far.done = so_far.apart ∙ ap (λ rest. so_far.done ++ rest) h.0 ∙ append-nil so_far.done in
+      record {
+        judged = length so_far.done;
+        within = omega (arith, ap length all);
+        counted = (omega (arith, so_far.number_is, below), tt);
+        calls = so_far.calls;
+        spelled = subst (λ front. SpellCalls front so_far.calls) (sym (ap (take (length so_far.done)) so_far.apart ∙ take-append_seam so_far.done _)) so_far.spelled;
+        count = so_far.count;
+        taken = so_far.taken;
+        all = λ none. sym (ap length all);
+        blamed = tt;
+        front = [];
+        left = refl;
+        appends = kept now next _ h.1 so_far.appends;
+      }
+
+  -- a fault from outside
+  pub breaks : (known middle : Option (List ℕ)) (accepted number : ℕ) (now next : Seen) (cause : LineCause) → is_from_outside cause ≡ true →
+      MayEndAt number cause → IsKnownSoFar known middle accepted number now → next ≡ now →
+      IfSome known (λ input. RunsOver (input_lines input) accepted (Some (record { line = number; cause = cause })) first next)
+  breaks None middle accepted number now next cause outside reached so_far same = tt
+  breaks (Some x) None accepted number now next cause outside reached so_far same = absurd so_far
+  breaks (Some x) (Some y) accepted number now next cause outside reached so_far same = record {
+    judged = length so_far.done;
+    within = omega (arith, ap length so_far.apart, length-append so_far.done (input_lines y));
+    counted = (omega (arith, so_far.number_is, reached.0), reached.1);
+    calls = so_far.calls;
+    spelled = subst (λ front. SpellCalls front so_far.calls) (sym (ap (take (length so_far.done)) so_far.apart ∙ take-append_seam so_far.done _)) so_far.spelled;
+    count = so_far.count;
+    taken = so_far.taken;
+    all = λ none. cc;
+    blamed = (so_far.number_is, λ inside. cc);
+    front = [];
+    left = left_outside (run_from first so_far.calls).state _ number cause outside;
+    appends = kept now next _ same so_far.appends;
+  }
+
+  -- a line that was read whole is to blame
+  blames : (lines others after : List (List ℕ)) (line : List ℕ) (accepted number : ℕ) (now next : Seen) (cause : LineCause) (front : List ℕ) →
+      number < last_number → (so_far : IsSoFar lines others accepted number now) → others ≡ line ∷ after →
+      EndsRun first.settings first.timer (run_from first so_far.calls).state line cause →
+      IsLeftAfter first.writer.whole first.settings first.timer (run_from first so_far.calls).state line cause front →
+      Appends now.writer.bytes next.writer.bytes front → RunsOver lines accepted (Some (record { line = number; cause = cause })) first next
+  blames lines others after line accepted number now next cause front below so_far e ends left appends =
+      let r : Run = run_from first so_far.calls in
+      let fault : LineFault = record { line = number; cause = cause } in
+      let apart : lines ≡ so_far.done ++ line ∷ after = so_far.apart ∙ ap (λ rest. so_far.done ++ rest) e in
+      let at : slice_get lines (length so_far.done) ≡ Some line =
+      ap (λ whole. slice_get whole (length so_far.done)) apart ∙ line_behind so_far.done after line in
+      record {
+        judged = length so_far.done;
+        within = omega (arith, ap length so_far.apart, length-append so_far.done others);
+        counted = (omega (arith, so_far.number_is, below), λ last. absurd (omega (arith, below, last)));
+        calls = so_far.calls;
+        spelled = subst (λ front. SpellCalls front so_far.calls) (sym (ap (take (length so_far.done)) so_far.apart ∙ take-append_seam so_far.done _)) so_far.spelled;
+        count = so_far.count;
+        taken = so_far.taken;
+        all = λ none. cc;
+        blamed = (
+          so_far.number_is,
+          λ inside. subst (λ o. IsSomeAnd o (λ line. EndsRun first.settings first.timer r.state line cause)) (sym at) ends,
+        );
+        front = front;
+        left = subst (λ o. IsLeftByFault first.writer.whole first.settings first.timer r.state o (Some fault) front) (sym at) left;
+        appends = Appends-trans first.writer.bytes now.writer.bytes next.writer.bytes _ front so_far.appends appends;
+      }
+
+  -- what a refused call leaves behind the text
+  leaves : (state : State) (line : List ℕ) (call : Call) (refusal : Refusal) (old new : SeenWriter) → SpellsCall line call →
+      Writes {A = Reply} (call_text first.settings first.timer state call) (Err refusal) old new →
+      (front : List ℕ) × IsLeftAfter old.whole first.settings first.timer state line (Refused refusal) front × Appends old.bytes new.bytes front
+  leaves state line call Refusals.Writer old new spelled h = (h.front, (call, spelled, h.cut, h.nothing), h.appends)
+  leaves state line call (Refusals.NotHeld j) old new spelled h = ([], refl, Appends-kept old.bytes old.bytes new.bytes [] (Appends-nil old.bytes) h.0)
+  leaves state line call Refusals.TooWide old new spelled h = ([], refl, Appends-kept old.bytes old.bytes new.bytes [] (Appends-nil old.bytes) h.0)
+  leaves state line call Refusals.TooMany old new spelled h = ([], refl, Appends-kept old.bytes old.bytes new.bytes [] (Appends-nil old.bytes) h.0)
+  leaves state line call Refusals.Memory old new spelled h = ([], refl, Appends-kept old.bytes old.bytes new.bytes [] (Appends-nil old.bytes) h.0)
+  leaves state line call Refusals.Timer old new spelled h = ([], refl, Appends-kept old.bytes old.bytes new.bytes [] (Appends-nil old.bytes) h.0)
+  leaves state line call Refusals.Failed old new spelled h = ([], refl, Appends-kept old.bytes old.bytes new.bytes [] (Appends-nil old.bytes) h.0)
+
+  -- a line that spells nothing
+  fails : (known middle left : Option (List ℕ)) (accepted number : ℕ) (now next : Seen) → number < last_number →
+      IsKnownSoFar known middle accepted number now → FailsLine middle left × (next ≡ now) →
+      IfSome known (λ input. RunsOver (input_lines input) accepted (Some (record { line = number; cause = NotACall })) first next)
+  fails None middle left accepted number now next below so_far h = tt
+  fails (Some x) None left accepted number now next below so_far h = absurd so_far
+  fails (Some x) (Some y) None accepted number now next below so_far h = absurd h.0.first
+  fails (Some x) (Some y) (Some z) accepted number now next below so_far h =
+      let P : Seen → Type 0 = λ s. Appends now.writer.bytes s.writer.bytes [] in
+      blames (input_lines x) (input_lines y) (input_lines z) h.0.line accepted number now next NotACall [] below so_far h.0.first h.0.nothing refl
+      (subst P (sym h.1) (Appends-nil now.writer.bytes))
+
+  -- a line whose call is refused
+  refuses : (known middle left : Option (List ℕ)) (accepted number : ℕ) (now next : Seen) (refusal : Refusal) → number < last_number →
+      IsKnownSoFar known middle accepted number now → MakesCall middle left (Err refusal) now next →
+      IfSome known (λ input. RunsOver (input_lines input) accepted (Some (record { line = number; cause = Refused refusal })) first next)
+  refuses None middle left accepted number now next refusal below so_far m = tt
+  refuses (Some x) None left accepted number now next refusal below so_far m = absurd so_far
+  refuses (Some x) (Some y) None accepted number now next refusal below so_far m = absurd m.first
+  refuses (Some x) (Some y) (Some z) accepted number now next refusal below so_far m =
+      let r : Run = run_from first so_far.calls in
+      let from : IsAnswered m.call (Err refusal) (seen_later first r.state now.writer) next =
+      subst (λ s. IsAnswered m.call (Err refusal) s next) so_far.left m.answered in
+      let (front, left, appends) = leaves r.state m.line m.call refusal (seen_later first r.state now.writer).writer next.writer m.spelled from.written in
+      blames (input_lines x) (input_lines y) (input_lines z) m.line accepted number now next (Refused refusal) front below so_far m.first
+      (m.call, m.spelled, from.allowed) left appends
+
+  -- a line that ends the run
+  pub stops : (known middle left : Option (List ℕ)) (accepted number : ℕ) (now next : Seen) (cause : LineCause) → number < last_number →
+      IsKnownSoFar known middle accepted number now → JudgesLine middle left (Err cause) now next →
+      IfSome known (λ input. RunsOver (input_lines input) accepted (Some (record { line = number; cause = cause })) first next)
+  stops known middle left accepted number now next NoSettings below so_far h = absurd h
+  stops known middle left accepted number now next NotACall below so_far h = fails known middle left accepted number now next below so_far h
+  stops known middle left accepted number now next Read below so_far h =
+      breaks known middle accepted number now next Read refl (may_end number Read below) so_far h
+  stops known middle left accepted number now next Memory below so_far h =
+      breaks known middle accepted number now next Memory refl (may_end number Memory below) so_far h
+  stops known middle left accepted number now next (Refused refusal) below so_far h =
+      refuses known middle left accepted number now next refusal below so_far h
+
+-- the run so far, in which no write was refused
+pub record GoesOver (known left : Option (List ℕ)) (accepted number : ℕ) (first now : Seen) : Type 0 where
+  pub so_far : IsKnownSoFar first known left accepted number now
+  pub calm : now.writer.faults ≡ first.writer.faults
+
+-- the writer is flushed
+pub goes_on_flushed : (known middle : Option (List ℕ)) (accepted number : ℕ) (first now next : Seen) →
+    GoesOver known middle accepted number first now → Flushes now next → GoesOver known middle accepted number first next
+goes_on_flushed known middle accepted number first now next h k = record {
+  so_far = flushes first known middle accepted number now next h.so_far k;
+  calm = ap (λ (s : Seen). s.writer.faults) k.same ∙ h.calm;
+}
+
+-- one line more, that doesn't end the run
+pub goes_on_skipped : (known middle left : Option (List ℕ)) (accepted number : ℕ) (first now next : Seen) →
+    GoesOver known middle accepted number first now → JudgesLine middle left (Ok Skipped) now next →
+    GoesOver known left accepted (number + 1) first next
+goes_on_skipped known middle left accepted number first now next h k = record {
+  so_far = skips first known middle left accepted number now next h.so_far k;
+  calm = calm_line middle left Skipped now next k ∙ h.calm;
+}
+
+pub goes_on_accepted : (known middle left : Option (List ℕ)) (accepted number : ℕ) (first now next : Seen) →
+    GoesOver known middle accepted number first now → JudgesLine middle left (Ok Accepted) now next →
+    GoesOver known left (accepted + 1) (number + 1) first next
+goes_on_accepted known middle left accepted number first now next h k = record {
+  so_far = accepts first known middle left accepted number now next h.so_far k;
+  calm = calm_line middle left Accepted now next k ∙ h.calm;
+}
+
+-- the end of the run
+pub ends_input : (known middle left : Option (List ℕ)) (accepted number : ℕ) → number < last_number → (first now next : Seen) →
+    GoesOver known middle accepted number first now → JudgesLine middle left (Ok End) now next → EndsLines known accepted None first next
+ends_input known middle left accepted number below first now next h k = record {
+  ran = finishes first known middle accepted number now next below h.so_far k;
+  counted = calm_line middle left End now next k ∙ h.calm;
+}
+
+pub ends_at : (known middle left : Option (List ℕ)) (accepted number : ℕ) (cause : LineCause) → number < last_number → (first now next : Seen) →
+    GoesOver known middle accepted number first now → JudgesLine middle left (Err cause) now next →
+    EndsLines known accepted (Some (record { line = number; cause = cause })) first next
+ends_at known middle left accepted number cause below first now next h k =
+    let P : ℕ → Type 0 = λ faults. CountsCause cause faults next.writer.faults in
+    record {
+      ran = stops first known middle left accepted number now next cause below h.so_far k;
+      counted = subst P h.calm (counts_line middle left cause now next k);
+    }
+
+-- at the last number the line isn't judged
+pub ends_unjudged : (known middle : Option (List ℕ)) (accepted : ℕ) (first now : Seen) → GoesOver known middle accepted last_number first now →
+    EndsLines known accepted (Some (record { line = last_number; cause = Read })) first now
+ends_unjudged known middle accepted first now h = record {
+  ran = breaks first known middle accepted last_number now now Read refl (omega arith, λ last. refl) h.so_far refl;
+  counted = h.calm;
+}

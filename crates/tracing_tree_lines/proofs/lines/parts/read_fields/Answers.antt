@@ -1,0 +1,71 @@
+use Rattle.std.proofs.Common.{◌≡◌, ◌++◌, ◌∷◌, ◌<◌, [], length, true, false, Some, None, Err, option_map, sym, ap, ◌∙◌, subst, arith, rules}
+use Rattle.json.specs.Json.{after_end_array, value}
+use Rattle.json.proofs.Grammar.{left, skip_value-shorter}
+use Rattle.tracing_tree_lines.specs.Lines.Borrowed.{data_of}
+use Rattle.tracing_tree_lines.specs.Lines.Parts.{field_of, TakesFields}
+use Rattle.tracing_tree_lines.specs.Lines.Spelled.{field_value}
+use Rattle.tracing_tree_lines.proofs.LineTokens.{ReadsItems, no_items_read, field_item_read, other_item_read, fields_failed, fields_part, other_fields_part}
+use Rattle.tracing_tree_lines.proofs.lines.parts.read_fields.Goals as goal
+
+pub loop-alloc-init : goal.loop-alloc-init
+loop-alloc-init c = subst (λ fields. ReadsItems c.args.reader.now c.args.reader.now fields true) (sym c.new-fields.ensures.items) (no_items_read c.args.reader.now)
+
+pub returns-in_err-name : goal.returns-in_err-name
+returns-in_err-name c =
+    let l = c.loop-alloc in
+    let going : (after_end_array l.reader ≡ None) × (c.take_end_array.new.self ≡ l.reader) = grind arith in
+    let cause = c.in_err-name.field-0.0 in
+    let refused : c.from_residual.result ≡ Err cause = search rules in
+    subst (TakesFields c.args.reader.now c.read_pair.new.reader) (sym refused)
+    (fields_failed c.args.reader.now l.reader c.read_pair.new.reader l.fields.items l.are_fields cause l.invariant going.0 (rw (← going.1) c.in_err-name.ensures))
+
+pub loop-alloc-smaller-in_ok-push-in-Some : goal.loop-alloc-smaller-in_ok-push-in-Some
+loop-alloc-smaller-in_ok-push-in-Some c =
+    let l = c.loop-alloc in
+    let going : (after_end_array l.reader ≡ None) × (c.take_end_array.new.self ≡ l.reader) = grind arith in
+    let item = c.in_ok-name.ensures in
+    let less : length c.read_pair.new.reader < length l.reader = rw (← going.1) (skip_value-shorter 125 _ _ (ap left item.taken)) in
+    less
+
+pub loop-alloc-preserved-in_ok-push-in-Some : goal.loop-alloc-preserved-in_ok-push-in-Some
+loop-alloc-preserved-in_ok-push-in-Some c =
+    let l = c.loop-alloc in
+    let going : (after_end_array l.reader ≡ None) × (c.take_end_array.new.self ≡ l.reader) = grind arith in
+    let item = c.in_ok-name.ensures in
+    let taken : value 125 l.reader ≡ Some (item.value, c.read_pair.new.reader) = rw (← going.1) item.taken in
+    let field = c.in_ok-field_of-in-Some.field-0 in
+    let named : field ≡ field_of c.in-Some.name.now c.in-Some.value.now = search rules in
+    let texts : option_map (λ texts. field_of texts.0.now texts.1.now) c.in_ok-name.field-0 ≡ Some (field_of c.in-Some.name.now c.in-Some.value.now) = search rules in
+    let is : Some field ≡ field_value (data_of item.value) = ap Some named ∙ sym texts ∙ item.is in
+    let pushed : c.push.new.self.items ≡ l.fields.items ++ field ∷ [] = search rules in
+    field_item_read c.args.reader.now l.reader c.read_pair.new.reader l.fields.items c.push.new.self.items l.are_fields field item.value l.invariant going.0 taken is pushed
+
+pub loop-alloc-smaller : goal.loop-alloc-smaller
+loop-alloc-smaller c =
+    let l = c.loop-alloc in
+    let going : (after_end_array l.reader ≡ None) × (c.take_end_array.new.self ≡ l.reader) = grind arith in
+    let item = c.in_ok-name.ensures in
+    let less : length c.read_pair.new.reader < length l.reader = rw (← going.1) (skip_value-shorter 125 _ _ (ap left item.taken)) in
+    less
+
+pub loop-alloc-preserved : goal.loop-alloc-preserved
+loop-alloc-preserved c =
+    let l = c.loop-alloc in
+    let going : (after_end_array l.reader ≡ None) × (c.take_end_array.new.self ≡ l.reader) = grind arith in
+    let item = c.in_ok-name.ensures in
+    let taken : value 125 l.reader ≡ Some (item.value, c.read_pair.new.reader) = rw (← going.1) item.taken in
+    let texts : option_map (λ texts. field_of texts.0.now texts.1.now) c.in_ok-name.field-0 ≡ None = search rules in
+    other_item_read c.args.reader.now l.reader c.read_pair.new.reader l.fields.items l.are_fields item.value l.invariant going.0 taken (sym texts ∙ item.is)
+
+pub returns-then-not-are_fields : goal.returns-then-not-are_fields
+returns-then-not-are_fields c =
+    let l = c.loop-alloc in
+    let not_all : l.are_fields ≡ false = search rules in
+    other_fields_part c.args.reader.now l.reader c.take_end_array.new.self l.fields.items l.are_fields l.invariant not_all (grind arith)
+
+pub returns : goal.returns
+returns c =
+    let l = c.loop-alloc in
+    let all : l.are_fields ≡ true = search rules in
+    let list : c.from.result ≡ l.fields.items = search rules in
+    rw list (fields_part c.args.reader.now l.reader c.take_end_array.new.self l.fields.items l.are_fields l.invariant all (grind arith))

@@ -1,0 +1,29 @@
+use Rattle.std.proofs.Common.{◌≡◌, ap, ◌∙◌}
+use Rattle.std.specs.Io.Buffered.{reader_remaining}
+use Rattle.tracing_tree_base.specs.Time.Clock.{clock_timer}
+use Rattle.tracing_tree_layer.specs.Calls.Layers.{seen}
+use Rattle.tracing_tree_base.specs.Drawing.Writers.{seen_writer}
+use Rattle.tracing_tree_lines.proofs.OpenedLines.{concludes, calm_early}
+use Rattle.tracing_tree_lines.proofs.lines.run_lines.Goals as goal
+
+pub returns-clause-ran : goal.returns-clause-ran
+returns-clause-ran g c =
+    let remaining = g.R.Read.remaining in
+    let opened = c.in-Ok.opened in
+    let setup = c.into_parts-config.ensures in
+    let writer : c.into_writer.result ≡ c.run_calls-accepted.new.layered.layer.writer = c.into_writer.ensures ∙ ap (λ l. l.writer) c.into_parts-registry.ensures.layer in
+    let runs = rw (c.new-layered.ensures, c.with_timer-layer.ensures, c.with_config.ensures, setup.settings) at c.run_calls-accepted.ensures in
+    let ran = rw setup.timer at runs.changed.ran in
+    rw writer (concludes (remaining c.args.reader) (reader_remaining remaining opened.0) opened.1 c.run_calls-accepted.result.0 c.run_calls-accepted.result.1
+    (seen_writer g.W.Output c.args.writer) (seen (record { timer = clock_timer }) g.W.Output c.run_calls-accepted.new.layered) c.in-Ok.ensures.opened
+    ran)
+
+pub returns-clause-counted : goal.returns-clause-counted
+returns-clause-counted g c =
+    let setup = c.into_parts-config.ensures in
+    let writer : c.into_writer.result ≡ c.run_calls-accepted.new.layered.layer.writer = c.into_writer.ensures ∙ ap (λ l. l.writer) c.into_parts-registry.ensures.layer in
+    let runs = rw (c.new-layered.ensures, c.with_timer-layer.ensures, c.with_config.ensures) at c.run_calls-accepted.ensures in
+    rw writer runs.changed.counted
+
+pub returns-in-Err-clause-counted : goal.returns-in-Err-clause-counted
+returns-in-Err-clause-counted g c = calm_early c.in-Err.cause (g.W.Output.fault_count c.args.writer) c.in-Err.ensures.early

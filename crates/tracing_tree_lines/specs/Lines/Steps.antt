@@ -1,0 +1,81 @@
+-- What one line does to a layer, and what lines do to it one after another.
+use Rattle.std.specs.Prelude.{◌≡◌, ℕ, ◌≤◌, true, false, List, ◌++◌, length, take, slice_get, Option, None, IfSome, Result, Ok, Err}
+use Rattle.std.specs.Io.KnownBytes.{Appends}
+use Rattle.tracing_tree_base.specs.Drawing.Picture.{draw}
+use Rattle.tracing_tree_base.specs.declared.context.Refusal.{Refusal}
+use Rattle.tracing_tree_layer.specs.Calls.Seen.{Seen}
+use Rattle.tracing_tree_layer.specs.Calls.Headline.{run_from}
+use Rattle.tracing_tree_layer.specs.Calls.Answered.{IsAnswered}
+use Rattle.tracing_tree_lines.specs.Lines.Spelled.{input_lines, is_skipped, SpellsCall, SpellCalls, SpellsNothing}
+use Rattle.tracing_tree_lines.specs.Lines.Runs.{IsCounted, IsFaultAfter, IsLeftByFault, CountsEnd}
+use Rattle.tracing_tree_lines.specs.Lines.Reads.{TakesLine, HasNoLine}
+use Rattle.tracing_tree_layer.specs.declared.call.Call.{Call}
+use Rattle.tracing_tree_layer.specs.declared.call.Reply.{Reply}
+use Rattle.tracing_tree_lines.specs.declared.lines.Judged.{Judged}
+use Rattle.tracing_tree_lines.specs.declared.lines.Judged.TheVariants.{End, Skipped, Accepted}
+use Rattle.tracing_tree_lines.specs.declared.lines.LineCause.{LineCause}
+use Rattle.tracing_tree_lines.specs.declared.lines.LineCause.TheVariants.{Settings as NoSettings, NotACall, Read, Memory, Refused}
+use Rattle.tracing_tree_lines.specs.declared.lines.LineFault.{LineFault}
+
+-- the first line of the input spells a call, and the call got this answer
+pub record MakesCall (known left : Option (List ℕ)) (answer : Result Reply Refusal)
+    (old new : Seen) : Type 0 where
+  pub line : List ℕ
+  pub first : TakesLine known left line
+  pub judged : is_skipped line ≡ false
+  pub call : Call
+  pub spelled : SpellsCall line call
+  pub answered : IsAnswered call answer old new
+
+-- the first line of the input is skipped
+pub record SkipsLine (known left : Option (List ℕ)) : Type 0 where
+  pub line : List ℕ
+  pub first : TakesLine known left line
+  pub blank : is_skipped line ≡ true
+
+-- the first line of the input spells nothing
+pub record FailsLine (known left : Option (List ℕ)) : Type 0 where
+  pub line : List ℕ
+  pub first : TakesLine known left line
+  pub nothing : SpellsNothing line
+
+-- what became of the first line of the input; where no call was made nothing has changed
+abbrev pub JudgesLine : Option (List ℕ) → Option (List ℕ) → Result Judged LineCause → Seen → Seen
+    → Type 0
+JudgesLine known left (Ok End) old new = HasNoLine known × (new ≡ old)
+JudgesLine known left (Ok Skipped) old new = SkipsLine known left × (new ≡ old)
+JudgesLine known left (Ok Accepted) old new =
+    (reply : Reply) × MakesCall known left (Ok reply) old new
+JudgesLine known left (Err NoSettings) old new = ⊥
+JudgesLine known left (Err NotACall) old new = FailsLine known left × (new ≡ old)
+JudgesLine known left (Err Read) old new = new ≡ old
+JudgesLine known left (Err Memory) old new = new ≡ old
+JudgesLine known left (Err (Refused refusal)) old new = MakesCall known left (Err refusal) old new
+
+-- A run over lines: the calls that these lines spell are accepted, the others are skipped, and the
+-- next line is to blame. What is written is the drawing of the run of these calls, and what the
+-- fault leaves.
+pub record RunsOver (lines : List (List ℕ)) (accepted : ℕ) (fault : Option LineFault)
+    (old new : Seen) : Type 0 where
+  pub judged : ℕ
+  pub within : judged ≤ length lines
+  pub counted : IsCounted judged fault
+  pub calls : List Call
+  pub spelled : SpellCalls (take judged lines) calls
+  pub count : accepted ≡ length calls
+  pub taken : length (run_from old calls).replies ≡ length calls
+  pub all : fault ≡ None → judged ≡ length lines
+  pub blamed : IfSome fault
+      (IsFaultAfter old.settings old.timer (run_from old calls).state lines judged)
+  pub front : List ℕ
+  pub left : IsLeftByFault old.writer.whole old.settings old.timer (run_from old calls).state
+      (slice_get lines judged) fault front
+  pub appends : Appends old.writer.bytes new.writer.bytes
+      (draw old.settings (run_from old calls).rows ++ front)
+
+-- the same over what is left of the input, where that is known, and the count of the writer's
+-- faults
+pub record EndsLines (known : Option (List ℕ)) (accepted : ℕ) (fault : Option LineFault)
+    (old new : Seen) : Type 0 where
+  pub ran : IfSome known (λ input. RunsOver (input_lines input) accepted fault old new)
+  pub counted : CountsEnd fault old.writer.faults new.writer.faults

@@ -1,0 +1,71 @@
+-- What readers of a line's value answer.
+use Rattle.std.specs.Prelude.{◌≡◌, false, List, ℕ, Option, Some, None, Result, Ok, Err, ⊤}
+use Rattle.serde_json.specs.Data.{Data}
+use Rattle.serde_json.specs.Written.{has_float}
+use Rattle.tracing_tree_base.specs.Drawing.Settings.{Settings}
+use Rattle.tracing_tree_base.specs.declared.context.Context.{Context}
+use Rattle.tracing_tree_base.specs.declared.context.Moment.{Moment}
+use Rattle.tracing_tree_lines.specs.Lines.Spelled.{TimerChoice, no_clock, utc_clock, local_clock, uptime_clock, SpellsSettings, IsMomentIn, context_in, object_call, SpellsCall}
+use Rattle.tracing_tree_layer.specs.declared.call.Call.{Call}
+use Rattle.tracing_tree_lines.specs.declared.lines.settings.timer.Timer.{Timer as Asked}
+use Rattle.tracing_tree_lines.specs.declared.lines.settings.timer.Timer.TheVariants as Ask
+use Rattle.tracing_tree_lines.specs.declared.lines.LineCause.{LineCause}
+use Rattle.tracing_tree_lines.specs.declared.lines.LineCause.TheVariants.{Settings as NoSettings, NotACall, Read, Memory, Refused}
+
+-- the cause is want of memory, or this one for that reason
+abbrev pub IsUnlessMemory : LineCause → Type 0 → LineCause → Type 0
+IsUnlessMemory blamed reason NoSettings = (blamed ≡ NoSettings) × reason
+IsUnlessMemory blamed reason NotACall = (blamed ≡ NotACall) × reason
+IsUnlessMemory blamed reason Read = ⊥
+IsUnlessMemory blamed reason Memory = ⊤
+IsUnlessMemory blamed reason (Refused refusal) = ⊥
+
+-- what is spelled is answered, and `NotACall` where nothing is; or memory was refused
+abbrev pub IsReadAs : {A : Type 0} → Option A → Result A LineCause → Type 0
+IsReadAs spelled (Ok value) = spelled ≡ Some value
+IsReadAs spelled (Err cause) = IsUnlessMemory NotACall (spelled ≡ None) cause
+
+-- the choice that a line asks for
+abbrev pub choice_of : Asked → TimerChoice
+choice_of Ask.None = no_clock
+choice_of (Ask.Utc clock) = utc_clock clock.higher_precision
+choice_of (Ask.Local offset higher) = local_clock offset.seconds higher
+choice_of (Ask.Uptime clock) = uptime_clock clock.epoch clock.higher_precision
+
+-- the settings and the timer that the first line spells
+abbrev pub ReadsFirst : List ℕ → Result (Settings × TimerChoice) LineCause → Type 0
+ReadsFirst line (Ok asked) = SpellsSettings line asked.0 asked.1
+ReadsFirst line (Err cause) =
+    IsUnlessMemory NoSettings
+    ((settings : Settings) (timer : TimerChoice) → ¬ SpellsSettings line settings timer) cause
+
+-- the moment that a value spells, if it spells one
+abbrev pub ReadsMoment : Data → Option Moment → Type 0
+ReadsMoment value (Some moment) = IsMomentIn value moment
+ReadsMoment value None = (moment : Moment) → ¬ IsMomentIn value moment
+
+-- the context that a value spells
+abbrev pub ReadsContext : Data → Result Context LineCause → Type 0
+ReadsContext value (Ok context) =
+    IsMomentIn value context.moment × (context_in value context.moment ≡ Some context)
+ReadsContext value (Err cause) =
+    IsUnlessMemory NotACall
+    ((moment : Moment) → IsMomentIn value moment → context_in value moment ≡ None) cause
+
+-- the value holds no float, and spells this call at a moment that it spells
+pub record ValueSpells (value : Data) (call : Call) : Type 0 where
+  pub no_float : has_float value ≡ false
+  pub moment : Moment
+  pub timed : IsMomentIn value moment
+  pub spelled : object_call value moment ≡ Some call
+
+-- the call that a value spells
+abbrev pub ReadsCall : Data → Result Call LineCause → Type 0
+ReadsCall value (Ok call) = ValueSpells value call
+ReadsCall value (Err cause) =
+    IsUnlessMemory NotACall ((call : Call) → ¬ ValueSpells value call) cause
+
+-- the call that a line spells
+abbrev pub ReadsLine : List ℕ → Result Call LineCause → Type 0
+ReadsLine line (Ok call) = SpellsCall line call
+ReadsLine line (Err cause) = IsUnlessMemory NotACall ((call : Call) → ¬ SpellsCall line call) cause

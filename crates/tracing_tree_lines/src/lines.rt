@@ -1,0 +1,305 @@
+//! The program's lines: the first spells settings, each further one a call.
+
+mod call;
+mod context;
+mod number;
+mod part;
+mod parts;
+pub(crate) mod read;
+mod settings;
+mod value;
+
+ghost use Rattle.std.specs.Prelude.{◌≡◌, IfErr, IfSome, MatchResult};
+ghost use Rattle.std.specs.Io.Buffered.{reader_remaining};
+ghost use Rattle.tracing_tree_layer.specs.Calls.Layers.{seen, Changes};
+ghost use Rattle.tracing_tree_lines.specs.Lines.Reads.{IsBeforeCalls, OpensWith};
+ghost use Rattle.tracing_tree_lines.specs.Lines.Runs.{CountsEnd, EndsAtFirst, LeavesRun, status_of};
+ghost use Rattle.tracing_tree_layer.specs.Calls.Layers.{Flushes};
+ghost use Rattle.tracing_tree_lines.specs.Lines.Steps.{EndsLines, JudgesLine};
+ghost use Rattle.tracing_tree_base.specs.Drawing.Writers.{seen_writer};
+
+use call::call_of_line;
+use json::{Invalid, Scratch};
+pub use read::{holds_line, is_skipped, read_line};
+use settings::{Setup, settings_of_line};
+use std::alloc::{AllocError, AllocFailed, Global};
+use std::fmt;
+use std::io::{BufRead, BufReader, Read};
+use thiserror::Error;
+use tracing_tree_core::format::{Output, Refusal};
+use tracing_tree_core::time::FormatTime;
+use tracing_tree_layer::layer::HierarchicalLayer;
+use tracing_tree_layer::layered::Layered;
+
+/// Why a line ended the run.
+#[derive(Clone, Copy, Debug, PartialEq, Eq, Error)]
+pub enum LineCause {
+    /// The first line isn't there, or spells no settings.
+    #[error("settings")]
+    Settings,
+
+    /// A further line spells no call.
+    #[error("not a call")]
+    NotACall,
+
+    /// The input could not be read.
+    #[error("read")]
+    Read,
+
+    /// Memory was refused before the line's call was made.
+    #[error("memory")]
+    Memory,
+
+    /// The line's call was refused.
+    #[error(transparent)]
+    Refused(Refusal),
+}
+
+impl From<Refusal> for LineCause {
+    ghost use Rattle.std.specs.Prelude.{◌≡◌};
+    ghost use Rattle.tracing_tree_lines.specs.declared.lines.LineCause.TheVariants.{Refused};
+
+    ghost from_gives = { λ refusal cause. cause ≡ Refused refusal };
+
+    fn from(refusal: Refusal) -> LineCause {
+        LineCause::Refused(refusal)
+    }
+}
+
+impl From<AllocError> for LineCause {
+    ghost use Rattle.std.specs.Prelude.{◌≡◌};
+    ghost use Rattle.tracing_tree_lines.specs.declared.lines.LineCause.TheVariants.{Memory};
+
+    ghost from_gives = { λ _ cause. cause ≡ Memory };
+
+    fn from(_error: AllocError) -> LineCause {
+        LineCause::Memory
+    }
+}
+
+impl From<Invalid> for LineCause {
+    ghost use Rattle.std.specs.Prelude.{◌≡◌};
+    ghost use Rattle.tracing_tree_lines.specs.declared.lines.LineCause.TheVariants.{NotACall};
+
+    ghost from_gives = { λ _ cause. cause ≡ NotACall };
+
+    fn from(_invalid: Invalid) -> LineCause {
+        LineCause::NotACall
+    }
+}
+
+impl From<json::Error> for LineCause {
+    ghost use Rattle.std.specs.Prelude.{◌≡◌};
+    ghost use Rattle.json.specs.declared.error.Error.TheVariants.{OutOfMemory};
+    ghost use Rattle.tracing_tree_lines.specs.Lines.Parts.{cause_of};
+
+    ghost from_gives = { λ error cause. cause ≡ cause_of error };
+
+    fn from(error: json::Error) -> LineCause {
+        match error {
+            json::Error::OutOfMemory => LineCause::Memory,
+            _ => LineCause::NotACall,
+        }
+    }
+}
+
+impl<T: Drop> From<AllocFailed<T>> for LineCause {
+    ghost use Rattle.std.specs.Prelude.{◌≡◌};
+    ghost use Rattle.tracing_tree_lines.specs.declared.lines.LineCause.TheVariants.{Memory};
+
+    ghost from_gives = { λ _ cause. cause ≡ Memory };
+
+    fn from(_error: AllocFailed<T>) -> LineCause {
+        LineCause::Memory
+    }
+}
+
+/// The line that ended the run, and why. It is shown as `line N: CAUSE`.
+#[derive(Clone, Copy, Debug, PartialEq, Eq)]
+pub struct LineFault {
+    /// The line's number; the first line is 1.
+    pub line: u64,
+
+    /// Why the run ended there.
+    pub cause: LineCause,
+}
+
+impl fmt::Display for LineFault {
+    fn fmt<W: fmt::Write>(&self, f: &mut fmt::Formatter<W>) -> fmt::Result {
+        let line = self.line;
+        let cause = self.cause;
+        write!(f, "line {line}: {cause}")
+    }
+}
+
+/// What a run over lines leaves.
+#[derive(Drop)]
+pub struct LinesRun<W: Output> {
+    /// The writer, with all that was written.
+    pub writer: W,
+
+    /// How many calls were accepted.
+    pub accepted: u64,
+
+    /// The line that ended the run; none where the input was run to its end.
+    pub fault: Option<LineFault>,
+}
+
+// The bytes that are asked of the reader at a time.
+const BLOCK: usize = 64 * 1024;
+
+/// Runs the calls that the input's lines spell, under the settings that its first line spells, and draws them into the writer.
+/// The caller must ensure that the writer has no faults.
+///
+/// The run ends after the first line that spells no call or whose call is refused: that line's number and the cause are the
+/// fault. A line of spaces, tabs and carriage returns alone is counted and skipped. An interrupted read is tried again at most
+/// eight times in a row; `Read` is the cause of another error, of 2^64 - 1 reads of a line that doesn't end, and of line number
+/// 2^64 - 1, which isn't judged. `Memory` is the cause where memory is refused; of line 1 where the buffer of the input can't
+/// be made. The writer is flushed before each read of the input from line 2 on, and not elsewhere.
+pub fn run_lines<R: Read, W: Output>(alloc: Global, reader: R, writer: W) -> LinesRun<W>
+where
+    R: Drop,
+    W: Drop,
+    requires { W.fault_count writer ≡ 0 }
+    ensures ran { IfSome (R.remaining reader) (λ input.
+        LeavesRun input result.accepted result.fault
+        (seen_writer W.Output writer) (seen_writer W.Output result.writer)) }
+    ensures counted { CountsEnd result.fault (W.fault_count writer) (W.fault_count result.writer) }
+{
+    let opened = open(alloc, reader);
+    let (mut lines, setup) = match opened {
+        Ok(opened) => opened,
+        Err(cause) => {
+            let fault = Some(LineFault { line: 1, cause });
+            return LinesRun {
+                writer,
+                accepted: 0,
+                fault,
+            };
+        }
+    };
+    let (config, timer) = setup.into_parts();
+    let layer = HierarchicalLayer::with_config(alloc, config, writer).with_timer(timer);
+    let mut layered = Layered::new(alloc, layer);
+    let (accepted, fault) = run_calls(alloc, &mut lines, &mut layered);
+    let (_registry, layer) = layered.into_parts();
+    LinesRun {
+        writer: layer.into_writer(),
+        accepted,
+        fault,
+    }
+}
+
+// The lines after the first, and what the first asks for.
+fn open<R: Read>(alloc: Global, reader: R) -> Result<(BufReader<R>, Setup), LineCause>
+where
+    R: Drop,
+    ensures opened { MatchResult result
+        (λ opened. OpensWith (R.remaining reader) (reader_remaining R.remaining opened.0) opened.1)
+        (λ cause. IfSome (R.remaining reader) (λ input. EndsAtFirst input cause)) }
+    ensures early { IfErr result IsBeforeCalls }
+{
+    let Ok(mut lines) = BufReader::with_capacity(alloc, BLOCK, reader) else {
+        return Err(LineCause::Memory);
+    };
+    let mut line = Vec::new(alloc);
+    if !read_line(&mut lines, &mut line)? {
+        return Err(LineCause::Settings);
+    }
+    let setup = settings_of_line(alloc, line.as_slice())?;
+    Ok((lines, setup))
+}
+
+// Makes the calls that the lines spell, from the second line on. Returns how many were accepted, and the fault that ended the run.
+fn run_calls<R: Read, W: Output, FT: FormatTime>(
+    alloc: Global,
+    lines: &mut BufReader<R>,
+    layered: &mut Layered<W, FT>,
+) -> (u64, Option<LineFault>)
+    ensures { Changes (seen FT.FormatTime W.Output)
+        (EndsLines (reader_remaining R.remaining lines.old) result.0 result.1)
+        layered.old layered.new }
+{
+    let mut line = Vec::new(alloc);
+    let mut scratch = Scratch::new(alloc);
+    let mut accepted = 0;
+    for number in 2..u64::MAX {
+        show_before_read(lines, layered);
+        match run_line(alloc, lines, &mut line, &mut scratch, layered) {
+            Ok(Judged::End) => return (accepted, None),
+            Ok(Judged::Skipped) => {}
+            Ok(Judged::Accepted) => accepted += 1,
+            Err(cause) => {
+                let fault = LineFault {
+                    line: number,
+                    cause,
+                };
+                return (accepted, Some(fault));
+            }
+        }
+    }
+    let fault = LineFault {
+        line: u64::MAX,
+        cause: LineCause::Read,
+    };
+    (accepted, Some(fault))
+}
+
+// Has what is drawn passed on where the next line isn't read yet, since the read may wait.
+fn show_before_read<R: Read, W: Output, FT: FormatTime>(
+    lines: &BufReader<R>,
+    layered: &mut Layered<W, FT>,
+)
+    ensures { Changes (seen FT.FormatTime W.Output) Flushes layered.old layered.new }
+{
+    if !holds_line(lines) {
+        layered.flush();
+    }
+}
+
+// What became of a line.
+enum Judged {
+    // There is none.
+    End,
+    Skipped,
+    // Its call was accepted.
+    Accepted,
+}
+
+// Reads one line, and makes the call that it spells.
+fn run_line<B: BufRead, W: Output, FT: FormatTime>(
+    alloc: Global,
+    lines: &mut B,
+    line: &mut Vec<u8>,
+    scratch: &mut Scratch,
+    layered: &mut Layered<W, FT>,
+) -> Result<Judged, LineCause>
+    ensures { Changes (seen FT.FormatTime W.Output)
+        (JudgesLine (B.remaining lines.old) (B.remaining lines.new) result)
+        layered.old layered.new }
+{
+    if !read_line(lines, line)? {
+        return Ok(Judged::End);
+    }
+    if is_skipped(line.as_slice()) {
+        return Ok(Judged::Skipped);
+    }
+    let call = call_of_line(alloc, line.as_slice(), scratch)?;
+    layered.call(call)?;
+    Ok(Judged::Accepted)
+}
+
+/// The exit status of the program after a run that ended so: 2 for the settings, 1 for any other fault, and without a fault 0
+/// if the last text went out and 1 if not.
+pub fn status(fault: &Option<LineFault>, flushed: bool) -> u8
+    ensures { result ≡ status_of fault.now flushed }
+{
+    match fault {
+        None if flushed => 0,
+        None => 1,
+        Some(fault) => match fault.cause {
+            LineCause::Settings => 2,
+            _ => 1,
+        },
+    }
+}

@@ -1,0 +1,117 @@
+//! What goes with each call.
+
+ghost use Rattle.std.specs.Prelude.{◌≡◌, Some};
+ghost use Rattle.std.specs.Option.{option_map_or};
+ghost use Rattle.serde_json.specs.Find.{as_str};
+ghost use Rattle.tracing_tree_lines.specs.Lines.Parts.{part_data, parts_data};
+ghost use Rattle.tracing_tree_lines.specs.Lines.Values.{IsReadAs, ReadsMoment, ReadsContext};
+ghost use Rattle.tracing_tree_lines.specs.Lines.Spelled.{id_value, current_in, mono_in, thread_in, thread_name_in, unless_null, wall_in, whole_value};
+
+use super::LineCause;
+use super::part::Part;
+use super::parts::Parts;
+use jiff::Timestamp;
+use std::alloc::Global;
+use tracing_tree_core::format::{Context, Id};
+use tracing_tree_core::text::Text;
+use tracing_tree_core::time::Moment;
+
+// What the parts spell of the context of their call. `NotACall` where a part can't be read, `Memory` where memory is refused.
+pub(super) fn context_in(alloc: Global, parts: &Parts<'_>) -> Result<Context, LineCause>
+    ensures { ReadsContext (parts_data parts.now) result }
+{
+    let moment = moment_in(parts).ok_or(LineCause::NotACall)?;
+    let current = current_in(parts).ok_or(LineCause::NotACall)?;
+    let thread_id = thread_in(parts).ok_or(LineCause::NotACall)?;
+    let thread_name = thread_name_in(alloc, parts)?;
+    Ok(Context {
+        current,
+        thread_id,
+        thread_name,
+        moment,
+    })
+}
+
+// The current span, if there is one. None where it can't be read.
+#[tactic(auto, using(crate::proofs::LineParts::at_current))]
+fn current_in(parts: &Parts<'_>) -> Option<Option<Id>>
+    ensures { result ≡ current_in (parts_data parts.now) }
+{
+    match parts.current.present() {
+        Some(current) => Some(Some(id_value(current)?)),
+        None => Some(None),
+    }
+}
+
+// The number of the thread, 1 where it isn't there. None where it can't be read.
+#[tactic(auto, using(crate::proofs::LineParts::at_thread))]
+fn thread_in(parts: &Parts<'_>) -> Option<u64>
+    ensures { result ≡ thread_in (parts_data parts.now) }
+{
+    whole_or(1, &parts.thread)
+}
+
+// The name of the thread, if it has one.
+#[tactic(auto, using(crate::proofs::LineParts::at_thread_name))]
+fn thread_name_in(alloc: Global, parts: &Parts<'_>) -> Result<Option<Text>, LineCause>
+    ensures { IsReadAs (thread_name_in (parts_data parts.now)) result }
+{
+    match parts.thread_name.present() {
+        Some(name) => Ok(Some(text_value(alloc, name)?)),
+        None => Ok(None),
+    }
+}
+
+// When the call happens. None where it can't be read.
+fn moment_in(parts: &Parts<'_>) -> Option<Moment>
+    ensures { ReadsMoment (parts_data parts.now) result }
+{
+    let mono = mono_in(parts)?;
+    let nanosecond = wall_in(parts)?;
+    let wall = Timestamp::from_nanosecond(i128::from(nanosecond)).unwrap();
+    Some(Moment { mono, wall })
+}
+
+// Nanoseconds on the monotonic clock. None where they can't be read.
+#[tactic(auto, using(crate::proofs::LineParts::at_mono))]
+fn mono_in(parts: &Parts<'_>) -> Option<u64>
+    ensures { result ≡ mono_in (parts_data parts.now) }
+{
+    whole_or(0, &parts.mono)
+}
+
+// Nanoseconds on the wall's clock since 1970. None where they can't be read.
+#[tactic(auto, using(crate::proofs::LineParts::at_wall))]
+fn wall_in(parts: &Parts<'_>) -> Option<i64>
+    ensures { result ≡ wall_in (parts_data parts.now) }
+{
+    match parts.wall.present() {
+        Some(wall) => wall.as_signed(),
+        None => Some(0),
+    }
+}
+
+// A whole number of 64 bits, or this one where nothing stands there. None where it can't be read.
+fn whole_or(absent: u64, part: &Part<'_>) -> Option<u64>
+    ensures { result ≡ option_map_or whole_value (unless_null (part_data part.now)) (Some absent) }
+{
+    match part.present() {
+        Some(found) => found.as_whole(),
+        None => Some(absent),
+    }
+}
+
+// A span's number.
+pub(super) fn id_value(part: &Part<'_>) -> Option<Id>
+    ensures { result ≡ id_value (part_data part.now) }
+{
+    Some(Id(part.as_whole()?))
+}
+
+// A copy of a text. `NotACall` where the part isn't one, `Memory` where memory is refused.
+pub(super) fn text_value(alloc: Global, part: &Part<'_>) -> Result<Text, LineCause>
+    ensures { IsReadAs (as_str (part_data part.now)) result }
+{
+    let text = part.as_str().ok_or(LineCause::NotACall)?;
+    Ok(Text::from_str(alloc, text)?)
+}

@@ -1,0 +1,52 @@
+//! Numbers of 64 bits.
+
+ghost use Rattle.std.specs.Prelude.{◌≡◌, ◌==◌, ◌<◌, length, slice_index, true, false, IsTrue, option_and_then};
+ghost use Rattle.json.specs.Json as json;
+ghost use Rattle.serde_json.specs.Find.{as_i64, as_u64};
+ghost use Rattle.serde_json.specs.Read.{number_from};
+ghost use Rattle.tracing_tree_lines.specs.Lines.Parts.{IsPartOf};
+
+use super::part::Part;
+use fast_float::Numeral;
+
+// The part of a number with this text.
+pub(super) fn number_part<'a>(text: &str) -> Part<'a>
+    ensures { IsPartOf (json.number text.now) result }
+{
+    let bytes = text.as_bytes();
+    if has_minus(bytes) {
+        return match negative_number(&Numeral::scan(&bytes[1..])) {
+            Some(number) => Part::Negative(number),
+            None => Part::Other,
+        };
+    }
+    match whole_number(&Numeral::scan(bytes)) {
+        Some(number) => Part::Whole(number),
+        None => Part::Other,
+    }
+}
+
+// The number after a minus. None where it isn't whole or out of range; `-0` is a float.
+fn negative_number(numeral: &Numeral<'_>) -> Option<i64>
+    ensures { result ≡ option_and_then as_i64 (number_from true numeral.now) }
+{
+    match numeral.to_i64(true)? {
+        0 => None,
+        number => Some(number),
+    }
+}
+
+// The number without a minus. None where it isn't whole or out of range.
+fn whole_number(numeral: &Numeral<'_>) -> Option<u64>
+    ensures { result ≡ option_and_then as_u64 (number_from false numeral.now) }
+{
+    numeral.to_u64()
+}
+
+// Whether a minus comes first.
+fn has_minus(bytes: &[u8]) -> bool
+    ensures value { result ≡ (slice_index bytes.now 0 == 45) }
+    ensures some { IsTrue result → 0 < length bytes.now }
+{
+    !bytes.is_empty() && bytes[0] == b'-'
+}

@@ -1,0 +1,73 @@
+//! What stands at a key of a line's object.
+
+ghost use Rattle.std.specs.Prelude.{◌≡◌, option_map};
+ghost use Rattle.serde_json.specs.Find.{as_str};
+ghost use Rattle.tracing_tree_lines.specs.Lines.Parts.{is_other, part_data};
+ghost use Rattle.tracing_tree_lines.specs.Lines.Spelled.{signed_value, unless_null, whole_value};
+
+use tracing_tree_core::format::Fields;
+
+// What a call is read from.
+#[derive(Drop)]
+pub(super) enum Part<'a> {
+    // Nothing, or a null.
+    Absent,
+    Text(&'a str),
+    // A whole number of 64 bits.
+    Whole(u64),
+    // A whole number of 64 bits below zero.
+    Negative(i64),
+    // An array of pairs of texts.
+    Fields(Fields),
+    // Another value. No part of a call is read from it.
+    Other,
+}
+
+impl<'a> Part<'a> {
+    // The part itself, if something stands there.
+    pub(super) fn present(&self) -> Option<&Part<'a>>
+        ensures { option_map (λ part. part_data part.now) result ≡ unless_null (part_data self.now) }
+    {
+        match self {
+            Part::Absent => None,
+            _ => Some(self),
+        }
+    }
+
+    pub(super) fn is_other(&self) -> bool
+        ensures { result ≡ is_other self.now }
+    {
+        matches!(self, Part::Other)
+    }
+
+    // The text. None where it is none.
+    pub(super) fn as_str(&self) -> Option<&'a str>
+        ensures { option_map (λ text. text.now) result ≡ as_str (part_data self.now) }
+    {
+        match self {
+            Part::Text(text) => Some(text),
+            _ => None,
+        }
+    }
+
+    // The whole number of 64 bits. None where it is none.
+    pub(super) fn as_whole(&self) -> Option<u64>
+        ensures { result ≡ whole_value (part_data self.now) }
+    {
+        match self {
+            Part::Whole(number) => Some(*number),
+            _ => None,
+        }
+    }
+
+    // The whole number of 64 bits with a sign. None where it is none.
+    pub(super) fn as_signed(&self) -> Option<i64>
+        ensures { result ≡ signed_value (part_data self.now) }
+    {
+        match self {
+            Part::Whole(number) => i64::try_from(*number).ok(),
+            Part::Negative(number) => Some(*number),
+            _ => None,
+        }
+    }
+}

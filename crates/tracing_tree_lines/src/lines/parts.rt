@@ -1,0 +1,277 @@
+//! What a line's object has at the keys of a call, read in one pass.
+
+ghost use Rattle.std.specs.Prelude.{◌≡◌, ◌||◌, false, None, Some, MatchResult, IfOk, option_map};
+ghost use Rattle.json.specs.Json as json;
+ghost use Rattle.json.specs.Reads.{skip_members};
+ghost use Rattle.json.specs.Value.{items_view};
+ghost use Rattle.serde_json.specs.Find.{as_array};
+ghost use Rattle.tracing_tree_lines.specs.Lines.Borrowed.{borrowed_data, items_data, RefusesFloat};
+ghost use Rattle.tracing_tree_lines.specs.Lines.Parts.{field_of, is_other, no_parts, opens_object, part_data, parts_members, with_key, IsItemTaken, ReadsObject, ReadsParts, TakesFields, TakesPart, TakesParts};
+ghost use Rattle.tracing_tree_lines.specs.Lines.Spelled.{field_value};
+ghost use Rattle.tracing_tree_lines.specs.Lines.Values.{IsUnlessMemory};
+ghost use Rattle.tracing_tree_lines.specs.declared.lines.LineCause.TheVariants.{NotACall};
+
+use super::LineCause;
+use super::number::number_part;
+use super::part::Part;
+use super::value::has_float;
+use json::{Invalid, Reader, Scratch, Token, Value};
+use simdutf8::basic::from_utf8;
+use std::alloc::{AllocError, Global};
+use std::mem;
+use tracing_tree_core::format::{Field, Fields};
+use tracing_tree_core::text::Text;
+
+// How deep arrays and objects may nest in an item of an array that stands at a key. A line may nest 127 deep.
+const ITEM_DEPTH: usize = 125;
+
+// What stands at the keys of a call. The last of several members with one key counts.
+#[derive(Drop)]
+pub(super) struct Parts<'a> {
+    pub(super) call: Part<'a>,
+    pub(super) id: Part<'a>,
+    pub(super) name: Part<'a>,
+    pub(super) level: Part<'a>,
+    pub(super) target: Part<'a>,
+    pub(super) parent: Part<'a>,
+    pub(super) fields: Part<'a>,
+    pub(super) current: Part<'a>,
+    pub(super) thread: Part<'a>,
+    pub(super) thread_name: Part<'a>,
+    pub(super) mono: Part<'a>,
+    pub(super) wall: Part<'a>,
+    // Whether a member had another value. It may hold a float.
+    has_other: bool,
+}
+
+impl<'a> Parts<'a> {
+    pub(super) fn new() -> Parts<'a>
+        ensures absent { parts_members result ≡ no_parts }
+        ensures none { result.has_other ≡ false }
+    {
+        Parts {
+            call: Part::Absent,
+            id: Part::Absent,
+            name: Part::Absent,
+            level: Part::Absent,
+            target: Part::Absent,
+            parent: Part::Absent,
+            fields: Part::Absent,
+            current: Part::Absent,
+            thread: Part::Absent,
+            thread_name: Part::Absent,
+            mono: Part::Absent,
+            wall: Part::Absent,
+            has_other: false,
+        }
+    }
+
+    // The fields. Afterwards there are none.
+    pub(super) fn take_fields(&mut self) -> Part<'a>
+        ensures { part_data result ≡ part_data self.old.fields }
+    {
+        mem::replace(&mut self.fields, Part::Absent)
+    }
+
+    // Puts a part at its key. A key of no call is passed over.
+    fn set(&mut self, key: &str, part: Part<'a>)
+        ensures put { parts_members self.new
+            ≡ with_key key.now (part_data part.entry) (parts_members self.old) }
+        ensures other { self.new.has_other ≡ (is_other part.entry || self.old.has_other) }
+    {
+        if part.is_other() {
+            self.has_other = true;
+        }
+        match key {
+            "call" => self.call = part,
+            "id" => self.id = part,
+            "name" => self.name = part,
+            "level" => self.level = part,
+            "target" => self.target = part,
+            "parent" => self.parent = part,
+            "fields" => self.fields = part,
+            "current" => self.current = part,
+            "thread" => self.thread = part,
+            "thread_name" => self.thread_name = part,
+            "mono" => self.mono = part,
+            "wall" => self.wall = part,
+            _ => {}
+        }
+    }
+}
+
+// Fills in the parts of a line that has no float. `NotACall` where the line has one, or is no object of JSON; `Memory` where memory is
+// refused.
+pub(super) fn read_line_parts<'a>(
+    alloc: Global,
+    line: &'a [u8],
+    scratch: &'a mut Scratch,
+    parts: &mut Parts<'a>,
+) -> Result<(), LineCause>
+    requires { parts_members parts.old ≡ no_parts }
+    ensures { ReadsParts line.now parts.new result }
+{
+    read_object(alloc, line, scratch, parts)?;
+    if parts.has_other {
+        refuse_float(alloc, line)?;
+    }
+    Ok(())
+}
+
+// Fills in the parts of a line. `NotACall` where the line is no object of JSON, `Memory` where memory is refused.
+fn read_object<'a>(
+    alloc: Global,
+    line: &'a [u8],
+    scratch: &'a mut Scratch,
+    parts: &mut Parts<'a>,
+) -> Result<(), LineCause>
+    requires { parts_members parts.old ≡ no_parts }
+    ensures { ReadsObject line.now parts.new result }
+{
+    let Ok(text) = from_utf8(line) else {
+        return Err(LineCause::NotACall);
+    };
+    let mut reader = Reader::new(text, scratch)?;
+    let first = reader.next().ok_or(LineCause::NotACall)?;
+    if !opens_object(&first) {
+        return Err(LineCause::NotACall);
+    }
+    read_members(alloc, &mut reader, parts)?;
+    if reader.next().is_some() {
+        return Err(LineCause::NotACall);
+    }
+    Ok(())
+}
+
+// Whether the token opens an object.
+fn opens_object(token: &Token<'_>) -> bool
+    ensures { result ≡ opens_object token.now }
+{
+    matches!(token, Token::BeginObject)
+}
+
+// Refuses a line with a float: a number that isn't whole, or not of 64 bits, and whose key doesn't come again in its object.
+fn refuse_float(alloc: Global, line: &[u8]) -> Result<(), LineCause>
+    ensures { RefusesFloat line.now result }
+{
+    match serde_json::Value::from_slice(alloc, line) {
+        Ok(value) if has_float(&value) => Err(LineCause::NotACall),
+        Ok(_) => Ok(()),
+        Err(error) if error.is_memory() => Err(LineCause::Memory),
+        Err(_) => Err(LineCause::NotACall),
+    }
+}
+
+// Fills in the parts of an object whose `{` was read.
+fn read_members<'a>(
+    alloc: Global,
+    reader: &mut Reader<'a>,
+    parts: &mut Parts<'a>,
+) -> Result<(), LineCause>
+    requires { parts_members parts.old ≡ no_parts }
+    ensures { TakesParts reader.old reader.new parts.new result }
+{
+    while let Some(key) = reader.next_key()? {
+        let part = read_part(alloc, reader)?;
+        parts.set(key, part);
+    }
+    Ok(())
+}
+
+// The next value.
+fn read_part<'a>(alloc: Global, reader: &mut Reader<'a>) -> Result<Part<'a>, LineCause>
+    ensures { TakesPart reader.old reader.new result }
+{
+    match reader.next().ok_or(LineCause::NotACall)? {
+        Token::Null => Ok(Part::Absent),
+        Token::String(text) => Ok(Part::Text(text)),
+        Token::Number(text) => Ok(number_part(text)),
+        Token::Bool(_) => Ok(Part::Other),
+        Token::BeginArray => read_fields(alloc, reader),
+        Token::BeginObject => {
+            skip_members(reader)?;
+            Ok(Part::Other)
+        }
+        Token::EndObject | Token::EndArray | Token::Key(_) | Token::Bad => Err(LineCause::NotACall),
+    }
+}
+
+// Passes over the members of an object whose `{` was read.
+fn skip_members(reader: &mut Reader<'_>) -> Result<(), Invalid>
+    ensures { MatchResult result
+        (λ _. skip_members 125 reader.old ≡ Some reader.new)
+        (λ _. skip_members 125 reader.old ≡ None) }
+{
+    while let Some(_) = reader.next_key()? {
+        reader.skip_value(ITEM_DEPTH)?;
+    }
+    Ok(())
+}
+
+// The fields of an array whose `[` was read.
+fn read_fields<'a>(alloc: Global, reader: &mut Reader<'_>) -> Result<Part<'a>, LineCause>
+    ensures { TakesFields reader.old reader.new result }
+{
+    // Not of the exact size: so a span's list has room for the first fields that are recorded later.
+    let mut fields = Vec::new(alloc);
+    let mut are_fields = true;
+    while !reader.take_end_array() {
+        match read_pair(alloc, reader)? {
+            Some((name, value)) => fields.push(field_of(alloc, name, value)?)?,
+            None => are_fields = false,
+        }
+    }
+    if !are_fields {
+        return Ok(Part::Other);
+    }
+    Ok(Part::Fields(Fields::from(fields)))
+}
+
+// The texts of the next value, where it is an array of two texts.
+fn read_pair<'a>(
+    alloc: Global,
+    reader: &mut Reader<'a>,
+) -> Result<Option<(&'a str, &'a str)>, LineCause>
+    ensures { MatchResult result
+        (λ pair. IsItemTaken reader.old reader.new
+        (option_map (λ texts. field_of texts.0.now texts.1.now) pair))
+        (λ cause. IsUnlessMemory NotACall (json.value 125 reader.old ≡ None) cause) }
+{
+    let item = Value::read(alloc, reader, ITEM_DEPTH)?;
+    Ok(pair_of(&item))
+}
+
+// The texts of an array of two texts. None where the value is no such array.
+fn pair_of<'a>(value: &Value<'a>) -> Option<(&'a str, &'a str)>
+    ensures { option_map (λ pair. field_of pair.0.now pair.1.now) result
+        ≡ field_value (borrowed_data value.now) }
+{
+    let items = items_of(value)?;
+    if items.len() != 2 {
+        return None;
+    }
+    let name = items[0].as_str()?;
+    let text = items[1].as_str()?;
+    Some((name, text))
+}
+
+// The items of an array. None where the value isn't one.
+fn items_of<'v, 'a>(value: &'v Value<'a>) -> Option<&'v Vec<Value<'a>>>
+    ensures { option_map (λ items. items_data (items_view items.now.items)) result
+        ≡ as_array (borrowed_data value.now) }
+{
+    match value {
+        Value::Array(items) => Some(items),
+        _ => None,
+    }
+}
+
+// The field of a name and a value.
+fn field_of(alloc: Global, name: &str, value: &str) -> Result<Field, AllocError>
+    ensures { IfOk result (λ field. field ≡ field_of name.now value.now) }
+{
+    Ok(Field {
+        name: Text::from_str(alloc, name)?,
+        value: Text::from_str(alloc, value)?,
+    })
+}

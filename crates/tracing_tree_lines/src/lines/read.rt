@@ -1,0 +1,110 @@
+//! Lines of a reader.
+
+ghost use Rattle.std.specs.Prelude.{◌≡◌, ◌==◌, is_some, position};
+ghost use Rattle.std.specs.Io.Buffered.{reader_buffer};
+ghost use Rattle.tracing_tree_lines.specs.Lines.Spelled.{is_skipped};
+ghost use Rattle.tracing_tree_lines.specs.Lines.Reads.{ReadsEnded, ReadsPart, ReadsNext};
+
+use super::LineCause;
+use memchr::memchr;
+use std::io::{BufRead, BufReader, ErrorKind, Read};
+
+// A read that a signal interrupts is tried again eight times.
+const TRIES: u32 = 9;
+
+// Where a part of a line ends.
+enum Part {
+    // At the end of the line.
+    Line,
+    // At the end of the input.
+    Input,
+    // Within the line.
+    Inside,
+    // Nowhere: the read was interrupted.
+    Interrupted,
+}
+
+/// Whether the reader's buffer holds the next line with its line end, so that the line is read without reading input.
+pub fn holds_line<R: Read>(reader: &BufReader<R>) -> bool
+    ensures { result ≡ is_some (position (λ byte. byte == 10) (reader_buffer reader.now)) }
+{
+    line_end(reader.buffer()).is_some()
+}
+
+/// Reads the next line, without its line end, in place of what `line` held. Returns whether there is one: what stands after
+/// the last line end is a line if it isn't empty.
+pub fn read_line<B: BufRead>(reader: &mut B, line: &mut Vec<u8>) -> Result<bool, LineCause>
+    ensures { ReadsNext (B.remaining reader.old) (B.remaining reader.new) line.new.items result }
+{
+    if read_ended(reader, line)? {
+        return Ok(true);
+    }
+    Ok(!line.is_empty())
+}
+
+// Reads up to the next line end, or to the end of the input, in place of what `line` held. Returns whether there was a line end.
+pub(crate) fn read_ended<B: BufRead>(reader: &mut B, line: &mut Vec<u8>) -> Result<bool, LineCause>
+    ensures { ReadsEnded (B.remaining reader.old) (B.remaining reader.new) line.new.items result }
+{
+    line.clear();
+    let mut tries = TRIES;
+    for _part in 0..u64::MAX {
+        match read_part(reader, line)? {
+            Part::Line => return Ok(true),
+            Part::Input => return Ok(false),
+            Part::Inside => tries = TRIES,
+            Part::Interrupted if tries > 1 => tries -= 1,
+            Part::Interrupted => return Err(LineCause::Read),
+        }
+    }
+    Err(LineCause::Read)
+}
+
+// Puts what the reader holds of the line at the end of `line`.
+fn read_part<B: BufRead>(reader: &mut B, line: &mut Vec<u8>) -> Result<Part, LineCause>
+    ensures { ReadsPart (B.remaining reader.old) (B.remaining reader.new) line.old.items
+        line.new.items result }
+{
+    let held = match reader.fill_buf() {
+        Ok(held) => held,
+        Err(error) => {
+            return if error.kind() == ErrorKind::Interrupted {
+                Ok(Part::Interrupted)
+            } else {
+                Err(LineCause::Read)
+            };
+        }
+    };
+    if held.is_empty() {
+        return Ok(Part::Input);
+    }
+    match line_end(held) {
+        Some(end) => {
+            line.extend_from_slice(&held[..end])?;
+            reader.consume(end + 1);
+            Ok(Part::Line)
+        }
+        None => {
+            let length = held.len();
+            line.extend_from_slice(held)?;
+            reader.consume(length);
+            Ok(Part::Inside)
+        }
+    }
+}
+
+// Where the first line end stands.
+#[tactic(auto, using(crate::proofs::LineEnds::is_place))]
+fn line_end(held: &[u8]) -> Option<usize>
+    ensures { result ≡ position (λ byte. byte == 10) held.now }
+{
+    memchr(b'\n', held)
+}
+
+/// Whether the line is spaces, tabs and carriage returns alone.
+pub fn is_skipped(line: &[u8]) -> bool
+    ensures { result ≡ is_skipped line.now }
+{
+    line.iter()
+        .all(|byte| *byte == b' ' || *byte == b'\t' || *byte == b'\r')
+}

@@ -1,0 +1,129 @@
+//! The settings that the first line spells.
+
+mod timer;
+
+ghost use Rattle.std.specs.Prelude.{◌≡◌, ◌<◌, IfSome};
+ghost use Rattle.serde_json.specs.View.{view};
+ghost use Rattle.tracing_tree_base.specs.Time.Clock.{clock_timer};
+ghost use Rattle.tracing_tree_lines.specs.Lines.Values.{ReadsFirst};
+ghost use Rattle.tracing_tree_lines.specs.Lines.Spelled.{chosen_timer, object_settings, positive_value, unnamed_settings, with_member, with_setting};
+
+use super::LineCause;
+use serde_json::Value;
+use std::alloc::Global;
+use std::marker::Model;
+use timer::{Timer, timer_value};
+use tracing_tree_core::format::Config;
+use tracing_tree_core::time::Clock;
+
+// What the first line asks for.
+#[derive(Drop)]
+pub(super) struct Setup {
+    config: Config,
+    timer: Timer,
+}
+
+impl Model for Setup {
+    ghost use Rattle.tracing_tree_base.specs.Drawing.Settings.{Settings};
+    ghost use Rattle.tracing_tree_lines.specs.Lines.Values.{choice_of};
+    ghost use Rattle.tracing_tree_lines.specs.Lines.Spelled.{TimerChoice};
+
+    ghost Value = { Settings × TimerChoice };
+
+    ghost view = { λ s. (s.config, choice_of s.timer) };
+}
+
+impl Setup {
+    // What a line asks for that names no setting.
+    fn unnamed() -> Setup
+        ensures { result ≡ unnamed_settings }
+    {
+        Setup {
+            config: Config::new(2, false),
+            timer: Timer::None,
+        }
+    }
+
+    // The same with one more setting: each key, what reads its value, and what it sets. None where no setting has the key, or
+    // its value can't be read.
+    fn with(self, key: &str, value: &Value) -> Option<Setup>
+        ensures { result ≡ with_setting key.now (view value.now) self }
+    {
+        let Setup { config, timer } = self;
+        let config = match key {
+            "timer" => {
+                let timer = timer_value(value)?;
+                return Some(Setup { config, timer });
+            }
+            "indent_amount" => config.with_indent_amount(value.as_u64()? as usize),
+            "wraparound" => config.with_wraparound(positive_value(value)?),
+            "ansi" => config.with_ansi(value.as_bool()?),
+            "indent_lines" => config.with_indent_lines(value.as_bool()?),
+            "targets" => config.with_targets(value.as_bool()?),
+            "thread_ids" => config.with_thread_ids(value.as_bool()?),
+            "thread_names" => config.with_thread_names(value.as_bool()?),
+            "verbose_entry" => config.with_verbose_entry(value.as_bool()?),
+            "verbose_exit" => config.with_verbose_exit(value.as_bool()?),
+            "span_retrace" => config.with_span_retrace(value.as_bool()?),
+            "deferred_spans" => config.with_deferred_spans(value.as_bool()?),
+            "close_retrace" => config.with_close_retrace(value.as_bool()?),
+            "span_modes" => config.with_span_modes(value.as_bool()?),
+            "bracketed_fields" => config.with_bracketed_fields(value.as_bool()?),
+            _ => return None,
+        };
+        Some(Setup { config, timer })
+    }
+
+    // The same with a member of the object. A null counts as absent.
+    #[tactic(auto, using(crate::proofs::OpenedLines::absent, crate::proofs::OpenedLines::there))]
+    fn with_member(self, key: &str, value: &Value) -> Option<Setup>
+        ensures { result ≡ with_member key.now (view value.now) self }
+    {
+        if value.is_null() {
+            return Some(self);
+        }
+        self.with(key, value)
+    }
+
+    // The settings and the timer by themselves.
+    pub(super) fn into_parts(self) -> (Config, Clock<'static>)
+        ensures settings { result.0 ≡ self.0 }
+        ensures timer { clock_timer result.1 ≡ chosen_timer self.1 }
+    {
+        let Setup { config, timer } = self;
+        (config, timer.clock())
+    }
+}
+
+// What a line asks for. `Settings` where it spells no settings, `Memory` where memory is refused.
+pub(super) fn settings_of_line(alloc: Global, line: &[u8]) -> Result<Setup, LineCause>
+    ensures { ReadsFirst line.now result }
+{
+    match Value::from_slice(alloc, line) {
+        Ok(value) => settings_of(&value).ok_or(LineCause::Settings),
+        Err(error) if error.is_memory() => Err(LineCause::Memory),
+        Err(_) => Err(LineCause::Settings),
+    }
+}
+
+// What an object asks for.
+fn settings_of(value: &Value) -> Option<Setup>
+    ensures { result ≡ object_settings (view value.now) }
+{
+    let mut setup = Setup::unnamed();
+    for (key, member) in value.as_object()?.iter() {
+        setup = setup.with_member(key.as_str(), member)?;
+    }
+    Some(setup)
+}
+
+// A whole number that isn't 0.
+fn positive_value(value: &Value) -> Option<usize>
+    ensures value { result ≡ positive_value (view value.now) }
+    ensures positive { IfSome result (λ number. 0 < number) }
+{
+    match value.as_u64()? {
+        0 => None,
+        number => Some(number as usize),
+    }
+}

@@ -1,0 +1,142 @@
+//! The timer that a settings line asks for.
+
+ghost use Rattle.std.specs.Prelude.{◌≡◌, map, option_map, bytes_eq};
+ghost use Rattle.std.specs.List.{list_any, list_all};
+ghost use Rattle.serde_json.specs.View.{view, members_view};
+ghost use Rattle.tracing_tree_base.specs.Time.Clock.{clock_timer};
+ghost use Rattle.tracing_tree_lines.specs.Lines.Values.{choice_of};
+ghost use Rattle.tracing_tree_lines.specs.Lines.Spelled.{chosen_timer, has_only_keys, offset_value, present_keys, timer_value, none_value, utc_value, local_value, uptime_value};
+
+use crate::lines::value::{flag, value_at, whole_or};
+use jiff::tz::Offset;
+use serde_json::{Map, Value};
+use tracing_tree_core::time::{Clock, LocalDateTime, Uptime, UtcDateTime};
+
+// The timer that a settings line asks for. A line names no zone, so it borrows nothing.
+#[derive(Clone, Copy)]
+pub(super) enum Timer {
+    None,
+    Utc(UtcDateTime),
+    Local {
+        offset: Offset,
+        higher_precision: bool,
+    },
+    Uptime(Uptime),
+}
+
+impl Timer {
+    // The clock that it is.
+    pub(super) fn clock(self) -> Clock<'static>
+        ensures { clock_timer result ≡ chosen_timer (choice_of self) }
+    {
+        match self {
+            Timer::None => Clock::None,
+            Timer::Utc(clock) => Clock::Utc(clock),
+            Timer::Local {
+                offset,
+                higher_precision,
+            } => Clock::Local(LocalDateTime::with_offset(offset, higher_precision)),
+            Timer::Uptime(clock) => Clock::Uptime(clock),
+        }
+    }
+}
+
+// The timer that an object asks for. None where it asks for none.
+pub(super) fn timer_value(value: &Value) -> Option<Timer>
+    ensures { option_map choice_of result ≡ timer_value (view value.now) }
+{
+    match value_at(value, "kind")?.as_str()? {
+        "none" => none_value(value),
+        "utc" => utc_value(value),
+        "local" => local_value(value),
+        "uptime" => uptime_value(value),
+        _ => None,
+    }
+}
+
+fn none_value(value: &Value) -> Option<Timer>
+    ensures { option_map choice_of result ≡ none_value (view value.now) }
+{
+    if !has_only_keys(value, &["kind"]) {
+        return None;
+    }
+    Some(Timer::None)
+}
+
+fn utc_value(value: &Value) -> Option<Timer>
+    ensures { option_map choice_of result ≡ utc_value (view value.now) }
+{
+    if !has_only_keys(value, &["kind", "higher_precision"]) {
+        return None;
+    }
+    let higher_precision = flag(value, "higher_precision")?;
+    Some(Timer::Utc(UtcDateTime { higher_precision }))
+}
+
+fn local_value(value: &Value) -> Option<Timer>
+    ensures { option_map choice_of result ≡ local_value (view value.now) }
+{
+    if !has_only_keys(value, &["kind", "higher_precision", "offset"]) {
+        return None;
+    }
+    let offset = offset_value(value_at(value, "offset")?)?;
+    let higher_precision = flag(value, "higher_precision")?;
+    Some(Timer::Local {
+        offset,
+        higher_precision,
+    })
+}
+
+fn uptime_value(value: &Value) -> Option<Timer>
+    ensures { option_map choice_of result ≡ uptime_value (view value.now) }
+{
+    if !has_only_keys(value, &["kind", "higher_precision", "epoch"]) {
+        return None;
+    }
+    let mut clock = Uptime::from(whole_or(0, value, "epoch")?);
+    clock.higher_precision = flag(value, "higher_precision")?;
+    Some(Timer::Uptime(clock))
+}
+
+// An offset in whole seconds. None where the value is no whole number, or no offset.
+fn offset_value(value: &Value) -> Option<Offset>
+    ensures { option_map (λ offset. offset.seconds) result ≡ offset_value (view value.now) }
+{
+    let seconds = i32::try_from(value.as_i64()?).ok()?;
+    Offset::from_seconds(seconds).ok()
+}
+
+// Whether the value is an object with these keys alone. A null counts as absent.
+fn has_only_keys(value: &Value, keys: &[&str]) -> bool
+    ensures { result ≡ has_only_keys (map (λ key. key.now) keys.now) (view value.now) }
+{
+    match value.as_object() {
+        Some(members) => are_among(members, keys),
+        None => false,
+    }
+}
+
+// Whether all members that aren't null have one of these keys.
+fn are_among(members: &Map<String, Value>, keys: &[&str]) -> bool
+    ensures { result ≡ list_all (λ key. list_any (bytes_eq key) (map (λ key. key.now) keys.now))
+        (present_keys (members_view members.now.entries)) }
+{
+    for (key, member) in members.iter() {
+        if !member.is_null() && !is_among(key.as_str(), keys) {
+            return false;
+        }
+    }
+    true
+}
+
+// Whether the text is one of these.
+fn is_among(text: &str, keys: &[&str]) -> bool
+    ensures { result ≡ list_any (bytes_eq text.now) (map (λ key. key.now) keys.now) }
+{
+    for key in keys {
+        if text == *key {
+            return true;
+        }
+    }
+    false
+}

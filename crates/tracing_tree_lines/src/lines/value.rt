@@ -1,0 +1,75 @@
+//! Values of the keys of a JSON object.
+
+ghost use Rattle.std.specs.Prelude.{◌≡◌, Some, option_map};
+ghost use Rattle.serde_json.specs.View.{view, items_view, members_view};
+ghost use Rattle.serde_json.specs.Written.{has_float, items_have_float, members_have_float};
+ghost use Rattle.tracing_tree_lines.specs.Lines.Spelled.{value_at, flag, read_or, whole_value};
+
+use serde_json::{Map, Value};
+
+// The value of a key; a null counts as absent.
+pub(super) fn value_at<'v>(value: &'v Value, key: &str) -> Option<&'v Value>
+    ensures { option_map (λ found. view found.now) result ≡ value_at key.now (view value.now) }
+{
+    match value.get(key) {
+        Some(Value::Null) => None,
+        found => found,
+    }
+}
+
+// A truth value, false where the key is absent. None where it can't be read.
+pub(super) fn flag(value: &Value, key: &str) -> Option<bool>
+    ensures { result ≡ flag key.now (view value.now) }
+{
+    match value_at(value, key) {
+        Some(found) => found.as_bool(),
+        None => Some(false),
+    }
+}
+
+// A whole number of 64 bits, or this one where the key is absent. None where it can't be read.
+pub(super) fn whole_or(absent: u64, value: &Value, key: &str) -> Option<u64>
+    ensures { result ≡ read_or (Some absent) whole_value key.now (view value.now) }
+{
+    match value_at(value, key) {
+        Some(found) => found.as_u64(),
+        None => Some(absent),
+    }
+}
+
+// Whether a float is anywhere in the value: a number that isn't whole, or not of 64 bits.
+#[cycle(has_float)]
+pub(super) fn has_float(value: &Value) -> bool
+    ensures { result ≡ has_float (view value.now) }
+{
+    match value {
+        Value::Null | Value::Bool(_) | Value::String(_) => false,
+        Value::Number(number) => number.is_f64(),
+        Value::Array(items) => items_have_float(items),
+        Value::Object(members) => members_have_float(members),
+    }
+}
+
+#[cycle(has_float)]
+fn items_have_float(items: &Vec<Value>) -> bool
+    ensures { result ≡ items_have_float (items_view items.now.items) }
+{
+    for item in items {
+        if has_float(item) {
+            return true;
+        }
+    }
+    false
+}
+
+#[cycle(has_float)]
+fn members_have_float(members: &Map<String, Value>) -> bool
+    ensures { result ≡ members_have_float (members_view members.now.entries) }
+{
+    for (_key, member) in members.iter() {
+        if has_float(member) {
+            return true;
+        }
+    }
+    false
+}

@@ -1,0 +1,2 @@
+pub mod TracingLine
+pub mod Tracing

@@ -1,0 +1,8 @@
+//! The JSON lines of Rust's tracing-subscriber, drawn as a tree.
+//!
+//! [`Tracing`] tells what the lines mean, and `tracing_tree_sources::run_source` draws it.
+#![tactic(auto)]
+
+pub mod tracing;
+
+pub use tracing::Tracing;
