@@ -39,12 +39,30 @@ def imports_of(text):
     return found
 
 
+def blocks_of(text):
+    """Returns the blocks of a file between blank lines, each with the head of the unnamed module that it stands in, and at the left edge."""
+    found, head, lines = [], "", text.split("\n")
+    while lines:
+        line = lines.pop(0)
+        if line.startswith("module _"):
+            head = line
+            while not head.rstrip().endswith("where"):
+                head += "\n" + lines.pop(0)
+        elif line.strip():
+            head = head if line.startswith(" ") else ""
+            block = [line]
+            while lines and lines[0].strip() and not lines[0].startswith("module _"):
+                block.append(lines.pop(0))
+            found.append((head, "\n".join(it[2:] if head else it for it in block)))
+    return found
+
+
 def items_of(path):
-    """Returns the definitions of a file of specs/. One begins at the left edge, below its comment, and ends before the next one's."""
+    """Returns the definitions of a file of specs/. One begins at the left edge of the file or of an unnamed module, below its comment, and
+    ends before the next one's. One of a module is given with the module's head, which says its parameters."""
     text = read(path)
-    imports = imports_of(text)
-    blocks, found = re.split(r"\n\s*\n", text), {}
-    for block in blocks:
+    imports, found = imports_of(text), {}
+    for head, block in blocks_of(text):
         if re.match(r"(--[^\n]*\n)*(pub )?(use|mod)\b", block):
             continue
         code = without_comments(block)
@@ -53,7 +71,8 @@ def items_of(path):
             continue
         words = [it for it in re.findall(WORD, heads[0][0]) if it not in ("abbrev", "pub", "record", "data", "unfoldable", "opaque")]
         if words:
-            found[words[0]] = Definition(words[0], path, block.strip("\n"), imports)
+            shown = f"{head}\n" + re.sub(r"(?m)^(?=.)", "  ", block) if head else block
+            found[words[0]] = Definition(words[0], path, shown, imports)
     return found
 
 
@@ -116,7 +135,9 @@ def named_in(text, imports, own, definitions):
     types of the code."""
     ours, words = [], {}
     code = re.sub(r"(?m)^\s*(?:ghost )?use [^\n]*(?:\n[ \t}][^\n]*)*", "", without_comments(text))
-    used = re.findall(WORD, code)
+    # A field names no definition: where a record declares it, where a value has it, and where it is asked for.
+    fields = re.sub(rf"(?m)^\s+pub {WORD}(?=\s*:)|(?<=[{{;])\s*{WORD}(?=\s*=(?!=))|\.{WORD}", " ", code)
+    used = re.findall(WORD, fields)
     for word in dict.fromkeys(used):
         if word in own:
             ours.append(own[word])
