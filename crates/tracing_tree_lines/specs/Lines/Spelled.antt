@@ -111,6 +111,10 @@ pub data TimerChoice : Type 0 where
   local_clock : ℤ → Bool → TimerChoice
   uptime_clock : ℕ → Bool → TimerChoice
 
+-- what a settings line asks for
+abbrev pub Asked : Type 0
+Asked = Settings × TimerChoice
+
 abbrev pub chosen_timer : TimerChoice → Timer
 chosen_timer no_clock = no_timer
 chosen_timer (utc_clock higher) = utc_timer higher
@@ -168,81 +172,68 @@ abbrev pub timer_value : Data → Option TimerChoice
 timer_value value = required as_str (codes "kind") value >>= (λ kind. timer_of_kind kind value)
 
 -- what a value that is read so changes in the settings
-abbrev pub sets : {A : Type 0} → (Data → Option A) → (A → Settings → Settings) → Data → Settings
-    × TimerChoice
-    → Option (Settings × TimerChoice)
+abbrev pub sets : {A : Type 0} → (Data → Option A) → (A → Settings → Settings) → Data → Asked
+    → Option Asked
 sets reader change value asked = option_map (λ read. (change read asked.0, asked.1)) (reader value)
 
 -- a truth value changes the settings so
-abbrev pub switches : (Bool → Settings → Settings) → Data → Settings × TimerChoice
-    → Option (Settings × TimerChoice)
+abbrev pub switches : (Bool → Settings → Settings) → Data → Asked → Option Asked
 switches change = sets as_bool change
 
 -- a timer takes the place of the one before
-abbrev pub sets_timer : Data → Settings × TimerChoice → Option (Settings × TimerChoice)
+abbrev pub sets_timer : Data → Asked → Option Asked
 sets_timer value asked = option_map (λ timer. (asked.0, timer)) (timer_value value)
 
 -- settings: each key, and what its value sets
 abbrev pub SettingList : Type 0
-SettingList = List (List ℕ × (Data → Settings × TimerChoice → Option (Settings × TimerChoice)))
+SettingList = List (List ℕ × (Data → Asked → Option Asked))
 
 -- all settings
 abbrev pub all_settings : SettingList
-all_settings = (
-  codes "indent_amount",
-  sets whole_value
-      (λ amount settings. record settings { indent_amount = amount }),
-)
-    ∷ (
-      codes "wraparound",
-      sets positive_value
-          (λ levels settings. record settings { wraparound = levels }),
-    )
+all_settings =
+    (codes "indent_amount", sets whole_value (λ n s. record s { indent_amount = n }))
+    ∷ (codes "wraparound", sets positive_value (λ n s. record s { wraparound = n }))
     ∷ (codes "timer", sets_timer)
-    ∷ (codes "ansi", switches (λ on settings. record settings { ansi = on }))
-    ∷ (codes "indent_lines", switches (λ on settings. record settings { indent_lines = on }))
-    ∷ (codes "targets", switches (λ on settings. record settings { targets = on }))
-    ∷ (codes "thread_ids", switches (λ on settings. record settings { render_thread_ids = on }))
-    ∷ (codes "thread_names", switches (λ on settings. record settings { render_thread_names = on }))
-    ∷ (codes "verbose_entry", switches (λ on settings. record settings { verbose_entry = on }))
-    ∷ (codes "verbose_exit", switches (λ on settings. record settings { verbose_exit = on }))
-    ∷ (codes "span_retrace", switches (λ on settings. record settings { span_retrace = on }))
-    ∷ (codes "deferred_spans", switches (λ on settings. record settings { deferred_spans = on }))
-    ∷ (codes "close_retrace", switches (λ on settings. record settings { close_retrace = on }))
-    ∷ (codes "span_modes", switches (λ on settings. record settings { span_modes = on }))
-    ∷ (
-      codes "bracketed_fields",
-      switches
-          (λ on settings. record settings { bracketed_fields = on }),
-    )
+    ∷ (codes "ansi", switches (λ on s. record s { ansi = on }))
+    ∷ (codes "indent_lines", switches (λ on s. record s { indent_lines = on }))
+    ∷ (codes "targets", switches (λ on s. record s { targets = on }))
+    ∷ (codes "thread_ids", switches (λ on s. record s { render_thread_ids = on }))
+    ∷ (codes "thread_names", switches (λ on s. record s { render_thread_names = on }))
+    ∷ (codes "verbose_entry", switches (λ on s. record s { verbose_entry = on }))
+    ∷ (codes "verbose_exit", switches (λ on s. record s { verbose_exit = on }))
+    ∷ (codes "span_retrace", switches (λ on s. record s { span_retrace = on }))
+    ∷ (codes "deferred_spans", switches (λ on s. record s { deferred_spans = on }))
+    ∷ (codes "close_retrace", switches (λ on s. record s { close_retrace = on }))
+    ∷ (codes "span_modes", switches (λ on s. record s { span_modes = on }))
+    ∷ (codes "bracketed_fields", switches (λ on s. record s { bracketed_fields = on }))
     ∷ []
 
 -- what a key with a value makes of the settings; `None` where no setting has the key, or where the
 -- value can't be read
-abbrev pub with_setting : List ℕ → Data → Settings × TimerChoice → Option (Settings × TimerChoice)
+abbrev pub with_setting : List ℕ → Data → Asked → Option Asked
 with_setting key value asked = chosen all_settings key >>= (λ setting. setting value asked)
 
 -- the same, where a null counts as absent
-abbrev pub with_member : List ℕ → Data → Settings × TimerChoice → Option (Settings × TimerChoice)
+abbrev pub with_member : List ℕ → Data → Asked → Option Asked
 with_member key value asked =
     option_map_or (λ present. with_setting key present asked) (unless_null value) (Some asked)
 
 -- what the members of an object make of the settings, one after another
-abbrev pub with_members : Members → Settings × TimerChoice → Option (Settings × TimerChoice)
+abbrev pub with_members : Members → Asked → Option Asked
 with_members no_members asked = Some asked
 with_members (member key value others) asked = with_member key value asked >>= with_members others
 
 -- the settings of a line that names none
-abbrev pub unnamed_settings : Settings × TimerChoice
+abbrev pub unnamed_settings : Asked
 unnamed_settings = (record default_settings { ansi = false }, no_clock)
 
 -- what a settings object spells: each key that is there is that of a setting and can be read, and
 -- one that is absent stands for its default
-abbrev pub object_settings : Data → Option (Settings × TimerChoice)
+abbrev pub object_settings : Data → Option Asked
 object_settings value = as_object value >>= (λ members. with_members members unnamed_settings)
 
 -- what the object of a line spells
-abbrev pub line_settings : List ℕ → Option (Settings × TimerChoice)
+abbrev pub line_settings : List ℕ → Option Asked
 line_settings line = line_object line >>= object_settings
 
 -- the first line is a text, and spells these settings and this timer
