@@ -1,14 +1,14 @@
 -- What becomes of a call, by how it was read.
 use Rattle.std.proofs.Common.{◌≡◌, ℕ, ◌<◌, List, [], ◌∷◌, length, drop, arith, zero, suc, refl, sym, subst, Bool, true, false, true≢false}
 use Rattle.std.specs.Prelude.{Result, Ok, Err, Some, None, ⊤, slice_index_or}
-use Rattle.tracing_tree_base.specs.declared.context.Refusal.{Refusal}
-use Rattle.tracing_tree_base.specs.declared.context.Refusal.TheVariants.{NotHeld, TooWide, TooMany, Memory, Timer, Writer, Failed}
-use Rattle.tracing_tree_layer.specs.Calls.Seen.{Seen}
+use Rattle.tracing_tree_context.specs.declared.context.Refusal.{Refusal}
+use Rattle.tracing_tree_context.specs.declared.context.Refusal.TheVariants.{NotHeld, TooWide, TooMany, Memory, Timer, Writer, Failed}
+use Rattle.tracing_tree_layer.specs.Layered.Seen.{Seen}
 use Rattle.tracing_tree_layer.specs.declared.call.Call.{Call}
 use Rattle.tracing_tree_layer.specs.declared.call.Reply.{Reply}
 use Rattle.tracing_tree_c.specs.Foreign.{IsUtf8Field, IsUtf8Fields, IsContextOf, IsCloseOf, Reads}
-use Rattle.tracing_tree_core.specs.Registry.Ids.{id_of}
-use Rattle.tracing_tree_base.specs.declared.context.Context.{Context}
+use Rattle.tracing_tree_spans.specs.Registry.Ids.{id_of}
+use Rattle.tracing_tree_context.specs.declared.context.Context.{Context}
 use Rattle.tracing_tree_c.specs.declared.foreign.ContextRef.{ContextRef}
 use Rattle.tracing_tree_c.specs.declared.foreign.Made.{Made}
 use Rattle.tracing_tree_c.specs.declared.foreign.FieldRef.{FieldRef}

@@ -1,11 +1,11 @@
 -- Settings as C writes them, as contracts see them.
 use Rattle.std.specs.Prelude.{◌≡◌, ◌≢◌, ℤ, Bool, option_map, pos, neg_ℤ, int_le, true, ◌<◌, ◌&&◌, ◌==◌, [], Option, None, Some, if◌then◌else◌}
 use Rattle.std.specs.Bool.{then_some}
-use Rattle.tracing_tree_base.specs.Drawing.Settings.{Settings}
-use Rattle.tracing_tree_base.specs.Time.Clock.{Timer, no_timer, utc_timer, local_timer, uptime_timer}
-use Rattle.tracing_tree_core.specs.Registry.Ids.{id_of}
-use Rattle.tracing_tree_layer.specs.Calls.State.{opening_state}
-use Rattle.tracing_tree_layer.specs.Calls.Seen.{Seen}
+use Rattle.tracing_tree_drawing.specs.Format.Settings.{Settings}
+use Rattle.tracing_tree_time.specs.Clock.{Timer, no_timer, utc_timer, local_timer, uptime_timer}
+use Rattle.tracing_tree_spans.specs.Registry.Ids.{id_of}
+use Rattle.tracing_tree_layer.specs.Layered.State.{opening_state}
+use Rattle.tracing_tree_layer.specs.Layered.Seen.{Seen}
 use Rattle.tracing_tree_c.specs.declared.settings.SettingsRef.{SettingsRef}
 
 abbrev pub settings_of : SettingsRef → Settings

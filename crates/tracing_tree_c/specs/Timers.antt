@@ -1,6 +1,6 @@
 -- The timer of a tree, as contracts see it.
 use Rattle.std.specs.Prelude.{Some}
-use Rattle.tracing_tree_base.specs.Time.Clock.{Timer, clock_timer}
+use Rattle.tracing_tree_time.specs.Clock.{Timer, clock_timer}
 use Rattle.tracing_tree_c.specs.declared.timer.TreeTimer.{TreeTimer}
 use Rattle.tracing_tree_c.specs.declared.timer.TreeTimer.TheVariants.{Library, Own}
 

@@ -1,9 +1,9 @@
 -- What calls on a tree leave.
 use Rattle.std.specs.Prelude.{◌≡◌, Bool, true, false, [], None, Some, Result, Ok, Err}
-use Rattle.tracing_tree_base.specs.declared.context.Refusal.{Refusal}
-use Rattle.tracing_tree_base.specs.declared.context.Refusal.TheVariants.{Memory, Writer}
-use Rattle.tracing_tree_layer.specs.Calls.Answered.{IsAnswered}
-use Rattle.tracing_tree_layer.specs.Calls.Seen.{Seen}
+use Rattle.tracing_tree_context.specs.declared.context.Refusal.{Refusal}
+use Rattle.tracing_tree_context.specs.declared.context.Refusal.TheVariants.{Memory, Writer}
+use Rattle.tracing_tree_layer.specs.Layered.Answered.{IsAnswered}
+use Rattle.tracing_tree_layer.specs.Layered.Seen.{Seen}
 use Rattle.tracing_tree_layer.specs.declared.call.Call.{Call}
 use Rattle.tracing_tree_layer.specs.declared.call.Call.TheVariants.{Close, Event, New}
 use Rattle.tracing_tree_layer.specs.declared.call.Reply.{Reply}
@@ -12,8 +12,8 @@ use Rattle.tracing_tree_c.specs.Foreign.{IsSmallTime, IsUtf8Time}
 use Rattle.tracing_tree_c.specs.Owned.{Kept}
 use Rattle.tracing_tree_c.specs.Timers.{tree_timer}
 use Rattle.tracing_tree_c.specs.declared.foreign.TimeRef.{TimeRef}
-use Rattle.tracing_tree_base.specs.declared.context.Id.{Id}
-use Rattle.tracing_tree_base.specs.declared.context.Context.{Context}
+use Rattle.tracing_tree_context.specs.declared.context.Id.{Id}
+use Rattle.tracing_tree_context.specs.declared.context.Context.{Context}
 use Rattle.tracing_tree_c.specs.declared.foreign.Made.{Made}
 use Rattle.tracing_tree_c.specs.declared.foreign.Told.{Told}
 use Rattle.tracing_tree_c.specs.declared.foreign.Unreadable.{Unreadable}

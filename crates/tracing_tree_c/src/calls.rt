@@ -1,7 +1,7 @@
 //! The functions that C calls. Each answers a status: 0 where it was done, and else why not.
 
 ghost use Rattle.std.specs.Prelude.{◌≡◌, ◌<◌, ◌≤◌, ◌++◌, ⊤, None, drop, length};
-ghost use Rattle.tracing_tree_core.specs.Registry.Ids.{id_of};
+ghost use Rattle.tracing_tree_spans.specs.Registry.Ids.{id_of};
 ghost use Rattle.tracing_tree_layer.specs.declared.call.Call.TheVariants.{Clone};
 ghost use Rattle.tracing_tree_c.specs.Foreign.{IsUtf8Fields, IsUtf8Context, IsUtf8New, IsUtf8Event, IsSmallContext, IsSmallNew, IsKnownNew, IsKnownEvent, HasNoFields, IsNewOf, IsEventOf, IsRecordOf, IsCloseOf};
 ghost use Rattle.tracing_tree_c.specs.Exports.{Answers, AnswersOpening, AnswersTime, AnswersWith, Copies, id_after, went_after};
@@ -12,7 +12,7 @@ use crate::foreign::{
 use crate::settings::SettingsRef;
 use crate::tree::Tree;
 use std::alloc::Global;
-use tracing_tree_core::format::Id;
+use tracing_tree_context::Id;
 use tracing_tree_layer::call::Call;
 
 // The version of these functions and structs.

@@ -1,7 +1,7 @@
 //! What C hands over, and how it is read.
 
 ghost use Rattle.std.specs.Prelude.{◌≡◌, ◌++◌, ◌∷◌, [], ◌↔◌, ⊤, IsTrue, IsUtf8, OnOk, string_bytes};
-ghost use Rattle.tracing_tree_base.specs.Drawing.Texts.{event_fields};
+ghost use Rattle.tracing_tree_drawing.specs.Format.Texts.{event_fields};
 ghost use Rattle.tracing_tree_c.specs.Trees.{call_of, new_call, written_of};
 ghost use Rattle.tracing_tree_c.specs.Foreign.{Reads, IsUtf8Field, IsUtf8Fields, IsUtf8Context, IsUtf8New, IsUtf8Event, IsUtf8Time, IsSmallTime, IsSmallText, IsSmallField, IsSmallContext, IsSmallNew, IsKnownNew, IsKnownEvent, HasNoFields, IsContextOf, IsNewOf, IsEventOf, IsRecordOf, IsCloseOf, field_of, fields_of, level_of, parent_of, current_of, thread_name_of};
 
@@ -9,15 +9,16 @@ use crate::timer::Written;
 use jiff::Timestamp;
 use std::alloc::{AllocError, AllocFailed, Global};
 use std::marker::Model;
-use tracing_tree_core::field::{Field, Fields};
-use tracing_tree_core::format::{Config, Context, Id, push_event_texts};
-use tracing_tree_core::registry::{Attributes, Parent, Record};
-use tracing_tree_core::style::Level;
-use tracing_tree_core::text::Text;
-use tracing_tree_core::time::Moment;
+use tracing_tree_context::{Context, Id};
+use tracing_tree_drawing::format::{Config, push_event_texts};
 use tracing_tree_layer::call::Call;
 use tracing_tree_layer::layer::push_event_head;
 use tracing_tree_layer::told::ToldEvent;
+use tracing_tree_spans::registry::{Attributes, Parent, Record};
+use tracing_tree_text::field::{Field, Fields};
+use tracing_tree_text::style::Level;
+use tracing_tree_text::text::Text;
+use tracing_tree_time::Moment;
 
 /// Why what C handed over was not read.
 #[derive(Clone, Copy, Debug, PartialEq, Eq)]
@@ -317,7 +318,7 @@ pub struct EventTexts<'a> {
 }
 
 impl<'a> Model for EventTexts<'a> {
-    ghost use Rattle.tracing_tree_core.specs.declared.registry.Event.{Event};
+    ghost use Rattle.tracing_tree_spans.specs.declared.registry.Event.{Event};
     ghost use Rattle.tracing_tree_c.specs.Foreign.{IsUtf8Fields, fields_of};
 
     ghost Value = { Event };

@@ -5,7 +5,7 @@ ghost use Rattle.std.specs.Prelude.{◌≡◌, []};
 use std::alloc::Global;
 use std::marker::Model;
 use std::mem;
-use tracing_tree_core::format::{Output, OutputFault};
+use tracing_tree_output::{Output, OutputFault};
 
 /// An output that keeps the text of a call as the layer built it, without a copy and without memory, if it holds nothing yet.
 #[derive(Drop)]
@@ -16,7 +16,7 @@ pub struct Lent {
 
 impl Model for Lent {
     ghost use Rattle.std.specs.Prelude.{string_bytes};
-    ghost use Rattle.tracing_tree_base.specs.Drawing.Outputs.{TapeView};
+    ghost use Rattle.tracing_tree_output.specs.Outputs.{TapeView};
 
     ghost Value = { TapeView };
 

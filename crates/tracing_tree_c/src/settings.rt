@@ -1,12 +1,12 @@
 //! Settings as C writes them.
 
 ghost use Rattle.std.specs.Prelude.{◌≡◌, ◌<◌, option_map};
-ghost use Rattle.tracing_tree_base.specs.Time.Clock.{clock_timer};
+ghost use Rattle.tracing_tree_time.specs.Clock.{clock_timer};
 ghost use Rattle.tracing_tree_c.specs.Settings.{settings_of, timer_of, offset_of, offset_timer};
 
 use jiff::tz::Offset;
-use tracing_tree_core::format::Config;
-use tracing_tree_core::time::{Clock, LocalDateTime, Uptime, UtcDateTime};
+use tracing_tree_drawing::format::Config;
+use tracing_tree_time::{Clock, LocalDateTime, Uptime, UtcDateTime};
 
 /// How many bytes `SettingsRef` has.
 pub const SIZE: u64 = 56;

@@ -1,11 +1,11 @@
 //! The timer of a tree: one of the library's, or texts that the caller's own timer wrote.
 
 ghost use Rattle.std.specs.Prelude.{Some, string_bytes};
-ghost use Rattle.tracing_tree_base.specs.Drawing.Outputs.{AppendsStated, AsksForText};
+ghost use Rattle.tracing_tree_time.specs.Timers.{AppendsStated, AsksForText};
 
 use std::alloc::AllocError;
-use tracing_tree_core::text::Text;
-use tracing_tree_core::time::{Clock, FormatTime, Moment, TimeFault};
+use tracing_tree_text::text::Text;
+use tracing_tree_time::{Clock, FormatTime, Moment, TimeFault};
 
 /// The texts of the next events' time.
 #[derive(Drop)]

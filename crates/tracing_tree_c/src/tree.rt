@@ -5,7 +5,7 @@ ghost use Rattle.std.specs.Option.{is_some};
 ghost use Rattle.tracing_tree_c.specs.Exports.{Opens, id_after, opening_status, refusal_status, status_of, went_after};
 ghost use Rattle.tracing_tree_c.specs.Trees.{IsCalled, IsLifted, Performs, SetsTime, blank, call_of, is_lost, read_call, read_close, read_new, seen_tree, timed};
 ghost use Rattle.tracing_tree_c.specs.Settings.{opened};
-ghost use Rattle.tracing_tree_base.specs.Time.Clock.{clock_timer};
+ghost use Rattle.tracing_tree_time.specs.Clock.{clock_timer};
 
 use crate::foreign::{Made, TimeRef, Told, Unreadable, time_in};
 use crate::handle::Handle;
@@ -15,12 +15,12 @@ use crate::settings::{SIZE, SettingsRef};
 use crate::timer::{TreeTimer, Written};
 use std::alloc::Global;
 use std::mem;
-use tracing_tree_core::format::{Context, Id, Refusal};
-use tracing_tree_core::registry::Attributes;
-use tracing_tree_core::time::Clock;
+use tracing_tree_context::{Context, Id, Refusal};
 use tracing_tree_layer::call::{Call, Reply};
 use tracing_tree_layer::layer::HierarchicalLayer;
 use tracing_tree_layer::layered::Layered;
+use tracing_tree_spans::registry::Attributes;
+use tracing_tree_time::Clock;
 
 /// A registry with a layer that keeps the text of the last call.
 #[derive(Drop)]

@@ -1,6 +1,6 @@
 -- Spans that are left one after another.
 use Rattle.std.proofs.Common.{rules, ◌≡◌, Bool, true, false, List, [], ◌∷◌, length, drop, Option, Some, None, if◌then◌else◌, refl, sym, ap, ◌∙◌}
-use Rattle.tracing_tree_base.specs.declared.context.Id.{Id}
+use Rattle.tracing_tree_context.specs.declared.context.Id.{Id}
 use Rattle.tracing_tree_chrome.specs.Tree.{TreeState, at_end, closed, is_left, leaving, leaving_count, left, left_out_told, left_while}
 use Rattle.tracing_tree_chrome.specs.declared.gather.Point.{Point}
 use Rattle.tracing_tree_chrome.specs.declared.tree.Frame.{Frame}

@@ -1,6 +1,6 @@
 -- A length of time as it is shown.
 use Rattle.std.specs.Prelude.{ℕ, ◌/◌, ◌%◌, nat_le, if◌then◌else◌, List, ◌++◌, codes, decimal}
-use Rattle.tracing_tree_base.specs.Time.Clock.{micro_unit}
+use Rattle.tracing_tree_time.specs.Clock.{micro_unit}
 
 -- so many thousandths of a unit
 abbrev pub thousandths_text : ℕ → List ℕ

@@ -1,10 +1,10 @@
 -- What a trace in Chrome's trace event format tells.
 use Rattle.std.specs.Prelude.{◌≡◌, ◌<◌, ℕ, Bool, false, List, Option, Some, None, Result, Ok, Err, MatchOption, IsPermutation, IsSorted, if◌then◌else◌, ⊤}
 use Rattle.json.specs.Json.{Json, Items, no_items, item, document}
-use Rattle.tracing_tree_base.specs.declared.context.Moment.{Moment}
-use Rattle.tracing_tree_layer.specs.Calls.Seen.{Seen}
+use Rattle.tracing_tree_context.specs.declared.context.Moment.{Moment}
+use Rattle.tracing_tree_layer.specs.Layered.Seen.{Seen}
 use Rattle.tracing_tree_layer.specs.declared.call.Call.{Call}
-use Rattle.tracing_tree_base.specs.declared.context.Refusal.{Refusal}
+use Rattle.tracing_tree_context.specs.declared.context.Refusal.{Refusal}
 use Rattle.tracing_tree_lines.specs.declared.lines.LineCause.{LineCause}
 use Rattle.tracing_tree_lines.specs.declared.lines.LineCause.TheVariants.{Settings as NoSettings, NotACall, Read, Memory, Refused}
 use Rattle.tracing_tree_chrome.specs.Element.{element_of}

@@ -1,11 +1,11 @@
 -- The spans of a trace nested by time, and its events in them, as calls.
 use Rattle.std.specs.Prelude.{ℕ, ◌+◌, ◌-◌, ◌^◌, ◌==◌, nat_le, min, max, ℤ, pos, Bool, true, false, ◌||◌, if◌then◌else◌, List, [], ◌∷◌, ◌++◌, length, find, reverse, Option, Some, None, option_map, unwrap_or, codes}
-use Rattle.tracing_tree_base.specs.Drawing.Texts.{rendered_field, whole_field}
-use Rattle.tracing_tree_base.specs.declared.context.Id.{Id}
-use Rattle.tracing_tree_base.specs.declared.context.Moment.{Moment}
-use Rattle.tracing_tree_base.specs.declared.field.Field.{Field}
-use Rattle.tracing_tree_base.specs.declared.style.Level.TheVariants.{Info}
-use Rattle.tracing_tree_core.specs.Registry.Ids.{id_of}
+use Rattle.tracing_tree_text.specs.Field.{rendered_field, whole_field}
+use Rattle.tracing_tree_context.specs.declared.context.Id.{Id}
+use Rattle.tracing_tree_context.specs.declared.context.Moment.{Moment}
+use Rattle.tracing_tree_text.specs.declared.field.Field.{Field}
+use Rattle.tracing_tree_text.specs.declared.style.Level.TheVariants.{Info}
+use Rattle.tracing_tree_spans.specs.Registry.Ids.{id_of}
 use Rattle.tracing_tree_layer.specs.declared.call.Call.{Call}
 use Rattle.tracing_tree_chrome.specs.Gather.{process_of, same_lane, same_number}
 use Rattle.tracing_tree_chrome.specs.Later.{is_long}

@@ -7,11 +7,11 @@ ghost use Rattle.tracing_tree_chrome.specs.Element.{decimal_of, digit_in, elemen
 
 use json::Value;
 use std::alloc::{AllocError, Global};
-use tracing_tree_core::field::Fields;
-use tracing_tree_core::text::Text;
 use tracing_tree_sources::fields::event_fields;
 use tracing_tree_sources::notes::Lack;
 use tracing_tree_sources::values::text_at;
+use tracing_tree_text::field::Fields;
+use tracing_tree_text::text::Text;
 
 // The process and the thread of an element, as far as it tells them.
 #[derive(Clone, Copy, PartialEq, Eq, PartialOrd, Ord)]

@@ -7,8 +7,8 @@ use crate::element::{Element, Entry, Lane};
 use std::alloc::{AllocError, Global};
 use std::cmp::Reverse;
 use std::marker::Model;
-use tracing_tree_core::field::Fields;
-use tracing_tree_core::text::Text;
+use tracing_tree_text::field::Fields;
+use tracing_tree_text::text::Text;
 
 // What an item of the drawing is.
 #[derive(Clone, Copy)]

@@ -4,7 +4,7 @@ ghost use Rattle.std.specs.Prelude.{◌≡◌, ◌++◌, IfOk, OnOk, string_byte
 ghost use Rattle.tracing_tree_chrome.specs.Length.{length_text, thousandths_text};
 
 use std::alloc::{AllocError, Global};
-use tracing_tree_core::text::Text;
+use tracing_tree_text::text::Text;
 
 // A length of time, in nanoseconds, as the largest unit of which it has one or more, with three digits after the point. What is
 // below them is cut.

@@ -7,9 +7,9 @@ ghost use Rattle.tracing_tree_chrome.specs.Text.{byte_read, closed, closer, elem
 use json::Value;
 use std::alloc::{AllocError, Global};
 use std::marker::Model;
-use tracing_tree_core::text::Text;
 use tracing_tree_sources::blanks::{first_byte, is_blank};
 use tracing_tree_sources::values::array_at;
+use tracing_tree_text::text::Text;
 
 // The elements that a value lists.
 pub(crate) fn elements_in<'v, 'a>(value: &'v Value<'a>) -> Option<&'v Vec<Value<'a>>>

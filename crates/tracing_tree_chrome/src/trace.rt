@@ -2,7 +2,7 @@
 
 ghost use Rattle.std.specs.Prelude.{◌≡◌, IfErr, IfOk, OnOk, Some};
 ghost use Rattle.json.specs.Value.{items_view, value_view};
-ghost use Rattle.tracing_tree_layer.specs.Calls.Layers.{seen, Changes};
+ghost use Rattle.tracing_tree_layer.specs.Layer.Layers.{seen, Changes};
 ghost use Rattle.tracing_tree_chrome.specs.Trace.{AreCallsOf, DrawsOrEnds, EndsHearing, RunsTrace, heard_all, heard_as, heard_cut, heard_from, heard_mended, heard_unknown, heard_value, nothing_heard_of};
 ghost use Rattle.tracing_tree_chrome.specs.Element.{element_of};
 
@@ -12,14 +12,14 @@ use crate::text::{elements_in, mended};
 use crate::tree::Tree;
 use json::{Scratch, Value};
 use std::alloc::{AllocError, Global};
-use tracing_tree_core::format::Output;
-use tracing_tree_core::time::{FormatTime, Moment};
 use tracing_tree_layer::call::Call;
 use tracing_tree_layer::layered::Layered;
 use tracing_tree_lines::lines::{LineCause, LineFault};
+use tracing_tree_output::Output;
 use tracing_tree_sources::notes::{Lack, Notes};
 use tracing_tree_sources::run::{SourceRun, make, skip};
 use tracing_tree_sources::values::value_of;
+use tracing_tree_time::{FormatTime, Moment};
 
 /// Which spans of a trace are left out.
 #[derive(Clone, Copy, Debug, PartialEq, Eq)]

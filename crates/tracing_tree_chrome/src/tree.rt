@@ -11,13 +11,13 @@ use crate::length::length_text;
 use crate::trace::Cut;
 use std::alloc::{AllocError, Global};
 use std::marker::Model;
-use tracing_tree_core::field::{Field, Fields};
-use tracing_tree_core::format::Id;
-use tracing_tree_core::style::Level;
-use tracing_tree_core::text::Text;
-use tracing_tree_core::time::Moment;
+use tracing_tree_context::Id;
 use tracing_tree_layer::call::Call;
 use tracing_tree_sources::told::{close_call, event_call, message_field, span_call};
+use tracing_tree_text::field::{Field, Fields};
+use tracing_tree_text::style::Level;
+use tracing_tree_text::text::Text;
+use tracing_tree_time::Moment;
 
 // How many spans were left out in a span, and how long they took together, in nanoseconds.
 #[derive(Clone, Copy)]

@@ -1,7 +1,7 @@
 -- Lines of Go's tests.
 use Rattle.std.proofs.Common.{◌≡◌, ℕ, Bool, true, false, List, [], ◌∷◌, ◌++◌, Option, Some, None, option_map, sym, ap, subst, ◌∙◌, append-nil, append_assoc}
 use Rattle.json.specs.Json.{Json}
-use Rattle.tracing_tree_base.specs.declared.context.Id.{Id}
+use Rattle.tracing_tree_context.specs.declared.context.Id.{Id}
 use Rattle.tracing_tree_layer.specs.declared.call.Call.{Call}
 use Rattle.tracing_tree_sources.specs.Source.{Tells}
 use Rattle.tracing_tree_go_test.specs.declared.go_test.running.Running.{Running}

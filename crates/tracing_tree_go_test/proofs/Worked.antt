@@ -2,15 +2,14 @@
 use Rattle.std.proofs.Common.{◌≡◌, ℕ, List, true, false, None, Some, [], ◌∷◌, codes, refl}
 use Rattle.json.specs.Json.{string, object, member, no_members}
 use Rattle.tracing_tree_go_test.specs.Failed.{FailedState, Untold, forgotten, is_inner, is_over, none_failed, outermost, released, verdict_of}
-use Rattle.tracing_tree_go_test.specs.GoTest.{GoState, Tests, begun, go_lacks, is_frame, left_over, nothing_run, owner, placed, ran, up_to_space}
-use Rattle.tracing_tree_go_test.specs.GoTest.{above_held, held, kept}
+use Rattle.tracing_tree_go_test.specs.GoTest.{GoState, Tests, begun, go_lacks, is_frame, left_over, nothing_run, owner, placed, ran, up_to_space, above_held, held, kept}
 use Rattle.tracing_tree_go_test.specs.declared.failed.Kept.{Kept}
 use Rattle.tracing_tree_go_test.specs.declared.failed.Verdict.{Verdict}
 use Rattle.tracing_tree_go_test.specs.declared.failed.Verdict.TheVariants.{Open, Good, Bad}
 use Rattle.tracing_tree_sources.specs.declared.notes.Lack.TheVariants.{Package}
-use Rattle.tracing_tree_base.specs.declared.context.Moment.{Moment}
-use Rattle.tracing_tree_base.specs.declared.style.Level.TheVariants.{Error}
-use Rattle.tracing_tree_core.specs.Registry.Ids.{id_of}
+use Rattle.tracing_tree_context.specs.declared.context.Moment.{Moment}
+use Rattle.tracing_tree_text.specs.declared.style.Level.TheVariants.{Error}
+use Rattle.tracing_tree_spans.specs.Registry.Ids.{id_of}
 use Rattle.tracing_tree_sources.specs.Told.{event_call, message_field}
 
 pub frame_of_its_own : is_frame (codes "TestSum") (codes "    --- PASS: TestSum (0.00s)") ≡ true

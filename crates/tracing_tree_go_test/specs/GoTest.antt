@@ -3,13 +3,13 @@ use Rattle.std.specs.Prelude.{◌≡◌, ℕ, zero, suc, pos, ◌-◌, ◌==◌,
 use Rattle.std.specs.List.{ends_with, position_or_len}
 use Rattle.json.specs.Json.{Json}
 use Rattle.json.specs.Find.{get, as_number}
-use Rattle.tracing_tree_base.specs.Drawing.Texts.{rendered_field, whole_field}
-use Rattle.tracing_tree_core.specs.Registry.Ids.{id_of}
-use Rattle.tracing_tree_base.specs.declared.context.Id.{Id}
-use Rattle.tracing_tree_base.specs.declared.context.Moment.{Moment}
-use Rattle.tracing_tree_base.specs.declared.field.Field.{Field}
-use Rattle.tracing_tree_base.specs.declared.style.Level.{Level}
-use Rattle.tracing_tree_base.specs.declared.style.Level.TheVariants.{Info, Warn, Error}
+use Rattle.tracing_tree_text.specs.Field.{rendered_field, whole_field}
+use Rattle.tracing_tree_spans.specs.Registry.Ids.{id_of}
+use Rattle.tracing_tree_context.specs.declared.context.Id.{Id}
+use Rattle.tracing_tree_context.specs.declared.context.Moment.{Moment}
+use Rattle.tracing_tree_text.specs.declared.field.Field.{Field}
+use Rattle.tracing_tree_text.specs.declared.style.Level.{Level}
+use Rattle.tracing_tree_text.specs.declared.style.Level.TheVariants.{Info, Warn, Error}
 use Rattle.tracing_tree_layer.specs.declared.call.Call.{Call}
 use Rattle.tracing_tree_lines.specs.Lines.Spelled.{is_skipped}
 use Rattle.tracing_tree_go_test.specs.Names.{named, put, without}

@@ -14,12 +14,12 @@ use std::alloc::{AllocError, Global};
 use std::collections::BTreeSet;
 use std::marker::Model;
 use std::mem;
-use tracing_tree_core::text::Text;
-use tracing_tree_core::time::Moment;
 use tracing_tree_layer::call::Call;
 use tracing_tree_sources::notes::Lack;
 use tracing_tree_sources::source::Source;
 use tracing_tree_sources::values::{text_at, value_of};
+use tracing_tree_text::text::Text;
+use tracing_tree_time::Moment;
 
 // What a line says of the end of its test or its package.
 #[derive(Clone, Copy)]

@@ -16,11 +16,7 @@ use std::alloc::{AllocError, Global};
 use std::marker::Model;
 use std::mem;
 use text::{ends_line, ends_word, is_frame, is_package_frame, up_to_space, without_line_end};
-use tracing_tree_core::field::{Field, Fields};
-use tracing_tree_core::format::Id;
-use tracing_tree_core::style::Level;
-use tracing_tree_core::text::Text;
-use tracing_tree_core::time::Moment;
+use tracing_tree_context::Id;
 use tracing_tree_layer::call::Call;
 use tracing_tree_lines::lines::is_skipped;
 use tracing_tree_sources::marks::after_mark;
@@ -29,6 +25,10 @@ use tracing_tree_sources::notes::Lack;
 use tracing_tree_sources::source::Source;
 use tracing_tree_sources::told::{close_call, event_call, message_field, span_call};
 use tracing_tree_sources::values::text_at;
+use tracing_tree_text::field::{Field, Fields};
+use tracing_tree_text::style::Level;
+use tracing_tree_text::text::Text;
+use tracing_tree_time::Moment;
 
 /// How many tests came to which end.
 #[derive(Clone, Copy, Debug)]

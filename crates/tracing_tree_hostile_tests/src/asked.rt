@@ -108,7 +108,7 @@ struct Asked {
 }
 
 impl FormatTime for Asked {
-    ghost use Rattle.tracing_tree_base.specs.Time.Clock.{no_timer};
+    ghost use Rattle.tracing_tree_time.specs.Clock.{no_timer};
 
     ghost timer = { λ _. no_timer };
 

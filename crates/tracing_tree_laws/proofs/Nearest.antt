@@ -2,8 +2,8 @@
 use Rattle.std.proofs.Common.{◌≡◌, ◌≢◌, ℕ, ◌+◌, ◌*◌, ◌<◌, ◌≤◌, Bool, true, false, arith, refl, add-one, nat_lt, ◌==◌, ◌||◌, ◌&&◌, rules, subst, inl, inr}
 use Rattle.std.proofs.Math.Nat.{suc-mul, mul-le-mul_right}
 use Rattle.std.proofs.lemmas.Bool.Decides.{eqb_tells}
-use Rattle.tracing_tree_base.specs.Time.Clock.{distance, nearest_count, is_nearest_count, is_even}
-use Rattle.tracing_tree_base.proofs.CountLaws.{nearest_count-is, is_nearest_count-one}
+use Rattle.tracing_tree_time.specs.Clock.{distance, nearest_count, is_nearest_count, is_even}
+use Rattle.tracing_tree_time.proofs.CountLaws.{nearest_count-is, is_nearest_count-one}
 use Rattle.tracing_tree_laws.specs.Counts.{IsNearest}
 
 near-yes : (d unit : ℕ) (e : Bool) → (nat_lt d unit || ((d == unit) && e)) ≡ true → d ≤ unit

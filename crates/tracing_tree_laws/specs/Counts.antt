@@ -1,6 +1,6 @@
 -- Nearest counts, by what they are.
 use Rattle.std.specs.Prelude.{◌≡◌, ◌≢◌, ◌≤◌, ◌*◌, ℕ, true}
-use Rattle.tracing_tree_base.specs.Time.Clock.{distance, is_even}
+use Rattle.tracing_tree_time.specs.Clock.{distance, is_even}
 
 -- no other count of the unit lies nearer to n, and where another lies as near, this one is even
 pub record IsNearest (unit n count : ℕ) : Type 0 where

@@ -1,7 +1,7 @@
 //! Counts of a unit, as timestamps of higher precision show them.
 
 ghost use Rattle.std.specs.Prelude.{ℕ, ◌≡◌, ◌<◌};
-ghost use Rattle.tracing_tree_base.specs.Time.Clock.{nearest_count};
+ghost use Rattle.tracing_tree_time.specs.Clock.{nearest_count};
 ghost use Rattle.tracing_tree_laws.specs.Counts.{IsNearest};
 
 /// `nearest_count` of a number is the count of a unit that lies nearest to it, and of two that lie equally near the even one. No

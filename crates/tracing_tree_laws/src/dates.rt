@@ -4,7 +4,7 @@ ghost use Rattle.std.specs.Prelude.{ℕ, ℤ, ◌≡◌};
 ghost use Rattle.jiff_core.specs.Date.{epoch_day};
 ghost use Rattle.jiff_core.specs.DateTime.{civil_nanos};
 ghost use Rattle.jiff_core.specs.declared.civil.datetime.DateTime.{DateTime};
-ghost use Rattle.tracing_tree_base.specs.Time.Clock.{Civil, IsCivilOn, civil_at, nanos_of_day};
+ghost use Rattle.tracing_tree_time.specs.Clock.{Civil, IsCivilOn, civil_at, nanos_of_day};
 
 /// What a clock shows of a moment, `civil_at`, is the date that the calendar has for its day, and the time of that day. A day and a
 /// time of day have one date and one time.

@@ -1,9 +1,9 @@
 //! The difference of two paths.
 
 ghost use Rattle.std.specs.Prelude.{◌≡◌, IfOk, Option};
-ghost use Rattle.tracing_tree_core.specs.Registry.Ids.{same_id};
-ghost use Rattle.tracing_tree_core.specs.Registry.Forest.{Forest, IsForest, path_of, path_of_any, fresh_ids};
-ghost use Rattle.tracing_tree_layer.specs.Differences.Items.{differing};
+ghost use Rattle.tracing_tree_spans.specs.Registry.Ids.{same_id};
+ghost use Rattle.tracing_tree_spans.specs.Registry.Forest.{Forest, IsForest, path_of, path_of_any, fresh_ids};
+ghost use Rattle.tracing_tree_layer.specs.Difference.Items.{differing};
 
 use std::alloc::{AllocError, Global};
 use tracing_tree::DifferenceIter;

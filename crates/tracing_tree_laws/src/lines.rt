@@ -2,7 +2,7 @@
 
 ghost use Rattle.std.specs.Prelude.{ℕ, List, ◌≡◌};
 ghost use Rattle.std.specs.Str.Lines.{lines, lines_of_parts};
-ghost use Rattle.tracing_tree_base.specs.Drawing.Picture.{AreParts, parts_of};
+ghost use Rattle.tracing_tree_drawing.specs.Format.Picture.{AreParts, parts_of};
 
 /// The parts of a block are the one list of texts without line ends whose joining by line ends is the block. Its lines are these
 /// parts, without the last if that is empty, and without a carriage return at the end of each other.

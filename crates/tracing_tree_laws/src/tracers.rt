@@ -1,7 +1,7 @@
 //! Tracers over a registry with a layer.
 
-ghost use Rattle.tracing_tree_layer.specs.Calls.Answered.{IsAnswered};
-ghost use Rattle.tracing_tree_layer.specs.Calls.Layers.{Changes, seen};
+ghost use Rattle.tracing_tree_layer.specs.Layered.Answered.{IsAnswered};
+ghost use Rattle.tracing_tree_layer.specs.Layer.Layers.{Changes, seen};
 ghost use Rattle.tracing_tree_tracer.specs.Tracers.{IsOpened};
 ghost use Rattle.tracing_tree_tracer.specs.Values.{fields_of};
 

@@ -2,7 +2,7 @@
 use Rattle.std.proofs.Common.{◌≡◌, ◌∙◌, refl, sym, ap₂, subst, Bool, true, false, not, List, [], ◌∷◌, ◌++◌, Option, Some, MatchBool, Bor}
 use Rattle.std.proofs.lemmas.List.Elements.{All-push}
 use Rattle.std.specs.Fn.{Shared, FnReturnsAt}
-use Rattle.tracing_tree_layer.specs.Differences.Steps.{ReturnsKey, KeysCompare, Matches, Differs, AllMatch, GivesDiffering}
+use Rattle.tracing_tree_layer.specs.Difference.Steps.{ReturnsKey, KeysCompare, Matches, Differs, AllMatch, GivesDiffering}
 
 module _ {C A U : Type 0} (calls : Shared C (Bor A × Unit {0}) U) (eq : U → U → Bool) (compare : C) where
   Keys-by_test : {k m : U} {x y : A} → FnReturnsAt calls compare x k → FnReturnsAt calls compare y m → (t : Bool) → eq k m ≡ t

@@ -10,7 +10,7 @@ use Rattle.std.specs.declared.iter.Fuse.{Fuse}
 use Rattle.tracing_tree_layer.proofs.DifferenceLemmas.{KeysCompare-keys, AllMatch-same, GivesDiffering-same}
 use Rattle.tracing_tree_layer.proofs.DifferingLaws.{differing-no_left, differing-equal, differing-unequal}
 use Rattle.tracing_tree_layer.specs.declared.difference.DifferenceIter.{DifferenceIter}
-use Rattle.tracing_tree_layer.specs.Differences.Steps.{difference_left, difference_right, difference_compare, both_steps, difference_steps, differing, IsFresh, ReturnsKey, Matches, Differs, AllMatch, GivesDiffering, DifferenceRuns}
+use Rattle.tracing_tree_layer.specs.Difference.Steps.{difference_left, difference_right, difference_compare, both_steps, difference_steps, differing, IsFresh, ReturnsKey, Matches, Differs, AllMatch, GivesDiffering, DifferenceRuns}
 
 module _ {L A : Type 0} (lefts : L → Option A → L → Type 0) where
   -- calls led a fused iterator from s to t and gave xs; the flags say whether it had ended before and whether it has ended after, and once it has there is no call

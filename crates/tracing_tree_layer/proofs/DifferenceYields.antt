@@ -10,7 +10,7 @@ use Rattle.std.specs.declared.iter.Fuse.{Fuse}
 use Rattle.tracing_tree_layer.proofs.DifferenceLemmas.{KeysCompare-keys, AllMatch-same, GivesDiffering-same}
 use Rattle.tracing_tree_layer.proofs.DifferingLaws.{differing-no_left, differing-equal, differing-unequal}
 use Rattle.tracing_tree_layer.specs.declared.difference.DifferenceIter.{DifferenceIter}
-use Rattle.tracing_tree_layer.specs.Differences.Steps.{difference_left, difference_right, difference_compare, both_steps, difference_steps, differing, IsFresh, ReturnsKey, YieldsDiffering, Matches, Differs, AllMatch, GivesDiffering}
+use Rattle.tracing_tree_layer.specs.Difference.Steps.{difference_left, difference_right, difference_compare, both_steps, difference_steps, differing, IsFresh, ReturnsKey, YieldsDiffering, Matches, Differs, AllMatch, GivesDiffering}
 
 module _ {L A V : Type 0} (lefts : L → Option A → L → Type 0) (v : A → V) where
   -- what a fused iterator still gives

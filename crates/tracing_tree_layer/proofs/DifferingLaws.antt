@@ -2,7 +2,7 @@
 use Rattle.std.proofs.Common.{◌≡◌, ◌∙◌, refl, ap, arith, ℕ, suc, ◌+◌, Bool, true, false, if◌then◌else◌, List, [], ◌∷◌, Some, None, slice_get, filter_map}
 use Rattle.std.specs.Option.{option_map_or}
 use Rattle.std.specs.List.{enumerate_from, cons_option}
-use Rattle.tracing_tree_layer.specs.Differences.Steps.{has_equal_at, differing}
+use Rattle.tracing_tree_layer.specs.Difference.Steps.{has_equal_at, differing}
 
 module _ {L R : Type 0} (equal : L → R → Bool) where
   -- what differs, where the first right item stands at this place

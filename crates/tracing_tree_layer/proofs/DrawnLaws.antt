@@ -3,28 +3,27 @@ use Rattle.std.proofs.Common.{◌≡◌, ◌≢◌, ◌⊎◌, ◌-◌, suc, tak
 use Rattle.std.proofs.lemmas.Grind.{flat_map-append}
 use Rattle.std.proofs.lemmas.List.{map-append}
 use Rattle.std.proofs.lemmas.List.Folds.{list_any-append}
-use Rattle.tracing_tree_base.specs.Drawing.Settings.{Settings}
-use Rattle.tracing_tree_base.specs.Drawing.Buffers.{BuffersView}
-use Rattle.tracing_tree_base.specs.Drawing.Picture.{Row, draw, drawn_row, is_too_wide, unnamed_row}
-use Rattle.tracing_tree_base.specs.declared.context.Refusal.{Refusal}
-use Rattle.tracing_tree_base.specs.declared.context.Refusal.TheVariants.{NotHeld, TooWide, TooMany, Memory, Timer, Writer, Failed}
-use Rattle.tracing_tree_core.specs.Registry.Forest.{Forest, IsForest, is_live, if_live, path_of, path_of_any}
-use Rattle.tracing_tree_base.specs.declared.context.Id.{Id}
-use Rattle.tracing_tree_base.specs.declared.context.Context.{Context}
-use Rattle.tracing_tree_core.specs.declared.registry.Event.{Event}
-use Rattle.tracing_tree_base.specs.declared.format.SpanMode.TheVariants.{Event as EventMode}
-use Rattle.tracing_tree_base.specs.Time.Clock.{Timer as Clock}
-use Rattle.tracing_tree_core.proofs.PathLaws.{path_of-none}
+use Rattle.tracing_tree_drawing.specs.Format.Settings.{Settings}
+use Rattle.tracing_tree_drawing.specs.Format.Picture.{Row, draw, drawn_row, is_too_wide, unnamed_row}
+use Rattle.tracing_tree_context.specs.declared.context.Refusal.{Refusal}
+use Rattle.tracing_tree_context.specs.declared.context.Refusal.TheVariants.{NotHeld, TooWide, TooMany, Memory, Timer, Writer, Failed}
+use Rattle.tracing_tree_spans.specs.Registry.Forest.{Forest, IsForest, is_live, if_live, path_of, path_of_any}
+use Rattle.tracing_tree_context.specs.declared.context.Id.{Id}
+use Rattle.tracing_tree_context.specs.declared.context.Context.{Context}
+use Rattle.tracing_tree_spans.specs.declared.registry.Event.{Event}
+use Rattle.tracing_tree_drawing.specs.declared.format.SpanMode.TheVariants.{Event as EventMode}
+use Rattle.tracing_tree_time.specs.Clock.{Timer as Clock}
+use Rattle.tracing_tree_spans.proofs.PathLaws.{path_of-none}
 use Rattle.std.specs.Option.{option_or}
 use Rattle.std.specs.Bool.{then_some}
 use Rattle.std.specs.Io.KnownBytes.{Appends}
 use Rattle.std.proofs.KnownBytes.{Keeps-refl}
-use Rattle.tracing_tree_base.specs.Drawing.Writers.{IsCutShort, LeavesCut, SeenWriter}
-use Rattle.tracing_tree_layer.specs.Calls.State.{Turn}
-use Rattle.tracing_tree_layer.specs.Calls.Refused.{draws_too_wide, is_event_too_wide}
-use Rattle.tracing_tree_layer.specs.Rows.Turns.{then_turn, turn_of_row, turn_of_closes, event_depth, event_level, event_parent}
-use Rattle.tracing_tree_layer.specs.Rows.Plan.{PlanView, rows_of_planned, row_of_planned, turn_of_plan}
-use Rattle.tracing_tree_layer.specs.Rows.Drawn.{AddsRow, DrawsRows, Drafts, IsBlank, IsUndrawn, IsWritten, Sends, has_no_id, has_no_row, rows_cause, when_ok}
+use Rattle.tracing_tree_output.specs.Writers.{IsCutShort, LeavesCut, SeenWriter}
+use Rattle.tracing_tree_layer.specs.Layered.State.{Turn}
+use Rattle.tracing_tree_layer.specs.Layered.Refused.{draws_too_wide, is_event_too_wide}
+use Rattle.tracing_tree_layer.specs.Layer.Turns.{then_turn, turn_of_row, turn_of_closes, event_depth, event_level, event_parent}
+use Rattle.tracing_tree_layer.specs.Layer.Plan.{PlanView, rows_of_planned, row_of_planned, turn_of_plan}
+use Rattle.tracing_tree_layer.specs.Layer.Drawn.{AddsRow, DrawsRows, Drafts, IsUndrawn, IsWritten, Sends, has_no_id, has_no_row, rows_cause, when_ok}
 use Rattle.tracing_tree_layer.specs.declared.layer.page.Page.{Page}
 use Rattle.tracing_tree_layer.specs.declared.layer.plan.PlannedRow.{PlannedRow}
 
@@ -35,10 +34,6 @@ draw-append settings first second = flat_map-append (drawn_row settings) first s
 pub draws_too_wide-append : (settings : Settings) (first second : List Row) →
     draws_too_wide settings (first ++ second) ≡ (draws_too_wide settings first || draws_too_wide settings second)
 draws_too_wide-append settings first second = list_any-append (is_too_wide settings) first second
-
--- no row at all is drawn
-pub draws_none : (settings : Settings) (page : Page) → DrawsRows settings [] false (Ok tt) page page
-draws_none settings page = (refl, refl, sym (append-nil (string_bytes page.text)))
 
 -- ---- what is refused
 
@@ -92,8 +87,8 @@ row-second (row ∷ first) second h = refl
 -- a refusal of the first rows is one of all
 pub refuses_first : (settings : Settings) (first second : List Row) (faults : Bool) (refusal : Refusal) (a b : Page) →
     DrawsRows settings first false (Err refusal) a b → DrawsRows settings (first ++ second) faults (Err refusal) a b
-refuses_first settings first second faults refusal a b (inl cause, last) = (inl (cause-first settings first second faults refusal cause), last)
-refuses_first settings first second faults refusal a b (inr memory, last) = (inr (memory.0, row-first first second memory.1), last)
+refuses_first settings first second faults refusal a b (inl cause) = inl (cause-first settings first second faults refusal cause)
+refuses_first settings first second faults refusal a b (inr memory) = inr (memory.0, row-first first second memory.1)
 
 -- the first rows and then the others
 pub draws_both : (settings : Settings) (first second : List Row) (faults : Bool) (result : Result (Unit {0}) Refusal) (a b c : Page) →
@@ -101,19 +96,13 @@ pub draws_both : (settings : Settings) (first second : List Row) (faults : Bool)
     DrawsRows settings (first ++ second) faults result a c
 draws_both settings first second faults (Ok done) a b c h k = (
   cause-second settings first second h.0 faults ∙ k.0,
-  k.1 ∙ h.1,
+  k.1,
   k.2 ∙ ap (λ text. text ++ draw settings second) h.2
       ∙ append_assoc (string_bytes a.text) (draw settings first) (draw settings second)
       ∙ ap (λ text. string_bytes a.text ++ text) (sym (draw-append settings first second)),
 )
-draws_both settings first second faults (Err refusal) a b c h (inl cause, last) = (
-  inl (cause-second settings first second h.0 faults ∙ cause),
-  last ∙ ap (λ (bufs : BuffersView). bufs.current_span) h.1,
-)
-draws_both settings first second faults (Err refusal) a b c h (inr memory, last) = (
-  inr (memory.0, row-second first second memory.1),
-  last ∙ ap (λ (bufs : BuffersView). bufs.current_span) h.1,
-)
+draws_both settings first second faults (Err refusal) a b c h (inl cause) = inl (cause-second settings first second h.0 faults ∙ cause)
+draws_both settings first second faults (Err refusal) a b c h (inr memory) = inr (memory.0, row-second first second memory.1)
 
 -- ---- single rows
 
@@ -122,23 +111,20 @@ wide-single settings row = elim (is_too_wide settings row) as (λ b. (b || false
 
 -- a row that was added is drawn
 pub draws_added : (settings : Settings) (row : Row) (result : Result (Unit {0}) Refusal) (a b c : Page) →
-    b.bufs ≡ record a.bufs { current_buf = row.block } → string_bytes b.text ≡ string_bytes a.text → IsBlank a.bufs →
+    string_bytes b.text ≡ string_bytes a.text →
     AddsRow (is_too_wide settings row) (drawn_row settings row) result b c → DrawsRows settings (row ∷ []) false result a c
-draws_added settings row (Ok done) a b c e text blank h = (
+draws_added settings row (Ok done) a b c text h = (
   cause-narrow settings (row ∷ []) (wide-single settings row ∙ h.0),
-  h.1 ∙ ap (λ (bufs : BuffersView). record bufs { current_buf = [] }) e ∙ (λ i. record a.bufs { current_buf = sym blank.block i }),
+  h.1,
   h.2 ∙ ap (λ front. front ++ drawn_row settings row) text ∙ ap (λ rows. string_bytes a.text ++ rows) (sym (append-nil (drawn_row settings row))),
 )
-draws_added settings row (Err TooWide) a b c e text blank h = (
-  inl (cause-wide settings (row ∷ []) (wide-single settings row ∙ h.0) false),
-  ap (λ (bufs : BuffersView). bufs.current_span) (h.1.bufs ∙ e),
-)
-draws_added settings row (Err Memory) a b c e text blank h = (inr (refl, refl), ap (λ (bufs : BuffersView). bufs.current_span) (h.1.bufs ∙ e))
-draws_added settings row (Err (NotHeld i)) a b c e text blank h = absurd h
-draws_added settings row (Err TooMany) a b c e text blank h = absurd h
-draws_added settings row (Err Timer) a b c e text blank h = absurd h
-draws_added settings row (Err Writer) a b c e text blank h = absurd h
-draws_added settings row (Err Failed) a b c e text blank h = absurd h
+draws_added settings row (Err TooWide) a b c text h = inl (cause-wide settings (row ∷ []) (wide-single settings row ∙ h.0) false)
+draws_added settings row (Err Memory) a b c text h = inr (refl, refl)
+draws_added settings row (Err (NotHeld i)) a b c text h = absurd h
+draws_added settings row (Err TooMany) a b c text h = absurd h
+draws_added settings row (Err Timer) a b c text h = absurd h
+draws_added settings row (Err Writer) a b c text h = absurd h
+draws_added settings row (Err Failed) a b c text h = absurd h
 
 -- a span that isn't live stands in none
 pub path-if_live : (forest : Forest) → IsForest forest → (i : Id) → path_of_any forest (if_live forest (Some i)) ≡ path_of forest i
@@ -149,15 +135,15 @@ path-if_live forest formed i =
     ] refl
 
 -- a row without its span is drawn as the row
-pub draws_like : (settings : Settings) (row : Row) (level : ℕ) (block : List ℕ) (result : Result (Unit {0}) Refusal) (a b c : Page) →
-    b.bufs ≡ record a.bufs { current_buf = block } → string_bytes b.text ≡ string_bytes a.text → IsBlank a.bufs → level ≡ row.level → block ≡ row.block →
-    AddsRow (is_too_wide settings (unnamed_row row.kind level b.bufs.current_buf row.prefix)) (drawn_row settings (unnamed_row row.kind level b.bufs.current_buf row.prefix)) result b c →
+pub draws_like : (settings : Settings) (row : Row) (level : ℕ) (result : Result (Unit {0}) Refusal) (a b c : Page) →
+    string_bytes b.text ≡ string_bytes a.text → level ≡ row.level → string_bytes b.block ≡ row.block →
+    AddsRow (is_too_wide settings (unnamed_row row.mode level (string_bytes b.block) row.prefix)) (drawn_row settings (unnamed_row row.mode level (string_bytes b.block) row.prefix)) result b c →
     DrawsRows settings (row ∷ []) false result a c
-draws_like settings row level block result a b c e text blank same_level same_block h =
-    let same : unnamed_row row.kind level b.bufs.current_buf row.prefix ≡ unnamed_row row.kind row.level row.block row.prefix =
-    (λ i. unnamed_row row.kind (same_level i) ((ap (λ (bufs : BuffersView). bufs.current_buf) e ∙ same_block) i) row.prefix) in
+draws_like settings row level result a b c text same_level same_block h =
+    let same : unnamed_row row.mode level (string_bytes b.block) row.prefix ≡ unnamed_row row.mode row.level row.block row.prefix =
+    (λ i. unnamed_row row.mode (same_level i) (same_block i) row.prefix) in
     let P : Row → Type 0 = λ r. AddsRow (is_too_wide settings r) (drawn_row settings r) result b c in
-    draws_added settings row result a b c (e ∙ ap (λ text. record a.bufs { current_buf = text }) same_block) text blank (subst P same h)
+    draws_added settings row result a b c text (subst P same h)
 
 -- where one planned row is refused, they all are
 pub planned_refused : (settings : Settings) (context : Context) (forest : Forest) (planned : List PlannedRow) (k : ℕ) (row : PlannedRow) (refusal : Refusal) (a b c : Page) →
@@ -184,7 +170,7 @@ planned_refused settings context forest planned k row refusal a b c before here 
 abbrev pub IsDrawn : Settings → List Row → Bool → Bool → Result (Unit {0}) Refusal → Page → Page → Type 0
 IsDrawn settings rows faults quiet (Ok done) old new = DrawsRows settings rows faults (Ok done) old new
 IsDrawn settings rows faults quiet (Err refusal) old new =
-    IsUndrawn (rows_cause settings rows faults) quiet refusal × (new.bufs.current_span ≡ old.bufs.current_span)
+    IsUndrawn (rows_cause settings rows faults) quiet refusal
 
 -- a call that takes memory may want for it
 loud-undrawn : (cause : Option Refusal) (quiet : Bool) (refusal : Refusal) → IsUndrawn cause quiet refusal → IsUndrawn cause false refusal
@@ -202,7 +188,7 @@ drafts settings context forest turn quiet (Ok done) old new plan same loud h =
 drafts settings context forest turn quiet (Err refusal) old new plan same loud h =
     let P : List Row → Type 0 = λ rows. DrawsRows settings rows false (Err refusal) old new in
     let k : DrawsRows settings turn.rows false (Err refusal) old new = subst P (ap (λ (t : Turn). t.rows) same) h in
-    (by k.0, k.1)
+    by k
   where
     by : IsUndrawn (rows_cause settings turn.rows false) (has_no_row turn.rows) refusal → IsUndrawn (rows_cause settings turn.rows false) quiet refusal
     by (inl cause) = inl cause
@@ -227,7 +213,7 @@ drafts_event settings context forest before row faults (Err refusal) a b c plan 
     let P : List Row → Type 0 = λ rows. DrawsRows settings (rows ++ row ∷ []) faults (Err refusal) a c in
     let both = draws_both settings (rows_of_planned settings context forest plan.rows) (row ∷ []) faults (Err refusal) a b c first second in
     let all : DrawsRows settings (before.rows ++ row ∷ []) faults (Err refusal) a c = subst P (ap (λ (t : Turn). t.rows) same) both in
-    (loud-undrawn (rows_cause settings (before.rows ++ row ∷ []) faults) (has_no_row (before.rows ++ row ∷ [])) refusal all.0, all.1)
+    loud-undrawn (rows_cause settings (before.rows ++ row ∷ []) faults) (has_no_row (before.rows ++ row ∷ [])) refusal all
 
 -- the rows of its plan are refused
 pub refuses_event : (settings : Settings) (context : Context) (forest : Forest) (before : Turn) (row : Row) (faults : Bool) (refusal : Refusal) (a b : Page) (plan : PlanView) →
@@ -238,7 +224,7 @@ refuses_event settings context forest before row faults refusal a b plan same fi
     let P : List Row → Type 0 = λ rows. DrawsRows settings (rows ++ row ∷ []) faults (Err refusal) a b in
     let refused = refuses_first settings (rows_of_planned settings context forest plan.rows) (row ∷ []) faults refusal a b first in
     let all : DrawsRows settings (before.rows ++ row ∷ []) faults (Err refusal) a b = subst P (ap (λ (t : Turn). t.rows) same) refused in
-    (loud-undrawn (rows_cause settings (before.rows ++ row ∷ []) faults) (has_no_row (before.rows ++ row ∷ [])) refusal all.0, all.1)
+    loud-undrawn (rows_cause settings (before.rows ++ row ∷ []) faults) (has_no_row (before.rows ++ row ∷ [])) refusal all
 
 -- an event whose width was tested is not too wide
 pub fits-event : (settings : Settings) (timer : Clock) (forest : Forest) (event : Event) (context : Context) (depth level : ℕ) (tested : Result (Unit {0}) Refusal) →
@@ -293,7 +279,7 @@ written settings rows faults quiet (Ok done) (Ok also) a b c old new h none k =
 written settings rows faults quiet (Ok done) (Err Writer) a b c old new h none k =
     let text : string_bytes b.text ≡ draw settings rows = h.2 ∙ ap (λ front. front ++ draw settings rows) none in
     let P : List ℕ → Type 0 = λ t. LeavesCut t old new in
-    let cut = subst P text k.0 in
+    let cut = subst P text k in
     record { answer = (h.0, cut-some (draw settings rows) cut.front cut.cut); written = cut }
 written settings rows faults quiet (Ok done) (Err (NotHeld i)) a b c old new h none k = absurd k
 written settings rows faults quiet (Ok done) (Err TooWide) a b c old new h none k = absurd k
@@ -304,7 +290,7 @@ written settings rows faults quiet (Ok done) (Err Failed) a b c old new h none k
 written settings rows faults quiet (Err refusal) sent a b c old new h none k =
     let P : Result (Unit {0}) Refusal → Type 0 = λ r. IsWritten settings rows faults quiet r old new in
     let Q : SeenWriter → Type 0 = λ w. IsWritten settings rows faults quiet (Err refusal) old w in
-    subst P (sym k.0) (subst Q (sym k.1) (undrawn settings rows faults quiet refusal old h.0))
+    subst P (sym k.0) (subst Q (sym k.1) (undrawn settings rows faults quiet refusal old h))
 
 -- ---- a refused turn
 
@@ -314,22 +300,7 @@ pub drafts-drawn : (settings : Settings) (forest : Forest) (turn : Turn) (faults
 drafts-drawn settings forest turn faults quiet (Ok done) a b plan h = h.0
 drafts-drawn settings forest turn faults quiet (Err refusal) a b plan h = h
 
--- a refusal leaves the last span
-pub refused-last : (settings : Settings) (rows : List Row) (faults quiet : Bool) (drawn sent : Result (Unit {0}) Refusal) (a b c : Page) (old new : SeenWriter) (next : Option Id) →
-    IsDrawn settings rows faults quiet drawn a b → Sends drawn sent b c old new → is_ok sent ≡ false →
-    c.bufs.current_span ≡ when_ok sent next a.bufs.current_span
-refused-last settings rows faults quiet (Ok done) (Ok also) a b c old new next h k e = cc
-refused-last settings rows faults quiet (Ok done) (Err Writer) a b c old new next h k e = k.1 ∙ ap (λ (bufs : BuffersView). bufs.current_span) h.1
-refused-last settings rows faults quiet (Ok done) (Err (NotHeld i)) a b c old new next h k e = absurd k
-refused-last settings rows faults quiet (Ok done) (Err TooWide) a b c old new next h k e = absurd k
-refused-last settings rows faults quiet (Ok done) (Err TooMany) a b c old new next h k e = absurd k
-refused-last settings rows faults quiet (Ok done) (Err Memory) a b c old new next h k e = absurd k
-refused-last settings rows faults quiet (Ok done) (Err Timer) a b c old new next h k e = absurd k
-refused-last settings rows faults quiet (Ok done) (Err Failed) a b c old new next h k e = absurd k
-refused-last settings rows faults quiet (Err refusal) sent a b c old new next h k e =
-    k.3 ∙ h.1 ∙ sym (ap (λ (r : Result (Unit {0}) Refusal). when_ok r next a.bufs.current_span) k.0)
-
--- and the marks
-pub refused-marks : (sent : Result (Unit {0}) Refusal) (next before : Forest) → is_ok sent ≡ false → before ≡ when_ok sent next before
-refused-marks (Ok done) next before e = cc
-refused-marks (Err refusal) next before e = refl
+-- a refusal leaves what there was
+pub refused-same : {A : Type 0} → (sent : Result (Unit {0}) Refusal) (next before : A) → is_ok sent ≡ false → before ≡ when_ok sent next before
+refused-same (Ok done) next before e = cc
+refused-same (Err refusal) next before e = refl

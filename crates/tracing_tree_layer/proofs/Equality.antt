@@ -1,5 +1,5 @@
 -- Values are equal where all their parts are.
-use Rattle.std.proofs.Common.{◌≡◌, ◌==◌, ◌&&◌, Bool, true, false, T, ℤ, List, Option, None, Some, unwrap_or, refl, sym, ap, ◌∙◌, subst, int_eq}
+use Rattle.std.proofs.Common.{◌≡◌, ◌==◌, ◌&&◌, Bool, true, false, T, ℤ, List, Option, None, Some, unwrap_or, refl, sym, ap, ◌∙◌, subst, int_eq, rules}
 use Rattle.std.specs.Bool.{Decides}
 use Rattle.std.specs.Str.{bytes_eq}
 use Rattle.std.proofs.lemmas.Bool.Decides.{Decides-and, Decides-eqb, Decides-int_eq}
@@ -8,23 +8,22 @@ use Rattle.std.specs.Option.{option_eq}
 use Rattle.std.specs.Int.Signed.{◌≤ℤ◌, le_z}
 use Rattle.jiff_core.specs.Timestamp.{IsTimestampNanos}
 use Rattle.jiff_core.specs.declared.timestamp.Timestamp.{Timestamp}
-use Rattle.tracing_tree_base.specs.declared.context.Moment.{Moment}
-use Rattle.tracing_tree_base.specs.declared.context.Id.{Id}
-use Rattle.tracing_tree_base.specs.declared.context.Context.{Context}
-use Rattle.tracing_tree_core.specs.Registry.Ids.{id_of}
-use Rattle.tracing_tree_core.specs.declared.registry.Record.{Record}
+use Rattle.tracing_tree_context.specs.declared.context.Moment.{Moment}
+use Rattle.tracing_tree_context.specs.declared.context.Id.{Id}
+use Rattle.tracing_tree_context.specs.declared.context.Context.{Context}
+use Rattle.tracing_tree_spans.specs.Registry.Ids.{id_of}
+use Rattle.tracing_tree_spans.specs.declared.registry.Record.{Record}
 use Rattle.tracing_tree_layer.specs.declared.call.Call.{Call}
 use Rattle.tracing_tree_layer.specs.declared.call.Call.TheVariants.{New, Clone, Record as RecordOf, Event as Told, Close}
 use Rattle.tracing_tree_layer.specs.contracts.call.CallPartialEq.TheImpl.{ghosts as call}
-use Rattle.tracing_tree_base.specs.Equal.{field_eq, fields_eq}
-use Rattle.tracing_tree_base.specs.declared.field.Field.{Field}
-use Rattle.tracing_tree_base.specs.declared.style.Level.{Level}
-use Rattle.tracing_tree_core.specs.declared.registry.Parent.{Parent}
-use Rattle.tracing_tree_core.specs.declared.registry.Event.{Event}
-use Rattle.tracing_tree_core.specs.declared.registry.Attributes.{Attributes}
-use Rattle.tracing_tree_base.specs.contracts.style.LevelPartialEq.TheImpl.{ghosts as level}
-use Rattle.tracing_tree_core.specs.contracts.registry.ParentPartialEq.TheImpl.{ghosts as parent}
-use Rattle.std.proofs.Common.{rules}
+use Rattle.tracing_tree_text.specs.Equal.{field_eq, fields_eq}
+use Rattle.tracing_tree_text.specs.declared.field.Field.{Field}
+use Rattle.tracing_tree_text.specs.declared.style.Level.{Level}
+use Rattle.tracing_tree_spans.specs.declared.registry.Parent.{Parent}
+use Rattle.tracing_tree_spans.specs.declared.registry.Event.{Event}
+use Rattle.tracing_tree_spans.specs.declared.registry.Attributes.{Attributes}
+use Rattle.tracing_tree_text.specs.contracts.style.LevelPartialEq.TheImpl.{ghosts as level}
+use Rattle.tracing_tree_spans.specs.contracts.registry.ParentPartialEq.TheImpl.{ghosts as parent}
 
 decides-by : {P Q : Type 0} (b : Bool) → (P → Q) → (Q → P) → Decides b P → Decides b Q
 decides-by b to from h = (λ e. to (h.0 e), λ q. h.1 (from q))

@@ -1,7 +1,7 @@
 -- The fields of a row, one behind the other.
 use Rattle.std.proofs.Common.{◌≡◌, ℕ, Bool, true, false, not, if◌then◌else◌, List, [], ◌∷◌, ◌++◌, map, flat_map, codes, refl, ap}
-use Rattle.tracing_tree_base.specs.declared.field.Field.{Field}
-use Rattle.tracing_tree_base.specs.Drawing.Texts.{is_log_field, shown_field, event_field, comma_after, event_fields, shown_fields, spaced_fields}
+use Rattle.tracing_tree_text.specs.declared.field.Field.{Field}
+use Rattle.tracing_tree_drawing.specs.Format.Texts.{is_log_field, shown_field, event_field, comma_after, event_fields, shown_fields, spaced_fields}
 
 -- what these fields of an event add, behind a field or not
 abbrev pub added_fields : Bool → List Field → List ℕ

@@ -15,3 +15,4 @@ pub mod DifferenceRunLaws
 pub mod DifferenceYields
 pub mod DifferingLaws
 pub mod Worked
+pub mod BareEvents

@@ -3,15 +3,15 @@ use Rattle.std.proofs.Common.{◌≡◌, ◌+◌, ◌==◌, ◌&&◌, ◌-◌, c
 use Rattle.std.specs.Prelude.{take_while}
 use Rattle.std.specs.Option.{option_map_or}
 use Rattle.std.specs.List.{list_any, list_all, prefix_len}
-use Rattle.tracing_tree_base.specs.Drawing.Settings.{Settings}
-use Rattle.tracing_tree_core.specs.Registry.Ids.{same_id}
-use Rattle.tracing_tree_core.specs.Registry.Spans.{Span, printed_span}
-use Rattle.tracing_tree_core.specs.Registry.Forest.{Forest, has_id, span_at, handles_of, is_child_of, children_of, goes_after, with_previous, going_up, closing_of, path_of, take_handle, mark_all}
-use Rattle.tracing_tree_base.specs.declared.context.Id.{Id}
-use Rattle.tracing_tree_base.specs.declared.context.Context.{Context}
-use Rattle.tracing_tree_layer.specs.Calls.State.{Turn}
-use Rattle.tracing_tree_layer.specs.Rows.Turns.{turn_of_closes}
-use Rattle.tracing_tree_layer.specs.Rows.Plan.{empty_plan, plan_of_closes}
+use Rattle.tracing_tree_drawing.specs.Format.Settings.{Settings}
+use Rattle.tracing_tree_spans.specs.Registry.Ids.{same_id}
+use Rattle.tracing_tree_spans.specs.Registry.Spans.{Span, printed_span}
+use Rattle.tracing_tree_spans.specs.Registry.Forest.{Forest, has_id, span_at, handles_of, is_child_of, children_of, goes_after, with_previous, going_up, closing_of, path_of, take_handle, mark_all}
+use Rattle.tracing_tree_context.specs.declared.context.Id.{Id}
+use Rattle.tracing_tree_context.specs.declared.context.Context.{Context}
+use Rattle.tracing_tree_layer.specs.Layered.State.{Turn}
+use Rattle.tracing_tree_layer.specs.Layer.Turns.{turn_of_closes}
+use Rattle.tracing_tree_layer.specs.Layer.Plan.{empty_plan, plan_of_closes}
 use Rattle.tracing_tree_layer.proofs.Reading.Kept.{marked, marked-same}
 use Rattle.tracing_tree_layer.proofs.Marks.{span_at-marked, path_of-marked}
 use Rattle.tracing_tree_layer.proofs.Plans.{turn-closes}

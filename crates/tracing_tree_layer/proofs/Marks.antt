@@ -3,20 +3,20 @@ use Rattle.std.proofs.Common.{◌≡◌, ◌-◌, ◌||◌, ◌&&◌, Bool, true
 use Rattle.std.specs.Option.{option_map_or}
 use Rattle.std.specs.List.{list_any, common_prefix_len}
 use Rattle.std.proofs.lemmas.List.Folds.{list_any-append}
-use Rattle.tracing_tree_base.specs.Drawing.Settings.{Settings, retraces}
-use Rattle.tracing_tree_core.specs.Registry.Ids.{same_id}
-use Rattle.tracing_tree_core.specs.Registry.Spans.{Span, shown_span, printed_span}
-use Rattle.tracing_tree_core.specs.Registry.Forest.{Forest, span_at, is_printed, parent_of, path_of, path_of_any, fresh_ids, mark_all, mark_printed}
-use Rattle.tracing_tree_core.specs.Registry.Lookup.{data_at}
-use Rattle.tracing_tree_base.specs.Drawing.Picture.{Row}
-use Rattle.tracing_tree_base.specs.declared.context.Id.{Id}
-use Rattle.tracing_tree_base.specs.declared.context.Context.{Context}
-use Rattle.tracing_tree_core.specs.declared.registry.node.Data.{Data}
-use Rattle.tracing_tree_base.specs.declared.format.SpanMode.{SpanMode}
-use Rattle.tracing_tree_base.specs.declared.format.SpanMode.TheVariants.{PreOpen, Open, Close, Retrace, PostClose, Event}
-use Rattle.tracing_tree_layer.specs.Rows.Block.{span_block}
-use Rattle.tracing_tree_layer.specs.Rows.Turns.{block_of, span_row, parent_rows}
-use Rattle.tracing_tree_layer.specs.Rows.CloseRetrace.{retraces_before_close}
+use Rattle.tracing_tree_drawing.specs.Format.Settings.{Settings, retraces}
+use Rattle.tracing_tree_spans.specs.Registry.Ids.{same_id}
+use Rattle.tracing_tree_spans.specs.Registry.Spans.{Span, shown_span, printed_span}
+use Rattle.tracing_tree_spans.specs.Registry.Forest.{Forest, span_at, is_printed, parent_of, path_of, path_of_any, fresh_ids, mark_all, mark_printed}
+use Rattle.tracing_tree_spans.specs.Registry.Lookup.{data_at}
+use Rattle.tracing_tree_drawing.specs.Format.Picture.{Row}
+use Rattle.tracing_tree_context.specs.declared.context.Id.{Id}
+use Rattle.tracing_tree_context.specs.declared.context.Context.{Context}
+use Rattle.tracing_tree_spans.specs.declared.registry.node.Data.{Data}
+use Rattle.tracing_tree_drawing.specs.declared.format.SpanMode.{SpanMode}
+use Rattle.tracing_tree_drawing.specs.declared.format.SpanMode.TheVariants.{PreOpen, Open, Close, Retrace, PostClose, Event}
+use Rattle.tracing_tree_layer.specs.Layer.Block.{span_block}
+use Rattle.tracing_tree_layer.specs.Layer.Turns.{block_of, span_row, parent_rows}
+use Rattle.tracing_tree_layer.specs.Layer.CloseRetrace.{retraces_before_close}
 use Rattle.tracing_tree_layer.proofs.Reading.Changes.{find-same, path_of-same, path_of_any-same}
 use Rattle.tracing_tree_layer.proofs.Reading.Kept.{marked, marked-same, printed-marked, mark_printed-all}
 

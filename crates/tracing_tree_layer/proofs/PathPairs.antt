@@ -3,14 +3,14 @@ use Rattle.std.proofs.Common.{◌≡◌, ℕ, zero, suc, ◌+◌, ◌<◌, Bool,
 use Rattle.std.specs.Prelude.{slice_get}
 use Rattle.std.specs.Option.{option_map_or}
 use Rattle.std.specs.List.{common_prefix_len}
-use Rattle.tracing_tree_core.specs.Registry.Ids.{same_id}
-use Rattle.tracing_tree_core.specs.Registry.Spans.{Span}
-use Rattle.tracing_tree_core.specs.Registry.Forest.{Forest, span_at, is_live, path_of, path_of_any, Descends, IsForest}
-use Rattle.tracing_tree_base.specs.declared.context.Id.{Id}
-use Rattle.tracing_tree_core.proofs.ForestLaws.{same_id-eq, path_of-is_path}
-use Rattle.tracing_tree_core.proofs.PathLaws.{path_of-none}
+use Rattle.tracing_tree_spans.specs.Registry.Ids.{same_id}
+use Rattle.tracing_tree_spans.specs.Registry.Spans.{Span}
+use Rattle.tracing_tree_spans.specs.Registry.Forest.{Forest, span_at, is_live, path_of, path_of_any, Descends, IsForest}
+use Rattle.tracing_tree_context.specs.declared.context.Id.{Id}
+use Rattle.tracing_tree_spans.proofs.ForestLaws.{same_id-eq, path_of-is_path}
+use Rattle.tracing_tree_spans.proofs.PathLaws.{path_of-none}
 use Rattle.tracing_tree_layer.proofs.DifferingLaws.{differing-no_left, differing-equal, differing-unequal}
-use Rattle.tracing_tree_layer.specs.Differences.Items.{differing, same_at, AgreeDownward, PathsAgreeDownward, PathsDifferFreshly}
+use Rattle.tracing_tree_layer.specs.Difference.Items.{differing, same_at, AgreeDownward, PathsAgreeDownward, PathsDifferFreshly}
 
 -- ---- places that agree
 

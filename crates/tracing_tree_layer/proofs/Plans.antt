@@ -2,24 +2,24 @@
 use Rattle.std.proofs.Common.{◌≡◌, ◌&&◌, ℕ, ◌≤◌, length, drop, arith, subst, Bool, true, false, not, List, [], ◌∷◌, ◌++◌, map, Option, Some, None, is_some, if◌then◌else◌, refl, sym, ap, ◌∙◌, append_assoc, append-nil}
 use Rattle.std.specs.Option.{option_map_or, option_or}
 use Rattle.std.specs.List.{common_prefix_len}
-use Rattle.tracing_tree_core.specs.Registry.Ids.{same_id}
+use Rattle.tracing_tree_spans.specs.Registry.Ids.{same_id}
 use Rattle.tracing_tree_layer.proofs.Reading.Parts.{common-right}
 use Rattle.tracing_tree_layer.proofs.Reading.Changes.{same-refl}
 use Rattle.std.proofs.Math.Seq.{drop-length}
 use Rattle.std.proofs.lemmas.List.{map-append}
-use Rattle.tracing_tree_base.specs.Drawing.Settings.{Settings, retraces}
-use Rattle.tracing_tree_core.specs.Registry.Forest.{Forest, IsForest, is_printed, parent_of, path_of, path_of_any, fresh_ids, mark_all}
-use Rattle.tracing_tree_core.specs.Registry.Paths.{PartOnce}
-use Rattle.tracing_tree_core.proofs.CommonLaws.{paths_part_once, nothing_parts_once}
-use Rattle.tracing_tree_base.specs.Drawing.Picture.{Row}
-use Rattle.tracing_tree_base.specs.declared.context.Id.{Id}
-use Rattle.tracing_tree_base.specs.declared.context.Context.{Context}
-use Rattle.tracing_tree_base.specs.declared.format.SpanMode.{SpanMode}
-use Rattle.tracing_tree_base.specs.declared.format.SpanMode.TheVariants.{PreOpen, Open, Close, PostClose}
-use Rattle.tracing_tree_layer.specs.Calls.State.{Turn, quiet_turn}
-use Rattle.tracing_tree_layer.specs.Rows.Turns.{span_row, parent_rows, fresh_kind, fresh_row, fresh_rows, retrace_to, then_turn, turn_of_new, turn_before_event, close_turn, turn_of_close, turn_of_closes}
-use Rattle.tracing_tree_layer.specs.Rows.CloseRetrace.{retraces_before_close}
-use Rattle.tracing_tree_layer.specs.Rows.Plan.{PlanView, empty_plan, row_of_planned, rows_of_planned, turn_of_plan, marked_by, planned_row, planned_parent, planned_fresh, planned_fresh_rows, retraced_plan, plan_of_new, plan_before_event, closed_plan, plan_of_close, plan_of_closes}
+use Rattle.tracing_tree_drawing.specs.Format.Settings.{Settings, retraces}
+use Rattle.tracing_tree_spans.specs.Registry.Forest.{Forest, IsForest, is_printed, parent_of, path_of, path_of_any, fresh_ids, mark_all}
+use Rattle.tracing_tree_spans.specs.Registry.Paths.{PartOnce}
+use Rattle.tracing_tree_spans.proofs.CommonLaws.{paths_part_once, nothing_parts_once}
+use Rattle.tracing_tree_drawing.specs.Format.Picture.{Row}
+use Rattle.tracing_tree_context.specs.declared.context.Id.{Id}
+use Rattle.tracing_tree_context.specs.declared.context.Context.{Context}
+use Rattle.tracing_tree_drawing.specs.declared.format.SpanMode.{SpanMode}
+use Rattle.tracing_tree_drawing.specs.declared.format.SpanMode.TheVariants.{PreOpen, Open, Close, PostClose}
+use Rattle.tracing_tree_layer.specs.Layered.State.{Turn, quiet_turn}
+use Rattle.tracing_tree_layer.specs.Layer.Turns.{span_row, parent_rows, fresh_mode, fresh_row, fresh_rows, retrace_to, then_turn, turn_of_new, turn_before_event, close_turn, turn_of_close, turn_of_closes}
+use Rattle.tracing_tree_layer.specs.Layer.CloseRetrace.{retraces_before_close}
+use Rattle.tracing_tree_layer.specs.Layer.Plan.{PlanView, empty_plan, row_of_planned, rows_of_planned, turn_of_plan, marked_by, planned_row, planned_parent, planned_fresh, planned_fresh_rows, retraced_plan, plan_of_new, plan_before_event, closed_plan, plan_of_close, plan_of_closes}
 use Rattle.tracing_tree_layer.specs.declared.layer.plan.PlannedRow.{PlannedRow}
 use Rattle.tracing_tree_layer.proofs.Marks.{mark_all-none, mark_all-append, parent_of-marked, fresh_ids-marked, span_row-marked, parent_rows-marked}
 use Rattle.tracing_tree_layer.proofs.Reading.Kept.{mark_printed-all}
@@ -45,7 +45,7 @@ module _ (settings : Settings) (context : Context) (forest : Forest) where
       ≡ map (fresh_row settings context (mark_all ids forest) verbose) others
   fresh-planned ids verbose [] = refl
   fresh-planned ids verbose (i ∷ others) =
-      λ k. sym (span_row-marked settings context ids forest (fresh_kind (mark_all ids forest) i verbose) i) k ∷ fresh-planned ids verbose others k
+      λ k. sym (span_row-marked settings context ids forest (fresh_mode (mark_all ids forest) i verbose) i) k ∷ fresh-planned ids verbose others k
 
   fresh-rows : (ids fresh : List Id) →
       rows_of_planned settings context forest (planned_fresh_rows settings (mark_all ids forest) forest fresh)
@@ -60,7 +60,7 @@ module _ (settings : Settings) (context : Context) (forest : Forest) where
       ap (λ (o : Option Id). entry && is_some o) (sym (parent_of-marked ids forest first)) in
       let own : row_of_planned settings context forest (planned_fresh marked forest (entry && is_some (parent_of forest first)) first)
       ≡ fresh_row settings context marked (entry && is_some (parent_of marked first)) first =
-      sym (span_row-marked settings context ids forest (fresh_kind marked first (entry && is_some (parent_of forest first))) first)
+      sym (span_row-marked settings context ids forest (fresh_mode marked first (entry && is_some (parent_of forest first))) first)
       ∙ ap (λ verbose. fresh_row settings context marked verbose first) shown in
       map-append (row_of_planned settings context forest) (planned_parent entry forest PreOpen first) _
       ∙ (λ k. parents k ++ own k ∷ fresh-planned ids false others k)

@@ -1,10 +1,10 @@
 -- Two runs one after the other are the run of the joined lists.
 use Rattle.std.proofs.Common.{◌≡◌, List, [], ◌∷◌, ◌++◌, refl, ap, ◌∙◌}
 use Rattle.std.proofs.lemmas.List.{append_assoc}
-use Rattle.tracing_tree_base.specs.Drawing.Settings.{Settings}
-use Rattle.tracing_tree_base.specs.Time.Clock.{Timer}
-use Rattle.tracing_tree_layer.specs.Calls.State.{State}
-use Rattle.tracing_tree_layer.specs.Calls.Run.{Run, run, run_one, then_run}
+use Rattle.tracing_tree_drawing.specs.Format.Settings.{Settings}
+use Rattle.tracing_tree_time.specs.Clock.{Timer}
+use Rattle.tracing_tree_layer.specs.Layered.State.{State}
+use Rattle.tracing_tree_layer.specs.Layered.Run.{Run, run, run_one, then_run}
 use Rattle.tracing_tree_layer.specs.declared.call.Call.{Call}
 
 then_run-assoc : (a : Run) (b c : State → Run) → then_run a (λ s. then_run (b s) c) ≡ then_run (then_run a b) c

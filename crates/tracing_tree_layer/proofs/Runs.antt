@@ -2,20 +2,20 @@
 use Rattle.std.proofs.Common.{◌≡◌, false, List, [], ◌∷◌, ◌++◌, Result, Ok, Err, IfOk, refl, sym, ap, subst, ◌∙◌, append-nil}
 use Rattle.std.specs.Io.KnownBytes.{Appends, Keeps}
 use Rattle.std.proofs.KnownBytes.{Appends-nil, Appends-trans, Appends-kept}
-use Rattle.tracing_tree_base.specs.Drawing.Settings.{Settings}
-use Rattle.tracing_tree_base.specs.Time.Clock.{Timer}
-use Rattle.tracing_tree_base.specs.Drawing.Picture.{Row, draw}
-use Rattle.tracing_tree_base.specs.declared.context.Refusal.{Refusal}
-use Rattle.tracing_tree_base.specs.declared.context.Refusal.TheVariants as Refused
-use Rattle.tracing_tree_base.specs.declared.context.Refusal.TheVariants.{NotHeld, TooWide, TooMany, Memory, Writer, Failed}
-use Rattle.tracing_tree_layer.specs.Calls.State.{State}
-use Rattle.tracing_tree_base.specs.Drawing.Writers.{SeenWriter}
-use Rattle.tracing_tree_layer.specs.Calls.Seen.{Seen, seen_later}
-use Rattle.tracing_tree_layer.specs.Calls.Step.{turn_of, state_after}
-use Rattle.tracing_tree_layer.specs.Calls.Run.{Run, run, run_by_cause, then_run, accepted_calls, replies_among, state_after_answer, MayAnswer, call_text}
-use Rattle.tracing_tree_layer.specs.Calls.Answered.{IsAnswered, Writes}
-use Rattle.tracing_tree_layer.specs.Calls.Layers.{LayeredView, Changes}
-use Rattle.tracing_tree_layer.specs.Calls.Headline.{AreAnswered, Continues, IsRunOf, Runs, rows_drawn, run_from}
+use Rattle.tracing_tree_drawing.specs.Format.Settings.{Settings}
+use Rattle.tracing_tree_time.specs.Clock.{Timer}
+use Rattle.tracing_tree_drawing.specs.Format.Picture.{Row, draw}
+use Rattle.tracing_tree_context.specs.declared.context.Refusal.{Refusal}
+use Rattle.tracing_tree_context.specs.declared.context.Refusal.TheVariants as Refused
+use Rattle.tracing_tree_context.specs.declared.context.Refusal.TheVariants.{NotHeld, TooWide, TooMany, Memory, Writer, Failed}
+use Rattle.tracing_tree_layer.specs.Layered.State.{State}
+use Rattle.tracing_tree_output.specs.Writers.{SeenWriter}
+use Rattle.tracing_tree_layer.specs.Layered.Seen.{Seen, seen_later}
+use Rattle.tracing_tree_layer.specs.Layered.Step.{turn_of, state_after}
+use Rattle.tracing_tree_layer.specs.Layered.Run.{Run, run, run_by_cause, then_run, accepted_calls, replies_among, state_after_answer, MayAnswer, call_text}
+use Rattle.tracing_tree_layer.specs.Layered.Answered.{IsAnswered, Writes}
+use Rattle.tracing_tree_layer.specs.Layer.Layers.{LayeredView, Changes}
+use Rattle.tracing_tree_layer.specs.Layered.Headline.{AreAnswered, Continues, IsRunOf, Runs, rows_drawn, run_from}
 use Rattle.tracing_tree_layer.specs.declared.call.Call.{Call}
 use Rattle.tracing_tree_layer.specs.declared.call.Reply.{Reply}
 use Rattle.tracing_tree_layer.proofs.DrawnLaws.{draw-append}

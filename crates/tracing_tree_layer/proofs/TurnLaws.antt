@@ -2,35 +2,35 @@
 use Rattle.std.proofs.Common.{◌≡◌, ◌==◌, ℕ, None, Ok, Err, subst, Bool, true, false, not, ◌||◌, length, is_none, is_some, unwrap_or, List, Option, refl, sym, ap, ◌∙◌}
 use Rattle.std.specs.Option.{option_or}
 use Rattle.std.specs.Bool.{then_some}
-use Rattle.tracing_tree_base.specs.Drawing.Settings.{Settings}
-use Rattle.tracing_tree_base.specs.Time.Clock.{Timer}
-use Rattle.tracing_tree_base.specs.Drawing.Writers.{LeavesCut, seen_writer}
-use Rattle.tracing_tree_base.specs.declared.context.Id.{Id}
-use Rattle.tracing_tree_base.specs.declared.context.Refusal.{Refusal}
-use Rattle.tracing_tree_base.specs.declared.context.Refusal.TheVariants as Refused
-use Rattle.tracing_tree_base.specs.declared.context.Refusal.TheVariants.{NotHeld, TooWide, TooMany, Memory, Writer, Failed}
-use Rattle.tracing_tree_base.specs.Drawing.Picture.{Row, draw}
-use Rattle.tracing_tree_core.specs.Registry.Ids.{id_of}
-use Rattle.tracing_tree_core.specs.Registry.Forest.{Forest, add_span, new_span, closing_of, take_handle, without_spans, unless_handle}
-use Rattle.tracing_tree_core.specs.Registry.Registered.{IsNewSpan, IsClosed}
-use Rattle.tracing_tree_base.specs.declared.context.Context.{Context}
-use Rattle.tracing_tree_core.specs.declared.registry.Attributes.{Attributes}
-use Rattle.tracing_tree_layer.specs.Calls.State.{State, Turn}
-use Rattle.tracing_tree_layer.specs.Rows.Turns.{turn_of_new, turn_of_closes}
-use Rattle.tracing_tree_layer.specs.Rows.Plan.{empty_plan, plan_of_closes}
-use Rattle.tracing_tree_base.specs.declared.format.output.Output.{Ghosts as Output}
-use Rattle.tracing_tree_base.specs.declared.time.FormatTime.{Ghosts as FormatTime}
-use Rattle.tracing_tree_layer.specs.Calls.Layers.{LayerView, LayeredView, Changes, seen}
-use Rattle.tracing_tree_layer.specs.Calls.Seen.{Seen, seen_later}
-use Rattle.tracing_tree_layer.specs.Calls.Step.{turn_of, new_id, with_new_span}
-use Rattle.tracing_tree_layer.specs.Calls.Refused.{first_cause, cause_of, id_not_held, is_too_many, draws_too_wide, timer_faults, takes_no_memory}
-use Rattle.tracing_tree_layer.specs.Calls.Run.{call_text}
-use Rattle.tracing_tree_layer.specs.Calls.Answered.{IsAnswered}
+use Rattle.tracing_tree_drawing.specs.Format.Settings.{Settings}
+use Rattle.tracing_tree_time.specs.Clock.{Timer}
+use Rattle.tracing_tree_output.specs.Writers.{LeavesCut, seen_writer}
+use Rattle.tracing_tree_context.specs.declared.context.Id.{Id}
+use Rattle.tracing_tree_context.specs.declared.context.Refusal.{Refusal}
+use Rattle.tracing_tree_context.specs.declared.context.Refusal.TheVariants as Refused
+use Rattle.tracing_tree_context.specs.declared.context.Refusal.TheVariants.{NotHeld, TooWide, TooMany, Memory, Writer, Failed}
+use Rattle.tracing_tree_drawing.specs.Format.Picture.{Row, draw}
+use Rattle.tracing_tree_spans.specs.Registry.Ids.{id_of}
+use Rattle.tracing_tree_spans.specs.Registry.Forest.{Forest, add_span, new_span, closing_of, take_handle, without_spans, unless_handle}
+use Rattle.tracing_tree_spans.specs.Registry.Registered.{IsNewSpan, IsClosed}
+use Rattle.tracing_tree_context.specs.declared.context.Context.{Context}
+use Rattle.tracing_tree_spans.specs.declared.registry.Attributes.{Attributes}
+use Rattle.tracing_tree_layer.specs.Layered.State.{State, Turn}
+use Rattle.tracing_tree_layer.specs.Layer.Turns.{turn_of_new, turn_of_closes}
+use Rattle.tracing_tree_layer.specs.Layer.Plan.{empty_plan, plan_of_closes}
+use Rattle.tracing_tree_output.specs.declared.output.Output.{Ghosts as Output}
+use Rattle.tracing_tree_time.specs.declared.timer.FormatTime.{Ghosts as FormatTime}
+use Rattle.tracing_tree_layer.specs.Layer.Layers.{LayerView, LayeredView, Changes, seen}
+use Rattle.tracing_tree_layer.specs.Layered.Seen.{Seen, seen_later}
+use Rattle.tracing_tree_layer.specs.Layered.Step.{turn_of, new_id, with_new_span}
+use Rattle.tracing_tree_layer.specs.Layered.Refused.{first_cause, cause_of, id_not_held, is_too_many, draws_too_wide, timer_faults, takes_no_memory}
+use Rattle.tracing_tree_layer.specs.Layered.Run.{call_text}
+use Rattle.tracing_tree_layer.specs.Layered.Answered.{IsAnswered}
 use Rattle.tracing_tree_layer.specs.declared.call.Call.{Call}
 use Rattle.tracing_tree_layer.specs.declared.call.Call.TheVariants.{New, Close}
 use Rattle.tracing_tree_layer.specs.declared.call.Reply.TheVariants.{Closed}
 use Rattle.tracing_tree_layer.proofs.MarkedCloses.{handles_of-marked, closing_of-marked, closes-marked}
-use Rattle.tracing_tree_layer.specs.Rows.Drawn.{rows_cause, failed_by, IsWritten, DoesTurn}
+use Rattle.tracing_tree_layer.specs.Layer.Drawn.{rows_cause, failed_by, IsWritten, DoesTurn}
 
 -- ---- refusals
 

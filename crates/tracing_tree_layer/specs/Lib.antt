@@ -1,4 +1,4 @@
-pub mod Calls
-pub mod Rows
+pub mod Difference
+pub mod Layer
+pub mod Layered
 pub mod Laws
-pub mod Differences

@@ -3,8 +3,8 @@
 ghost use Rattle.std.specs.Prelude.{◌≡◌, IfOk};
 
 use std::alloc::AllocError;
-use tracing_tree_core::format::{Context, Id};
-use tracing_tree_core::registry::{Attributes, Event, Record};
+use tracing_tree_context::{Context, Id};
+use tracing_tree_spans::registry::{Attributes, Event, Record};
 
 /// A call on a registry with a layer.
 #[derive(Debug, Drop, PartialEq, Eq)]

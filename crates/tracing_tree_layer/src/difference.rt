@@ -2,7 +2,7 @@
 
 ghost use Rattle.std.specs.Prelude.{◌≡◌, MatchBool};
 ghost use Rattle.std.specs.Iterator.{MakesProgress};
-ghost use Rattle.tracing_tree_layer.specs.Differences.Steps.{difference_left, difference_right, difference_compare, CanCallDifference, difference_remaining, difference_steps, both_steps, IsFresh, Matches, Differs, DifferenceRuns, YieldsDiffering};
+ghost use Rattle.tracing_tree_layer.specs.Difference.Steps.{difference_left, difference_right, difference_compare, CanCallDifference, difference_remaining, difference_steps, both_steps, IsFresh, Matches, Differs, DifferenceRuns, YieldsDiffering};
 
 use std::iter::Fuse;
 

@@ -9,14 +9,14 @@ mod path;
 mod plan;
 
 ghost use Rattle.std.specs.Prelude.{◌≡◌, ◌<◌, false, None, IfSome};
-ghost use Rattle.tracing_tree_base.specs.Drawing.Settings.{default_settings};
-ghost use Rattle.tracing_tree_core.specs.Registry.Forest.{mark_all};
-ghost use Rattle.tracing_tree_layer.specs.Rows.Block.{event_tail};
-ghost use Rattle.tracing_tree_layer.specs.Rows.Turns.{event_depth, turn_of_new, turn_of_event, turn_of_closes};
-ghost use Rattle.tracing_tree_layer.specs.Calls.Refused.{is_event_too_wide, timer_faults_at};
-ghost use Rattle.tracing_tree_layer.specs.Calls.Layers.{is_fresh, IsFlushed};
-ghost use Rattle.tracing_tree_base.specs.Drawing.Writers.{seen_writer};
-ghost use Rattle.tracing_tree_layer.specs.Rows.Drawn.{failed_by, has_no_id, DoesTurn, IsBlank, IsReady, Sends};
+ghost use Rattle.tracing_tree_drawing.specs.Format.Settings.{default_settings};
+ghost use Rattle.tracing_tree_spans.specs.Registry.Forest.{mark_all};
+ghost use Rattle.tracing_tree_layer.specs.Layer.Block.{event_tail};
+ghost use Rattle.tracing_tree_layer.specs.Layer.Turns.{event_depth, turn_of_new, turn_of_event, turn_of_closes};
+ghost use Rattle.tracing_tree_layer.specs.Layered.Refused.{is_event_too_wide, timer_faults_at};
+ghost use Rattle.tracing_tree_layer.specs.Layer.Layers.{is_fresh, IsFlushed};
+ghost use Rattle.tracing_tree_output.specs.Writers.{seen_writer};
+ghost use Rattle.tracing_tree_layer.specs.Layer.Drawn.{failed_by, has_no_id, DoesTurn, IsReady, Sends};
 
 use crate::told::ToldEvent;
 pub use block::{push_event_head, push_event_tail};
@@ -26,9 +26,11 @@ use plan::Plan;
 use std::alloc::Global;
 use std::marker::Model;
 use std::mem;
-use tracing_tree_core::format::{Buffers, Config, Context, Id, Output, Refusal};
-use tracing_tree_core::registry::LookupSpan;
-use tracing_tree_core::time::FormatTime;
+use tracing_tree_context::{Context, Id, Refusal};
+use tracing_tree_drawing::format::Config;
+use tracing_tree_output::{Output, write_whole};
+use tracing_tree_spans::registry::LookupSpan;
+use tracing_tree_time::FormatTime;
 
 /// Draws spans and events as a tree into a writer. (`HierarchicalLayer` of the Rust crate.)
 ///
@@ -52,13 +54,14 @@ pub struct HierarchicalLayer<W: Output, FT: FormatTime> {
     config: Config,
     writer: W,
     timer: FT,
+    last: Option<Id>,
     failed: bool,
 }
 
 impl<W: Output, FT: FormatTime> Model for HierarchicalLayer<W, FT> {
     ghost use Rattle.std.specs.Prelude.{◌≡◌, false};
-    ghost use Rattle.tracing_tree_layer.specs.Calls.Layers.{LayerView};
-    ghost use Rattle.tracing_tree_layer.specs.Rows.Drawn.{IsClear};
+    ghost use Rattle.tracing_tree_layer.specs.Layer.Layers.{LayerView};
+    ghost use Rattle.tracing_tree_layer.specs.Layer.Drawn.{IsClear};
 
     ghost Value = { LayerView W FT };
 
@@ -66,7 +69,7 @@ impl<W: Output, FT: FormatTime> Model for HierarchicalLayer<W, FT> {
       settings = l.config;
       writer = l.writer;
       timer = l.timer;
-      last = l.page.bufs.current_span;
+      last = l.last;
       failed = l.failed;
     } };
 
@@ -114,6 +117,7 @@ impl<W: Output> HierarchicalLayer<W, ()> {
             config,
             writer,
             timer: (),
+            last: None,
             failed: false,
         }
     }
@@ -139,7 +143,7 @@ impl<W: Output, FT: FormatTime> HierarchicalLayer<W, FT> {
     pub fn last_span(&self) -> Option<Id>
         ensures { result ≡ self.now.last }
     {
-        self.page.bufs.current_span
+        self.last
     }
 
     /// Returns whether a call was refused for the timer or the writer. The writer of a layer that
@@ -155,7 +159,7 @@ impl<W: Output, FT: FormatTime> HierarchicalLayer<W, FT> {
     pub fn is_fresh(&self) -> bool
         ensures { result ≡ is_fresh self.now }
     {
-        !self.failed && self.page.bufs.current_span.is_none()
+        !self.failed && self.last.is_none()
     }
 
     /// Returns the writer alone, with all that was written.
@@ -232,12 +236,13 @@ impl<W: Output, FT: FormatTime> HierarchicalLayer<W, FT> {
         let drawn = CallDrawing {
             config: &self.config,
             spans: &*spans,
+            last: self.last,
             context,
         }
         .new_span(&mut self.page, &mut self.plan, id);
         let sent = send(drawn, &mut self.page, &mut self.writer, &mut self.failed);
         if sent.is_ok() {
-            commit(&self.plan, &mut self.page.bufs, spans);
+            commit(&self.plan, &mut self.last, spans);
         }
         sent
     }
@@ -266,6 +271,7 @@ impl<W: Output, FT: FormatTime> HierarchicalLayer<W, FT> {
         let drawn = CallDrawing {
             config: &self.config,
             spans: &*spans,
+            last: self.last,
             context,
         }
         .event(
@@ -278,7 +284,7 @@ impl<W: Output, FT: FormatTime> HierarchicalLayer<W, FT> {
         );
         let sent = send(drawn, &mut self.page, &mut self.writer, &mut self.failed);
         if sent.is_ok() {
-            commit(&self.plan, &mut self.page.bufs, spans);
+            commit(&self.plan, &mut self.last, spans);
         }
         sent
     }
@@ -300,26 +306,27 @@ impl<W: Output, FT: FormatTime> HierarchicalLayer<W, FT> {
         let drawn = CallDrawing {
             config: &self.config,
             spans: &*spans,
+            last: self.last,
             context,
         }
         .closes(&mut self.page, &mut self.plan, ids);
         let sent = send(drawn, &mut self.page, &mut self.writer, &mut self.failed);
         if sent.is_ok() {
-            commit(&self.plan, &mut self.page.bufs, spans);
+            commit(&self.plan, &mut self.last, spans);
         }
         sent
     }
 }
 
 // Does what is left of a plan once its rows are written: marks, and the last span. Takes no memory.
-fn commit<S: LookupSpan>(plan: &Plan, bufs: &mut Buffers, spans: &mut S)
-    ensures bufs { bufs.new ≡ record bufs.old { current_span = plan.now.last } }
+fn commit<S: LookupSpan>(plan: &Plan, last: &mut Option<Id>, spans: &mut S)
+    ensures last { last.new ≡ plan.now.last }
     ensures forest { S.forest spans.new ≡ mark_all plan.now.fresh (S.forest spans.old) }
 {
     for id in plan.fresh() {
         spans.set_written(*id);
     }
-    bufs.current_span = plan.last();
+    *last = plan.last();
 }
 
 // Writes what was drawn, once and whole, or gives it up. Only a fault of the writer leaves a text
@@ -337,7 +344,7 @@ fn send<W: Output>(
     ensures failed { failed.new ≡ failed_by result }
 {
     let sent = match drawn {
-        Ok(()) => write_text(page, writer),
+        Ok(()) => write_whole(&mut page.text, writer).map_err(|_| Refusal::Writer),
         Err(refusal) => {
             page.clear();
             Err(refusal)
@@ -345,15 +352,4 @@ fn send<W: Output>(
     };
     *failed = matches!(sent, Err(Refusal::Timer | Refusal::Writer));
     sent
-}
-
-fn write_text<W: Output>(page: &mut Page, writer: &mut W) -> Result<(), Refusal>
-    requires room { W.fault_count writer.old < u64.MAX }
-    requires ready { IsBlank page.old.bufs }
-    ensures { Sends (Ok tt) result page.old page.new
-        (seen_writer W.Output writer.old) (seen_writer W.Output writer.new) }
-{
-    mem::swap(&mut page.bufs.current_buf, &mut page.text);
-    let written = page.bufs.flush_current_buf(writer);
-    written.map_err(|_| Refusal::Writer)
 }

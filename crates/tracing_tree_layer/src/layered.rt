@@ -3,23 +3,23 @@
 mod lent;
 
 ghost use Rattle.std.specs.Prelude.{◌≡◌, ◌≢◌, ◌<◌, [], false, None, OnErr, IfOk, IfSome, length};
-ghost use Rattle.tracing_tree_core.specs.Registry.Ids.{id_of};
-ghost use Rattle.tracing_tree_core.specs.Registry.Forest.{empty_forest, if_live, path_of_any};
-ghost use Rattle.tracing_tree_layer.specs.Calls.Layers.{seen, Changes};
-ghost use Rattle.tracing_tree_layer.specs.Calls.Layers.{Flushes};
-ghost use Rattle.tracing_tree_layer.specs.Calls.Answered.{IsAnswered};
-ghost use Rattle.tracing_tree_layer.specs.Calls.Headline.{Continues, IsRunOf};
-ghost use Rattle.tracing_tree_layer.specs.Rows.Block.{event_tail};
+ghost use Rattle.tracing_tree_spans.specs.Registry.Ids.{id_of};
+ghost use Rattle.tracing_tree_spans.specs.Registry.Forest.{empty_forest, if_live, path_of_any};
+ghost use Rattle.tracing_tree_layer.specs.Layer.Layers.{seen, Changes, Flushes};
+ghost use Rattle.tracing_tree_layer.specs.Layered.Answered.{IsAnswered};
+ghost use Rattle.tracing_tree_layer.specs.Layered.Headline.{Continues, IsRunOf};
+ghost use Rattle.tracing_tree_layer.specs.Layer.Block.{event_tail};
 
 use crate::call::{Call, Reply};
 use crate::layer::HierarchicalLayer;
 use crate::told::ToldEvent;
 use std::alloc::{AllocError, Global};
 use std::marker::Model;
-use tracing_tree_core::field::Fields;
-use tracing_tree_core::format::{Context, Id, Output, Refusal};
-use tracing_tree_core::registry::{Attributes, Event, LookupSpan, Record, Registry};
-use tracing_tree_core::time::FormatTime;
+use tracing_tree_context::{Context, Id, Refusal};
+use tracing_tree_output::Output;
+use tracing_tree_spans::registry::{Attributes, Event, LookupSpan, Record, Registry};
+use tracing_tree_text::field::Fields;
+use tracing_tree_time::FormatTime;
 
 /// A registry with a layer. An accepted call changes both and writes its text. A refused one leaves the spans, their marks and the
 /// last span as they were; after `Timer` and `Writer` the layer has failed besides, and after `Writer` a beginning of the text may
@@ -42,7 +42,7 @@ pub struct Layered<W: Output, FT: FormatTime> {
 }
 
 impl<W: Output, FT: FormatTime> Model for Layered<W, FT> {
-    ghost use Rattle.tracing_tree_layer.specs.Calls.Layers.{LayeredView};
+    ghost use Rattle.tracing_tree_layer.specs.Layer.Layers.{LayeredView};
 
     ghost Value = { LayeredView W FT };
 

@@ -1,13 +1,13 @@
 //! Events as they are told.
 
 ghost use Rattle.std.specs.Prelude.{◌≡◌, ◌++◌, OnOk, string_bytes};
-ghost use Rattle.tracing_tree_layer.specs.Rows.Block.{event_tail};
-ghost use Rattle.tracing_tree_core.specs.declared.registry.Event.{Event};
+ghost use Rattle.tracing_tree_layer.specs.Layer.Block.{event_tail};
+ghost use Rattle.tracing_tree_spans.specs.declared.registry.Event.{Event};
 
 use crate::layer::push_event_tail;
 use std::alloc::AllocError;
-use tracing_tree_core::format::Config;
-use tracing_tree_core::registry::{Event, Parent};
+use tracing_tree_drawing::format::Config;
+use tracing_tree_spans::registry::{Event, Parent};
 
 /// An event as it is told. Nothing of an event is kept, so its texts need no place of their own: a caller that holds them in
 /// another form draws them from there.

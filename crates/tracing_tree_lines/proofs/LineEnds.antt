@@ -1,8 +1,7 @@
 -- Where lines end in the bytes that a reader shows, and which line comes first.
-use Rattle.std.proofs.Common.{◌≡◌, ℕ, ◌+◌, ◌<◌, ◌==◌, Bool, true, false, not, List, [], ◌∷◌, ◌++◌, length, take, get_or, Option, Some, None, Ok, position, refl, sym, ap, subst, ◌∙◌, arith, append_assoc, append-nil, eqb-true}
+use Rattle.std.proofs.Common.{◌≡◌, ℕ, ◌+◌, ◌<◌, ◌==◌, Bool, true, false, not, List, [], ◌∷◌, ◌++◌, length, take, get_or, Option, Some, None, Ok, position, refl, sym, ap, subst, ◌∙◌, arith, append_assoc, append-nil, eqb-true, ⊎_elim}
 use Rattle.std.specs.Io.KnownBytes.{Consumes, Keeps, IsAtEnd}
 use Rattle.memchr.specs.Find.{IsFirstByte, is_byte}
-use Rattle.std.proofs.Common.{⊎_elim}
 use Rattle.std.proofs.Math.Nat.{eq-or-lt_of_le}
 use Rattle.std.proofs.lemmas.Bool.{cases_lt, false≢true}
 use Rattle.std.proofs.lemmas.Grind.{common_steps}
@@ -12,7 +11,7 @@ use Rattle.std.proofs.lemmas.List.Sums.{fails_before_first}
 use Rattle.std.proofs.lemmas.List.Quantifiers.{position-Some}
 use Rattle.std.proofs.lemmas.List.Splits.{slice_split_at, slice_split_none, length-slice_split}
 use Rattle.std.proofs.KnownBytes.{Consumes-nil, Consumes-trans}
-use Rattle.tracing_tree_base.specs.Drawing.Picture.{parts_of}
+use Rattle.tracing_tree_drawing.specs.Format.Picture.{parts_of}
 use Rattle.tracing_tree_lines.specs.Lines.Spelled.{input_lines, without_empty_last}
 use Rattle.tracing_tree_lines.specs.Lines.Reads.{HasNoLineEnd, TakesPart, TakesNothing, TakesLine, TakesEnded, TakesRest, ReadsNext}
 

@@ -4,22 +4,22 @@ use Rattle.std.specs.Prelude.{slice_get, IsSomeAnd, ⊤}
 use Rattle.std.specs.Io.KnownBytes.{Appends}
 use Rattle.std.proofs.KnownBytes.{Appends-nil, Appends-trans, Appends-kept}
 use Rattle.std.proofs.Math.Seq.{take-append_seam}
-use Rattle.tracing_tree_base.specs.Drawing.Picture.{Row, draw}
-use Rattle.tracing_tree_base.specs.declared.context.Refusal.{Refusal}
-use Rattle.tracing_tree_base.specs.declared.context.Refusal.TheVariants as Refusals
-use Rattle.tracing_tree_layer.specs.Calls.State.{State}
-use Rattle.tracing_tree_base.specs.Drawing.Writers.{SeenWriter}
-use Rattle.tracing_tree_layer.specs.Calls.Seen.{Seen, seen_later}
-use Rattle.tracing_tree_layer.specs.Calls.Step.{turn_of, reply_of, state_after}
-use Rattle.tracing_tree_layer.specs.Calls.Refused.{cause_of}
-use Rattle.tracing_tree_layer.specs.Calls.Run.{Run, run_by_cause, no_call, then_run, call_text}
-use Rattle.tracing_tree_layer.specs.Calls.Answered.{IsAnswered, Writes}
-use Rattle.tracing_tree_layer.specs.Calls.Headline.{run_from}
+use Rattle.tracing_tree_drawing.specs.Format.Picture.{Row, draw}
+use Rattle.tracing_tree_context.specs.declared.context.Refusal.{Refusal}
+use Rattle.tracing_tree_context.specs.declared.context.Refusal.TheVariants as Refusals
+use Rattle.tracing_tree_layer.specs.Layered.State.{State}
+use Rattle.tracing_tree_output.specs.Writers.{SeenWriter}
+use Rattle.tracing_tree_layer.specs.Layered.Seen.{Seen, seen_later}
+use Rattle.tracing_tree_layer.specs.Layered.Step.{turn_of, reply_of, state_after}
+use Rattle.tracing_tree_layer.specs.Layered.Refused.{cause_of}
+use Rattle.tracing_tree_layer.specs.Layered.Run.{Run, run_by_cause, no_call, then_run, call_text}
+use Rattle.tracing_tree_layer.specs.Layered.Answered.{IsAnswered, Writes}
+use Rattle.tracing_tree_layer.specs.Layered.Headline.{run_from}
 use Rattle.tracing_tree_lines.specs.Lines.Spelled.{input_lines, is_skipped, SpellsCall, SpellCalls}
 use Rattle.tracing_tree_lines.specs.Lines.Values.{IsUnlessMemory}
 use Rattle.tracing_tree_lines.specs.Lines.Runs.{EndsRun, IsLeftAfter, IsLeftByFault, is_from_outside, last_number, CountsCause}
 use Rattle.tracing_tree_lines.specs.Lines.Reads.{TakesLine, HasNoLine}
-use Rattle.tracing_tree_layer.specs.Calls.Layers.{Flushes}
+use Rattle.tracing_tree_layer.specs.Layer.Layers.{Flushes}
 use Rattle.tracing_tree_lines.specs.Lines.Steps.{MakesCall, SkipsLine, FailsLine, JudgesLine, RunsOver, EndsLines}
 use Rattle.tracing_tree_layer.specs.declared.call.Call.{Call}
 use Rattle.tracing_tree_layer.specs.declared.call.Reply.{Reply}

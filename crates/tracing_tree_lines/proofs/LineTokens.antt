@@ -11,7 +11,7 @@ use Rattle.json.specs.Json.{Parse, parse_map, after_end_array, read_key}
 use Rattle.json.proofs.Grammar.{left, left_some, left_none, value_is, value-begin_array, value-begin_object, read_key-shorter, skip_value-shorter, items_end, items_fail, items_more, members_end, members_no_key, members_fail, members_more}
 use Rattle.serde_json.specs.Data.{Data, object, Items, no_items, item, Members, no_members, put}
 use Rattle.serde_json.specs.Find.{as_str}
-use Rattle.tracing_tree_base.specs.declared.field.Field.{Field}
+use Rattle.tracing_tree_text.specs.declared.field.Field.{Field}
 use Rattle.tracing_tree_lines.specs.Lines.Borrowed.{data_of, items_data, members_data, is_whole, items_are_whole, members_are_whole}
 use Rattle.tracing_tree_lines.specs.Lines.Parts.{part_data, parts_members, no_parts, call_members, is_other, with_key, readable, readable_fields, IsPartOf, AreFieldsTaken, ArePartsTaken, IsTaken, TakesFields, TakesPart, TakesParts}
 use Rattle.tracing_tree_lines.specs.Lines.Spelled.{field_value, item_fields, pair_field}

@@ -17,7 +17,7 @@ use Rattle.tracing_tree_lines.proofs.BorrowedTrees.{tree_read, tree_and_more, no
 use Rattle.tracing_tree_lines.proofs.LineTokens.{unless_memory}
 use Rattle.tracing_tree_lines.specs.Lines.Parts.{opens_object, ArePartsTaken, IsObjectLine, ReadsObject, TakesParts}
 use Rattle.serde_json.specs.Find.{as_str}
-use Rattle.tracing_tree_base.specs.declared.context.Moment.{Moment}
+use Rattle.tracing_tree_context.specs.declared.context.Moment.{Moment}
 use Rattle.tracing_tree_lines.proofs.Moments.{reads_none}
 use Rattle.tracing_tree_lines.specs.Lines.Values.{IsUnlessMemory, ReadsCall}
 use Rattle.tracing_tree_lines.specs.declared.lines.LineCause.TheVariants.{NotACall}

@@ -7,14 +7,14 @@ use Rattle.std.specs.Io.KnownBytes.{prepend_known}
 use Rattle.std.proofs.KnownBytes.{prepend_known-nil}
 use Rattle.serde_json.specs.Data.{Data, null, boolean, number, string, array, object}
 use Rattle.serde_json.specs.Find.{as_null}
-use Rattle.tracing_tree_base.specs.Drawing.Settings.{Settings}
-use Rattle.tracing_tree_core.specs.Registry.Ids.{id_of}
+use Rattle.tracing_tree_drawing.specs.Format.Settings.{Settings}
+use Rattle.tracing_tree_spans.specs.Registry.Ids.{id_of}
 use Rattle.tracing_tree_lines.specs.Lines.Runs.{EndsAtFirst, CountsCause, LeavesRun}
 use Rattle.tracing_tree_lines.specs.Lines.Reads.{TakesLine, IsBeforeCalls, OpensWith}
 use Rattle.tracing_tree_lines.specs.Lines.Steps.{RunsOver}
-use Rattle.tracing_tree_layer.specs.Calls.State.{opening_state}
-use Rattle.tracing_tree_base.specs.Drawing.Writers.{SeenWriter}
-use Rattle.tracing_tree_layer.specs.Calls.Seen.{Seen}
+use Rattle.tracing_tree_layer.specs.Layered.State.{opening_state}
+use Rattle.tracing_tree_output.specs.Writers.{SeenWriter}
+use Rattle.tracing_tree_layer.specs.Layered.Seen.{Seen}
 use Rattle.tracing_tree_lines.specs.Lines.Values.{IsUnlessMemory}
 use Rattle.tracing_tree_lines.specs.Lines.Spelled.{TimerChoice, SpellsSettings, chosen_timer, input_lines, unless_null}
 use Rattle.tracing_tree_lines.specs.declared.lines.LineCause.{LineCause}

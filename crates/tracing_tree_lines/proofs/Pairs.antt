@@ -1,18 +1,16 @@
 -- Arrays that are no pair.
-use Rattle.std.specs.Prelude.{◌≡◌, ℕ, List, [], ◌∷◌, ◌++◌, length, get_or, Option, Some, None, refl}
+use Rattle.std.specs.Prelude.{◌≡◌, ℕ, List, [], ◌∷◌, ◌++◌, length, get_or, Option, Some, None, refl, option_and_then, option_map}
 use Rattle.serde_json.specs.Data.{Data, null, boolean, number, string, array, object, Items, no_items, item}
 use Rattle.std.specs.declared.alloc.Global.{Global}
-use Rattle.json.specs.Value.{items_view}
+use Rattle.json.specs.Value.{items_view, value_view}
 use Rattle.json.specs.declared.value.Value.{Value}
 use Rattle.json.specs.Find as look
-use Rattle.json.specs.Value.{value_view}
 use Rattle.tracing_tree_lines.proofs.BorrowedTrees.{data_str}
 use Rattle.tracing_tree_lines.specs.Lines.Parts.{field_of}
 use Rattle.tracing_tree_lines.specs.Lines.Borrowed.{borrowed_data, items_data}
 use Rattle.serde_json.specs.Find.{as_str}
 use Rattle.std.proofs.lemmas.Option.{same_Some, none-some}
-use Rattle.tracing_tree_base.specs.declared.field.Field.{Field}
-use Rattle.std.specs.Prelude.{option_and_then, option_map}
+use Rattle.tracing_tree_text.specs.declared.field.Field.{Field}
 use Rattle.std.proofs.Common.{ap, sym, ◌∙◌, append_assoc, arith}
 use Rattle.tracing_tree_lines.specs.Lines.Spelled.{pair_field, field_value, item_fields}
 

@@ -4,7 +4,7 @@ use Rattle.std.proofs.Common.{sym, ◌∙◌, subst}
 use Rattle.std.proofs.lemmas.Option.{same_Some, none-some}
 use Rattle.serde_json.specs.Data.{Data, null, boolean, number, string, array, object}
 use Rattle.serde_json.specs.Read.{read}
-use Rattle.tracing_tree_base.specs.declared.context.Moment.{Moment}
+use Rattle.tracing_tree_context.specs.declared.context.Moment.{Moment}
 use Rattle.tracing_tree_lines.specs.Lines.Values.{ReadsCall, ReadsLine, ValueSpells}
 use Rattle.tracing_tree_lines.specs.Lines.Spelled.{only_object, line_object, object_call, SpellsCall}
 use Rattle.tracing_tree_layer.specs.declared.call.Call.{Call}

@@ -1,3 +1,3 @@
 pub mod Laws
-pub mod ReadBack
+pub mod Rows
 pub mod Lines

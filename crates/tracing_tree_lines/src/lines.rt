@@ -11,25 +11,25 @@ mod value;
 
 ghost use Rattle.std.specs.Prelude.{◌≡◌, IfErr, IfSome, MatchResult};
 ghost use Rattle.std.specs.Io.Buffered.{reader_remaining};
-ghost use Rattle.tracing_tree_layer.specs.Calls.Layers.{seen, Changes};
+ghost use Rattle.tracing_tree_layer.specs.Layer.Layers.{seen, Changes, Flushes};
 ghost use Rattle.tracing_tree_lines.specs.Lines.Reads.{IsBeforeCalls, OpensWith};
 ghost use Rattle.tracing_tree_lines.specs.Lines.Runs.{CountsEnd, EndsAtFirst, LeavesRun, status_of};
-ghost use Rattle.tracing_tree_layer.specs.Calls.Layers.{Flushes};
 ghost use Rattle.tracing_tree_lines.specs.Lines.Steps.{EndsLines, JudgesLine};
-ghost use Rattle.tracing_tree_base.specs.Drawing.Writers.{seen_writer};
+ghost use Rattle.tracing_tree_output.specs.Writers.{seen_writer};
 
 use call::call_of_line;
 use json::{Invalid, Scratch};
-pub use read::{holds_line, is_skipped, read_line};
+pub use read::{BLOCK, holds_line, is_skipped, read_line};
 use settings::{Setup, settings_of_line};
 use std::alloc::{AllocError, AllocFailed, Global};
 use std::fmt;
 use std::io::{BufRead, BufReader, Read};
 use thiserror::Error;
-use tracing_tree_core::format::{Output, Refusal};
-use tracing_tree_core::time::FormatTime;
+use tracing_tree_context::Refusal;
 use tracing_tree_layer::layer::HierarchicalLayer;
 use tracing_tree_layer::layered::Layered;
+use tracing_tree_output::Output;
+use tracing_tree_time::FormatTime;
 
 /// Why a line ended the run.
 #[derive(Clone, Copy, Debug, PartialEq, Eq, Error)]
@@ -144,9 +144,6 @@ pub struct LinesRun<W: Output> {
     /// The line that ended the run; none where the input was run to its end.
     pub fault: Option<LineFault>,
 }
-
-// The bytes that are asked of the reader at a time.
-const BLOCK: usize = 64 * 1024;
 
 /// Runs the calls that the input's lines spell, under the settings that its first line spells, and draws them into the writer.
 /// The caller must ensure that the writer has no faults.

@@ -24,17 +24,17 @@ const NO_MEMORY: RowFault = RowFault {
 fn main(rt: HostRuntime) -> ExitCode {
     let words = match words(&rt) {
         Ok(words) => words,
-        Err(error) if error.kind() == io::ErrorKind::OutOfMemory => return ended(
+        Err(error) if error.kind() == io::ErrorKind::OutOfMemory => return end(
             &rt,
             Err(NO_MEMORY),
             true,
         ),
-        Err(_) => return refused(&rt),
+        Err(_) => return refuse(&rt),
     };
     match amount(rt.alloc(), words.as_slice()) {
         Ok(amount) => read(&rt, amount),
-        Err(error) if error.kind() == ErrorKind::OutOfMemory => ended(&rt, Err(NO_MEMORY), true),
-        Err(error) => answered(&rt, &error),
+        Err(error) if error.kind() == ErrorKind::OutOfMemory => end(&rt, Err(NO_MEMORY), true),
+        Err(error) => answer(&rt, &error),
     }
 }
 
@@ -44,7 +44,7 @@ fn words<R: AllocGlobal + Env>(rt: &R) -> io::Result<Vec<String>> {
 }
 
 // A word that isn't text.
-fn refused(rt: &impl Eprint) -> ExitCode {
+fn refuse(rt: &impl Eprint) -> ExitCode {
     let _ = eprintln!(rt; "error: an argument isn't UTF-8");
     ExitCode::from(2)
 }
@@ -74,7 +74,7 @@ fn amount(alloc: Global, words: &[String]) -> Result<usize, Error>
 }
 
 // Tells what the parser of arguments has to tell: help, the version, or a mistake.
-fn answered(rt: &(impl Print + Eprint), error: &Error) -> ExitCode {
+fn answer(rt: &(impl Print + Eprint), error: &Error) -> ExitCode {
     let _ = error.print(rt);
     if error.use_stderr() {
         ExitCode::from(2)
@@ -89,15 +89,15 @@ fn read<R: AllocGlobal + Eprint + Input + Print>(rt: &R, amount: usize) -> ExitC
 {
     let alloc = rt.alloc();
     let Ok(mut writer) = BufWriter::new(alloc, io::writer(rt)) else {
-        return ended(rt, Err(NO_MEMORY), true);
+        return end(rt, Err(NO_MEMORY), true);
     };
     let run = rows_to_json(alloc, rt.reader(), &mut writer, amount);
     let flushed = writer.flush().is_ok();
-    ended(rt, run, flushed)
+    end(rt, run, flushed)
 }
 
 // Puts the fault on standard error, if there is one, and returns the status. A fault of standard error itself changes nothing.
-fn ended(rt: &impl Eprint, run: Result<(), RowFault>, flushed: bool) -> ExitCode {
+fn end(rt: &impl Eprint, run: Result<(), RowFault>, flushed: bool) -> ExitCode {
     let told = match run {
         Err(fault) => eprintln!(rt; "{fault}"),
         Ok(()) if flushed => return ExitCode::SUCCESS,

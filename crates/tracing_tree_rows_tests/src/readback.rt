@@ -1,10 +1,10 @@
 //! A run whose drawing is read back: over the public contracts of `Layered::run` and `read_rows` alone.
 
 ghost use Rattle.std.specs.Prelude.{◌≡◌, IfSome};
-ghost use Rattle.tracing_tree_base.specs.Time.Clock.{no_timer};
-ghost use Rattle.tracing_tree_rows.specs.ReadBack.Readable.{IsReadable, text_rows};
-ghost use Rattle.tracing_tree_layer.specs.Calls.Run.{accepted_calls, run};
-ghost use Rattle.tracing_tree_layer.specs.Calls.State.{State};
+ghost use Rattle.tracing_tree_time.specs.Clock.{no_timer};
+ghost use Rattle.tracing_tree_drawing.specs.Rows.Readable.{IsReadable, text_rows};
+ghost use Rattle.tracing_tree_layer.specs.Layered.Run.{accepted_calls, run};
+ghost use Rattle.tracing_tree_layer.specs.Layered.State.{State};
 
 use std::alloc::{AllocError, Global};
 use std::str;

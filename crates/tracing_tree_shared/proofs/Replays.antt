@@ -3,20 +3,20 @@ use Rattle.std.proofs.Common.{◌≡◌, ℕ, Bool, true, false, List, [], ◌�
 use Rattle.std.specs.Bool.{then_some}
 use Rattle.std.specs.Option.{option_map}
 use Rattle.std.specs.Io.KnownBytes.{Appends, Keeps}
-use Rattle.tracing_tree_base.specs.Drawing.Settings.{Settings}
-use Rattle.tracing_tree_base.specs.Time.Clock.{Timer}
-use Rattle.tracing_tree_base.specs.Drawing.Picture.{Row, draw}
-use Rattle.tracing_tree_base.specs.Drawing.Writers.{SeenWriter}
-use Rattle.tracing_tree_base.specs.declared.context.Id.{Id}
-use Rattle.tracing_tree_base.specs.declared.context.Refusal.{Refusal}
-use Rattle.tracing_tree_base.specs.declared.context.Refusal.TheVariants as Refused
-use Rattle.tracing_tree_base.specs.declared.context.Refusal.TheVariants.{NotHeld, TooWide, TooMany, Memory, Writer, Failed}
-use Rattle.tracing_tree_layer.specs.Calls.State.{State, opening_state}
-use Rattle.tracing_tree_layer.specs.Calls.Seen.{Seen}
-use Rattle.tracing_tree_layer.specs.Calls.Step.{turn_of, state_after}
-use Rattle.tracing_tree_layer.specs.Calls.Refused.{cause_of, first_of_all, first_cause, Causes, id_not_held, is_too_many, draws_too_wide, timer_faults}
-use Rattle.tracing_tree_layer.specs.Calls.Run.{Run, run, state_after_answer, MayAnswer, call_text}
-use Rattle.tracing_tree_layer.specs.Calls.Answered.{IsAnswered, Writes}
+use Rattle.tracing_tree_drawing.specs.Format.Settings.{Settings}
+use Rattle.tracing_tree_time.specs.Clock.{Timer}
+use Rattle.tracing_tree_drawing.specs.Format.Picture.{Row, draw}
+use Rattle.tracing_tree_output.specs.Writers.{SeenWriter}
+use Rattle.tracing_tree_context.specs.declared.context.Id.{Id}
+use Rattle.tracing_tree_context.specs.declared.context.Refusal.{Refusal}
+use Rattle.tracing_tree_context.specs.declared.context.Refusal.TheVariants as Refused
+use Rattle.tracing_tree_context.specs.declared.context.Refusal.TheVariants.{NotHeld, TooWide, TooMany, Memory, Writer, Failed}
+use Rattle.tracing_tree_layer.specs.Layered.State.{State, opening_state}
+use Rattle.tracing_tree_layer.specs.Layered.Seen.{Seen}
+use Rattle.tracing_tree_layer.specs.Layered.Step.{turn_of, state_after}
+use Rattle.tracing_tree_layer.specs.Layered.Refused.{cause_of, first_of_all, first_cause, Causes, id_not_held, is_too_many, draws_too_wide, timer_faults}
+use Rattle.tracing_tree_layer.specs.Layered.Run.{Run, run, state_after_answer, MayAnswer, call_text}
+use Rattle.tracing_tree_layer.specs.Layered.Answered.{IsAnswered, Writes}
 use Rattle.tracing_tree_shared.specs.History.{Entry, Slip, IsKept, calls_in, replay}
 use Rattle.tracing_tree_layer.specs.declared.call.Call.{Call}
 use Rattle.tracing_tree_layer.specs.declared.call.Reply.{Reply}
@@ -27,8 +27,8 @@ use Rattle.tracing_tree_shared.specs.Finish.{IsReplay}
 use Rattle.tracing_tree_shared.specs.Kept.{KeepsReplay, IsAnsweredOrLacks, entries_of, BookView, seen_on_tape, answer_shown, IsApplied, IsAnsweredOnSome}
 use Rattle.tracing_tree_shared.specs.Drafts.{DraftView}
 use Rattle.tracing_tree_shared.specs.declared.draft.Refused as Answers
-use Rattle.tracing_tree_base.specs.Drawing.Outputs.{TapeView}
-use Rattle.tracing_tree_base.specs.declared.time.FormatTime.{Ghosts as FormatTime}
+use Rattle.tracing_tree_output.specs.Outputs.{TapeView}
+use Rattle.tracing_tree_time.specs.declared.timer.FormatTime.{Ghosts as FormatTime}
 
 map-more : {A B : Type 0} (f : A → B) (xs : List A) (x : A) → map f (xs ++ x ∷ []) ≡ map f xs ++ f x ∷ []
 map-more f [] x = refl

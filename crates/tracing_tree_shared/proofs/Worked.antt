@@ -2,8 +2,8 @@
 use Rattle.std.specs.Prelude.{ℕ, List, [], ◌∷◌, Some, true, refl, codes, encode_utf8_all}
 use Rattle.std.proofs.Common.{arith}
 use Rattle.std.specs.Char.{encode_utf8}
-use Rattle.tracing_tree_core.specs.Registry.Ids.{id_of}
-use Rattle.tracing_tree_base.specs.Time.Clock.{no_timer}
+use Rattle.tracing_tree_spans.specs.Registry.Ids.{id_of}
+use Rattle.tracing_tree_time.specs.Clock.{no_timer}
 use Rattle.tracing_tree_layer.specs.declared.call.Reply.TheVariants.{Span, Closed}
 use Rattle.tracing_tree_layer.proofs.Calls.{lined, outside, made, closed, left_by}
 use Rattle.tracing_tree_shared.specs.History.{Entry, IsKept, Slip, IsLateIn}

@@ -1,7 +1,7 @@
 -- Drafts of calls, and the tails that are drawn with them.
 use Rattle.std.specs.Prelude.{◌≡◌, Bool, List, ℕ, Option, Some, None, ⊤}
-use Rattle.tracing_tree_base.specs.Drawing.Settings.{Settings, default_settings}
-use Rattle.tracing_tree_layer.specs.Rows.Block.{event_tail}
+use Rattle.tracing_tree_drawing.specs.Format.Settings.{Settings, default_settings}
+use Rattle.tracing_tree_layer.specs.Layer.Block.{event_tail}
 use Rattle.tracing_tree_layer.specs.declared.call.Call.{Call}
 use Rattle.tracing_tree_layer.specs.declared.call.Call.TheVariants.{New, Clone, Record, Event, Close}
 

@@ -1,13 +1,13 @@
 -- What a book keeps beside its history, and what a draft leaves in it.
 use Rattle.std.specs.Prelude.{◌≡◌, ◌⊎◌, ℕ, true, false, List, [], ◌∷◌, ◌++◌, length, Option, Some, Result, Ok, Err, ⊤}
-use Rattle.tracing_tree_base.specs.declared.context.Id.{Id}
-use Rattle.tracing_tree_base.specs.declared.context.Refusal.{Refusal}
-use Rattle.tracing_tree_base.specs.declared.context.Refusal.TheVariants.{Memory}
-use Rattle.tracing_tree_base.specs.Drawing.Outputs.{TapeView}
-use Rattle.tracing_tree_base.specs.declared.time.FormatTime.{Ghosts as FormatTime}
-use Rattle.tracing_tree_layer.specs.Calls.Answered.{IsAnswered}
-use Rattle.tracing_tree_layer.specs.Calls.Seen.{Seen}
-use Rattle.tracing_tree_layer.specs.Calls.Layers.{LayeredView}
+use Rattle.tracing_tree_context.specs.declared.context.Id.{Id}
+use Rattle.tracing_tree_context.specs.declared.context.Refusal.{Refusal}
+use Rattle.tracing_tree_context.specs.declared.context.Refusal.TheVariants.{Memory}
+use Rattle.tracing_tree_output.specs.Outputs.{TapeView}
+use Rattle.tracing_tree_time.specs.declared.timer.FormatTime.{Ghosts as FormatTime}
+use Rattle.tracing_tree_layer.specs.Layered.Answered.{IsAnswered}
+use Rattle.tracing_tree_layer.specs.Layered.Seen.{Seen}
+use Rattle.tracing_tree_layer.specs.Layer.Layers.{LayeredView}
 use Rattle.tracing_tree_layer.specs.declared.call.Call.{Call}
 use Rattle.tracing_tree_layer.specs.declared.call.Reply.{Reply}
 use Rattle.tracing_tree_shared.specs.History.{Entry, Slip, IsKept}

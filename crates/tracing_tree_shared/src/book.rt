@@ -7,10 +7,12 @@ use crate::draft::{Draft, Refused};
 use std::alloc::Global;
 use std::boxed::Box;
 use std::marker::Model;
-use tracing_tree_core::format::{Config, Id, Refusal, Tape};
-use tracing_tree_core::time::FormatTime;
+use tracing_tree_context::{Id, Refusal};
+use tracing_tree_drawing::format::Config;
 use tracing_tree_layer::Layered;
 use tracing_tree_layer::call::{Call, Reply};
+use tracing_tree_output::Tape;
+use tracing_tree_time::FormatTime;
 
 /// Shows where a call stands in the history, with its reply. Only `Book::apply` makes one.
 #[derive(Debug, Drop)]
@@ -61,7 +63,7 @@ pub struct Book<FT: FormatTime> {
 }
 
 impl<FT: FormatTime> Model for Book<FT> {
-    ghost use Rattle.tracing_tree_base.specs.Drawing.Outputs.{TapeView};
+    ghost use Rattle.tracing_tree_output.specs.Outputs.{TapeView};
     ghost use Rattle.tracing_tree_shared.specs.Kept.{BookView, KeepsReplay, seen_on_tape};
 
     ghost Value = { BookView TapeView FT };

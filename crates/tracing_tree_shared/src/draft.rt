@@ -1,18 +1,20 @@
 //! Calls on their way, drawn as far as they can be before the layer is held.
 
 ghost use Rattle.std.specs.Prelude.{◌≡◌, IfOk, IfSome, false, option_map};
-ghost use Rattle.tracing_tree_layer.specs.Calls.Layers.{seen};
+ghost use Rattle.tracing_tree_layer.specs.Layer.Layers.{seen};
 ghost use Rattle.tracing_tree_shared.specs.Drafts.{IsTailOf, tail_under, tail_text};
 ghost use Rattle.tracing_tree_shared.specs.Kept.{IsAnsweredOrLacks};
 
 use std::alloc::{AllocError, Global};
 use std::boxed::Box;
 use std::marker::Model;
-use tracing_tree_core::format::{Config, Output, Refusal};
-use tracing_tree_core::time::FormatTime;
+use tracing_tree_context::Refusal;
+use tracing_tree_drawing::format::Config;
 use tracing_tree_layer::Layered;
 use tracing_tree_layer::call::{Call, Reply};
 use tracing_tree_layer::layer::push_event_tail;
+use tracing_tree_output::Output;
+use tracing_tree_time::FormatTime;
 
 // Level, target and fields of an event, and the two settings under which they were drawn.
 #[derive(Debug, Drop)]

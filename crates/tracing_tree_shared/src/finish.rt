@@ -8,9 +8,10 @@ ghost use Rattle.tracing_tree_shared.specs.Finish.{keeps_slip, is_late, is_mispl
 use crate::book::{Book, Receipt};
 use crate::pass::Pass;
 use std::sync::ledger::Ledger;
-use tracing_tree_core::format::{Config, Tape};
-use tracing_tree_core::time::FormatTime;
+use tracing_tree_drawing::format::Config;
 use tracing_tree_layer::call::{Call, Reply};
+use tracing_tree_output::Tape;
+use tracing_tree_time::FormatTime;
 
 /// The one history of all threads, with what was written, and under which settings.
 #[derive(Drop)]

@@ -12,10 +12,12 @@ use std::alloc::{AllocError, Global};
 use std::marker::Model;
 use std::sync::ledger::{Blank, Book as Total, Ledger, Share};
 use std::sync::{Mutex, Wait};
-use tracing_tree_core::format::{Config, Refusal, Tape};
-use tracing_tree_core::time::FormatTime;
+use tracing_tree_context::Refusal;
+use tracing_tree_drawing::format::Config;
 use tracing_tree_layer::Layered;
 use tracing_tree_layer::call::{Call, Reply};
+use tracing_tree_output::Tape;
+use tracing_tree_time::FormatTime;
 
 /// A thread's pass, which contracts see as its receipts. Its share of the ledger is their number.
 #[derive(Drop)]

@@ -1,8 +1,7 @@
 //! A layer for several threads that keeps no history.
 
 ghost use Rattle.std.specs.Prelude.{◌≡◌, IfOk, IfErr};
-ghost use Rattle.tracing_tree_layer.specs.Calls.Layers.{seen, Changes};
-ghost use Rattle.tracing_tree_layer.specs.Calls.Layers.{Flushes};
+ghost use Rattle.tracing_tree_layer.specs.Layer.Layers.{seen, Changes, Flushes};
 ghost use Rattle.tracing_tree_shared.specs.Drafts.{tail_under};
 ghost use Rattle.tracing_tree_shared.specs.Streamed.{IsStreamed, IsStreamedOnSome};
 
@@ -11,10 +10,12 @@ use std::alloc::Global;
 use std::marker::Model;
 use std::mem;
 use std::sync::{Mutex, Wait};
-use tracing_tree_core::format::{Config, Output, Refusal};
-use tracing_tree_core::time::FormatTime;
+use tracing_tree_context::Refusal;
+use tracing_tree_drawing::format::Config;
 use tracing_tree_layer::Layered;
 use tracing_tree_layer::call::{Call, Reply};
+use tracing_tree_output::Output;
+use tracing_tree_time::FormatTime;
 
 /// The answer to an accepted call: how many were accepted before it, and its reply.
 #[derive(Clone, Copy, Debug, PartialEq, Eq)]

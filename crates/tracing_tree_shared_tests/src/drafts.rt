@@ -76,7 +76,7 @@ struct Watch<'a> {
 }
 
 impl FormatTime for Watch<'_> {
-    ghost use Rattle.tracing_tree_base.specs.Time.Clock.{no_timer};
+    ghost use Rattle.tracing_tree_time.specs.Clock.{no_timer};
 
     ghost timer = { λ _. no_timer };
 

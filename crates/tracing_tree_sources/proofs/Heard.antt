@@ -4,8 +4,8 @@ use Rattle.std.specs.Prelude.{⊤, if◌then◌else◌, IsUtf8}
 use Rattle.std.specs.Str.{is_utf8}
 use Rattle.std.proofs.lemmas.Str.{is_utf8-from_IsUtf8, IsUtf8-from_is_utf8}
 use Rattle.json.specs.Json.{Json, document}
-use Rattle.tracing_tree_layer.specs.Calls.Seen.{Seen}
-use Rattle.tracing_tree_layer.specs.Calls.Layers.{Flushes}
+use Rattle.tracing_tree_layer.specs.Layered.Seen.{Seen}
+use Rattle.tracing_tree_layer.specs.Layer.Layers.{Flushes}
 use Rattle.tracing_tree_layer.specs.declared.call.Call.{Call}
 use Rattle.tracing_tree_lines.specs.Lines.Spelled.{input_lines, is_skipped}
 use Rattle.tracing_tree_lines.specs.Lines.Reads.{TakesLine, HasNoLine}

@@ -1,6 +1,6 @@
 -- What is shown of what a source told.
 use Rattle.std.proofs.Common.{◌≡◌, List, Option, Some, None, option_map, ap, ◌∙◌}
-use Rattle.tracing_tree_base.specs.declared.style.Level.{Level}
+use Rattle.tracing_tree_text.specs.declared.style.Level.{Level}
 use Rattle.tracing_tree_layer.specs.declared.call.Call.{Call}
 use Rattle.tracing_tree_sources.specs.Source.{Step, Tells}
 use Rattle.tracing_tree_sources.specs.Levels.{shown_calls, shown_step}

@@ -2,14 +2,14 @@
 use Rattle.std.proofs.Common.{◌≡◌, List, [], ◌∷◌, ◌++◌, length, Ok, Err, refl, sym, ap, subst, ◌∙◌, arith, append_assoc, append-nil, length-append}
 use Rattle.std.specs.Io.KnownBytes.{Appends}
 use Rattle.std.proofs.KnownBytes.{Appends-nil, Appends-trans, Appends-kept}
-use Rattle.tracing_tree_base.specs.Drawing.Picture.{Row, draw}
-use Rattle.tracing_tree_base.specs.declared.context.Refusal.{Refusal}
-use Rattle.tracing_tree_layer.specs.Calls.Seen.{Seen, seen_later}
-use Rattle.tracing_tree_layer.specs.Calls.Step.{turn_of}
-use Rattle.tracing_tree_layer.specs.Calls.Run.{Run, run, run_by_cause, then_run}
-use Rattle.tracing_tree_layer.specs.Calls.Answered.{IsAnswered}
-use Rattle.tracing_tree_layer.specs.Calls.Headline.{run_from}
-use Rattle.tracing_tree_layer.specs.Calls.Layers.{Flushes}
+use Rattle.tracing_tree_drawing.specs.Format.Picture.{Row, draw}
+use Rattle.tracing_tree_context.specs.declared.context.Refusal.{Refusal}
+use Rattle.tracing_tree_layer.specs.Layered.Seen.{Seen, seen_later}
+use Rattle.tracing_tree_layer.specs.Layered.Step.{turn_of}
+use Rattle.tracing_tree_layer.specs.Layered.Run.{Run, run, run_by_cause, then_run}
+use Rattle.tracing_tree_layer.specs.Layered.Answered.{IsAnswered}
+use Rattle.tracing_tree_layer.specs.Layered.Headline.{run_from}
+use Rattle.tracing_tree_layer.specs.Layer.Layers.{Flushes}
 use Rattle.tracing_tree_layer.specs.declared.call.Call.{Call}
 use Rattle.tracing_tree_layer.specs.declared.call.Reply.{Reply}
 use Rattle.tracing_tree_layer.proofs.DrawnLaws.{draw-append}

@@ -5,15 +5,14 @@ use Rattle.json.specs.Json.{array, boolean, string, object, no_items, member, no
 use Rattle.tracing_tree_sources.specs.First.{begins_list, begins_with, format_by, format_of, format_of_line}
 use Rattle.tracing_tree_sources.specs.Marks.{after_mark}
 use Rattle.tracing_tree_sources.specs.declared.first.Format.TheVariants.{Chrome, GoTest, Lines, Tracing}
-use Rattle.tracing_tree_base.specs.declared.context.Moment.{Moment}
-use Rattle.tracing_tree_base.specs.declared.style.Level.TheVariants.{Trace, Debug, Info, Warn, Error}
-use Rattle.tracing_tree_core.specs.Registry.Ids.{id_of}
-use Rattle.tracing_tree_sources.specs.Levels.{is_shown, shown_calls}
+use Rattle.tracing_tree_context.specs.declared.context.Moment.{Moment}
+use Rattle.tracing_tree_text.specs.declared.style.Level.TheVariants.{Trace, Debug, Info, Warn, Error}
+use Rattle.tracing_tree_spans.specs.Registry.Ids.{id_of}
+use Rattle.tracing_tree_sources.specs.Levels.{is_shown, shown_calls, level_in}
 use Rattle.tracing_tree_sources.specs.Moments.{moment_after, since_1970}
 use Rattle.tracing_tree_lines.specs.declared.lines.LineCause.TheVariants.{NotACall, Read}
 use Rattle.tracing_tree_sources.specs.Source.{CountsUnknown}
 use Rattle.tracing_tree_sources.specs.Told.{close_call, event_call, is_escaped, span_call}
-use Rattle.tracing_tree_sources.specs.Levels.{level_in}
 
 pub heading_of_a_build : after_mark (codes "# ") (codes "# q [q.test]") ≡ Some (codes "q [q.test]")
 heading_of_a_build = refl

@@ -3,7 +3,7 @@ use Rattle.std.specs.Prelude.{ℕ, if◌then◌else◌, List, [], ◌∷◌, ◌
 use Rattle.std.specs.List.{list_any}
 use Rattle.json.specs.Json.{Json, null, boolean, number, string, array, object, Members, no_members, member}
 use Rattle.json.specs.Find.{as_object}
-use Rattle.tracing_tree_base.specs.declared.field.Field.{Field}
+use Rattle.tracing_tree_text.specs.declared.field.Field.{Field}
 use Rattle.tracing_tree_sources.specs.Told.{shown}
 
 -- a value as it is drawn

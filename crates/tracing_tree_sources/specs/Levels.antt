@@ -2,9 +2,9 @@
 use Rattle.std.specs.Prelude.{ℕ, nat_le, Bool, true, List, Option, option_map, option_and_then, codes}
 use Rattle.std.specs.List.{filter}
 use Rattle.json.specs.Json.{Json}
-use Rattle.tracing_tree_base.specs.Drawing.Texts.{level_named}
-use Rattle.tracing_tree_base.specs.declared.style.Level.{Level}
-use Rattle.tracing_tree_base.specs.declared.style.Level.TheVariants.{Trace, Debug, Info, Warn, Error}
+use Rattle.tracing_tree_text.specs.Style.{level_named}
+use Rattle.tracing_tree_text.specs.declared.style.Level.{Level}
+use Rattle.tracing_tree_text.specs.declared.style.Level.TheVariants.{Trace, Debug, Info, Warn, Error}
 use Rattle.tracing_tree_layer.specs.declared.call.Call.{Call}
 use Rattle.tracing_tree_layer.specs.declared.call.Call.TheVariants.{New, Clone, Record, Event, Close}
 use Rattle.tracing_tree_sources.specs.Source.{Step}

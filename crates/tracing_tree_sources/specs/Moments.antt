@@ -7,7 +7,7 @@ use Rattle.jiff.specs.Words.{parse_timestamp}
 use Rattle.jiff_core.specs.Timestamp.{IsTimestampNanos}
 use Rattle.jiff_core.specs.declared.error.Error.{Error}
 use Rattle.jiff_core.specs.declared.timestamp.Timestamp.{Timestamp}
-use Rattle.tracing_tree_base.specs.declared.context.Moment.{Moment}
+use Rattle.tracing_tree_context.specs.declared.context.Moment.{Moment}
 
 -- these nanoseconds since 1970, or the nearest that an instant may have
 abbrev pub into_range : ℤ → ℤ

@@ -4,11 +4,11 @@ use Rattle.std.specs.Prelude.{◌≡◌, ◌⊎◌, ℕ, ◌+◌, Bool, true, fa
 use Rattle.std.specs.Io.KnownBytes.{Appends}
 use Rattle.std.specs.Str.{is_utf8}
 use Rattle.json.specs.Json.{Json, document}
-use Rattle.tracing_tree_base.specs.Drawing.Picture.{draw}
-use Rattle.tracing_tree_base.specs.declared.context.Refusal.{Refusal}
-use Rattle.tracing_tree_layer.specs.Calls.Seen.{Seen, seen_later}
-use Rattle.tracing_tree_layer.specs.Calls.Headline.{run_from}
-use Rattle.tracing_tree_layer.specs.Calls.Answered.{IsAnswered}
+use Rattle.tracing_tree_drawing.specs.Format.Picture.{draw}
+use Rattle.tracing_tree_context.specs.declared.context.Refusal.{Refusal}
+use Rattle.tracing_tree_layer.specs.Layered.Seen.{Seen, seen_later}
+use Rattle.tracing_tree_layer.specs.Layered.Headline.{run_from}
+use Rattle.tracing_tree_layer.specs.Layered.Answered.{IsAnswered}
 use Rattle.tracing_tree_layer.specs.declared.call.Call.{Call}
 use Rattle.tracing_tree_lines.specs.Lines.Spelled.{input_lines, is_skipped}
 use Rattle.tracing_tree_lines.specs.Lines.Reads.{TakesLine}

@@ -8,8 +8,8 @@ ghost use Rattle.tracing_tree_sources.specs.Fields.{event_fields, fields_besides
 use crate::told::shown;
 use json::Value;
 use std::alloc::{AllocError, Global};
-use tracing_tree_core::field::{Field, Fields};
-use tracing_tree_core::text::Text;
+use tracing_tree_text::field::{Field, Fields};
+use tracing_tree_text::text::Text;
 
 /// An object's members as the fields of an event. A value that is no object has none. `AllocError` where memory is refused.
 pub fn event_fields(alloc: Global, value: &Value<'_>) -> Result<Fields, AllocError>

@@ -10,8 +10,8 @@ use crate::values::text_at;
 use json::Value;
 use std::alloc::{AllocError, Global};
 use std::marker::Model;
-use tracing_tree_core::style::Level;
 use tracing_tree_layer::call::Call;
+use tracing_tree_text::style::Level;
 
 /// The level that an object names at `"level"`, in capitals. None where it names none.
 pub fn level_in(value: &Value<'_>) -> Option<Level>

@@ -4,7 +4,7 @@ ghost use Rattle.std.specs.Prelude.{◌≡◌, option_map};
 ghost use Rattle.tracing_tree_sources.specs.Moments.{moment_after, moment_of, since_1970};
 
 use jiff::Timestamp;
-use tracing_tree_core::time::Moment;
+use tracing_tree_time::Moment;
 
 /// When a line happened by the text of its time, as RFC 3339 writes it. Where it tells none, that is when the line before did.
 pub fn moment_after(text: Option<&str>, before: &Moment) -> Moment

@@ -4,7 +4,7 @@ ghost use Rattle.std.specs.Prelude.{◌≡◌, true, Err, IfErr, IfOk, IfSome, M
 ghost use Rattle.std.specs.Io.Buffered.{reader_remaining};
 ghost use Rattle.json.specs.Json.{document};
 ghost use Rattle.json.specs.Value.{value_view};
-ghost use Rattle.tracing_tree_layer.specs.Calls.Layers.{seen, Changes, Flushes};
+ghost use Rattle.tracing_tree_layer.specs.Layer.Layers.{seen, Changes, Flushes};
 ghost use Rattle.tracing_tree_sources.specs.Source.{HearsLine, HearsNext, MakesAll, MakesEach, RunsSource, MayEnd, Tells, is_quiet, lack_of};
 
 use crate::notes::{Lack, Notes};
@@ -14,11 +14,12 @@ use json::{Error, Scratch, Value};
 use simdutf8::basic::from_utf8;
 use std::alloc::{AllocError, Global};
 use std::io::{BufRead, BufReader, Read};
-use tracing_tree_core::format::{Output, Refusal};
-use tracing_tree_core::time::FormatTime;
+use tracing_tree_context::Refusal;
 use tracing_tree_layer::call::Call;
 use tracing_tree_layer::layered::Layered;
 use tracing_tree_lines::lines::{LineCause, LineFault, holds_line, is_skipped, read_line};
+use tracing_tree_output::Output;
+use tracing_tree_time::FormatTime;
 
 /// What a run of a source leaves.
 #[derive(Clone, Copy, Debug)]

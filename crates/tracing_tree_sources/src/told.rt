@@ -4,13 +4,13 @@ ghost use Rattle.std.specs.Prelude.{◌≡◌, ◌++◌, IfOk, OnOk, [], ◌∷�
 ghost use Rattle.tracing_tree_sources.specs.Told.{all_on_thread, close_call, context_at, event_call, is_escaped, message_field, on_thread, shown, shown_char, span_call};
 
 use std::alloc::{AllocError, Global};
-use tracing_tree_core::field::{Field, Fields};
-use tracing_tree_core::format::{Context, Id};
-use tracing_tree_core::registry::{Attributes, Event, Parent};
-use tracing_tree_core::style::Level;
-use tracing_tree_core::text::Text;
-use tracing_tree_core::time::Moment;
+use tracing_tree_context::{Context, Id};
 use tracing_tree_layer::call::Call;
+use tracing_tree_spans::registry::{Attributes, Event, Parent};
+use tracing_tree_text::field::{Field, Fields};
+use tracing_tree_text::style::Level;
+use tracing_tree_text::text::Text;
+use tracing_tree_time::Moment;
 
 // The context of a call with this current span.
 fn context_at(moment: Moment, current: Option<Id>) -> Context

@@ -1,7 +1,7 @@
 //! Differences of two iterators.
 
 ghost use Rattle.std.specs.Prelude.{◌≡◌, nat_eq, IfOk};
-ghost use Rattle.tracing_tree_layer.specs.Differences.Items.{differing};
+ghost use Rattle.tracing_tree_layer.specs.Difference.Items.{differing};
 
 use std::alloc::{AllocError, Global};
 use std::test::*;

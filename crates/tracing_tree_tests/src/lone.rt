@@ -33,7 +33,7 @@ impl Lone {
 
 impl LookupSpan for Lone {
     ghost use Rattle.std.specs.Prelude.{[], ◌∷◌, None};
-    ghost use Rattle.tracing_tree_core.specs.Registry.Ids.{id_of};
+    ghost use Rattle.tracing_tree_spans.specs.Registry.Ids.{id_of};
 
     ghost forest = { λ lone. record {
       spans =

@@ -1,10 +1,10 @@
 -- What a thread's way to a layer answers, from what the layer answers to a draft.
 use Rattle.std.specs.Prelude.{◌≡◌, ◌⊎◌, ◌++◌, ◌∷◌, [], ℕ, Result, Ok, Err, IfOk, OnErr, refl}
 use Rattle.std.proofs.Common.{inr, subst, sym}
-use Rattle.tracing_tree_base.specs.declared.context.Refusal.{Refusal}
-use Rattle.tracing_tree_base.specs.declared.context.Refusal.TheVariants.{Memory}
-use Rattle.tracing_tree_base.specs.declared.format.output.Output.{Ghosts as Output}
-use Rattle.tracing_tree_base.specs.declared.time.FormatTime.{Ghosts as FormatTime}
+use Rattle.tracing_tree_context.specs.declared.context.Refusal.{Refusal}
+use Rattle.tracing_tree_context.specs.declared.context.Refusal.TheVariants.{Memory}
+use Rattle.tracing_tree_output.specs.declared.output.Output.{Ghosts as Output}
+use Rattle.tracing_tree_time.specs.declared.timer.FormatTime.{Ghosts as FormatTime}
 use Rattle.tracing_tree_layer.specs.declared.call.Call.{Call}
 use Rattle.tracing_tree_layer.specs.declared.call.Reply.{Reply}
 use Rattle.tracing_tree_shared.specs.Drafts.{SharedView}

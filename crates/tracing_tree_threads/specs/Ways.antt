@@ -1,10 +1,10 @@
 -- What a thread's way to a layer of several threads is, and what it answers.
 use Rattle.std.specs.Prelude.{◌≡◌, ◌⊎◌, ◌++◌, ◌∷◌, [], ℕ, Result, Ok, Err}
-use Rattle.tracing_tree_base.specs.declared.context.Refusal.{Refusal}
-use Rattle.tracing_tree_base.specs.declared.context.Refusal.TheVariants.{Memory}
-use Rattle.tracing_tree_base.specs.declared.format.output.Output.{Ghosts as Output}
-use Rattle.tracing_tree_base.specs.declared.time.FormatTime.{Ghosts as FormatTime}
-use Rattle.tracing_tree_layer.specs.Calls.Layers.{LayeredView, seen}
+use Rattle.tracing_tree_context.specs.declared.context.Refusal.{Refusal}
+use Rattle.tracing_tree_context.specs.declared.context.Refusal.TheVariants.{Memory}
+use Rattle.tracing_tree_output.specs.declared.output.Output.{Ghosts as Output}
+use Rattle.tracing_tree_time.specs.declared.timer.FormatTime.{Ghosts as FormatTime}
+use Rattle.tracing_tree_layer.specs.Layer.Layers.{LayeredView, seen}
 use Rattle.tracing_tree_layer.specs.declared.call.Call.{Call}
 use Rattle.tracing_tree_layer.specs.declared.call.Reply.{Reply}
 use Rattle.tracing_tree_shared.specs.Drafts.{SharedView}

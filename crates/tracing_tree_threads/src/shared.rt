@@ -7,10 +7,10 @@ use std::alloc::Global;
 use std::marker::Model;
 use std::sync::Wait;
 use std::sync::ledger::Ledger;
-use tracing_tree_core::format::Refusal;
-use tracing_tree_core::time::FormatTime;
+use tracing_tree_context::Refusal;
 use tracing_tree_layer::call::{Call, Reply};
 use tracing_tree_shared::{Pass, Refused, SharedLayer};
+use tracing_tree_time::FormatTime;
 use tracing_tree_tracer::Calls;
 
 /// A thread's way to a [`SharedLayer`], with the thread's pass. Each call is drafted before the lock is waited for, and the pass gains

@@ -6,10 +6,11 @@ ghost use Rattle.tracing_tree_shared.specs.Streamed.{answer_numbered};
 use std::alloc::Global;
 use std::marker::Model;
 use std::sync::Wait;
-use tracing_tree_core::format::{Output, Refusal};
-use tracing_tree_core::time::FormatTime;
+use tracing_tree_context::Refusal;
 use tracing_tree_layer::call::{Call, Reply};
+use tracing_tree_output::Output;
 use tracing_tree_shared::{Numbered, Refused, StreamingLayer};
+use tracing_tree_time::FormatTime;
 use tracing_tree_tracer::Calls;
 
 /// A thread's way to a [`StreamingLayer`]. Each call is drafted before the lock is waited for.

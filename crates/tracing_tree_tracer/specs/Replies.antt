@@ -1,6 +1,6 @@
 -- Replies to calls.
 use Rattle.std.specs.Prelude.{◌≡◌, Bool}
-use Rattle.tracing_tree_base.specs.declared.context.Id.{Id}
+use Rattle.tracing_tree_context.specs.declared.context.Id.{Id}
 use Rattle.tracing_tree_layer.specs.declared.call.Call.{Call}
 use Rattle.tracing_tree_layer.specs.declared.call.Call.TheVariants.{New, Clone, Record, Event, Close}
 use Rattle.tracing_tree_layer.specs.declared.call.Reply.{Reply}

@@ -5,12 +5,12 @@ ghost use Rattle.std.specs.Prelude.{◌≡◌, Some};
 use jiff::Timestamp;
 use std::io;
 use std::time::{Clock, Instant};
-use tracing_tree_core::time::Moment;
+use tracing_tree_time::Moment;
 
 /// A clock of a tracer.
 pub trait Now: Drop {
     ghost use Rattle.std.specs.Prelude.{Option};
-    ghost use Rattle.tracing_tree_base.specs.declared.context.Moment.{Moment};
+    ghost use Rattle.tracing_tree_context.specs.declared.context.Moment.{Moment};
 
     /// What it may tell: a moment, or none.
     ghost tells: { Self → Option Moment → Type 0 };

@@ -11,12 +11,12 @@ use crate::value::{Value, event_fields, span_fields};
 use std::alloc::{AllocError, Global};
 use std::marker::Model;
 use thiserror::Error;
-use tracing_tree_core::format::{Context, Id, Refusal};
-use tracing_tree_core::registry::{Attributes, Event, Parent, Record};
-use tracing_tree_core::style::Level;
-use tracing_tree_core::text::Text;
-use tracing_tree_core::time::Moment;
+use tracing_tree_context::{Context, Id, Refusal};
 use tracing_tree_layer::call::{Call, Reply};
+use tracing_tree_spans::registry::{Attributes, Event, Parent, Record};
+use tracing_tree_text::style::Level;
+use tracing_tree_text::text::Text;
+use tracing_tree_time::Moment;
 
 /// Why a tracer did nothing. After the first three no call was made, and nothing has changed.
 #[derive(Clone, Copy, Debug, PartialEq, Eq, Error)]

@@ -3,8 +3,8 @@ use Rattle.std.specs.Prelude.{ℕ, ◌-◌, ◌==◌, ◌&&◌, ◌||◌, Bool, 
 use Rattle.std.specs.List.{ends_with, list_any}
 use Rattle.json.specs.Json.{Json, Items, no_items, item}
 use Rattle.json.specs.Find.{get, as_object}
-use Rattle.tracing_tree_base.specs.Equal.{field_eq, fields_eq}
-use Rattle.tracing_tree_base.specs.declared.field.Field.{Field}
+use Rattle.tracing_tree_text.specs.Equal.{field_eq, fields_eq}
+use Rattle.tracing_tree_text.specs.declared.field.Field.{Field}
 use Rattle.tracing_tree_sources.specs.Marks.{after_mark}
 use Rattle.tracing_tree_sources.specs.Fields.{event_fields, fields_besides}
 use Rattle.tracing_tree_sources.specs.Values.{array_at, text_at}

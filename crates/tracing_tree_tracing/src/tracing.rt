@@ -3,7 +3,7 @@
 ghost use Rattle.std.specs.Prelude.{◌≡◌, ◌++◌, ◌∷◌, [], IfOk, None, OnOk, Some};
 ghost use Rattle.json.specs.Value.{value_view};
 ghost use Rattle.std.specs.List.{list_any};
-ghost use Rattle.tracing_tree_core.specs.Registry.Ids.{same_id};
+ghost use Rattle.tracing_tree_spans.specs.Registry.Ids.{same_id};
 ghost use Rattle.tracing_tree_tracing.specs.Tracing.{acted, anywhere, begun, child, child_of_thread, close_at, close_told, closed, closes, closing, ended, event_told, goes_with, is_child, is_child_of_thread, is_in, is_passing, new_told, nothing_open, opened, parted, parted_one, passing, placed, reached, same_above, stepped};
 
 mod line;
@@ -13,11 +13,7 @@ use line::{Kind, Listed, kind_in, label_in, line_fields, may_be, path_in, span_i
 use std::alloc::{AllocError, Global};
 use std::marker::Model;
 use std::mem;
-use tracing_tree_core::field::Fields;
-use tracing_tree_core::format::Id;
-use tracing_tree_core::style::Level;
-use tracing_tree_core::text::Text;
-use tracing_tree_core::time::Moment;
+use tracing_tree_context::Id;
 use tracing_tree_layer::call::Call;
 use tracing_tree_sources::level::level_in;
 use tracing_tree_sources::moments::moment_after;
@@ -25,6 +21,10 @@ use tracing_tree_sources::notes::Lack;
 use tracing_tree_sources::source::Source;
 use tracing_tree_sources::told::{all_on_thread, close_call, event_call, span_call};
 use tracing_tree_sources::values::text_at;
+use tracing_tree_text::field::Fields;
+use tracing_tree_text::style::Level;
+use tracing_tree_text::text::Text;
+use tracing_tree_time::Moment;
 
 // A span that lives.
 #[derive(Drop)]

@@ -16,7 +16,7 @@ use std::{env, fs, io};
 use tracing_tree::format::{Config, Wrap};
 use tracing_tree::layer::HierarchicalLayer;
 use tracing_tree::layered::Layered;
-use tracing_tree::lines::{LineCause, LineFault, read_line};
+use tracing_tree::lines::{BLOCK, LineCause, LineFault, read_line};
 use tracing_tree::run_lines;
 use tracing_tree::style::Level;
 use tracing_tree::time::{Clock, Moment, Uptime, UtcDateTime};
@@ -26,9 +26,6 @@ use tracing_tree_sources::{
     AtLeast, Format, Lack, Notes, Source, SourceRun, first_format, run_source,
 };
 use tracing_tree_tracing::Tracing;
-
-// The input is read in parts of this size.
-const BLOCK: usize = 64 * 1024;
 
 // So many skipped lines are told one by one.
 const NOTED: u64 = 10;
@@ -69,7 +66,7 @@ fn main(rt: HostRuntime) -> ExitCode {
     match parse(rt.alloc(), words.as_slice(), is_coloured) {
         Ok(options) => open(&rt, options),
         Err(error) if error.kind() == ErrorKind::OutOfMemory => out_of_memory(&rt),
-        Err(error) => answered(&rt, &error),
+        Err(error) => answer(&rt, &error),
     }
 }
 
@@ -271,7 +268,7 @@ fn config(matches: &ArgMatches<'_>, is_coloured: bool) -> Config {
 }
 
 // Tells what the parser of arguments has to tell: help, the version, or a mistake.
-fn answered(rt: &(impl Print + Eprint), error: &Error) -> ExitCode {
+fn answer(rt: &(impl Print + Eprint), error: &Error) -> ExitCode {
     let _ = error.print(rt);
     if error.use_stderr() {
         ExitCode::from(2)

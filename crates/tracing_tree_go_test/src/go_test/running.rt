@@ -7,8 +7,8 @@ use super::text::ends_word;
 use crate::names::Named;
 use std::alloc::{AllocError, Global};
 use std::mem;
-use tracing_tree_core::format::Id;
-use tracing_tree_core::text::Text;
+use tracing_tree_context::Id;
+use tracing_tree_text::text::Text;
 
 // A test that runs, or its package, which has no test's name.
 #[derive(Drop)]

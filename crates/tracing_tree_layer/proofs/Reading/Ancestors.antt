@@ -2,23 +2,23 @@
 use Rattle.std.proofs.Common.{◌≡◌, ℕ, zero, suc, ◌+◌, ◌<◌, Bool, true, false, ◌&&◌, ◌==◌, List, [], ◌∷◌, length, map, take, filter, slice_get, Option, Some, None, option_map, IsSomeAnd, IsTrue, if◌then◌else◌, refl, sym, ap, ◌∙◌, subst, arith}
 use Rattle.std.specs.List.{enumerate_from, last_or}
 use Rattle.std.proofs.lemmas.List.{take-map}
-use Rattle.tracing_tree_base.specs.Drawing.Settings.{Settings}
-use Rattle.tracing_tree_base.specs.Time.Clock.{Timer}
-use Rattle.tracing_tree_core.specs.Registry.Forest.{path_of}
-use Rattle.tracing_tree_base.specs.Drawing.Picture.{Row}
-use Rattle.tracing_tree_base.specs.declared.context.Id.{Id}
-use Rattle.tracing_tree_base.specs.declared.format.SpanMode.{SpanMode}
-use Rattle.tracing_tree_base.specs.declared.format.SpanMode.TheVariants as Kind
-use Rattle.tracing_tree_rows.specs.ReadBack.RowText.{TextRow, shape_of, is_opening, opens_level, above}
-use Rattle.tracing_tree_rows.specs.ReadBack.Readable.{text_row, text_rows}
-use Rattle.tracing_tree_layer.specs.Laws.Reading.{ReadingLaw, AncestorsLaw, ReadingLaws, is_opening_kind, opens_at, forest_at, place_of, rows_of, latest}
+use Rattle.tracing_tree_drawing.specs.Format.Settings.{Settings}
+use Rattle.tracing_tree_time.specs.Clock.{Timer}
+use Rattle.tracing_tree_spans.specs.Registry.Forest.{path_of}
+use Rattle.tracing_tree_drawing.specs.Format.Picture.{Row}
+use Rattle.tracing_tree_context.specs.declared.context.Id.{Id}
+use Rattle.tracing_tree_drawing.specs.declared.format.SpanMode.{SpanMode}
+use Rattle.tracing_tree_drawing.specs.declared.format.SpanMode.TheVariants as Kind
+use Rattle.tracing_tree_drawing.specs.Rows.RowText.{TextRow, shape_of, is_opening, opens_level, above}
+use Rattle.tracing_tree_drawing.specs.Rows.Readable.{text_row, text_rows}
+use Rattle.tracing_tree_layer.specs.Laws.Reading.{ReadingLaw, AncestorsLaw, ReadingLaws, is_opening_mode, opens_at, forest_at, place_of, rows_of, latest}
 use Rattle.tracing_tree_layer.specs.declared.call.Call.{Call}
-use Rattle.tracing_tree_rows.specs.declared.row.Shape.TheVariants as Shape
+use Rattle.tracing_tree_drawing.specs.declared.rows.row.Shape.TheVariants as Shape
 use Rattle.tracing_tree_layer.proofs.Reading.Seen.{seen, latest-seen}
 use Rattle.tracing_tree_layer.proofs.Reading.Laws.{reading-law, opened-before}
 
--- a shape opens where its kind does
-opening-shape : (kind : SpanMode) (level : ℕ) → is_opening (shape_of kind level) ≡ is_opening_kind kind
+-- a shape opens where its mode does
+opening-shape : (mode : SpanMode) (level : ℕ) → is_opening (shape_of mode level) ≡ is_opening_mode mode
 opening-shape Kind.PreOpen level = refl
 opening-shape (Kind.Open verbose) level = elim (level == 0) as (λ b. is_opening (if b then Shape.OpenRoot else Shape.Open verbose) ≡ true) [ true ↦ refl | false ↦ refl ]
 opening-shape (Kind.Close verbose) level = elim (level == 0) as (λ b. is_opening (if b then Shape.CloseRoot else Shape.Close verbose) ≡ false) [ true ↦ refl | false ↦ refl ]
@@ -27,7 +27,7 @@ opening-shape Kind.PostClose level = refl
 opening-shape Kind.Event level = refl
 
 opens-shape : (level : ℕ) (row : Row) → opens_level level (text_row row) ≡ opens_at level row
-opens-shape level row = ap (λ b. b && (row.level == level)) (opening-shape row.kind row.level)
+opens-shape level row = ap (λ b. b && (row.level == level)) (opening-shape row.mode row.level)
 
 -- the entry is the place of a row of this span that opens the level; where there is none there is no span
 abbrev Matches : List Row → ℕ → Option (ℕ × TextRow) → Option Id → Type 0

@@ -2,13 +2,13 @@
 use Rattle.std.proofs.Common.{◌≡◌, ℕ, nat_lt, Bool, true, false, ◌&&◌, List, [], ◌∷◌, ◌++◌, map, reverse, find, Option, Some, None, option_map, if◌then◌else◌, arith, refl, sym, ap, ◌∙◌, subst}
 use Rattle.std.specs.Option.{option_map_or}
 use Rattle.std.specs.List.{list_all, last_or}
-use Rattle.tracing_tree_core.specs.Registry.Ids.{same_id}
-use Rattle.tracing_tree_core.specs.Registry.Spans.{Span}
-use Rattle.tracing_tree_core.specs.Registry.Forest.{Forest, has_id, is_live, path_among, path_of, path_of_any, Descends, IsGrown, IsForest}
-use Rattle.tracing_tree_base.specs.declared.context.Id.{Id}
-use Rattle.tracing_tree_core.proofs.ForestLaws.{path_of-is_path}
-use Rattle.tracing_tree_core.proofs.PathLaws.{path_above, path_of-only, path_of-none}
-use Rattle.tracing_tree_core.proofs.RegistryLaws.{IsSame, grown-changed, reverse-map}
+use Rattle.tracing_tree_spans.specs.Registry.Ids.{same_id}
+use Rattle.tracing_tree_spans.specs.Registry.Spans.{Span}
+use Rattle.tracing_tree_spans.specs.Registry.Forest.{Forest, has_id, is_live, path_among, path_of, path_of_any, Descends, IsGrown, IsForest}
+use Rattle.tracing_tree_context.specs.declared.context.Id.{Id}
+use Rattle.tracing_tree_spans.proofs.ForestLaws.{path_of-is_path}
+use Rattle.tracing_tree_spans.proofs.PathLaws.{path_above, path_of-only, path_of-none}
+use Rattle.tracing_tree_spans.proofs.RegistryLaws.{IsSame, grown-changed, reverse-map}
 
 -- ---- parts of a path
 

@@ -3,18 +3,18 @@ use Rattle.std.proofs.Common.{◌≡◌, Bool, true, false, not, ◌||◌, ◌&&
 use Rattle.std.specs.Option.{option_map_or}
 use Rattle.std.specs.List.{list_any}
 use Rattle.std.proofs.lemmas.Bool.{and_parts}
-use Rattle.tracing_tree_base.specs.Drawing.Settings.{Settings, retraces}
-use Rattle.tracing_tree_core.specs.Registry.Ids.{same_id}
-use Rattle.tracing_tree_core.specs.Registry.Spans.{Span}
-use Rattle.tracing_tree_core.specs.Registry.Forest.{Forest, has_id, is_printed, parent_of, path_of_any, IsForest, fresh_ids, mark_all, closing_of, take_handle, without_spans}
-use Rattle.tracing_tree_base.specs.Drawing.Picture.{Row}
-use Rattle.tracing_tree_base.specs.declared.context.Id.{Id}
-use Rattle.tracing_tree_base.specs.declared.context.Context.{Context}
-use Rattle.tracing_tree_core.proofs.RegistryLaws.{IsSame, changed, changed-same}
-use Rattle.tracing_tree_core.proofs.ClosingSteps.{one_less, less-same}
-use Rattle.tracing_tree_layer.specs.Calls.State.{Turn, quiet_turn}
-use Rattle.tracing_tree_layer.specs.Rows.CloseRetrace.{retraces_before_close}
-use Rattle.tracing_tree_layer.specs.Rows.Turns.{retrace_to, then_turn, close_turn, turn_of_close, turn_of_closes}
+use Rattle.tracing_tree_drawing.specs.Format.Settings.{Settings, retraces}
+use Rattle.tracing_tree_spans.specs.Registry.Ids.{same_id}
+use Rattle.tracing_tree_spans.specs.Registry.Spans.{Span}
+use Rattle.tracing_tree_spans.specs.Registry.Forest.{Forest, has_id, is_printed, parent_of, path_of_any, IsForest, fresh_ids, mark_all, closing_of, take_handle, without_spans}
+use Rattle.tracing_tree_drawing.specs.Format.Picture.{Row}
+use Rattle.tracing_tree_context.specs.declared.context.Id.{Id}
+use Rattle.tracing_tree_context.specs.declared.context.Context.{Context}
+use Rattle.tracing_tree_spans.proofs.RegistryLaws.{IsSame, changed, changed-same}
+use Rattle.tracing_tree_spans.proofs.ClosingSteps.{one_less, less-same}
+use Rattle.tracing_tree_layer.specs.Layered.State.{Turn, quiet_turn}
+use Rattle.tracing_tree_layer.specs.Layer.CloseRetrace.{retraces_before_close}
+use Rattle.tracing_tree_layer.specs.Layer.Turns.{retrace_to, then_turn, close_turn, turn_of_close, turn_of_closes}
 use Rattle.tracing_tree_layer.specs.Laws.Reading.{close_is_on_path, closes_are_on_path}
 use Rattle.tracing_tree_layer.proofs.Reading.Changes.{no_both, changed_all}
 use Rattle.tracing_tree_layer.proofs.Reading.Left.{Each, GoesAlong, is_gone, closing-along}

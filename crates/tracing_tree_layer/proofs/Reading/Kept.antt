@@ -3,18 +3,18 @@ use Rattle.std.proofs.Common.{◌≡◌, ℕ, ◌<◌, ◌≤◌, Bool, true, fa
 use Rattle.std.specs.Option.{option_map_or, option_or}
 use Rattle.std.specs.List.{list_any, common_prefix_len}
 use Rattle.std.proofs.lemmas.Bool.{cases_lt, or_cases, and_parts}
-use Rattle.tracing_tree_base.specs.Drawing.Settings.{Settings}
-use Rattle.tracing_tree_core.specs.Registry.Ids.{same_id}
-use Rattle.tracing_tree_core.specs.Registry.Spans.{Span, printed_span}
-use Rattle.tracing_tree_core.specs.Registry.Forest.{Forest, has_id, span_at, is_live, is_printed, path_of, path_of_any, IsForest, mark_all, mark_printed, fresh_ids, add_span, any_unless_live, without_spans}
-use Rattle.tracing_tree_base.specs.Drawing.Picture.{Row}
-use Rattle.tracing_tree_base.specs.declared.context.Id.{Id}
-use Rattle.tracing_tree_base.specs.declared.context.Context.{Context}
-use Rattle.tracing_tree_core.proofs.ForestLaws.{same_id-eq}
-use Rattle.tracing_tree_core.proofs.PathLaws.{path_of-none}
-use Rattle.tracing_tree_core.proofs.SpanLists.{find-id}
-use Rattle.tracing_tree_core.proofs.RegistryLaws.{IsSame, changed}
-use Rattle.tracing_tree_layer.specs.Rows.Turns.{fresh_rows}
+use Rattle.tracing_tree_drawing.specs.Format.Settings.{Settings}
+use Rattle.tracing_tree_spans.specs.Registry.Ids.{same_id}
+use Rattle.tracing_tree_spans.specs.Registry.Spans.{Span, printed_span}
+use Rattle.tracing_tree_spans.specs.Registry.Forest.{Forest, has_id, span_at, is_live, is_printed, path_of, path_of_any, IsForest, mark_all, mark_printed, fresh_ids, add_span, any_unless_live, without_spans}
+use Rattle.tracing_tree_drawing.specs.Format.Picture.{Row}
+use Rattle.tracing_tree_context.specs.declared.context.Id.{Id}
+use Rattle.tracing_tree_context.specs.declared.context.Context.{Context}
+use Rattle.tracing_tree_spans.proofs.ForestLaws.{same_id-eq}
+use Rattle.tracing_tree_spans.proofs.PathLaws.{path_of-none}
+use Rattle.tracing_tree_spans.proofs.SpanLists.{find-id}
+use Rattle.tracing_tree_spans.proofs.RegistryLaws.{IsSame, changed}
+use Rattle.tracing_tree_layer.specs.Layer.Turns.{fresh_rows}
 use Rattle.tracing_tree_layer.proofs.Reading.Changes.{same-refl, no_both, changed_all, path_of-same, path_of_any-same, find-same, forest-same}
 use Rattle.tracing_tree_layer.proofs.Reading.Newest.{is_given, path_of-other, find-new, live-given, given-other, given-more, forest-grown}
 use Rattle.tracing_tree_layer.proofs.Reading.Left.{Each, GoesAlong, is_gone, forest-left, path_of-kept, find-kept, find-gone}

@@ -2,14 +2,14 @@
 use Rattle.std.proofs.Common.{◌≡◌, ◌+◌, Bool, true, false, ◌||◌, List, [], ◌∷◌, ◌++◌, length, take, slice_get, Some, None, refl, sym, ap, ◌∙◌, subst, append_assoc, length-append, arith, take_at, if◌then◌else◌, Option}
 use Rattle.std.specs.List.{list_any}
 use Rattle.std.proofs.lemmas.Bool.{or_cases}
-use Rattle.tracing_tree_base.specs.Drawing.Settings.{Settings, retraces}
-use Rattle.tracing_tree_base.specs.Time.Clock.{Timer}
-use Rattle.tracing_tree_core.specs.Registry.Forest.{path_of, fresh_ids}
-use Rattle.tracing_tree_base.specs.Drawing.Picture.{Row}
-use Rattle.tracing_tree_base.specs.declared.context.Id.{Id}
-use Rattle.tracing_tree_layer.specs.Calls.State.{State, Turn, opening_state, quiet_turn}
-use Rattle.tracing_tree_layer.specs.Rows.Turns.{current_of, event_row, fresh_rows, retrace_to, turn_before_event}
-use Rattle.tracing_tree_layer.specs.Calls.Run.{Run, run, run_one, run_by_cause}
+use Rattle.tracing_tree_drawing.specs.Format.Settings.{Settings, retraces}
+use Rattle.tracing_tree_time.specs.Clock.{Timer}
+use Rattle.tracing_tree_spans.specs.Registry.Forest.{path_of, fresh_ids}
+use Rattle.tracing_tree_drawing.specs.Format.Picture.{Row}
+use Rattle.tracing_tree_context.specs.declared.context.Id.{Id}
+use Rattle.tracing_tree_layer.specs.Layered.State.{State, Turn, opening_state, quiet_turn}
+use Rattle.tracing_tree_layer.specs.Layer.Turns.{current_of, event_row, fresh_rows, retrace_to, turn_before_event}
+use Rattle.tracing_tree_layer.specs.Layered.Run.{Run, run, run_one, run_by_cause}
 use Rattle.tracing_tree_layer.specs.Laws.Reading.{EventInRun, ReadingLaw, OpenedBefore, forest_at, place_of, rows_of, run_is_on_path, opens_span}
 use Rattle.tracing_tree_layer.specs.declared.call.Call.{Call}
 use Rattle.tracing_tree_layer.specs.declared.call.Call.TheVariants as A

@@ -4,15 +4,15 @@ use Rattle.std.specs.Option.{option_map_or}
 use Rattle.std.specs.List.{list_all, list_any}
 use Rattle.std.proofs.lemmas.Bool.{not-true, and_parts, or_parts}
 use Rattle.std.proofs.lemmas.List.{reverse-append}
-use Rattle.tracing_tree_core.specs.Registry.Ids.{same_id}
-use Rattle.tracing_tree_core.specs.Registry.Spans.{Span}
-use Rattle.tracing_tree_core.specs.Registry.Forest.{Forest, has_id, path_among, path_of, IsGrown, IsForest, is_child_of, goes_after, closing_of, take_handle, without_spans}
-use Rattle.tracing_tree_core.specs.Registry.Registered.{going_after}
-use Rattle.tracing_tree_base.specs.declared.context.Id.{Id}
-use Rattle.tracing_tree_core.proofs.ForestLaws.{same_id-eq, is_some-find}
-use Rattle.tracing_tree_core.proofs.PathLaws.{path_above}
-use Rattle.tracing_tree_core.proofs.ClosingLaws.{going-cons}
-use Rattle.tracing_tree_core.proofs.RegistryLaws.{reverse-filter}
+use Rattle.tracing_tree_spans.specs.Registry.Ids.{same_id}
+use Rattle.tracing_tree_spans.specs.Registry.Spans.{Span}
+use Rattle.tracing_tree_spans.specs.Registry.Forest.{Forest, has_id, path_among, path_of, IsGrown, IsForest, is_child_of, goes_after, closing_of, take_handle, without_spans}
+use Rattle.tracing_tree_spans.specs.Registry.Registered.{going_after}
+use Rattle.tracing_tree_context.specs.declared.context.Id.{Id}
+use Rattle.tracing_tree_spans.proofs.ForestLaws.{same_id-eq, is_some-find}
+use Rattle.tracing_tree_spans.proofs.PathLaws.{path_above}
+use Rattle.tracing_tree_spans.proofs.ClosingLaws.{going-cons}
+use Rattle.tracing_tree_spans.proofs.RegistryLaws.{reverse-filter}
 use Rattle.tracing_tree_layer.proofs.Reading.Changes.{no_both}
 
 -- ---- each of some spans

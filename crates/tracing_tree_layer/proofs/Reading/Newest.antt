@@ -6,13 +6,13 @@ use Rattle.std.proofs.lemmas.Bool.{and_parts}
 use Rattle.std.proofs.lemmas.Bool.Decides.{nat_tests}
 use Rattle.std.proofs.lemmas.List.Folds.{find-append, list_all-append}
 use Rattle.std.proofs.lemmas.List.{reverse-append, reverse-reverse}
-use Rattle.tracing_tree_core.specs.Registry.Ids.{id_of, same_id}
-use Rattle.tracing_tree_core.specs.Registry.Spans.{Span}
-use Rattle.tracing_tree_core.specs.Registry.Forest.{Forest, has_id, span_at, is_live, path_among, path_of, path_of_any, IsGrown, IsForest, id_after, add_span, any_unless_live}
-use Rattle.tracing_tree_base.specs.declared.context.Id.{Id}
-use Rattle.tracing_tree_core.proofs.ForestLaws.{path-newest, path-older, is_some-find, look-reverse}
-use Rattle.tracing_tree_core.proofs.PathLaws.{parent-among}
-use Rattle.tracing_tree_core.proofs.RegistryLaws.{any-reverse, fresh-below, below-more, parent-live}
+use Rattle.tracing_tree_spans.specs.Registry.Ids.{id_of, same_id}
+use Rattle.tracing_tree_spans.specs.Registry.Spans.{Span}
+use Rattle.tracing_tree_spans.specs.Registry.Forest.{Forest, has_id, span_at, is_live, path_among, path_of, path_of_any, IsGrown, IsForest, id_after, add_span, any_unless_live}
+use Rattle.tracing_tree_context.specs.declared.context.Id.{Id}
+use Rattle.tracing_tree_spans.proofs.ForestLaws.{path-newest, path-older, is_some-find, look-reverse}
+use Rattle.tracing_tree_spans.proofs.PathLaws.{parent-among}
+use Rattle.tracing_tree_spans.proofs.RegistryLaws.{any-reverse, fresh-below, below-more, parent-live}
 
 -- ---- paths
 

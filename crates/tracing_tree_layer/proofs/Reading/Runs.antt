@@ -2,24 +2,24 @@
 use Rattle.std.proofs.Common.{◌≡◌, ◌+◌, Bool, true, false, ◌||◌, ◌&&◌, List, [], ◌∷◌, ◌++◌, Option, Some, None, is_some, is_none, unwrap_or, refl, sym, subst, inl, inr, append_assoc, arith}
 use Rattle.std.specs.Option.{option_map_or}
 use Rattle.std.proofs.lemmas.Bool.{and_parts}
-use Rattle.tracing_tree_base.specs.Drawing.Settings.{Settings, retraces}
-use Rattle.tracing_tree_core.specs.Registry.Ids.{id_of}
-use Rattle.tracing_tree_base.specs.Time.Clock.{Timer}
-use Rattle.tracing_tree_core.specs.Registry.Spans.{Span}
-use Rattle.tracing_tree_core.specs.Registry.Forest.{Forest, new_span, add_span, lacks_next, any_unless_live, named_parent}
-use Rattle.tracing_tree_base.specs.Drawing.Picture.{Row}
-use Rattle.tracing_tree_base.specs.declared.field.Field.{Field}
-use Rattle.tracing_tree_base.specs.declared.context.Id.{Id}
-use Rattle.tracing_tree_base.specs.declared.context.Context.{Context}
-use Rattle.tracing_tree_base.specs.declared.context.Refusal.{Refusal}
-use Rattle.tracing_tree_base.specs.declared.context.Refusal.TheVariants as Refused
-use Rattle.tracing_tree_core.specs.declared.registry.Attributes.{Attributes}
-use Rattle.tracing_tree_core.proofs.RegistryLaws.{changed}
-use Rattle.tracing_tree_layer.specs.Calls.State.{State, opening_state}
-use Rattle.tracing_tree_layer.specs.Rows.Turns.{turn_of_new}
-use Rattle.tracing_tree_layer.specs.Calls.Refused.{cause_of, first_cause, draws_too_wide}
-use Rattle.tracing_tree_layer.specs.Calls.Step.{new_id, turn_of, state_after}
-use Rattle.tracing_tree_layer.specs.Calls.Run.{Run, run, run_one, run_by_cause, after_refusal}
+use Rattle.tracing_tree_drawing.specs.Format.Settings.{Settings, retraces}
+use Rattle.tracing_tree_spans.specs.Registry.Ids.{id_of}
+use Rattle.tracing_tree_time.specs.Clock.{Timer}
+use Rattle.tracing_tree_spans.specs.Registry.Spans.{Span}
+use Rattle.tracing_tree_spans.specs.Registry.Forest.{Forest, new_span, add_span, lacks_next, any_unless_live, named_parent}
+use Rattle.tracing_tree_drawing.specs.Format.Picture.{Row}
+use Rattle.tracing_tree_text.specs.declared.field.Field.{Field}
+use Rattle.tracing_tree_context.specs.declared.context.Id.{Id}
+use Rattle.tracing_tree_context.specs.declared.context.Context.{Context}
+use Rattle.tracing_tree_context.specs.declared.context.Refusal.{Refusal}
+use Rattle.tracing_tree_context.specs.declared.context.Refusal.TheVariants as Refused
+use Rattle.tracing_tree_spans.specs.declared.registry.Attributes.{Attributes}
+use Rattle.tracing_tree_spans.proofs.RegistryLaws.{changed}
+use Rattle.tracing_tree_layer.specs.Layered.State.{State, opening_state}
+use Rattle.tracing_tree_layer.specs.Layer.Turns.{turn_of_new}
+use Rattle.tracing_tree_layer.specs.Layered.Refused.{cause_of, first_cause, draws_too_wide}
+use Rattle.tracing_tree_layer.specs.Layered.Step.{new_id, turn_of, state_after}
+use Rattle.tracing_tree_layer.specs.Layered.Run.{Run, run, run_one, run_by_cause, after_refusal}
 use Rattle.tracing_tree_layer.specs.Laws.Reading.{call_is_on_path, run_is_on_path}
 use Rattle.tracing_tree_layer.specs.declared.call.Call.{Call}
 use Rattle.tracing_tree_layer.specs.declared.call.Call.TheVariants as A

@@ -3,16 +3,16 @@ use Rattle.std.proofs.Common.{◌≡◌, ℕ, ◌<◌, ◌≤◌, ◌+◌, ◌==
 use Rattle.std.specs.Option.{option_map_or}
 use Rattle.std.specs.List.{list_any, last_or}
 use Rattle.std.proofs.lemmas.List.Folds.{list_any-append}
-use Rattle.tracing_tree_base.specs.Drawing.Settings.{Settings}
-use Rattle.tracing_tree_core.specs.Registry.Ids.{same_id}
-use Rattle.tracing_tree_core.specs.Registry.Forest.{Forest, is_printed, parent_of, path_of, level_of, IsForest}
-use Rattle.tracing_tree_base.specs.Drawing.Picture.{Row}
-use Rattle.tracing_tree_base.specs.declared.context.Id.{Id}
-use Rattle.tracing_tree_base.specs.declared.context.Context.{Context}
-use Rattle.tracing_tree_base.specs.declared.format.SpanMode.{SpanMode}
-use Rattle.tracing_tree_base.specs.declared.format.SpanMode.TheVariants.{PreOpen, Open, Retrace}
-use Rattle.tracing_tree_layer.specs.Rows.Turns.{span_row, parent_rows, fresh_kind, fresh_row, fresh_rows}
-use Rattle.tracing_tree_layer.specs.Laws.Reading.{is_opening_kind, opens_at, opens_span, latest}
+use Rattle.tracing_tree_drawing.specs.Format.Settings.{Settings}
+use Rattle.tracing_tree_spans.specs.Registry.Ids.{same_id}
+use Rattle.tracing_tree_spans.specs.Registry.Forest.{Forest, is_printed, parent_of, path_of, level_of, IsForest}
+use Rattle.tracing_tree_drawing.specs.Format.Picture.{Row}
+use Rattle.tracing_tree_context.specs.declared.context.Id.{Id}
+use Rattle.tracing_tree_context.specs.declared.context.Context.{Context}
+use Rattle.tracing_tree_drawing.specs.declared.format.SpanMode.{SpanMode}
+use Rattle.tracing_tree_drawing.specs.declared.format.SpanMode.TheVariants.{PreOpen, Open, Retrace}
+use Rattle.tracing_tree_layer.specs.Layer.Turns.{span_row, parent_rows, fresh_mode, fresh_row, fresh_rows}
+use Rattle.tracing_tree_layer.specs.Laws.Reading.{is_opening_mode, opens_at, opens_span, latest}
 use Rattle.tracing_tree_layer.proofs.Reading.Changes.{no_both, path-front}
 use Rattle.tracing_tree_layer.proofs.Reading.Left.{is_gone}
 use Rattle.tracing_tree_layer.proofs.Reading.Parts.{at_seam}
@@ -49,19 +49,19 @@ seen-row : (o : Option Id) (level : ℕ) (row : Row) (rows : List Row) (b : Bool
 seen-row o level row rows b e = ap (λ b. seen (if b then row.span else o) level rows) e
 
 -- rows about a parent open nothing
-pub seen-parent_rows : (o : Option Id) (level : ℕ) (on : Bool) (settings : Settings) (context : Context) (forest : Forest) (kind : SpanMode) (i : Id) →
-    is_opening_kind kind ≡ false → seen o level (parent_rows on settings context forest kind i) ≡ o
-seen-parent_rows o level false settings context forest kind i e = refl
-seen-parent_rows o level true settings context forest kind i e = by (parent_of forest i)
+pub seen-parent_rows : (o : Option Id) (level : ℕ) (on : Bool) (settings : Settings) (context : Context) (forest : Forest) (mode : SpanMode) (i : Id) →
+    is_opening_mode mode ≡ false → seen o level (parent_rows on settings context forest mode i) ≡ o
+seen-parent_rows o level false settings context forest mode i e = refl
+seen-parent_rows o level true settings context forest mode i e = by (parent_of forest i)
   where
-    by : (above : Option Id) → seen o level (option_map_or (λ j. span_row settings context forest kind j ∷ []) above []) ≡ o
+    by : (above : Option Id) → seen o level (option_map_or (λ j. span_row settings context forest mode j ∷ []) above []) ≡ o
     by None = refl
     by (Some j) = rw e refl
 
 -- ---- rows of fresh spans
 
-fresh-opening : (forest : Forest) (i : Id) (verbose : Bool) → is_opening_kind (fresh_kind forest i verbose) ≡ true
-fresh-opening forest i verbose = elim (is_printed forest i) as (λ b. is_opening_kind (if b then Retrace verbose else Open verbose) ≡ true) [ true ↦ refl | false ↦ refl ]
+fresh-opening : (forest : Forest) (i : Id) (verbose : Bool) → is_opening_mode (fresh_mode forest i verbose) ≡ true
+fresh-opening forest i verbose = elim (is_printed forest i) as (λ b. is_opening_mode (if b then Retrace verbose else Open verbose) ≡ true) [ true ↦ refl | false ↦ refl ]
 
 fresh-opens : (settings : Settings) (context : Context) (forest : Forest) (verbose : Bool) (i : Id) (level : ℕ) →
     opens_at level (fresh_row settings context forest verbose i) ≡ (level_of forest i == level)

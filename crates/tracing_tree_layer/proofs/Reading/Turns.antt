@@ -2,21 +2,21 @@
 use Rattle.std.proofs.Common.{◌≡◌, ℕ, Bool, true, false, ◌||◌, List, [], ◌∷◌, ◌++◌, Option, Some, None, is_some, option_and_then, if◌then◌else◌, refl, sym, ap, ◌∙◌, subst, append_assoc}
 use Rattle.std.specs.Option.{option_map_or, option_or}
 use Rattle.std.specs.List.{list_any}
-use Rattle.tracing_tree_base.specs.Drawing.Settings.{Settings, retraces}
-use Rattle.tracing_tree_core.specs.Registry.Ids.{same_id}
-use Rattle.tracing_tree_base.specs.Time.Clock.{Timer}
-use Rattle.tracing_tree_core.specs.Registry.Spans.{Span, printed_span}
-use Rattle.tracing_tree_core.specs.Registry.Forest.{Forest, span_at, if_live, is_live, is_printed, parent_of, path_of, path_of_any, IsForest, mark_all, mark_printed, fresh_ids, add_span, any_unless_live}
-use Rattle.tracing_tree_base.specs.Drawing.Picture.{Row}
-use Rattle.tracing_tree_base.specs.declared.context.Id.{Id}
-use Rattle.tracing_tree_base.specs.declared.context.Context.{Context}
-use Rattle.tracing_tree_base.specs.declared.format.SpanMode.TheVariants.{PreOpen, Open, PostClose}
-use Rattle.tracing_tree_core.specs.declared.registry.Event.{Event}
-use Rattle.tracing_tree_core.proofs.ForestLaws.{same_id-eq}
-use Rattle.tracing_tree_core.proofs.PathLaws.{path_of-step}
-use Rattle.tracing_tree_core.proofs.RegistryLaws.{IsSame, changed, changed-same, parent-live}
-use Rattle.tracing_tree_layer.specs.Calls.State.{Turn, quiet_turn}
-use Rattle.tracing_tree_layer.specs.Rows.Turns.{current_of, span_row, event_row, parent_rows, fresh_rows, retrace_to, then_turn, turn_of_new, turn_of_row, turn_before_event, turn_of_event, close_turn}
+use Rattle.tracing_tree_drawing.specs.Format.Settings.{Settings, retraces}
+use Rattle.tracing_tree_spans.specs.Registry.Ids.{same_id}
+use Rattle.tracing_tree_time.specs.Clock.{Timer}
+use Rattle.tracing_tree_spans.specs.Registry.Spans.{Span, printed_span}
+use Rattle.tracing_tree_spans.specs.Registry.Forest.{Forest, span_at, if_live, is_live, is_printed, parent_of, path_of, path_of_any, IsForest, mark_all, mark_printed, fresh_ids, add_span, any_unless_live}
+use Rattle.tracing_tree_drawing.specs.Format.Picture.{Row}
+use Rattle.tracing_tree_context.specs.declared.context.Id.{Id}
+use Rattle.tracing_tree_context.specs.declared.context.Context.{Context}
+use Rattle.tracing_tree_drawing.specs.declared.format.SpanMode.TheVariants.{PreOpen, Open, PostClose}
+use Rattle.tracing_tree_spans.specs.declared.registry.Event.{Event}
+use Rattle.tracing_tree_spans.proofs.ForestLaws.{same_id-eq}
+use Rattle.tracing_tree_spans.proofs.PathLaws.{path_of-step}
+use Rattle.tracing_tree_spans.proofs.RegistryLaws.{IsSame, changed, changed-same, parent-live}
+use Rattle.tracing_tree_layer.specs.Layered.State.{Turn, quiet_turn}
+use Rattle.tracing_tree_layer.specs.Layer.Turns.{current_of, span_row, event_row, parent_rows, fresh_rows, retrace_to, then_turn, turn_of_new, turn_of_row, turn_before_event, turn_of_event, close_turn}
 use Rattle.tracing_tree_layer.specs.Laws.Reading.{opens_span}
 use Rattle.tracing_tree_layer.proofs.Reading.Changes.{same-refl, no_both, changed_all, path_of-same, path_of_any-same, forest-same}
 use Rattle.tracing_tree_layer.proofs.Reading.Newest.{path_of-new, parent-is_live}

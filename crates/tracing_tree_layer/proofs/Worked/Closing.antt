@@ -1,15 +1,15 @@
 -- Worked examples of handles, parents and closes.
 use Rattle.std.specs.Prelude.{◌≡◌, true, false, [], ◌∷◌, Some, None, Ok, Err, refl, codes, encode_utf8_all}
 use Rattle.std.specs.Char.{encode_utf8}
-use Rattle.tracing_tree_core.specs.Registry.Ids.{id_of}
-use Rattle.tracing_tree_base.specs.Drawing.Texts.{rendered_field}
-use Rattle.tracing_tree_base.specs.Time.Clock.{no_timer}
-use Rattle.tracing_tree_core.specs.Registry.Forest.{closing_of}
-use Rattle.tracing_tree_base.specs.declared.context.Refusal.TheVariants.{NotHeld, TooMany, Writer}
-use Rattle.tracing_tree_core.specs.declared.registry.Parent.TheVariants.{Root, Of}
-use Rattle.tracing_tree_base.specs.declared.style.Level.TheVariants.{Info}
-use Rattle.tracing_tree_layer.specs.Calls.State.{State, opening_state}
-use Rattle.tracing_tree_layer.specs.Calls.Run.{answers_of, MayAnswer}
+use Rattle.tracing_tree_spans.specs.Registry.Ids.{id_of}
+use Rattle.tracing_tree_text.specs.Field.{rendered_field}
+use Rattle.tracing_tree_time.specs.Clock.{no_timer}
+use Rattle.tracing_tree_spans.specs.Registry.Forest.{closing_of}
+use Rattle.tracing_tree_context.specs.declared.context.Refusal.TheVariants.{NotHeld, TooMany, Writer}
+use Rattle.tracing_tree_spans.specs.declared.registry.Parent.TheVariants.{Root, Of}
+use Rattle.tracing_tree_text.specs.declared.style.Level.TheVariants.{Info}
+use Rattle.tracing_tree_layer.specs.Layered.State.{State, opening_state}
+use Rattle.tracing_tree_layer.specs.Layered.Run.{answers_of, MayAnswer}
 use Rattle.tracing_tree_layer.specs.declared.call.Call.TheVariants.{New, Clone, Record}
 use Rattle.tracing_tree_layer.specs.declared.call.Reply.TheVariants.{Cloned, Done, Closed}
 use Rattle.tracing_tree_layer.proofs.Calls.{plain, lined, outside, inside, made, message, told, informed, closed, left_by, written_after, root_and_child, two_roots, written_after_root}

@@ -2,13 +2,13 @@
 use Rattle.std.specs.Prelude.{◌≡◌, true, [], ◌∷◌, Some, None, refl, codes, encode_utf8_all}
 use Rattle.std.specs.Char.{encode_utf8}
 use Rattle.std.specs.Fmt.{digits}
-use Rattle.tracing_tree_base.specs.Drawing.Texts.{rendered_field}
-use Rattle.tracing_tree_core.specs.declared.registry.Parent.TheVariants.{Current}
-use Rattle.tracing_tree_base.specs.declared.style.Level.TheVariants.{Info, Warn}
+use Rattle.tracing_tree_text.specs.Field.{rendered_field}
+use Rattle.tracing_tree_spans.specs.declared.registry.Parent.TheVariants.{Current}
+use Rattle.tracing_tree_text.specs.declared.style.Level.TheVariants.{Info, Warn}
 use Rattle.tracing_tree_layer.specs.declared.call.Call.TheVariants.{New, Event}
-use Rattle.tracing_tree_base.specs.Drawing.Picture.{is_too_wide}
-use Rattle.tracing_tree_base.specs.declared.format.SpanMode.TheVariants.{PostClose}
-use Rattle.tracing_tree_base.specs.declared.format.SpanMode.TheVariants.{Event as EventMode}
+use Rattle.tracing_tree_drawing.specs.Format.Picture.{is_too_wide}
+use Rattle.tracing_tree_drawing.specs.declared.format.SpanMode.TheVariants.{PostClose}
+use Rattle.tracing_tree_drawing.specs.declared.format.SpanMode.TheVariants.{Event as EventMode}
 use Rattle.tracing_tree_layer.proofs.Calls.{plain, lined, outside, inside, made_with, made, message, told, informed, closed, written, written_after, root_and_child, written_after_root}
 
 -- labels and targets
@@ -115,9 +115,9 @@ carriage_return_inside = refl
 
 -- rows that pass the width of a number
 pub wide_event : is_too_wide (record plain { indent_amount = 9_223_372_036_854_775_808 })
-    (record { kind = EventMode; span = None; level = 2; block = []; prefix = [] }) ≡ true
+    (record { mode = EventMode; span = None; level = 2; block = []; prefix = [] }) ≡ true
 wide_event = refl
 
 pub wide_parent : is_too_wide (record lined { indent_amount = 9_223_372_036_854_775_808 })
-    (record { kind = PostClose; span = None; level = 1; block = []; prefix = [] }) ≡ true
+    (record { mode = PostClose; span = None; level = 1; block = []; prefix = [] }) ≡ true
 wide_parent = refl

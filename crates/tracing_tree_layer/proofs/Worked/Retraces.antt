@@ -1,16 +1,15 @@
 -- Worked examples of retraced and deferred spans.
-use Rattle.std.specs.Prelude.{◌≡◌, ℕ, true, List, [], ◌∷◌, Some, refl, codes, encode_utf8_all}
+use Rattle.std.specs.Prelude.{◌≡◌, ℕ, true, List, [], ◌∷◌, Some, refl, codes, encode_utf8_all, ◌==◌, map}
 use Rattle.std.specs.Char.{encode_utf8}
 use Rattle.std.specs.Fmt.{digits}
-use Rattle.tracing_tree_core.specs.Registry.Ids.{id_of}
-use Rattle.tracing_tree_base.specs.Drawing.Texts.{rendered_field}
-use Rattle.tracing_tree_base.specs.declared.context.Context.{Context}
-use Rattle.tracing_tree_base.specs.declared.context.Id.{Id}
-use Rattle.tracing_tree_core.specs.declared.registry.Parent.TheVariants.{Current}
-use Rattle.tracing_tree_base.specs.declared.style.Level.TheVariants.{Info}
+use Rattle.tracing_tree_spans.specs.Registry.Ids.{id_of}
+use Rattle.tracing_tree_text.specs.Field.{rendered_field}
+use Rattle.tracing_tree_context.specs.declared.context.Context.{Context}
+use Rattle.tracing_tree_context.specs.declared.context.Id.{Id}
+use Rattle.tracing_tree_spans.specs.declared.registry.Parent.TheVariants.{Current}
+use Rattle.tracing_tree_text.specs.declared.style.Level.TheVariants.{Info}
 use Rattle.tracing_tree_layer.specs.declared.call.Call.TheVariants.{New, Event, Close}
-use Rattle.std.specs.Prelude.{◌==◌, map}
-use Rattle.tracing_tree_layer.specs.Differences.Items.{differing, common_length, compared_count}
+use Rattle.tracing_tree_layer.specs.Difference.Items.{differing, common_length, compared_count}
 use Rattle.tracing_tree_layer.proofs.Calls.{lined, outside, inside, made, message, informed, closed, written, written_after}
 
 -- a root after another has gone

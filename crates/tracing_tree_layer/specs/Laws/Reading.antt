@@ -2,39 +2,39 @@
 use Rattle.std.specs.Prelude.{◌≡◌, ℕ, ◌-◌, ◌<◌, ◌==◌, ◌&&◌, ◌||◌, Bool, true, false, not, IsTrue, List, [], ◌∷◌, ◌++◌, length, take, filter, slice_get, Option, Some, None, is_some, option_and_then, Contains, IsSomeAnd}
 use Rattle.std.specs.Option.{option_map_or}
 use Rattle.std.specs.List.{list_any, last_or}
-use Rattle.tracing_tree_base.specs.Drawing.Settings.{Settings, retraces}
-use Rattle.tracing_tree_core.specs.Registry.Ids.{same_id}
-use Rattle.tracing_tree_base.specs.Time.Clock.{Timer}
-use Rattle.tracing_tree_core.specs.Registry.Forest.{Forest, path_of, path_of_any, parent_of, is_printed, closing_of}
-use Rattle.tracing_tree_base.specs.Drawing.Picture.{Row}
-use Rattle.tracing_tree_base.specs.declared.context.Id.{Id}
-use Rattle.tracing_tree_base.specs.declared.context.Context.{Context}
-use Rattle.tracing_tree_base.specs.declared.format.SpanMode.{SpanMode}
-use Rattle.tracing_tree_base.specs.declared.format.SpanMode.TheVariants.{PreOpen, Open, Close, Retrace, PostClose}
-use Rattle.tracing_tree_base.specs.declared.format.SpanMode.TheVariants.{Event as EventMode}
-use Rattle.tracing_tree_core.specs.declared.registry.Event.{Event}
-use Rattle.tracing_tree_layer.specs.Calls.State.{State, opening_state}
-use Rattle.tracing_tree_layer.specs.Rows.Turns.{current_of, event_parent, turn_of_close}
-use Rattle.tracing_tree_layer.specs.Calls.Refused.{cause_of}
-use Rattle.tracing_tree_layer.specs.Calls.Run.{run, run_one}
-use Rattle.tracing_tree_rows.specs.ReadBack.RowText.{above}
-use Rattle.tracing_tree_rows.specs.ReadBack.Readable.{IsReadable, text_rows}
+use Rattle.tracing_tree_drawing.specs.Format.Settings.{Settings, retraces}
+use Rattle.tracing_tree_spans.specs.Registry.Ids.{same_id}
+use Rattle.tracing_tree_time.specs.Clock.{Timer}
+use Rattle.tracing_tree_spans.specs.Registry.Forest.{Forest, path_of, path_of_any, parent_of, is_printed, closing_of}
+use Rattle.tracing_tree_drawing.specs.Format.Picture.{Row}
+use Rattle.tracing_tree_context.specs.declared.context.Id.{Id}
+use Rattle.tracing_tree_context.specs.declared.context.Context.{Context}
+use Rattle.tracing_tree_drawing.specs.declared.format.SpanMode.{SpanMode}
+use Rattle.tracing_tree_drawing.specs.declared.format.SpanMode.TheVariants.{PreOpen, Open, Close, Retrace, PostClose}
+use Rattle.tracing_tree_drawing.specs.declared.format.SpanMode.TheVariants.{Event as EventMode}
+use Rattle.tracing_tree_spans.specs.declared.registry.Event.{Event}
+use Rattle.tracing_tree_layer.specs.Layered.State.{State, opening_state}
+use Rattle.tracing_tree_layer.specs.Layer.Turns.{current_of, event_parent, turn_of_close}
+use Rattle.tracing_tree_layer.specs.Layered.Refused.{cause_of}
+use Rattle.tracing_tree_layer.specs.Layered.Run.{run, run_one}
+use Rattle.tracing_tree_drawing.specs.Rows.RowText.{above}
+use Rattle.tracing_tree_drawing.specs.Rows.Readable.{IsReadable, text_rows}
 use Rattle.tracing_tree_layer.specs.declared.call.Call.{Call}
 use Rattle.tracing_tree_layer.specs.declared.call.Call.TheVariants as A
 
 -- ---- rows that open a span
 
-abbrev pub is_opening_kind : SpanMode → Bool
-is_opening_kind PreOpen = false
-is_opening_kind (Open verbose) = true
-is_opening_kind (Close verbose) = false
-is_opening_kind (Retrace verbose) = true
-is_opening_kind PostClose = false
-is_opening_kind EventMode = false
+abbrev pub is_opening_mode : SpanMode → Bool
+is_opening_mode PreOpen = false
+is_opening_mode (Open verbose) = true
+is_opening_mode (Close verbose) = false
+is_opening_mode (Retrace verbose) = true
+is_opening_mode PostClose = false
+is_opening_mode EventMode = false
 
 -- an open or retrace row of this level
 abbrev pub opens_at : ℕ → Row → Bool
-opens_at level row = is_opening_kind row.kind && (row.level == level)
+opens_at level row = is_opening_mode row.mode && (row.level == level)
 
 -- the span of the last open or retrace row of a level before a place
 abbrev pub latest : List Row → ℕ → ℕ → Option Id
@@ -43,7 +43,7 @@ latest rows place level =
 
 -- an open or retrace row of the span
 abbrev pub opens_span : Id → Row → Bool
-opens_span i row = is_opening_kind row.kind && option_map_or (same_id i) row.span false
+opens_span i row = is_opening_mode row.mode && option_map_or (same_id i) row.span false
 
 -- ---- closes on the last path
 

@@ -1,15 +1,16 @@
 //! Calls on a layer alone, over live spans that something else keeps.
 
 ghost use Rattle.std.specs.Prelude.{◌≡◌, IfOk, length};
-ghost use Rattle.tracing_tree_core.specs.Registry.Forest.{unless_live, if_live, path_of_any};
-ghost use Rattle.tracing_tree_layer.specs.Calls.Layers.{seen, Changes};
-ghost use Rattle.tracing_tree_layer.specs.Calls.Bare.{on_new_span, on_record, on_event, on_close, IsBareAnswered, IsChecked};
+ghost use Rattle.tracing_tree_spans.specs.Registry.Forest.{unless_live, if_live, path_of_any};
+ghost use Rattle.tracing_tree_layer.specs.Layer.Layers.{seen, Changes};
+ghost use Rattle.tracing_tree_layer.specs.Layer.Bare.{on_new_span, on_record, on_event, on_close, IsBareAnswered, IsChecked};
 
 use super::HierarchicalLayer;
 use std::alloc::{AllocError, Global};
-use tracing_tree_core::format::{Context, Id, Output, Refusal};
-use tracing_tree_core::registry::{Event, LookupSpan, Record};
-use tracing_tree_core::time::FormatTime;
+use tracing_tree_context::{Context, Id, Refusal};
+use tracing_tree_output::Output;
+use tracing_tree_spans::registry::{Event, LookupSpan, Record};
+use tracing_tree_time::FormatTime;
 
 /// A layer can be called without a [`Layered`](crate::Layered), over any [`LookupSpan`]. The caller
 /// then makes and removes the spans. Each call is refused with `Failed` after one was refused for

@@ -1,17 +1,18 @@
 //! The blocks of text of rows, before they are drawn.
 
 ghost use Rattle.std.specs.Prelude.{◌≡◌, ◌++◌, true, OnOk, OnErr, string_bytes};
-ghost use Rattle.tracing_tree_base.specs.declared.style.Style.TheVariants.{BoldGreen};
-ghost use Rattle.tracing_tree_base.specs.Drawing.Texts.{label, styled, named_value, shown_field, span_fields, event_field, comma_after, event_fields};
-ghost use Rattle.tracing_tree_layer.specs.Rows.Block.{shown_target, span_text, span_block, event_head, event_tail};
+ghost use Rattle.tracing_tree_text.specs.declared.style.Style.TheVariants.{BoldGreen};
+ghost use Rattle.tracing_tree_drawing.specs.Format.Texts.{label, named_value, shown_field, span_fields, event_field, comma_after, event_fields};
+ghost use Rattle.tracing_tree_text.specs.Style.{styled};
+ghost use Rattle.tracing_tree_layer.specs.Layer.Block.{shown_target, span_text, span_block, event_head, event_tail};
 
 use std::alloc::AllocError;
-use tracing_tree_core::field::Field;
-use tracing_tree_core::format::{
+use tracing_tree_drawing::format::{
     Config, SpanMode, push_event_field, push_named, push_shown, write_span_mode,
 };
-use tracing_tree_core::registry::{Event, SpanRef};
-use tracing_tree_core::style::{Level, Style, push_level, push_styled};
+use tracing_tree_spans::registry::{Event, SpanRef};
+use tracing_tree_text::field::Field;
+use tracing_tree_text::style::{Level, Style, push_level, push_styled};
 
 // The fields of a span. Only in the first place is a message shown alone.
 fn push_span_fields(out: &mut String, fields: &[Field]) -> Result<(), AllocError>

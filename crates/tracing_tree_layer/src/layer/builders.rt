@@ -3,8 +3,8 @@
 ghost use Rattle.std.specs.Prelude.{◌≡◌, ◌<◌};
 
 use super::HierarchicalLayer;
-use tracing_tree_core::format::Output;
-use tracing_tree_core::time::FormatTime;
+use tracing_tree_output::Output;
+use tracing_tree_time::FormatTime;
 
 impl<W: Output, FT: FormatTime> HierarchicalLayer<W, FT> {
     /// Paints text for a terminal, or leaves it plain.
@@ -94,7 +94,7 @@ impl<W: Output, FT: FormatTime> HierarchicalLayer<W, FT> {
         self
     }
 
-    /// Labels rows of spans with their kind.
+    /// Labels rows of spans with their mode.
     pub fn with_span_modes(mut self, span_modes: bool) -> HierarchicalLayer<W, FT>
         ensures { result ≡ record self {
           settings = record self.settings { span_modes = span_modes };
@@ -164,9 +164,11 @@ impl<W: Output, FT: FormatTime> HierarchicalLayer<W, FT> {
             config: self.config,
             writer: self.writer,
             timer,
+            last: self.last,
             failed: self.failed,
         }
     }
+
     /// Writes to this writer from now on, and drops the one before. The caller must ensure that the
     /// writer has no faults.
     pub fn with_writer<Other: Output>(self, writer: Other) -> HierarchicalLayer<Other, FT>
@@ -187,6 +189,7 @@ impl<W: Output, FT: FormatTime> HierarchicalLayer<W, FT> {
             config: self.config,
             writer,
             timer: self.timer,
+            last: self.last,
             failed: self.failed,
         }
     }

@@ -1,65 +1,57 @@
 //! The rows of a call, planned and then drawn one after another.
 
 ghost use Rattle.std.specs.Prelude.{◌≡◌, ◌++◌, ◌∷◌, ◌-◌, [], false, if◌then◌else◌, OnOk, IfOk, IfErr, IfSome, is_none, length, string_bytes};
-ghost use Rattle.tracing_tree_core.specs.Registry.Forest.{if_live, path_of_any};
-ghost use Rattle.tracing_tree_layer.specs.Rows.Block.{moment_part, elapsed_part, event_block, event_tail};
-ghost use Rattle.tracing_tree_layer.specs.Rows.Turns.{block_of, event_row, event_depth, event_level, event_parent, time_in_current, turn_of_new, turn_of_event, turn_of_closes};
-ghost use Rattle.tracing_tree_layer.specs.Rows.Plan.{row_of_planned, rows_of_planned};
-ghost use Rattle.tracing_tree_layer.specs.Calls.Refused.{is_event_too_wide, timer_faults_at, lacks_elapsed};
-ghost use Rattle.tracing_tree_layer.specs.Rows.Drawn.{DrawsRows, Drafts, IsBlank, IsUntimed, has_no_id};
+ghost use Rattle.tracing_tree_spans.specs.Registry.Forest.{if_live, path_of_any};
+ghost use Rattle.tracing_tree_layer.specs.Layer.Block.{moment_part, elapsed_part, event_block, event_tail};
+ghost use Rattle.tracing_tree_layer.specs.Layer.Turns.{block_of, event_row, event_depth, event_level, event_parent, time_in_current, turn_of_new, turn_of_event, turn_of_closes};
+ghost use Rattle.tracing_tree_layer.specs.Layer.Plan.{row_of_planned, rows_of_planned};
+ghost use Rattle.tracing_tree_layer.specs.Layered.Refused.{is_event_too_wide, timer_faults_at, lacks_elapsed};
+ghost use Rattle.tracing_tree_layer.specs.Layer.Drawn.{DrawsRows, Drafts, IsBlank, IsUntimed, has_no_id};
 
 use super::block::push_span_block;
 use super::page::Page;
 use super::plan::{Plan, PlannedRow, Planner};
 use crate::told::ToldEvent;
 use std::alloc::{AllocError, Global};
-use tracing_tree_core::format::{Buffers, Config, Context, Id, Refusal, SpanMode};
-use tracing_tree_core::registry::LookupSpan;
-use tracing_tree_core::time::FormatTime;
+use tracing_tree_context::{Context, Id, Refusal};
+use tracing_tree_drawing::format::{Config, SpanMode};
+use tracing_tree_spans::registry::LookupSpan;
+use tracing_tree_time::FormatTime;
 
-// A call that is being drawn: the settings, the live spans, and what was handed in with it.
+// A call that is being drawn: the settings, the live spans, the last of them, and what was handed in with the call.
 #[derive(Drop)]
 pub(super) struct CallDrawing<'a, S: LookupSpan> {
     pub(super) config: &'a Config,
     pub(super) spans: &'a S,
+    pub(super) last: Option<Id>,
     pub(super) context: &'a Context,
 }
 
 impl<S: LookupSpan> CallDrawing<'_, S> {
     // A new span.
     pub(super) fn new_span(&self, page: &mut Page, plan: &mut Plan, id: Id) -> Result<(), Refusal>
-        requires { IsBlank page.old.bufs }
+        requires { IsBlank page.old }
         ensures { let settings = self.now.config.now in
             let forest = S.forest self.now.spans.now in
-            let turn = turn_of_new settings self.now.context.now forest page.old.bufs.current_span
-            id in
+            let turn = turn_of_new settings self.now.context.now forest self.now.last id in
             Drafts settings forest turn false false result page.old page.new plan.new }
     {
-        plan.begin(page.bufs.current_span);
-        let planner = Planner {
-            config: self.config,
-            spans: self.spans,
-        };
-        planner.new_span(plan, id)?;
+        plan.begin(self.last);
+        self.planner().new_span(plan, id)?;
         self.rows(page, plan.rows())
     }
 
     // Spans that close one after another.
     pub(super) fn closes(&self, page: &mut Page, plan: &mut Plan, ids: &[Id]) -> Result<(), Refusal>
-        requires { IsBlank page.old.bufs }
+        requires { IsBlank page.old }
         ensures { let settings = self.now.config.now in
             let forest = S.forest self.now.spans.now in
-            let last = page.old.bufs.current_span in
-            let turn = turn_of_closes settings self.now.context.now ids.now forest last in
+            let turn = turn_of_closes settings self.now.context.now ids.now forest self.now.last in
             Drafts settings forest turn false (has_no_id ids.now) result page.old page.new
             plan.new }
     {
-        plan.begin(page.bufs.current_span);
-        let planner = Planner {
-            config: self.config,
-            spans: self.spans,
-        };
-        planner.closes(plan, ids)?;
+        plan.begin(self.last);
+        self.planner().closes(plan, ids)?;
         self.rows(page, plan.rows())
     }
 
@@ -75,7 +67,7 @@ impl<S: LookupSpan> CallDrawing<'_, S> {
         tail: Option<&str>,
         depth: usize,
     ) -> Result<(), Refusal>
-        requires blank { IsBlank page.old.bufs }
+        requires blank { IsBlank page.old }
         requires tail { IfSome tail (λ t. t.now ≡ event_tail self.now.config.now (E.told event.now)) }
         requires depth { depth ≡ event_depth (S.forest self.now.spans.now) (E.told event.now)
             self.now.context.now }
@@ -83,7 +75,7 @@ impl<S: LookupSpan> CallDrawing<'_, S> {
             let context = self.now.context.now in
             let forest = S.forest self.now.spans.now in
             let timer = FT.timer timer.now in
-            let last = page.old.bufs.current_span in
+            let last = self.now.last in
             let turn = turn_of_event settings timer context forest last (E.told event.now) in
             let faults = timer_faults_at settings timer forest context in
             let wide = is_event_too_wide settings timer forest (E.told event.now) context in
@@ -91,19 +83,24 @@ impl<S: LookupSpan> CallDrawing<'_, S> {
     {
         let level = self.event_level(depth);
         self.config.check_width(SpanMode::Event, level)?;
-        plan.begin(page.bufs.current_span);
-        let planner = Planner {
-            config: self.config,
-            spans: self.spans,
-        };
-        planner.event(plan, self.context)?;
+        plan.begin(self.last);
+        self.planner().event(plan, self.context)?;
         self.rows(page, plan.rows())?;
         self.event_row(page, timer, event, tail, level)
     }
 
+    fn planner(&self) -> Planner<'_, S>
+        ensures { result ≡ record { config = self.now.config; spans = self.now.spans } }
+    {
+        Planner {
+            config: self.config,
+            spans: self.spans,
+        }
+    }
+
     // Planned rows, one after another.
     fn rows(&self, page: &mut Page, rows: &[PlannedRow]) -> Result<(), Refusal>
-        requires { IsBlank page.old.bufs }
+        requires { IsBlank page.old }
         ensures { let settings = self.now.config.now in
             let forest = S.forest self.now.spans.now in
             let rows = rows_of_planned settings self.now.context.now forest rows.now in
@@ -117,26 +114,24 @@ impl<S: LookupSpan> CallDrawing<'_, S> {
 
     // A planned row.
     fn row(&self, page: &mut Page, row: PlannedRow) -> Result<(), Refusal>
-        requires { IsBlank page.old.bufs }
+        requires { IsBlank page.old }
         ensures { let settings = self.now.config.now in
             let forest = S.forest self.now.spans.now in
             let row = row_of_planned settings self.now.context.now forest row in
             DrawsRows settings (row ∷ []) false result page.old page.new }
     {
-        self.block(&mut page.bufs, row.mode, row.id)?;
+        self.block(&mut page.block, row.mode, row.id)?;
         page.add_row(row.level, self.config, row.mode, self.context)
     }
 
-    // The block of a span's row.
-    fn block(&self, bufs: &mut Buffers, mode: SpanMode, id: Id) -> Result<(), AllocError>
-        ensures ok { let forest = S.forest self.now.spans.now in
+    // Appends the block of a span's row.
+    fn block(&self, out: &mut String, mode: SpanMode, id: Id) -> Result<(), AllocError>
+        ensures { let forest = S.forest self.now.spans.now in
             let block = block_of self.now.config.now forest mode id in
-            let block = bufs.old.current_buf ++ block in
-            OnOk result (bufs.new ≡ record bufs.old { current_buf = block }) }
-        ensures last { bufs.new.current_span ≡ bufs.old.current_span }
+            OnOk result (string_bytes out.new ≡ string_bytes out.old ++ block) }
     {
         match self.spans.span(id) {
-            Some(span) => push_span_block(&mut bufs.current_buf, self.config, mode, &span),
+            Some(span) => push_span_block(out, self.config, mode, &span),
             None => Ok(()),
         }
     }
@@ -150,7 +145,7 @@ impl<S: LookupSpan> CallDrawing<'_, S> {
         tail: Option<&str>,
         level: usize,
     ) -> Result<(), Refusal>
-        requires blank { IsBlank page.old.bufs }
+        requires blank { IsBlank page.old }
         requires tail { IfSome tail (λ t. t.now ≡ event_tail self.now.config.now (E.told event.now)) }
         requires level { let forest = S.forest self.now.spans.now in
             let parent = event_parent forest (E.told event.now) self.now.context.now in
@@ -165,7 +160,7 @@ impl<S: LookupSpan> CallDrawing<'_, S> {
             let faults = timer_faults_at settings timer forest context in
             DrawsRows settings (row ∷ []) faults result page.old page.new }
     {
-        self.event_block(&mut page.bufs, timer, event, tail)?;
+        self.event_block(&mut page.block, timer, event, tail)?;
         page.add_row(level, self.config, SpanMode::Event, self.context)
     }
 
@@ -181,36 +176,8 @@ impl<S: LookupSpan> CallDrawing<'_, S> {
         }
     }
 
-    // The block of an event's row.
+    // Appends the block of an event's row: the timer's texts, level, target and fields.
     fn event_block<FT: FormatTime, E: ToldEvent>(
-        &self,
-        bufs: &mut Buffers,
-        timer: &FT,
-        event: &E,
-        tail: Option<&str>,
-    ) -> Result<(), Refusal>
-        requires { IfSome tail (λ t. t.now ≡ event_tail self.now.config.now (E.told event.now)) }
-        ensures ok { let settings = self.now.config.now in
-            let context = self.now.context.now in
-            let since = time_in_current (S.forest self.now.spans.now) context in
-            let block = event_block settings (FT.timer timer.now) context.moment since (E.told event.now) in
-            let block = bufs.old.current_buf ++ block in
-            OnOk result (bufs.new ≡ record bufs.old { current_buf = block }) }
-        ensures has { let forest = S.forest self.now.spans.now in
-            let timer = FT.timer timer.now in
-            let faults = timer_faults_at self.now.config.now timer forest self.now.context.now in
-            OnOk result (faults ≡ false) }
-        ensures refusal { let forest = S.forest self.now.spans.now in
-            let timer = FT.timer timer.now in
-            let faults = timer_faults_at self.now.config.now timer forest self.now.context.now in
-            IfErr result (IsUntimed faults) }
-        ensures last { bufs.new.current_span ≡ bufs.old.current_span }
-    {
-        self.push_event(&mut bufs.current_buf, timer, event, tail)
-    }
-
-    // Appends the timer's texts, level, target and fields.
-    fn push_event<FT: FormatTime, E: ToldEvent>(
         &self,
         out: &mut String,
         timer: &FT,

@@ -1,33 +1,32 @@
 //! The text of a call while it is built.
 
-ghost use Rattle.std.specs.Prelude.{◌≡◌, [], None, string_bytes};
-ghost use Rattle.tracing_tree_base.specs.Drawing.Texts.{prefix_text};
-ghost use Rattle.tracing_tree_base.specs.Drawing.Picture.{drawn_row, is_too_wide, unnamed_row};
-ghost use Rattle.tracing_tree_layer.specs.Rows.Drawn.{AddsRow};
+ghost use Rattle.std.specs.Prelude.{◌≡◌, [], string_bytes};
+ghost use Rattle.tracing_tree_drawing.specs.Format.Texts.{prefix_text};
+ghost use Rattle.tracing_tree_drawing.specs.Format.Picture.{drawn_row, is_too_wide, unnamed_row};
+ghost use Rattle.tracing_tree_layer.specs.Layer.Drawn.{AddsRow, IsClear};
 
 use std::alloc::Global;
-use tracing_tree_core::format::{Buffers, Config, Context, Refusal, SpanMode, push_row};
+use tracing_tree_context::{Context, Refusal};
+use tracing_tree_drawing::format::{Config, SpanMode, push_row};
 
-// The buffers of the row at hand, and the rows that are drawn already. Between calls all are empty.
+// The block of the row at hand, and the rows that are drawn already. Between calls both are empty.
 #[derive(Drop)]
 pub(super) struct Page {
-    pub(super) bufs: Buffers,
+    pub(super) block: String,
     pub(super) text: String,
 }
 
 impl Page {
     pub(super) fn new(alloc: Global) -> Page
-        ensures bufs { result.bufs
-            ≡ record { current_buf = []; indent_buf = []; current_span = None } }
-        ensures text { string_bytes result.text ≡ [] }
+        ensures { IsClear result }
     {
         Page {
-            bufs: Buffers::new(alloc),
+            block: String::new(alloc),
             text: String::new(alloc),
         }
     }
 
-    // Moves the block in `current_buf` to the end of the text, as its row. A refusal changes nothing.
+    // Moves the block to the end of the text, as its row. A refusal changes nothing.
     pub(super) fn add_row(
         &mut self,
         level: usize,
@@ -36,23 +35,21 @@ impl Page {
         context: &Context,
     ) -> Result<(), Refusal>
         ensures { let prefix = prefix_text config.now context.now in
-            let row = unnamed_row mode level self.old.bufs.current_buf prefix in
+            let row = unnamed_row mode level (string_bytes self.old.block) prefix in
             AddsRow (is_too_wide config.now row) (drawn_row config.now row) result self.old
             self.new }
     {
-        let block = self.bufs.current_buf.as_str();
+        let block = self.block.as_str();
         push_row(&mut self.text, block, level, config, mode, context)?;
-        self.bufs.current_buf.clear();
+        self.block.clear();
         Ok(())
     }
 
     // Forgets what was drawn.
     pub(super) fn clear(&mut self)
-        ensures bufs { self.new.bufs ≡ record self.old.bufs { current_buf = []; indent_buf = [] } }
-        ensures text { string_bytes self.new.text ≡ [] }
+        ensures { IsClear self.new }
     {
-        self.bufs.current_buf.clear();
-        self.bufs.indent_buf.clear();
+        self.block.clear();
         self.text.clear();
     }
 }

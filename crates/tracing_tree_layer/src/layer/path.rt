@@ -1,9 +1,9 @@
 //! Paths of spans, lent or walked.
 
 ghost use Rattle.std.specs.Prelude.{◌≡◌, length};
-ghost use Rattle.tracing_tree_layer.specs.Rows.Plan.{ids_of};
+ghost use Rattle.tracing_tree_layer.specs.Layer.Plan.{ids_of};
 
-use tracing_tree_core::format::Id;
+use tracing_tree_context::Id;
 
 // The ids on a path, root first: as they are kept with the span, or as they were found by walking up.
 #[derive(Drop)]

@@ -3,19 +3,20 @@
 
 ghost use Rattle.std.specs.Prelude.{◌≡◌, ◌≢◌, ◌≤◌, ◌-◌, ◌++◌, ◌∷◌, [], Some, None, OnOk, OnErr, IfOk, drop, length};
 ghost use Rattle.std.specs.List.{common_prefix_len, list_any};
-ghost use Rattle.tracing_tree_base.specs.Drawing.Settings.{retraces};
-ghost use Rattle.tracing_tree_core.specs.Registry.Ids.{same_id};
-ghost use Rattle.tracing_tree_core.specs.Registry.Paths.{PartOnce};
-ghost use Rattle.tracing_tree_core.specs.Registry.Forest.{IsForest, is_printed, path_of, path_of_any};
-ghost use Rattle.tracing_tree_layer.specs.Rows.CloseRetrace.{retraces_before_close};
-ghost use Rattle.tracing_tree_layer.specs.Rows.Turns.{current_of};
-ghost use Rattle.tracing_tree_layer.specs.Rows.Plan.{ids_of, empty_plan, with_rows, marked_by, planned_row, planned_parent, planned_fresh, planned_fresh_rows, retraced_plan, closed_plan, plan_of_new, plan_before_event, plan_of_close, plan_of_closes};
+ghost use Rattle.tracing_tree_drawing.specs.Format.Settings.{retraces};
+ghost use Rattle.tracing_tree_spans.specs.Registry.Ids.{same_id};
+ghost use Rattle.tracing_tree_spans.specs.Registry.Paths.{PartOnce};
+ghost use Rattle.tracing_tree_spans.specs.Registry.Forest.{IsForest, is_printed, path_of, path_of_any};
+ghost use Rattle.tracing_tree_layer.specs.Layer.CloseRetrace.{retraces_before_close};
+ghost use Rattle.tracing_tree_layer.specs.Layer.Turns.{current_of};
+ghost use Rattle.tracing_tree_layer.specs.Layer.Plan.{ids_of, empty_plan, with_rows, marked_by, planned_row, planned_parent, planned_fresh, planned_fresh_rows, retraced_plan, closed_plan, plan_of_new, plan_before_event, plan_of_close, plan_of_closes};
 
 use super::path::Path;
 use std::alloc::{AllocError, Global};
 use std::marker::Model;
-use tracing_tree_core::format::{Config, Context, Id, SpanMode};
-use tracing_tree_core::registry::{LookupSpan, common};
+use tracing_tree_context::{Context, Id};
+use tracing_tree_drawing::format::{Config, SpanMode};
+use tracing_tree_spans::registry::{LookupSpan, common};
 
 // A row about a live span, which is to be drawn.
 #[derive(Clone, Copy)]
@@ -35,7 +36,7 @@ pub(super) struct Plan {
 }
 
 impl Model for Plan {
-    ghost use Rattle.tracing_tree_layer.specs.Rows.Plan.{PlanView};
+    ghost use Rattle.tracing_tree_layer.specs.Layer.Plan.{PlanView};
 
     ghost Value = { PlanView };
 
@@ -84,7 +85,7 @@ impl Plan {
         *self.rows.allocator()
     }
 
-    fn push_row(&mut self, row: PlannedRow) -> Result<(), AllocError>
+    fn push(&mut self, row: PlannedRow) -> Result<(), AllocError>
         ensures { OnOk result (self.new ≡ with_rows (row ∷ []) self.old) }
     {
         self.rows.push(row)?;
@@ -294,7 +295,7 @@ impl<S: LookupSpan> Planner<'_, S> {
             OnOk result (plan.new ≡ with_rows (row ∷ []) plan.old) }
     {
         let level = self.level(plan.allocator(), id)?;
-        plan.push_row(PlannedRow { mode, id, level })
+        plan.push(PlannedRow { mode, id, level })
     }
 
     // How many spans stand above this one.

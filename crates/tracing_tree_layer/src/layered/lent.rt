@@ -1,14 +1,15 @@
 //! Calls whose parts are lent or moved alone. A whole [`Call`](crate::call::Call) is large, and each move of it costs.
 
-ghost use Rattle.tracing_tree_layer.specs.Calls.Layers.{seen, Changes};
-ghost use Rattle.tracing_tree_layer.specs.Calls.Answered.{IsAnswered};
+ghost use Rattle.tracing_tree_layer.specs.Layer.Layers.{seen, Changes};
+ghost use Rattle.tracing_tree_layer.specs.Layered.Answered.{IsAnswered};
 
 use super::Layered;
 use crate::call::{Call, Reply};
 use crate::told::ToldEvent;
-use tracing_tree_core::format::{Context, Id, Output, Refusal};
-use tracing_tree_core::registry::Attributes;
-use tracing_tree_core::time::FormatTime;
+use tracing_tree_context::{Context, Id, Refusal};
+use tracing_tree_output::Output;
+use tracing_tree_spans::registry::Attributes;
+use tracing_tree_time::FormatTime;
 
 impl<W: Output, FT: FormatTime> Layered<W, FT> {
     /// Makes the call of an event that is drawn from where the caller has its texts, as `call` does.

@@ -5,23 +5,23 @@ use Rattle.std.proofs.Math.Seq.{get_or-append_seam}
 use Rattle.std.proofs.lemmas.Bool.{false≢true}
 use Rattle.std.proofs.lemmas.List.{append-nil}
 use Rattle.std.proofs.lemmas.Option.{slice_get-get_or}
-use Rattle.tracing_tree_base.specs.Drawing.Picture.{parts_of}
+use Rattle.tracing_tree_drawing.specs.Format.Picture.{parts_of}
 use Rattle.tracing_tree_lines.specs.Lines.Reads.{HasNoLineEnd, TakesEnded, TakesRest}
-use Rattle.tracing_tree_lines.specs.ReadBack.Json.{IsNotARow}
-use Rattle.tracing_tree_lines.specs.ReadBack.JsonSteps.{ReadsRowLine, SoFar, TakesRowLine, WritesNext}
-use Rattle.tracing_tree_rows.specs.ReadBack.Line.{LineRead.LaterLine, last_after}
-use Rattle.tracing_tree_rows.specs.ReadBack.RowText.{TextRow, IsFirstBadLine, ended, is_unbroken}
-use Rattle.tracing_tree_rows.specs.ReadBack.Texts.{ReaderView, TakesTextLine, TextLeft}
+use Rattle.tracing_tree_lines.specs.Rows.Json.{IsNotARow}
+use Rattle.tracing_tree_lines.specs.Rows.JsonSteps.{ReadsRowLine, SoFar, TakesRowLine, WritesNext}
+use Rattle.tracing_tree_drawing.specs.Rows.Line.{LineRead.LaterLine, last_after}
+use Rattle.tracing_tree_drawing.specs.Rows.RowText.{TextRow, IsFirstBadLine, ended, is_unbroken}
+use Rattle.tracing_tree_drawing.specs.Rows.Texts.{ReaderView, TakesTextLine, TextLeft}
 use Rattle.tracing_tree_lines.specs.declared.rows.json_text.JsonRows.{JsonRows}
 use Rattle.tracing_tree_lines.specs.declared.rows.json_text.RowCause.{RowCause}
 use Rattle.tracing_tree_lines.specs.declared.rows.json_text.RowCause.TheVariants.{NotARow, Read, Memory, Writer}
 use Rattle.tracing_tree_lines.specs.declared.rows.json_text.RowsRead.{RowsRead}
-use Rattle.tracing_tree_rows.specs.declared.read.Taken.{Taken}
-use Rattle.tracing_tree_rows.specs.declared.read.Taken.TheVariants.{First, Later, Neither}
+use Rattle.tracing_tree_drawing.specs.declared.rows.read.Taken.{Taken}
+use Rattle.tracing_tree_drawing.specs.declared.rows.read.Taken.TheVariants.{First, Later, Neither}
 use Rattle.tracing_tree_lines.proofs.RowsRead.JsonRuns.{HasLines, cut-short, has-lines, lines-parts, refused}
-use Rattle.tracing_tree_rows.proofs.RowsRead.ReadPlaces.{more-unbroken, read_bad, read_rest, unbroken-from}
-use Rattle.tracing_tree_rows.proofs.RowsRead.RowLines.{ended-append}
-use Rattle.tracing_tree_rows.proofs.RowsRead.Taken.{left_by, taken-next}
+use Rattle.tracing_tree_drawing.proofs.RowsRead.ReadPlaces.{more-unbroken, read_bad, read_rest, unbroken-from}
+use Rattle.tracing_tree_drawing.proofs.RowsRead.RowLines.{ended-append}
+use Rattle.tracing_tree_drawing.proofs.RowsRead.Taken.{left_by, taken-next}
 
 no-end : (line : List ℕ) → HasNoLineEnd line → (i : ℕ) → i < length line → get_or line i 0 ≢ 10
 no-end line clean i lt e = false≢true (sym (clean i 0 lt) ∙ eq-eqb (get_or line i 0) 10 e)

@@ -6,28 +6,28 @@ use Rattle.std.specs.Io.KnownBytes.{Appends}
 use Rattle.std.proofs.KnownBytes.{Appends-nil, Appends-trans}
 use Rattle.std.proofs.Math.Seq.{take-append-add, take-append_seam}
 use Rattle.std.proofs.lemmas.List.{append-nil}
-use Rattle.tracing_tree_base.specs.Drawing.Picture.{Row, parts_of}
-use Rattle.tracing_tree_base.specs.Drawing.Settings.{Settings}
-use Rattle.tracing_tree_rows.specs.ReadBack.Readable.{IsDrawing}
-use Rattle.tracing_tree_rows.specs.ReadBack.Paths.{AreLastPlaces, FollowsRows}
-use Rattle.tracing_tree_lines.specs.ReadBack.Json.{BeginsWithRows, EndsAtLine, IsNoText, IsNotARow, LeavesWritten, TellsLine, WritesDrawing, WritesRows, all_but_last, json_line, json_lines, row_json}
-use Rattle.tracing_tree_lines.specs.ReadBack.JsonSteps.{HasEnded, HasWritten, SoFar, WritesNext, WritesText, drops_last, fault_at}
-use Rattle.tracing_tree_rows.specs.ReadBack.Line.{with_last}
-use Rattle.tracing_tree_rows.specs.ReadBack.Texts.{IsReadTo, IsReadUpTo, TextLeft}
-use Rattle.tracing_tree_rows.specs.ReadBack.RowText.{TextRow, IsOnlyReading, ended, first_lines, is_unbroken}
+use Rattle.tracing_tree_drawing.specs.Format.Picture.{Row, parts_of}
+use Rattle.tracing_tree_drawing.specs.Format.Settings.{Settings}
+use Rattle.tracing_tree_drawing.specs.Rows.Readable.{IsDrawing}
+use Rattle.tracing_tree_drawing.specs.Rows.Paths.{AreLastPlaces, FollowsRows}
+use Rattle.tracing_tree_lines.specs.Rows.Json.{BeginsWithRows, EndsAtLine, IsNoText, IsNotARow, LeavesWritten, TellsLine, WritesDrawing, WritesRows, all_but_last, json_line, json_lines, row_json}
+use Rattle.tracing_tree_lines.specs.Rows.JsonSteps.{HasEnded, HasWritten, SoFar, WritesNext, WritesText, drops_last, fault_at}
+use Rattle.tracing_tree_drawing.specs.Rows.Line.{with_last}
+use Rattle.tracing_tree_drawing.specs.Rows.Texts.{IsReadTo, IsReadUpTo, TextLeft}
+use Rattle.tracing_tree_drawing.specs.Rows.RowText.{TextRow, IsOnlyReading, ended, first_lines, is_unbroken}
 use Rattle.tracing_tree_lines.specs.declared.rows.json_text.JsonRows.{JsonRows}
 use Rattle.tracing_tree_lines.specs.declared.rows.json_text.RowCause.{RowCause}
 use Rattle.tracing_tree_lines.specs.declared.rows.json_text.RowCause.TheVariants.{NotARow, Read, Memory, Writer}
 use Rattle.tracing_tree_lines.specs.declared.rows.json_text.RowFault.{RowFault}
 use Rattle.tracing_tree_lines.specs.declared.rows.json_text.RowsRead.{RowsRead}
-use Rattle.tracing_tree_rows.specs.declared.paths.EventPath.{EventPath}
-use Rattle.tracing_tree_rows.specs.declared.read.ReadFault.TheVariants as Fault
-use Rattle.tracing_tree_rows.proofs.RowsRead.AncestryLaws.{last_none, path-same}
-use Rattle.tracing_tree_rows.proofs.RowsRead.ReadBack.{drawn-faults, drawn-rows}
-use Rattle.tracing_tree_rows.proofs.RowsRead.ReadPlaces.{AreLines, cut, read_end, read_start}
-use Rattle.tracing_tree_rows.proofs.RowsRead.ReadSteps.{read_all, read_none}
-use Rattle.tracing_tree_rows.proofs.RowsRead.RowLines.{ended-append}
-use Rattle.tracing_tree_rows.proofs.RowsRead.TextsRead.{first_lines-ended, parts-ended}
+use Rattle.tracing_tree_drawing.specs.declared.rows.paths.EventPath.{EventPath}
+use Rattle.tracing_tree_drawing.specs.declared.rows.read.ReadFault.TheVariants as Fault
+use Rattle.tracing_tree_drawing.proofs.RowsRead.AncestryLaws.{last_none, path-same}
+use Rattle.tracing_tree_drawing.proofs.RowsRead.ReadBack.{drawn-faults, drawn-rows}
+use Rattle.tracing_tree_drawing.proofs.RowsRead.ReadPlaces.{AreLines, cut, read_end, read_start}
+use Rattle.tracing_tree_drawing.proofs.RowsRead.ReadSteps.{read_all, read_none}
+use Rattle.tracing_tree_drawing.proofs.RowsRead.RowLines.{ended-append}
+use Rattle.tracing_tree_drawing.proofs.RowsRead.TextsRead.{first_lines-ended, parts-ended}
 use Rattle.std.proofs.lemmas.Bool.{and_from}
 use Rattle.std.proofs.lemmas.List.Folds.{list_all-append}
 

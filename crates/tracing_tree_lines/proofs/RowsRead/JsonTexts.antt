@@ -2,16 +2,16 @@
 use Rattle.std.proofs.Common.{◌≡◌, ℕ, ◌+◌, true, false, List, [], ◌∷◌, ◌++◌, length, take, Option, Some, None, Result, Ok, Err, OnOk, is_ok, if◌then◌else◌, codes, decimal, refl, sym, ap, ◌∙◌, subst, append_assoc, append-nil}
 use Rattle.std.proofs.Math.Seq.{take-append-add}
 use Rattle.std.specs.Io.KnownBytes.{Appends, Keeps}
-use Rattle.std.proofs.KnownBytes.{Appends-trans, Appends-kept}
+use Rattle.std.proofs.KnownBytes.{Appends-kept}
 use Rattle.serde_json.proofs.OnLiterals.{serde_json_on_literals}
 use Rattle.serde_json.specs.Data.{number, unsigned, array, Items, member}
 use Rattle.serde_json.specs.Written.{items_text, members_text}
-use Rattle.tracing_tree_rows.specs.ReadBack.RowText.{TextRow}
-use Rattle.tracing_tree_lines.specs.ReadBack.Json.{ancestors_member, place_items, row_json, text_items}
-use Rattle.tracing_tree_lines.specs.ReadBack.JsonSteps.{ancestors_text, level_text, shape_text}
-use Rattle.tracing_tree_rows.specs.declared.paths.EventPath.{EventPath}
-use Rattle.tracing_tree_rows.specs.declared.row.Shape.{Shape}
-use Rattle.tracing_tree_rows.specs.declared.row.Shape.TheVariants.{PreOpen, OpenRoot, Open, CloseRoot, Close, PostClose, Event}
+use Rattle.tracing_tree_drawing.specs.Rows.RowText.{TextRow}
+use Rattle.tracing_tree_lines.specs.Rows.Json.{ancestors_member, place_items, row_json, text_items}
+use Rattle.tracing_tree_lines.specs.Rows.JsonSteps.{ancestors_text, level_json, shape_text}
+use Rattle.tracing_tree_drawing.specs.declared.rows.paths.EventPath.{EventPath}
+use Rattle.tracing_tree_drawing.specs.declared.rows.row.Shape.{Shape}
+use Rattle.tracing_tree_drawing.specs.declared.rows.row.Shape.TheVariants.{PreOpen, OpenRoot, Open, CloseRoot, Close, PostClose, Event}
 
 -- what is so where all went well
 pub on_ok : {E : Type 0} (result : Result (Unit {0}) E) (x a b : List ℕ) → x ≡ (if is_ok result then a else b) → OnOk result (x ≡ a)
@@ -29,7 +29,7 @@ ancestors-end (Some path) = ap (λ t. codes ",\"ancestors\":[" ++ t) (append_ass
 -- from the level on
 members-end : (level : ℕ) (items : Items) (path : Option EventPath) →
     members_text true (member (codes "level") (number (unsigned level)) (member (codes "lines") (array items) (ancestors_member path))) ++ 10 ∷ []
-    ≡ level_text level ++ (items_text false items ++ (ancestors_text path ++ codes "}\n"))
+    ≡ level_json level ++ (items_text false items ++ (ancestors_text path ++ codes "}\n"))
 unfolding serde_json_on_literals
 members-end level items path =
     let texts = items_text false items in
@@ -40,12 +40,12 @@ members-end level items path =
     ∙ sym (append_assoc (decimal level) (codes ",\"lines\":[") (texts ++ (ancestors_text path ++ codes "}\n"))))
 
 pub row-text : (row : TextRow) (path : Option EventPath) →
-    row_json row path ++ 10 ∷ [] ≡ shape_text row.shape ++ (level_text row.level ++ (items_text false (text_items row.lines) ++ (ancestors_text path ++ codes "}\n")))
+    row_json row path ++ 10 ∷ [] ≡ shape_text row.shape ++ (level_json row.level ++ (items_text false (text_items row.lines) ++ (ancestors_text path ++ codes "}\n")))
 unfolding serde_json_on_literals
 row-text row path = by row.shape
   where
     by : (shape : Shape) → row_json (record row { shape = shape }) path ++ 10 ∷ []
-        ≡ shape_text shape ++ (level_text row.level ++ (items_text false (text_items row.lines) ++ (ancestors_text path ++ codes "}\n")))
+        ≡ shape_text shape ++ (level_json row.level ++ (items_text false (text_items row.lines) ++ (ancestors_text path ++ codes "}\n")))
     by PreOpen = ap (λ t. shape_text PreOpen ++ t) (members-end row.level (text_items row.lines) path)
     by OpenRoot = ap (λ t. shape_text OpenRoot ++ t) (members-end row.level (text_items row.lines) path)
     by (Open true) = ap (λ t. shape_text (Open true) ++ t) (members-end row.level (text_items row.lines) path)
@@ -57,11 +57,11 @@ row-text row path = by row.shape
     by Event = ap (λ t. shape_text Event ++ t) (members-end row.level (text_items row.lines) path)
 
 -- the row's line after what was there, piece by piece
-pub row-pushed : (row : TextRow) (path : Option EventPath) (start a b c d e : List ℕ) → a ≡ start ++ shape_text row.shape → b ≡ a ++ level_text row.level →
+pub row-pushed : (row : TextRow) (path : Option EventPath) (start a b c d e : List ℕ) → a ≡ start ++ shape_text row.shape → b ≡ a ++ level_json row.level →
     c ≡ b ++ items_text false (text_items row.lines) → d ≡ c ++ ancestors_text path → e ≡ d ++ codes "}\n" → e ≡ start ++ (row_json row path ++ 10 ∷ [])
 row-pushed row path start a b c d e h k l m n =
     let shape = shape_text row.shape in
-    let level = level_text row.level in
+    let level = level_json row.level in
     let texts = items_text false (text_items row.lines) in
     let places = ancestors_text path in
     n ∙ ap (λ t. t ++ codes "}\n") (m ∙ ap (λ t. t ++ places) (l ∙ ap (λ t. t ++ texts) (k ∙ ap (λ t. t ++ level) h)))
@@ -74,13 +74,6 @@ row-pushed row path start a b c d e h k l m n =
 -- ---- a text
 
 -- a beginning of what is left, after what was written
-pub writes-more : (a b c : Option (List ℕ)) (text done rest : List ℕ) (n : ℕ) → text ≡ done ++ rest → Appends a b done → Appends b c (take n rest) →
-    (count : ℕ) × Appends a c (take count text)
-writes-more a b c text done rest n whole first next = (
-  length done + n,
-  subst (Appends a c) (sym (take-append-add done rest n) ∙ ap (take (length done + n)) (sym whole)) (Appends-trans a b c done (take n rest) first next),
-)
-
 pub writes-no-more : (a b c : Option (List ℕ)) (text done rest : List ℕ) → text ≡ done ++ rest → Appends a b done → Keeps b c →
     (count : ℕ) × Appends a c (take count text)
 writes-no-more a b c text done rest whole first kept = (

@@ -4,18 +4,18 @@ use Rattle.std.specs.List.{enumerate_from, filter_map, list_all, range_with_len}
 use Rattle.std.proofs.lemmas.Bool.{and_parts}
 use Rattle.std.proofs.lemmas.Option.{slice_get-map}
 use Rattle.std.proofs.lemmas.List.FromFn.{length-map-range_with_len}
-use Rattle.tracing_tree_core.specs.Registry.Forest.{path_of, path_of_any}
-use Rattle.tracing_tree_base.specs.Drawing.Picture.{Row}
-use Rattle.tracing_tree_rows.specs.ReadBack.Paths.{AreEventPaths, place_at}
+use Rattle.tracing_tree_spans.specs.Registry.Forest.{path_of, path_of_any}
+use Rattle.tracing_tree_drawing.specs.Format.Picture.{Row}
+use Rattle.tracing_tree_drawing.specs.Rows.Paths.{AreEventPaths, place_at}
 use Rattle.tracing_tree_lines.specs.Laws.Ancestry.{FindsInRuns}
-use Rattle.tracing_tree_rows.specs.ReadBack.Readable.{is_readable_row, text_row, text_rows}
+use Rattle.tracing_tree_drawing.specs.Rows.Readable.{is_readable_row, text_row, text_rows}
 use Rattle.tracing_tree_layer.specs.Laws.Reading.{forest_at, opens_at, place_of, rows_of}
-use Rattle.tracing_tree_layer.specs.Rows.Turns.{event_level, event_parent, event_row}
-use Rattle.tracing_tree_rows.specs.ReadBack.RowText.{TextRow, above, event_path, event_path_at, event_paths, is_event}
-use Rattle.tracing_tree_rows.specs.declared.paths.EventPath.{EventPath}
+use Rattle.tracing_tree_layer.specs.Layer.Turns.{event_level, event_parent, event_row}
+use Rattle.tracing_tree_drawing.specs.Rows.RowText.{TextRow, above, event_path, event_path_at, event_paths, is_event}
+use Rattle.tracing_tree_drawing.specs.declared.rows.paths.EventPath.{EventPath}
 use Rattle.tracing_tree_layer.proofs.Reading.Laws.{row-at}
-use Rattle.tracing_tree_rows.proofs.RowsRead.AncestryLaws.{entry}
-use Rattle.tracing_tree_rows.proofs.RowsRead.ReadBack.{drawn-rows}
+use Rattle.tracing_tree_drawing.proofs.RowsRead.AncestryLaws.{entry}
+use Rattle.tracing_tree_drawing.proofs.RowsRead.ReadBack.{drawn-rows}
 
 -- ---- lists
 

@@ -2,8 +2,8 @@
 use Rattle.std.specs.Prelude.{◌≡◌, ◌++◌, true, false, [], ◌∷◌, Some, None, refl, codes}
 use Rattle.std.specs.Fmt.{digits}
 use Rattle.serde_json.proofs.OnLiterals.{serde_json_on_literals}
-use Rattle.tracing_tree_lines.specs.ReadBack.Json.{all_but_last, json_lines, row_json}
-use Rattle.tracing_tree_rows.specs.declared.row.Shape.TheVariants.{PreOpen, OpenRoot, Open, Close, Event}
+use Rattle.tracing_tree_lines.specs.Rows.Json.{all_but_last, json_lines, row_json}
+use Rattle.tracing_tree_drawing.specs.declared.rows.row.Shape.TheVariants.{PreOpen, OpenRoot, Open, Close, Event}
 use Rattle.tracing_tree_lines.proofs.Worked.Readings.{row, five_rows}
 
 -- a row of each kind of members

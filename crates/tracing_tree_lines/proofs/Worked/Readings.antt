@@ -1,18 +1,18 @@
 -- Worked examples of drawings that are read back.
 use Rattle.std.specs.Prelude.{◌≡◌, ℕ, true, false, List, [], ◌∷◌, Some, None, refl, codes, encode_utf8_all}
 use Rattle.std.specs.Char.{encode_utf8}
-use Rattle.tracing_tree_core.specs.Registry.Ids.{id_of}
-use Rattle.tracing_tree_base.specs.Time.Clock.{no_timer}
-use Rattle.tracing_tree_layer.specs.Calls.State.{opening_state}
-use Rattle.tracing_tree_layer.specs.Calls.Run.{run}
+use Rattle.tracing_tree_spans.specs.Registry.Ids.{id_of}
+use Rattle.tracing_tree_time.specs.Clock.{no_timer}
+use Rattle.tracing_tree_layer.specs.Layered.State.{opening_state}
+use Rattle.tracing_tree_layer.specs.Layered.Run.{run}
 use Rattle.tracing_tree_layer.specs.declared.call.Call.{Call}
-use Rattle.tracing_tree_rows.specs.ReadBack.RowText.{TextRow, AreTextRows, rows_text, is_text_row, made_row, is_row_too_wide, first_lines, event_paths}
-use Rattle.tracing_tree_rows.specs.ReadBack.DrawRows.{are_too_wide}
-use Rattle.tracing_tree_rows.specs.ReadBack.Paths.{place_at}
-use Rattle.tracing_tree_rows.specs.ReadBack.Readable.{IsReadable, text_rows}
+use Rattle.tracing_tree_drawing.specs.Rows.RowText.{TextRow, AreTextRows, rows_text, is_text_row, made_row, is_row_too_wide, first_lines, event_paths}
+use Rattle.tracing_tree_drawing.specs.Rows.DrawRows.{are_too_wide}
+use Rattle.tracing_tree_drawing.specs.Rows.Paths.{place_at}
+use Rattle.tracing_tree_drawing.specs.Rows.Readable.{IsReadable, text_rows}
 use Rattle.tracing_tree_layer.specs.Laws.Reading.{run_is_on_path, latest, rows_of}
-use Rattle.tracing_tree_rows.specs.declared.row.Shape.{Shape}
-use Rattle.tracing_tree_rows.specs.declared.row.Shape.TheVariants.{PreOpen, OpenRoot, Open, CloseRoot, Close, Event}
+use Rattle.tracing_tree_drawing.specs.declared.rows.row.Shape.{Shape}
+use Rattle.tracing_tree_drawing.specs.declared.rows.row.Shape.TheVariants.{PreOpen, OpenRoot, Open, CloseRoot, Close, Event}
 use Rattle.tracing_tree_layer.proofs.Calls.{lined, outside, inside, made, informed, warned, closed}
 
 abbrev pub row : Shape → ℕ → List (List ℕ) → TextRow

@@ -1,14 +1,14 @@
 -- What is found in the text of a run's drawing.
 use Rattle.std.specs.Prelude.{◌≡◌, ◌<◌, ℕ, List, length, slice_get, Contains, IsSomeAnd, IsTrue, Option}
-use Rattle.tracing_tree_base.specs.Drawing.Settings.{Settings}
-use Rattle.tracing_tree_base.specs.Time.Clock.{Timer}
-use Rattle.tracing_tree_core.specs.Registry.Forest.{path_of}
-use Rattle.tracing_tree_base.specs.declared.context.Id.{Id}
-use Rattle.tracing_tree_rows.specs.ReadBack.Readable.{IsDrawing}
-use Rattle.tracing_tree_rows.specs.ReadBack.Paths.{place_at}
+use Rattle.tracing_tree_drawing.specs.Format.Settings.{Settings}
+use Rattle.tracing_tree_time.specs.Clock.{Timer}
+use Rattle.tracing_tree_spans.specs.Registry.Forest.{path_of}
+use Rattle.tracing_tree_context.specs.declared.context.Id.{Id}
+use Rattle.tracing_tree_drawing.specs.Rows.Readable.{IsDrawing}
+use Rattle.tracing_tree_drawing.specs.Rows.Paths.{place_at}
 use Rattle.tracing_tree_layer.specs.Laws.Reading.{AncestorsLaw, EventInRun, IsInCurrent, forest_at, opens_at, place_of, rows_of}
 use Rattle.tracing_tree_layer.specs.declared.call.Call.{Call}
-use Rattle.tracing_tree_rows.specs.declared.paths.EventPath.{EventPath}
+use Rattle.tracing_tree_drawing.specs.declared.rows.paths.EventPath.{EventPath}
 
 module _ {settings : Settings} {timer : Timer} {first : Option Id} {calls : List Call} where
   -- Among the paths is the event's, with an entry for each span on the way to the span that it lies

@@ -1,7 +1,7 @@
 -- What readers of lines take of the bytes that a reader has left, where those are known.
 use Rattle.std.specs.Prelude.{◌≡◌, ℕ, ◌==◌, ◌++◌, Bool, true, false, List, [], ◌∷◌, Option, Some, None, Result, Ok, Err, ⊤, All}
 use Rattle.std.specs.Io.KnownBytes.{Consumes, Keeps, IsAtEnd}
-use Rattle.tracing_tree_base.specs.Drawing.Settings.{Settings}
+use Rattle.tracing_tree_drawing.specs.Format.Settings.{Settings}
 use Rattle.tracing_tree_lines.specs.Lines.Spelled.{TimerChoice, SpellsSettings, input_lines}
 use Rattle.tracing_tree_lines.specs.Lines.Runs.{is_from_outside}
 use Rattle.tracing_tree_lines.specs.declared.lines.LineCause.{LineCause}

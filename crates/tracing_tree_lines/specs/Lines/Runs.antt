@@ -1,14 +1,14 @@
 -- A run over the program's lines.
 use Rattle.std.specs.Prelude.{◌≡◌, ℕ, ◌+◌, ◌<◌, ◌≤◌, ◌⊎◌, Bool, true, false, if◌then◌else◌, List, [], ◌∷◌, ◌++◌, length, take, slice_get, Option, Some, None, Err, IfSome, IsSomeAnd, IsTrue, ⊤, ◌^◌, ◌-◌}
 use Rattle.std.specs.Io.KnownBytes.{Appends, Keeps}
-use Rattle.tracing_tree_base.specs.Drawing.Settings.{Settings}
-use Rattle.tracing_tree_base.specs.Time.Clock.{Timer}
-use Rattle.tracing_tree_core.specs.Registry.Ids.{id_of}
-use Rattle.tracing_tree_base.specs.Drawing.Picture.{draw}
-use Rattle.tracing_tree_base.specs.Drawing.Writers.{IsCutShort, SeenWriter}
-use Rattle.tracing_tree_base.specs.declared.context.Refusal.TheVariants.{Writer}
-use Rattle.tracing_tree_layer.specs.Calls.State.{State, opening_state}
-use Rattle.tracing_tree_layer.specs.Calls.Run.{Run, run, call_text, MayAnswer}
+use Rattle.tracing_tree_drawing.specs.Format.Settings.{Settings}
+use Rattle.tracing_tree_time.specs.Clock.{Timer}
+use Rattle.tracing_tree_spans.specs.Registry.Ids.{id_of}
+use Rattle.tracing_tree_drawing.specs.Format.Picture.{draw}
+use Rattle.tracing_tree_output.specs.Writers.{IsCutShort, SeenWriter}
+use Rattle.tracing_tree_context.specs.declared.context.Refusal.TheVariants.{Writer}
+use Rattle.tracing_tree_layer.specs.Layered.State.{State, opening_state}
+use Rattle.tracing_tree_layer.specs.Layered.Run.{Run, run, call_text, MayAnswer}
 use Rattle.tracing_tree_lines.specs.Lines.Spelled.{TimerChoice, chosen_timer, input_lines, SpellsSettings, SpellsCall, SpellCalls, SpellsNothing}
 use Rattle.tracing_tree_layer.specs.declared.call.Call.{Call}
 use Rattle.tracing_tree_lines.specs.declared.lines.LineCause.{LineCause}

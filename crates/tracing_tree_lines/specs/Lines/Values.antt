@@ -2,9 +2,9 @@
 use Rattle.std.specs.Prelude.{◌≡◌, false, List, ℕ, Option, Some, None, Result, Ok, Err, ⊤}
 use Rattle.serde_json.specs.Data.{Data}
 use Rattle.serde_json.specs.Written.{has_float}
-use Rattle.tracing_tree_base.specs.Drawing.Settings.{Settings}
-use Rattle.tracing_tree_base.specs.declared.context.Context.{Context}
-use Rattle.tracing_tree_base.specs.declared.context.Moment.{Moment}
+use Rattle.tracing_tree_drawing.specs.Format.Settings.{Settings}
+use Rattle.tracing_tree_context.specs.declared.context.Context.{Context}
+use Rattle.tracing_tree_context.specs.declared.context.Moment.{Moment}
 use Rattle.tracing_tree_lines.specs.Lines.Spelled.{TimerChoice, no_clock, utc_clock, local_clock, uptime_clock, SpellsSettings, IsMomentIn, context_in, object_call, SpellsCall}
 use Rattle.tracing_tree_layer.specs.declared.call.Call.{Call}
 use Rattle.tracing_tree_lines.specs.declared.lines.settings.timer.Timer.{Timer as Asked}

@@ -13,11 +13,12 @@ use super::part::Part;
 use super::parts::{Parts, read_line_parts};
 use json::Scratch;
 use std::alloc::Global;
-use tracing_tree_core::format::{Context, Fields, Id};
-use tracing_tree_core::registry::{Attributes, Event, Parent, Record};
-use tracing_tree_core::style::Level;
-use tracing_tree_core::text::Text;
+use tracing_tree_context::{Context, Id};
 use tracing_tree_layer::call::Call;
+use tracing_tree_spans::registry::{Attributes, Event, Parent, Record};
+use tracing_tree_text::field::Fields;
+use tracing_tree_text::style::Level;
+use tracing_tree_text::text::Text;
 
 // The call that a line spells. `NotACall` where it spells none, `Memory` where memory is refused.
 pub(super) fn call_of_line(

@@ -12,9 +12,9 @@ use super::part::Part;
 use super::parts::Parts;
 use jiff::Timestamp;
 use std::alloc::Global;
-use tracing_tree_core::format::{Context, Id};
-use tracing_tree_core::text::Text;
-use tracing_tree_core::time::Moment;
+use tracing_tree_context::{Context, Id};
+use tracing_tree_text::text::Text;
+use tracing_tree_time::Moment;
 
 // What the parts spell of the context of their call. `NotACall` where a part can't be read, `Memory` where memory is refused.
 pub(super) fn context_in(alloc: Global, parts: &Parts<'_>) -> Result<Context, LineCause>

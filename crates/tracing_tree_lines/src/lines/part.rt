@@ -5,7 +5,7 @@ ghost use Rattle.serde_json.specs.Find.{as_str};
 ghost use Rattle.tracing_tree_lines.specs.Lines.Parts.{is_other, part_data};
 ghost use Rattle.tracing_tree_lines.specs.Lines.Spelled.{signed_value, unless_null, whole_value};
 
-use tracing_tree_core::format::Fields;
+use tracing_tree_text::field::Fields;
 
 // What a call is read from.
 #[derive(Drop)]

@@ -19,8 +19,8 @@ use json::{Invalid, Reader, Scratch, Token, Value};
 use simdutf8::basic::from_utf8;
 use std::alloc::{AllocError, Global};
 use std::mem;
-use tracing_tree_core::format::{Field, Fields};
-use tracing_tree_core::text::Text;
+use tracing_tree_text::field::{Field, Fields};
+use tracing_tree_text::text::Text;
 
 // How deep arrays and objects may nest in an item of an array that stands at a key. A line may nest 127 deep.
 const ITEM_DEPTH: usize = 125;

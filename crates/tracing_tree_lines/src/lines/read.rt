@@ -8,9 +8,10 @@ ghost use Rattle.tracing_tree_lines.specs.Lines.Reads.{ReadsEnded, ReadsPart, Re
 use super::LineCause;
 use memchr::memchr;
 use std::io::{BufRead, BufReader, ErrorKind, Read};
+use tracing_tree_output::TRIES;
 
-// A read that a signal interrupts is tried again eight times.
-const TRIES: u32 = 9;
+/// The bytes that are asked of a reader at a time.
+pub const BLOCK: usize = 64 * 1024;
 
 // Where a part of a line ends.
 enum Part {

@@ -4,7 +4,7 @@ mod timer;
 
 ghost use Rattle.std.specs.Prelude.{◌≡◌, ◌<◌, IfSome};
 ghost use Rattle.serde_json.specs.View.{view};
-ghost use Rattle.tracing_tree_base.specs.Time.Clock.{clock_timer};
+ghost use Rattle.tracing_tree_time.specs.Clock.{clock_timer};
 ghost use Rattle.tracing_tree_lines.specs.Lines.Values.{ReadsFirst};
 ghost use Rattle.tracing_tree_lines.specs.Lines.Spelled.{chosen_timer, object_settings, positive_value, unnamed_settings, with_member, with_setting};
 
@@ -13,8 +13,8 @@ use serde_json::Value;
 use std::alloc::Global;
 use std::marker::Model;
 use timer::{Timer, timer_value};
-use tracing_tree_core::format::Config;
-use tracing_tree_core::time::Clock;
+use tracing_tree_drawing::format::Config;
+use tracing_tree_time::Clock;
 
 // What the first line asks for.
 #[derive(Drop)]
@@ -24,7 +24,7 @@ pub(super) struct Setup {
 }
 
 impl Model for Setup {
-    ghost use Rattle.tracing_tree_base.specs.Drawing.Settings.{Settings};
+    ghost use Rattle.tracing_tree_drawing.specs.Format.Settings.{Settings};
     ghost use Rattle.tracing_tree_lines.specs.Lines.Values.{choice_of};
     ghost use Rattle.tracing_tree_lines.specs.Lines.Spelled.{TimerChoice};
 

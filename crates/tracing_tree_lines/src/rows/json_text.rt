@@ -4,17 +4,18 @@ ghost use Rattle.std.specs.Prelude.{◌≡◌, ◌≤◌, ◌<◌, ◌+◌, ◌+
 ghost use Rattle.serde_json.specs.Data.{string};
 ghost use Rattle.serde_json.specs.Written.{compact_text, items_text};
 ghost use Rattle.tracing_tree_lines.specs.Lines.Reads.{HasNoLineEnd};
-ghost use Rattle.tracing_tree_lines.specs.ReadBack.Json.{WritesDrawing, WritesRows, place_items, place_value, row_json, shape_name, text_items};
-ghost use Rattle.tracing_tree_lines.specs.ReadBack.JsonSteps.{HasWritten, ReadsRowLine, ReadsRowLines, SoFar, TakesRowLine, WritesNext, WritesText, ancestors_text, drops_last, fault_at, level_text, shape_text};
-ghost use Rattle.tracing_tree_rows.specs.ReadBack.RowText.{TextRow};
+ghost use Rattle.tracing_tree_lines.specs.Rows.Json.{WritesDrawing, WritesRows, place_items, place_value, row_json, shape_name, text_items};
+ghost use Rattle.tracing_tree_lines.specs.Rows.JsonSteps.{HasWritten, ReadsRowLine, ReadsRowLines, SoFar, TakesRowLine, WritesNext, WritesText, ancestors_text, drops_last, fault_at, level_json, shape_text};
+ghost use Rattle.tracing_tree_drawing.specs.Rows.RowText.{TextRow};
 
-use crate::lines::LineCause;
 use crate::lines::read::read_ended;
+use crate::lines::{BLOCK, LineCause};
 use std::alloc::{AllocError, AllocFailed, Global};
-use std::io::{BufRead, BufReader, ErrorKind, Read, Write};
+use std::io::{BufRead, BufReader, Read, Write};
 use std::{fmt, str};
 use thiserror::Error;
-use tracing_tree_rows::{Ancestry, EventPath, Places, Reader, Row, Shape, Taken};
+use tracing_tree_drawing::rows::{Ancestry, EventPath, Places, Reader, Row, Shape, Taken};
+use tracing_tree_output::write_tried;
 
 /// Why the reading of a drawing ended.
 #[derive(Clone, Copy, Debug, PartialEq, Eq, Error)]
@@ -76,19 +77,16 @@ impl fmt::Display for RowFault {
     }
 }
 
-// The bytes that are asked of the reader at a time.
-const BLOCK: usize = 64 * 1024;
-
 /// Reads a drawing and writes one line of JSON for each row: what `read_rows` returns, and for events the places that
 /// `read_paths` returns. It keeps one row, one line and the places of the open levels. The caller must ensure that the amount is
 /// 2 or more.
 ///
 /// At the first line that is no line of a row, isn't UTF-8 or has no line end it ends with `NotARow`, after all rows before that
-/// line are written. An interrupted read is tried again at most eight times in a row; `Read` is the cause of another error, of
-/// 2^64 - 1 reads of a line that doesn't end, and of line number 2^64 - 1, which isn't judged; all rows before the line are
-/// written then too. `Writer` is the cause where a write fails, and `Memory` where memory is refused; of line 1 where the buffer
-/// of the input can't be made. The last of the rows before the line isn't written then, but that after `Writer` a beginning of
-/// its JSON may be.
+/// line are written. A read or a write that signals interrupt is tried again at most eight times in a row; `Read` is the cause of
+/// another error, of 2^64 - 1 reads of a line that doesn't end, and of line number 2^64 - 1, which isn't judged; all rows before
+/// the line are written then too. `Writer` is the cause where a write fails, and `Memory` where memory is refused; of line 1
+/// where the buffer of the input can't be made. The last of the rows before the line isn't written then, but that after `Writer`
+/// a beginning of its JSON may be.
 pub fn rows_to_json<R: Read, W: Write>(
     alloc: Global,
     reader: R,
@@ -280,32 +278,27 @@ impl JsonRows {
         // No more rows are written than lines are read, and these are fewer than 2^64.
         self.place = self.place.saturating_add(1);
         self.text.clear();
-        push_row(alloc, &mut self.text, row, &path)?;
+        push_row_json(alloc, &mut self.text, row, &path)?;
         write_text(writer, self.text.as_bytes())
     }
 }
 
-// Writes a text in as many writes as it takes. A write that a signal interrupts is tried again.
+// Writes a text in as many writes as it takes.
 fn write_text<W: Write>(writer: &mut W, text: &[u8]) -> Result<(), RowCause>
     ensures { WritesText text.now result (W.contents writer.old) (W.contents writer.new) }
 {
     let mut rest = text;
-    for _write in 0..u64::MAX {
-        if rest.is_empty() {
-            return Ok(());
-        }
-        match writer.write(rest) {
-            Ok(0) => return Err(RowCause::Writer),
-            Ok(taken) => rest = &rest[taken..],
-            Err(error) if error.kind() == ErrorKind::Interrupted => {}
-            Err(_) => return Err(RowCause::Writer),
-        }
+    while !rest.is_empty() {
+        let Some(taken) = write_tried(writer, rest) else {
+            return Err(RowCause::Writer);
+        };
+        rest = &rest[taken..];
     }
-    Err(RowCause::Writer)
+    Ok(())
 }
 
 // Appends the line of a row, with the path of its event.
-fn push_row(
+fn push_row_json(
     alloc: Global,
     out: &mut String,
     row: &Row,
@@ -315,7 +308,7 @@ fn push_row(
         (string_bytes out.new ≡ string_bytes out.old ++ (row_json row.now path.now ++ 10 ∷ [])) }
 {
     push_shape(out, row.shape())?;
-    push_level(out, row.level())?;
+    push_level_json(out, row.level())?;
     push_texts(alloc, out, row.lines().as_slice())?;
     push_ancestors(out, path)?;
     out.push_str("}\n")
@@ -334,8 +327,8 @@ fn push_shape(out: &mut String, shape: Shape) -> Result<(), AllocError>
 }
 
 // Appends the level, and the beginning of the lines.
-fn push_level(out: &mut String, level: usize) -> Result<(), AllocError>
-    ensures { OnOk result (string_bytes out.new ≡ string_bytes out.old ++ level_text level) }
+fn push_level_json(out: &mut String, level: usize) -> Result<(), AllocError>
+    ensures { OnOk result (string_bytes out.new ≡ string_bytes out.old ++ level_json level) }
 {
     write!(out, ",\"level\":{level},\"lines\":[")
 }

@@ -2,12 +2,12 @@
 
 ghost use Rattle.std.specs.Prelude.{◌≤◌, IfOk, IfErr};
 ghost use Rattle.tracing_tree_lines.specs.Laws.Ancestry.{FindsInRuns};
-ghost use Rattle.tracing_tree_rows.specs.ReadBack.Paths.{AreEventPaths};
-ghost use Rattle.tracing_tree_rows.specs.ReadBack.Texts.{TellsFault};
-ghost use Rattle.tracing_tree_rows.specs.ReadBack.Readable.{ReadsNoDrawing};
+ghost use Rattle.tracing_tree_drawing.specs.Rows.Paths.{AreEventPaths};
+ghost use Rattle.tracing_tree_drawing.specs.Rows.Texts.{TellsFault};
+ghost use Rattle.tracing_tree_drawing.specs.Rows.Readable.{ReadsNoDrawing};
 
 use std::alloc::Global;
-use tracing_tree_rows::{EventPath, ReadFault};
+use tracing_tree_drawing::rows::{EventPath, ReadFault};
 
 /// The events of a drawing in order, each with the places of its ancestors in the rows that `read_rows` returns: as many entries
 /// as its level, of which each has the last row above the event that opens that very level, if there is one. The caller must
@@ -21,5 +21,5 @@ pub fn read_paths(alloc: Global, text: &str, amount: usize) -> Result<Vec<EventP
     ensures found { IfOk result (λ paths. FindsInRuns amount text.now paths.items) }
     ensures drawn_fault { IfErr result (λ fault. ReadsNoDrawing amount text.now fault) }
 {
-    tracing_tree_rows::read_paths(alloc, text, amount)
+    tracing_tree_drawing::rows::read_event_paths(alloc, text, amount)
 }

@@ -6,12 +6,12 @@ ghost use Rattle.tracing_tree_tracing.specs.TracingLine.{bare_thread, fields_wit
 
 use json::Value;
 use std::alloc::{AllocError, Global};
-use tracing_tree_core::field::{Field, Fields};
-use tracing_tree_core::text::Text;
 use tracing_tree_sources::fields::{event_fields, fields_besides};
 use tracing_tree_sources::marks::after_mark;
 use tracing_tree_sources::told::shown;
 use tracing_tree_sources::values::{array_at, is_object, text_at};
+use tracing_tree_text::field::{Field, Fields};
+use tracing_tree_text::text::Text;
 
 // The keys that a line has beside its event's fields.
 const LINE_KEYS: [&str; 9] = [

@@ -1,6 +1,6 @@
 use Rattle.std.proofs.Common.{◌≡◌, ap, ◌∙◌, rules}
 use Rattle.std.specs.Prelude.{Some, option_map}
-use Rattle.tracing_tree_base.specs.Time.Clock.{local_timer}
+use Rattle.tracing_tree_time.specs.Clock.{local_timer}
 use Rattle.tracing_tree_c.specs.Settings.{offset_of}
 use Rattle.tracing_tree_c.proofs.settings.local_clock.Goals as goal
 

@@ -1,4 +1,4 @@
-use Rattle.tracing_tree_base.proofs.CivilLaws.{civil_at-is, IsCivilOn-one}
+use Rattle.tracing_tree_time.proofs.CivilLaws.{civil_at-is, IsCivilOn-one}
 use Rattle.tracing_tree_laws.proofs.dates.dates_are_the_calendars.Goals as goal
 
 pub returns-clause-shown : goal.returns-clause-shown

@@ -1,4 +1,4 @@
-use Rattle.tracing_tree_base.proofs.PartsLaws.{parts_of-are_parts, parts_of-only}
+use Rattle.tracing_tree_drawing.proofs.PartsLaws.{parts_of-are_parts, parts_of-only}
 use Rattle.tracing_tree_laws.proofs.lines.parts_join_to_the_block.Goals as goal
 
 pub returns-clause-parts : goal.returns-clause-parts

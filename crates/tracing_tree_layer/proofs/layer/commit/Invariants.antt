@@ -1,5 +1,5 @@
 use Rattle.std.proofs.Common.{◌≡◌, drop}
-use Rattle.tracing_tree_core.specs.Registry.Forest.{mark_all}
+use Rattle.tracing_tree_spans.specs.Registry.Forest.{mark_all}
 use Rattle.tracing_tree_layer.proofs.layer.commit.Given as goal
 
 -- what the marks of the other spans make of the forest, those of all make of the first one

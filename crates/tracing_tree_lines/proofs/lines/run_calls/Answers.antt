@@ -1,6 +1,6 @@
 use Rattle.std.proofs.Common.{◌≡◌, refl, arith, rules, Ok}
 use Rattle.std.specs.Io.Buffered.{reader_remaining}
-use Rattle.tracing_tree_layer.specs.Calls.Layers.{seen}
+use Rattle.tracing_tree_layer.specs.Layer.Layers.{seen}
 use Rattle.tracing_tree_lines.specs.declared.lines.Judged.TheVariants.{Skipped, Accepted}
 use Rattle.tracing_tree_layer.proofs.Runs.{change_then}
 use Rattle.tracing_tree_lines.proofs.LineRuns.{starts, goes_on_flushed, goes_on_skipped, goes_on_accepted, ends_input, ends_at, ends_unjudged}

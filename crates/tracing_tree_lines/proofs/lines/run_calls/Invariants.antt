@@ -1,6 +1,6 @@
 use Rattle.std.proofs.Common.{◌+◌, ◌≤◌}
 use Rattle.std.specs.Io.Buffered.{reader_remaining}
-use Rattle.tracing_tree_layer.specs.Calls.Layers.{seen, Changes}
+use Rattle.tracing_tree_layer.specs.Layer.Layers.{seen, Changes}
 use Rattle.tracing_tree_lines.proofs.LineRuns.{GoesOver}
 use Rattle.tracing_tree_lines.proofs.lines.run_calls.Given as goal
 

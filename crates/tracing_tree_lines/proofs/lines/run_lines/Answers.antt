@@ -1,8 +1,8 @@
 use Rattle.std.proofs.Common.{◌≡◌, ap, ◌∙◌}
 use Rattle.std.specs.Io.Buffered.{reader_remaining}
-use Rattle.tracing_tree_base.specs.Time.Clock.{clock_timer}
-use Rattle.tracing_tree_layer.specs.Calls.Layers.{seen}
-use Rattle.tracing_tree_base.specs.Drawing.Writers.{seen_writer}
+use Rattle.tracing_tree_time.specs.Clock.{clock_timer}
+use Rattle.tracing_tree_layer.specs.Layer.Layers.{seen}
+use Rattle.tracing_tree_output.specs.Writers.{seen_writer}
 use Rattle.tracing_tree_lines.proofs.OpenedLines.{concludes, calm_early}
 use Rattle.tracing_tree_lines.proofs.lines.run_lines.Goals as goal
 

@@ -3,14 +3,14 @@
 ghost use Rattle.std.specs.Prelude.{◌≡◌, map, option_map, bytes_eq};
 ghost use Rattle.std.specs.List.{list_any, list_all};
 ghost use Rattle.serde_json.specs.View.{view, members_view};
-ghost use Rattle.tracing_tree_base.specs.Time.Clock.{clock_timer};
+ghost use Rattle.tracing_tree_time.specs.Clock.{clock_timer};
 ghost use Rattle.tracing_tree_lines.specs.Lines.Values.{choice_of};
 ghost use Rattle.tracing_tree_lines.specs.Lines.Spelled.{chosen_timer, has_only_keys, offset_value, present_keys, timer_value, none_value, utc_value, local_value, uptime_value};
 
 use crate::lines::value::{flag, value_at, whole_or};
 use jiff::tz::Offset;
 use serde_json::{Map, Value};
-use tracing_tree_core::time::{Clock, LocalDateTime, Uptime, UtcDateTime};
+use tracing_tree_time::{Clock, LocalDateTime, Uptime, UtcDateTime};
 
 // The timer that a settings line asks for. A line names no zone, so it borrows nothing.
 #[derive(Clone, Copy)]

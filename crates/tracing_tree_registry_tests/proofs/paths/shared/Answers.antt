@@ -1,8 +1,8 @@
 use Rattle.std.proofs.Common.{sym, subst, ◌∙◌}
-use Rattle.tracing_tree_core.specs.Registry.Ids.{id_of}
-use Rattle.tracing_tree_core.specs.Registry.Forest.{path_of}
-use Rattle.tracing_tree_core.specs.Registry.Paths.{PartOnce}
-use Rattle.tracing_tree_core.proofs.CommonLaws.{paths_part_once}
+use Rattle.tracing_tree_spans.specs.Registry.Ids.{id_of}
+use Rattle.tracing_tree_spans.specs.Registry.Forest.{path_of}
+use Rattle.tracing_tree_spans.specs.Registry.Paths.{PartOnce}
+use Rattle.tracing_tree_spans.proofs.CommonLaws.{paths_part_once}
 use Rattle.tracing_tree_registry_tests.proofs.paths.shared.Goals as goal
 
 pub common-requires : goal.common-requires

@@ -1,5 +1,5 @@
 use Rattle.std.proofs.Common.{sym, ap, Some}
-use Rattle.tracing_tree_base.specs.Drawing.Outputs.{TapeView}
+use Rattle.tracing_tree_output.specs.Outputs.{TapeView}
 use Rattle.tracing_tree_shared.specs.Kept.{seen_on_tape}
 use Rattle.tracing_tree_shared.proofs.Replays.{replay_of}
 use Rattle.tracing_tree_shared.proofs.finish.finish_book.Goals as goal

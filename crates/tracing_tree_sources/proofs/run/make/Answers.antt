@@ -1,6 +1,6 @@
 use Rattle.std.proofs.Common.{[], ◌∷◌, ◌++◌, length, sym, ap, ◌∙◌, arith, append_assoc}
 use Rattle.std.specs.Vec.Iter.{into_iter_items}
-use Rattle.tracing_tree_layer.specs.Calls.Layers.{seen}
+use Rattle.tracing_tree_layer.specs.Layer.Layers.{seen}
 use Rattle.tracing_tree_layer.proofs.Runs.{change_then}
 use Rattle.tracing_tree_sources.proofs.Made.{makes_more}
 use Rattle.tracing_tree_sources.proofs.run.make.Goals as goal

@@ -1,6 +1,6 @@
 use Rattle.std.proofs.Common.{◌≡◌, ◌++◌, List, length}
 use Rattle.std.specs.Vec.Iter.{into_iter_items, into_iter_len}
-use Rattle.tracing_tree_layer.specs.Calls.Layers.{seen, Changes}
+use Rattle.tracing_tree_layer.specs.Layer.Layers.{seen, Changes}
 use Rattle.tracing_tree_layer.specs.declared.call.Call.{Call}
 use Rattle.tracing_tree_sources.specs.Source.{Makes}
 use Rattle.tracing_tree_sources.proofs.run.make.Given as goal

@@ -1,6 +1,6 @@
 use Rattle.std.proofs.Common.{refl, sym, ◌∙◌}
 use Rattle.tracing_tree_lines.specs.declared.lines.LineCause.TheVariants.{Refused}
-use Rattle.tracing_tree_layer.specs.Calls.Layers.{seen}
+use Rattle.tracing_tree_layer.specs.Layer.Layers.{seen}
 use Rattle.tracing_tree_sources.proofs.Heard.{hears_no_text, hears_calls, hears_stop}
 use Rattle.tracing_tree_sources.proofs.run.run_line.Goals as goal
 

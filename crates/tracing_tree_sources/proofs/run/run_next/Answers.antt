@@ -1,6 +1,6 @@
 use Rattle.std.proofs.Common.{Ok, refl, sym, subst}
 use Rattle.tracing_tree_lines.specs.Lines.Reads.{TakesLine, ReadsNext}
-use Rattle.tracing_tree_layer.specs.Calls.Layers.{seen}
+use Rattle.tracing_tree_layer.specs.Layer.Layers.{seen}
 use Rattle.tracing_tree_sources.proofs.Heard.{next_outside, next_stops}
 use Rattle.tracing_tree_sources.proofs.run.run_next.Goals as goal
 

@@ -1,6 +1,6 @@
 use Rattle.std.proofs.Common.{◌+◌, ◌≤◌}
 use Rattle.std.specs.Io.Buffered.{reader_remaining}
-use Rattle.tracing_tree_layer.specs.Calls.Layers.{seen, Changes}
+use Rattle.tracing_tree_layer.specs.Layer.Layers.{seen, Changes}
 use Rattle.tracing_tree_sources.proofs.Heard.{IsKnownSoFar}
 use Rattle.tracing_tree_sources.proofs.run.run_source.Given as goal
 

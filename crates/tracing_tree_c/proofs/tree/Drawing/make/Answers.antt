@@ -1,5 +1,5 @@
 use Rattle.std.proofs.Common.{rules, ◌≡◌, false, subst}
-use Rattle.tracing_tree_layer.specs.Calls.Answered.{IsAnswered}
+use Rattle.tracing_tree_layer.specs.Layered.Answered.{IsAnswered}
 use Rattle.tracing_tree_layer.specs.declared.call.Call.TheVariants.{New}
 use Rattle.tracing_tree_c.specs.declared.tree.Drawing.{Drawing}
 use Rattle.tracing_tree_c.proofs.Makes.{stays}

@@ -1,6 +1,6 @@
 use Rattle.std.proofs.Common.{refl, rules}
 use Rattle.std.proofs.iter.Next.{says_at}
-use Rattle.tracing_tree_layer.specs.Differences.Steps.{difference_compare}
+use Rattle.tracing_tree_layer.specs.Difference.Steps.{difference_compare}
 use Rattle.tracing_tree_layer.proofs.DifferenceLemmas.{Differs-from_ne}
 use Rattle.tracing_tree_layer.proofs.difference.DifferenceIter.differs.Goals as goal
 

@@ -1,6 +1,6 @@
 use Rattle.std.proofs.Common.{rules, refl, ◌∙◌, Some, None}
 use Rattle.std.proofs.iter.Next as it
-use Rattle.tracing_tree_layer.specs.Differences.Steps.{difference_compare, Matches, Differs}
+use Rattle.tracing_tree_layer.specs.Difference.Steps.{difference_compare, Matches, Differs}
 use Rattle.tracing_tree_layer.proofs.DifferenceLemmas.{Differs-same, AllMatch-push}
 use Rattle.tracing_tree_layer.proofs.difference.DifferenceIterIterator.next.Goals as goal
 

@@ -1,7 +1,7 @@
 use Rattle.std.proofs.Common.{◌≡◌}
 use Rattle.std.proofs.iter.Next as it
 use Rattle.std.specs.Iterator.{EndsFrom, items_left}
-use Rattle.tracing_tree_layer.specs.Differences.Steps.{CanCallDifference, difference_remaining, both_steps, difference_compare, AllMatch}
+use Rattle.tracing_tree_layer.specs.Difference.Steps.{CanCallDifference, difference_remaining, both_steps, difference_compare, AllMatch}
 use Rattle.tracing_tree_layer.proofs.difference.DifferenceIterIterator.next.Given as goal
 
 -- the pairs so far match, and `compare` stays

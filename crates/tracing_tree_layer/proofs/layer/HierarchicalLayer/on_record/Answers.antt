@@ -1,11 +1,11 @@
 use Rattle.std.proofs.Common.{◌≡◌, ◌++◌, false, not, Option, None, Some, refl, sym, ap, ◌∙◌}
 use Rattle.std.proofs.KnownBytes.{Appends-nil}
 use Rattle.std.specs.Option.{is_some, option_map}
-use Rattle.tracing_tree_core.specs.Registry.Spans.{Span, shown_span}
-use Rattle.tracing_tree_core.specs.Registry.Forest.{span_at}
-use Rattle.tracing_tree_core.proofs.RegistryLaws.{forest-unchanged}
-use Rattle.tracing_tree_layer.specs.Calls.Layers.{seen}
-use Rattle.tracing_tree_layer.specs.Calls.Refused.{first_cause}
+use Rattle.tracing_tree_spans.specs.Registry.Spans.{Span, shown_span}
+use Rattle.tracing_tree_spans.specs.Registry.Forest.{span_at}
+use Rattle.tracing_tree_spans.proofs.RegistryLaws.{forest-unchanged}
+use Rattle.tracing_tree_layer.specs.Layer.Layers.{seen}
+use Rattle.tracing_tree_layer.specs.Layered.Refused.{first_cause}
 use Rattle.tracing_tree_layer.proofs.layer.HierarchicalLayer.on_record.Goals as goal
 
 -- what shows nothing isn't live

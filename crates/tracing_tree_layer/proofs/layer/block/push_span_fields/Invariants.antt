@@ -1,5 +1,5 @@
 use Rattle.std.proofs.Common.{◌≡◌, ◌++◌, take, map, flat_map, string_bytes}
-use Rattle.tracing_tree_base.specs.Drawing.Texts.{named_value}
+use Rattle.tracing_tree_drawing.specs.Format.Texts.{named_value}
 use Rattle.tracing_tree_layer.proofs.FieldTexts.{behind_comma}
 use Rattle.tracing_tree_layer.proofs.layer.block.push_span_fields.Given as goal
 

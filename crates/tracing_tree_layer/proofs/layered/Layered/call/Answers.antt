@@ -1,4 +1,4 @@
-use Rattle.tracing_tree_layer.specs.Calls.Layers.{seen}
+use Rattle.tracing_tree_layer.specs.Layer.Layers.{seen}
 use Rattle.tracing_tree_layer.proofs.Runs.{continued}
 use Rattle.tracing_tree_layer.proofs.layered.Layered.call.Goals as goal
 

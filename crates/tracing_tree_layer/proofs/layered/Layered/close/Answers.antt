@@ -1,5 +1,5 @@
 use Rattle.std.proofs.Common.{◌≡◌, false, ap, ◌∙◌}
-use Rattle.tracing_tree_layer.specs.Rows.Drawn.{has_no_id}
+use Rattle.tracing_tree_layer.specs.Layer.Drawn.{has_no_id}
 use Rattle.tracing_tree_layer.proofs.TurnLaws.{closes, closes_held}
 use Rattle.tracing_tree_layer.proofs.layered.Layered.close.Goals as goal
 

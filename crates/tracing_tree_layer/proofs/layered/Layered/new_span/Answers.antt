@@ -1,5 +1,5 @@
 use Rattle.std.proofs.Common.{◌≡◌, false, ap, ◌∙◌}
-use Rattle.tracing_tree_core.specs.Registry.Forest.{take_back}
+use Rattle.tracing_tree_spans.specs.Registry.Forest.{take_back}
 use Rattle.tracing_tree_layer.proofs.TurnLaws.{new_refused}
 use Rattle.tracing_tree_layer.proofs.layered.Layered.new_span.Goals as goal
 

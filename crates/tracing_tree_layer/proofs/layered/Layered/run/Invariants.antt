@@ -1,8 +1,8 @@
 use Rattle.std.proofs.Common.{◌≡◌, ◌≤◌, ◌+◌, ◌++◌, List, length, vec_len}
 use Rattle.std.specs.Prelude.{vec_capacity}
 use Rattle.std.specs.Vec.Iter.{into_iter_items, into_iter_len}
-use Rattle.tracing_tree_layer.specs.Calls.Headline.{AreAnswered}
-use Rattle.tracing_tree_layer.specs.Calls.Layers.{seen, Changes}
+use Rattle.tracing_tree_layer.specs.Layered.Headline.{AreAnswered}
+use Rattle.tracing_tree_layer.specs.Layer.Layers.{seen, Changes}
 use Rattle.tracing_tree_layer.specs.declared.call.Call.{Call}
 use Rattle.tracing_tree_layer.proofs.layered.Layered.run.Given as goal
 

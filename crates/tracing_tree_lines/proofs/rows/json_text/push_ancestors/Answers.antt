@@ -1,7 +1,7 @@
 use Rattle.std.proofs.Common.{◌∙◌, ◌++◌, ap, sym, false, codes, string_bytes, append_assoc}
 use Rattle.serde_json.specs.Written.{items_text}
-use Rattle.tracing_tree_lines.specs.ReadBack.Json.{place_items}
-use Rattle.tracing_tree_lines.specs.ReadBack.JsonSteps.{ancestors_text}
+use Rattle.tracing_tree_lines.specs.Rows.Json.{place_items}
+use Rattle.tracing_tree_lines.specs.Rows.JsonSteps.{ancestors_text}
 use Rattle.tracing_tree_lines.proofs.rows.json_text.push_ancestors.Goals as goal
 
 pub returns-in_ok-push_places : goal.returns-in_ok-push_places

@@ -1,6 +1,6 @@
 use Rattle.std.proofs.Common.{◌≡◌, ◌++◌, false, not, drop, string_bytes}
 use Rattle.serde_json.specs.Written.{items_text}
-use Rattle.tracing_tree_lines.specs.ReadBack.Json.{place_items}
+use Rattle.tracing_tree_lines.specs.Rows.Json.{place_items}
 use Rattle.tracing_tree_lines.proofs.rows.json_text.push_places.Given as goal
 
 -- what is appended and what is left are the whole array

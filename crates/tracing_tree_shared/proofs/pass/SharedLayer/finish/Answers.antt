@@ -1,5 +1,5 @@
 use Rattle.std.proofs.Common.{◌≡◌, ◌∙◌, List, length, sum_by, sym, ap, subst, arith}
-use Rattle.tracing_tree_base.specs.Drawing.Outputs.{TapeView}
+use Rattle.tracing_tree_output.specs.Outputs.{TapeView}
 use Rattle.tracing_tree_shared.specs.History.{Entry, Slips, IsFirstStrange, IsOneHistory}
 use Rattle.tracing_tree_shared.specs.Drafts.{SharedView}
 use Rattle.tracing_tree_shared.specs.Kept.{BookView}

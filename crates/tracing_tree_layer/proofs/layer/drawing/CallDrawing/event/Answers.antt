@@ -1,10 +1,9 @@
 use Rattle.std.proofs.Common.{Bool, ap, sym, subst, ◌∙◌}
 use Rattle.std.proofs.lemmas.Result.{err_from_is_err_and}
-use Rattle.tracing_tree_layer.specs.Rows.Turns.{current_of, event_row, then_turn, turn_of_row, turn_before_event}
-use Rattle.tracing_tree_layer.specs.Calls.Refused.{timer_faults_at}
-use Rattle.tracing_tree_layer.specs.Rows.Drawn.{Drafts}
-use Rattle.tracing_tree_layer.specs.Rows.Plan.{empty_plan, plan_before_event, turn_of_plan}
-use Rattle.tracing_tree_layer.specs.declared.layer.page.Page.{Page}
+use Rattle.tracing_tree_layer.specs.Layer.Turns.{current_of, event_row, then_turn, turn_of_row, turn_before_event}
+use Rattle.tracing_tree_layer.specs.Layered.Refused.{timer_faults_at}
+use Rattle.tracing_tree_layer.specs.Layer.Drawn.{Drafts}
+use Rattle.tracing_tree_layer.specs.Layer.Plan.{plan_before_event, turn_of_plan}
 use Rattle.tracing_tree_layer.proofs.DrawnLaws.{drafts_event, refuses_event, fits-event}
 use Rattle.tracing_tree_layer.proofs.Plans.{turn-event}
 use Rattle.tracing_tree_layer.proofs.layer.drawing.CallDrawing.event.Goals as goal
@@ -16,10 +15,9 @@ returns g c =
     let context = self.context.now in
     let forest = g.S.LookupSpan.forest self.spans.now in
     let timer = g.FT.FormatTime.timer c.args.timer.now in
-    let last = c.args.page.now.bufs.current_span in
+    let last = self.last in
     let current = current_of forest context in
-    let begun = c.begin.ensures ∙ ap (λ (page : Page). empty_plan page.bufs.current_span) c.page.view_is in
-    let planned = c.in_ok-event.ensures ∙ ap (plan_before_event settings forest current) begun in
+    let planned = (rw c.planner.ensures at c.in_ok-event.ensures) ∙ ap (plan_before_event settings forest current) c.begin.ensures in
     let same = ap (turn_of_plan settings context forest) planned ∙ turn-event settings context forest current last in
     let row = event_row settings timer forest (g.E.ToldEvent.told c.args.event.now) context in
     let faults = timer_faults_at settings timer forest context in
@@ -36,10 +34,9 @@ returns-in_err-rows g c =
     let context = self.context.now in
     let forest = g.S.LookupSpan.forest self.spans.now in
     let timer = g.FT.FormatTime.timer c.args.timer.now in
-    let last = c.args.page.now.bufs.current_span in
+    let last = self.last in
     let current = current_of forest context in
-    let begun = c.begin.ensures ∙ ap (λ (page : Page). empty_plan page.bufs.current_span) c.page.view_is in
-    let planned = c.in_ok-event.ensures ∙ ap (plan_before_event settings forest current) begun in
+    let planned = (rw c.planner.ensures at c.in_ok-event.ensures) ∙ ap (plan_before_event settings forest current) c.begin.ensures in
     let same = ap (turn_of_plan settings context forest) planned ∙ turn-event settings context forest current last in
     let p = err_from_is_err_and c.from_residual-in_err-rows.result c.from_residual-in_err-rows.ensures.1 in
     let row = event_row settings timer forest (g.E.ToldEvent.told c.args.event.now) context in

@@ -1,6 +1,6 @@
 use Rattle.std.proofs.Common.{false, Ok, take}
-use Rattle.tracing_tree_layer.specs.Rows.Plan.{rows_of_planned}
-use Rattle.tracing_tree_layer.specs.Rows.Drawn.{DrawsRows}
+use Rattle.tracing_tree_layer.specs.Layer.Plan.{rows_of_planned}
+use Rattle.tracing_tree_layer.specs.Layer.Drawn.{DrawsRows}
 use Rattle.tracing_tree_layer.proofs.layer.drawing.CallDrawing.rows.Given as goal
 
 -- the rows so far are drawn

@@ -1,5 +1,5 @@
 use Rattle.std.proofs.Common.{◌≡◌, drop}
-use Rattle.tracing_tree_layer.specs.Rows.Plan.{plan_of_closes}
+use Rattle.tracing_tree_layer.specs.Layer.Plan.{plan_of_closes}
 use Rattle.tracing_tree_layer.proofs.layer.plan.Planner.closes.Given as goal
 
 -- what the other closes make of the plan so far, they all make of the first one

@@ -1,5 +1,5 @@
 use Rattle.std.proofs.Common.{◌≡◌, false, take, map}
-use Rattle.tracing_tree_layer.specs.Rows.Plan.{with_rows, marked_by, planned_fresh}
+use Rattle.tracing_tree_layer.specs.Layer.Plan.{with_rows, marked_by, planned_fresh}
 use Rattle.tracing_tree_layer.proofs.layer.plan.Planner.fresh_rows.Given as goal
 
 -- the rows of the spans so far are planned

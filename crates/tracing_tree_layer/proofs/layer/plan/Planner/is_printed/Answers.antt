@@ -1,6 +1,6 @@
 use Rattle.std.proofs.Common.{◌||◌, ap, sym, ◌∙◌}
 use Rattle.std.specs.List.{list_any}
-use Rattle.tracing_tree_core.specs.Registry.Ids.{same_id}
+use Rattle.tracing_tree_spans.specs.Registry.Ids.{same_id}
 use Rattle.tracing_tree_layer.proofs.Marks.{printed-data, printed-gone}
 use Rattle.tracing_tree_layer.proofs.layer.plan.Planner.is_printed.Goals as goal
 

@@ -1,7 +1,7 @@
 use Rattle.std.proofs.Common.{◌≡◌, Some, rules, sym, subst, ◌∙◌}
 use Rattle.std.specs.Cmp.Rules.{comparing}
-use Rattle.tracing_tree_core.specs.Registry.Forest.{path_of_any}
-use Rattle.tracing_tree_core.specs.Registry.Paths.{PartOnce}
+use Rattle.tracing_tree_spans.specs.Registry.Forest.{path_of_any}
+use Rattle.tracing_tree_spans.specs.Registry.Paths.{PartOnce}
 use Rattle.tracing_tree_layer.proofs.Plans.{last_paths_part_once, retraced-there}
 use Rattle.tracing_tree_layer.proofs.layer.plan.Planner.retrace_to.Goals as goal
 

@@ -1,8 +1,8 @@
 use Rattle.std.proofs.Common.{◌&&◌, false, not, ap, sym, ◌∙◌}
 use Rattle.std.specs.Option.{option_map_or}
 use Rattle.std.specs.List.{list_any}
-use Rattle.tracing_tree_core.specs.Registry.Ids.{same_id}
-use Rattle.tracing_tree_core.specs.Registry.Forest.{path_of_any}
+use Rattle.tracing_tree_spans.specs.Registry.Ids.{same_id}
+use Rattle.tracing_tree_spans.specs.Registry.Forest.{path_of_any}
 use Rattle.tracing_tree_layer.proofs.Marks.{retraces_before_close-marked}
 use Rattle.tracing_tree_layer.proofs.layer.plan.Planner.retraces_before_close.Goals as goal
 

@@ -1,8 +1,8 @@
 use Rattle.std.proofs.Common.{◌≡◌, ◌∙◌, ◌+◌, ◌<◌, ◌^◌, Option, Some, None, sym, subst, arith, length}
 use Rattle.std.specs.Io.KnownBytes.{Appends}
-use Rattle.tracing_tree_lines.specs.ReadBack.Json.{json_lines}
-use Rattle.tracing_tree_rows.specs.ReadBack.Line.{with_last}
-use Rattle.tracing_tree_rows.specs.ReadBack.RowText.{TextRow}
+use Rattle.tracing_tree_lines.specs.Rows.Json.{json_lines}
+use Rattle.tracing_tree_drawing.specs.Rows.Line.{with_last}
+use Rattle.tracing_tree_drawing.specs.Rows.RowText.{TextRow}
 use Rattle.tracing_tree_lines.proofs.RowsRead.JsonRuns.{concludes, drops}
 use Rattle.tracing_tree_lines.proofs.rows.json_text.RowsRead.finish.Goals as goal
 

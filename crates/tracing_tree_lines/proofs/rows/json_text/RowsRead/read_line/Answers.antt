@@ -1,6 +1,6 @@
 use Rattle.std.proofs.Common.{◌∙◌, ◌==◌, ap, sym, subst, ℕ, List}
 use Rattle.std.proofs.lemmas.Result.{err_from_is_err_and}
-use Rattle.tracing_tree_lines.specs.ReadBack.JsonSteps.{SoFar}
+use Rattle.tracing_tree_lines.specs.Rows.JsonSteps.{SoFar}
 use Rattle.tracing_tree_lines.proofs.RowsRead.JsonRuns.{refused}
 use Rattle.tracing_tree_lines.proofs.RowsRead.JsonLines.{before-lent, all-rest, no-end-line}
 use Rattle.tracing_tree_lines.proofs.rows.json_text.RowsRead.read_line.Goals as goal

@@ -1,5 +1,5 @@
 use Rattle.std.proofs.Common.{◌≡◌, ℕ, List, Option, Some}
-use Rattle.tracing_tree_lines.specs.ReadBack.JsonSteps.{SoFar}
+use Rattle.tracing_tree_lines.specs.Rows.JsonSteps.{SoFar}
 use Rattle.tracing_tree_lines.proofs.RowsRead.JsonLines.{IsAtLine}
 use Rattle.tracing_tree_lines.proofs.rows.json_text.RowsRead.read_lines.Given as goal
 

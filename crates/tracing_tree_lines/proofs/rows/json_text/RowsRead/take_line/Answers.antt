@@ -1,8 +1,8 @@
 use Rattle.std.proofs.Common.{◌∷◌, ◌++◌, ◌∙◌, ◌+◌, ◌<◌, ◌^◌, ap, sym, subst, arith, length}
 use Rattle.std.proofs.lemmas.Result.{err_from_is_err_and}
-use Rattle.tracing_tree_lines.specs.ReadBack.JsonSteps.{SoFar}
-use Rattle.tracing_tree_rows.specs.ReadBack.Texts.{ReaderView}
-use Rattle.tracing_tree_rows.specs.declared.read.Taken.TheVariants.{First}
+use Rattle.tracing_tree_lines.specs.Rows.JsonSteps.{SoFar}
+use Rattle.tracing_tree_drawing.specs.Rows.Texts.{ReaderView}
+use Rattle.tracing_tree_drawing.specs.declared.rows.read.Taken.TheVariants.{First}
 use Rattle.tracing_tree_lines.proofs.RowsRead.JsonRuns.{refused}
 use Rattle.tracing_tree_lines.proofs.RowsRead.JsonLines.{no-text, no-row, later-line, first-line, next-line, taken-as}
 use Rattle.tracing_tree_lines.proofs.rows.json_text.RowsRead.take_line.Goals as goal

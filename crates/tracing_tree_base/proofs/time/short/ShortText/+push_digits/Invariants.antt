@@ -1,4 +1,0 @@
-use Rattle.tracing_tree_base.proofs.time.short.ShortText.+push_digits.Given as goal
-
-abbrev pub decreases-push_digits : goal.decreases-push_digits
-decreases-push_digits l = l.places

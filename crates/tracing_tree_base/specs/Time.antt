@@ -1,3 +1,0 @@
--- Timers and their texts.
-pub mod Clock
-pub mod Pieces

@@ -1,0 +1,6 @@
+pub mod PartsLaws
+pub mod FrameTexts
+pub mod LineLaws
+pub mod Spaces
+pub mod MarkLaws
+pub mod RowsRead

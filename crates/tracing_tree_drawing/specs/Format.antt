@@ -1,0 +1,6 @@
+-- The drawing of a row: settings, texts, frames and pictures.
+pub mod Settings
+pub mod Texts
+pub mod Picture
+pub mod Buffers
+pub mod Frames

@@ -1,0 +1,41 @@
+-- What the code's frames append, and which row a drawing draws.
+use Rattle.std.specs.Prelude.{ℕ, ◌+◌, ◌-◌, ◌*◌, ◌/◌, ◌<◌, nat_le, Bool, true, false, if◌then◌else◌, List, [], ◌∷◌, ◌++◌, encode_utf8, ◌^◌}
+use Rattle.std.specs.List.{repeat}
+use Rattle.tracing_tree_drawing.specs.Format.Picture.{Row, space, horizontal, level_used, unnamed_row}
+use Rattle.tracing_tree_drawing.specs.Format.Texts.{prefix_text}
+use Rattle.tracing_tree_drawing.specs.declared.format.draw.RowDrawing.{RowDrawing}
+use Rattle.tracing_tree_drawing.specs.declared.format.draw.FramePieces.{FramePieces}
+
+-- spaces, a branch, so many of a filler, and a corner
+abbrev pub frame_pieces : ℕ → List ℕ → List ℕ → ℕ → List ℕ → List ℕ
+frame_pieces spaces branch filler filled corner =
+    repeat spaces (space ∷ []) ++ branch ++ repeat filled filler ++ corner
+
+abbrev pub pushed_text : FramePieces → List ℕ
+pushed_text frame =
+    frame_pieces frame.spaces frame.branch.now frame.filler.now frame.filled frame.corner.now
+
+-- two corners in these columns, with a line between them
+abbrev pub corner_pieces : List ℕ → List ℕ → ℕ → ℕ → List ℕ
+corner_pieces left right from to =
+    frame_pieces from left (encode_utf8 horizontal) (to - from - 1) right
+
+-- the corners of a span's row, which stand half an amount further right if it is verbose; an amount
+-- of 1 leaves two spaces then
+abbrev pub span_pieces : List ℕ → List ℕ → Bool → ℕ → ℕ → List ℕ
+span_pieces left right false amount before = corner_pieces left right before (before + amount)
+span_pieces left right true amount before =
+    if nat_le 2 amount then corner_pieces left right (before + amount / 2) (before + amount)
+    else frame_pieces before (space ∷ space ∷ []) [] 0 []
+
+-- the row that a drawing draws, with this block
+abbrev pub row_of : RowDrawing → List ℕ → Row
+row_of drawing block =
+    unnamed_row drawing.mode drawing.level block
+    (prefix_text drawing.config.now drawing.context.now)
+
+-- the columns of its level fit `usize`
+abbrev pub HasRoom : RowDrawing → Type 0
+HasRoom drawing =
+    level_used drawing.config.now drawing.mode
+    drawing.level * drawing.config.now.indent_amount < 2 ^ 64

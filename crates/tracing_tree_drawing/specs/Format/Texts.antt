@@ -1,0 +1,85 @@
+-- The texts of labels, fields and prefixes.
+use Rattle.std.specs.Prelude.{ℕ, ◌||◌, nat_eq, Bool, true, false, not, if◌then◌else◌, List, [], ◌∷◌, ◌++◌, map, filter, flat_map, Option, Some, None, decimal, codes, bytes_eq}
+use Rattle.std.specs.List.{starts_with}
+use Rattle.tracing_tree_context.specs.declared.context.Context.{Context}
+use Rattle.tracing_tree_text.specs.declared.field.Field.{Field}
+use Rattle.tracing_tree_drawing.specs.Format.Settings.{Settings}
+use Rattle.tracing_tree_drawing.specs.declared.format.SpanMode.{SpanMode}
+use Rattle.tracing_tree_drawing.specs.declared.format.SpanMode.TheVariants.{PreOpen, Open, Close, Retrace, PostClose, Event}
+
+-- ---- labels
+
+abbrev pub label : SpanMode → List ℕ
+label PreOpen = codes "pre_open: "
+label (Open false) = codes "open: "
+label (Open true) = codes "open(v): "
+label (Close false) = codes "close: "
+label (Close true) = codes "close(v): "
+label (Retrace false) = codes "retrace: "
+label (Retrace true) = codes "retrace(v): "
+label PostClose = codes "post_close: "
+label Event = codes "event: "
+
+-- ---- fields
+
+-- the pieces in a row, with the separator between each two
+abbrev pub joined : List ℕ → List (List ℕ) → List ℕ
+joined separator [] = []
+joined separator (piece ∷ pieces) = piece ++ flat_map (λ next. separator ++ next) pieces
+
+-- `name=value`
+abbrev pub named_value : Field → List ℕ
+named_value field = field.name ++ 61 ∷ field.value
+
+abbrev pub is_message : Field → Bool
+is_message field = bytes_eq field.name (codes "message")
+
+-- a message shows its value alone
+abbrev pub shown_field : Field → List ℕ
+shown_field field = if is_message field then field.value else named_value field
+
+-- the fields of a span: only in the first place is a message shown alone
+abbrev pub span_fields : List Field → List ℕ
+span_fields [] = []
+span_fields (first ∷ others) = joined (codes ", ") (shown_field first ∷ map named_value others)
+
+-- fields with these names belong to a log record, and an event doesn't show them
+abbrev pub is_log_field : Field → Bool
+is_log_field field = starts_with nat_eq field.name (codes "log.")
+
+-- one field of an event, with a comma if another field stands before it
+abbrev pub event_field : Bool → Field → List ℕ
+event_field comma field =
+    if is_log_field field then [] else (if comma then codes "," else []) ++ 32 ∷ shown_field field
+
+-- whether a comma stands before the field after this one
+abbrev pub comma_after : Bool → Field → Bool
+comma_after comma field = comma || not (is_log_field field)
+
+-- the fields of an event that are shown
+abbrev pub shown_fields : List Field → List Field
+shown_fields fields = filter (λ field. not (is_log_field field)) fields
+
+-- a space and the fields, or nothing if there is none
+abbrev pub spaced_fields : List Field → List ℕ
+spaced_fields [] = []
+spaced_fields (first ∷ others) =
+    32 ∷ joined (codes ", ") (shown_field first ∷ map shown_field others)
+
+-- the fields of an event
+abbrev pub event_fields : List Field → List ℕ
+event_fields fields = spaced_fields (shown_fields fields)
+
+-- ---- prefixes
+
+-- the thread's name, after a colon if its number stands before it
+abbrev pub thread_name_text : Bool → Option (List ℕ) → List ℕ
+thread_name_text numbered None = []
+thread_name_text numbered (Some name) = (if numbered then codes ":" else []) ++ name
+
+-- what each line of a call's rows begins with
+abbrev pub prefix_text : Settings → Context → List ℕ
+prefix_text settings context =
+    (if settings.render_thread_ids then decimal context.thread_id else [])
+    ++ (if settings.render_thread_names then thread_name_text settings.render_thread_ids
+    context.thread_name else [])

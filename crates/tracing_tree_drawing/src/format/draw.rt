@@ -1,0 +1,421 @@
+//! The drawing of rows: what docs/FORMATS.md, "Drawing", says of frames, lines and wrap marks.
+
+ghost use Rattle.std.specs.List.{repeat};
+ghost use Rattle.std.specs.Prelude.{◌≡◌, ◌+◌, ◌*◌, ◌^◌, ◌<◌, ◌++◌, ◌∷◌, [], true, false, Err, OnOk, OnErr, IfErr, string_bytes, encode_utf8, if◌then◌else◌};
+ghost use Rattle.std.specs.Str.Lines.{strip_carriage_return};
+ghost use Rattle.tracing_tree_drawing.specs.Format.Frames.{HasRoom, corner_pieces, frame_pieces, pushed_text, row_of, span_pieces};
+ghost use Rattle.tracing_tree_drawing.specs.Format.Picture.{drawn_row, edge_frame, first_frame, frame_text, horizontal, is_last_before_wrap, is_too_wide, later_frame, lined_frame, mark_after_corner, mark_before_corner, mark_line, picture, row_frame, shift_of, space, unnamed_row, wrapped_level};
+ghost use Rattle.tracing_tree_text.specs.Extended.{IsExtended};
+ghost use Rattle.tracing_tree_drawing.specs.Format.Texts.{prefix_text};
+
+use super::{Config, SpanMode};
+use std::alloc::AllocError;
+use tracing_tree_context::{Context, Refusal};
+
+// Spaces that stand ready. More of them are appended one by one.
+const SPACES: &str = "                                                                ";
+
+// A row that is being drawn: everything but its block.
+#[derive(Clone, Copy)]
+struct RowDrawing<'a> {
+    config: &'a Config,
+    context: &'a Context,
+    mode: SpanMode,
+    level: usize,
+}
+
+// What stands between the prefix and the text of a line: spaces, a branch, so many of a filler, and a corner.
+#[derive(Clone, Copy)]
+struct FramePieces {
+    spaces: usize,
+    branch: &'static str,
+    filler: &'static str,
+    filled: usize,
+    corner: &'static str,
+}
+
+impl FramePieces {
+    // Spaces and a branch alone.
+    fn plain(spaces: usize, branch: &'static str) -> FramePieces
+        ensures { pushed_text result ≡ frame_pieces spaces branch.now [] 0 [] }
+    {
+        FramePieces {
+            spaces,
+            branch,
+            filler: "",
+            filled: 0,
+            corner: "",
+        }
+    }
+
+    // Two corners in these columns, with a line between them. `near` are both with one column of it, as they mostly stand.
+    fn corners(
+        left: &'static str,
+        right: &'static str,
+        near: &'static str,
+        from: usize,
+        to: usize,
+    ) -> FramePieces
+        requires order { from < to }
+        requires near { near.now ≡ left.now ++ encode_utf8 horizontal ++ right.now }
+        ensures { pushed_text result ≡ corner_pieces left.now right.now from to }
+    {
+        if to - from == 2 {
+            return FramePieces::plain(from, near);
+        }
+        FramePieces {
+            spaces: from,
+            branch: left,
+            filler: "─",
+            filled: to - from - 1,
+            corner: right,
+        }
+    }
+
+    // The corners of a span's row. If it is verbose they stand half an amount further right; an amount of 1 leaves no room for
+    // them then.
+    fn span(
+        left: &'static str,
+        right: &'static str,
+        near: &'static str,
+        verbose: bool,
+        amount: usize,
+        before: usize,
+    ) -> FramePieces
+        requires near { near.now ≡ left.now ++ encode_utf8 horizontal ++ right.now }
+        requires amount { 0 < amount }
+        requires fits { before + amount < 2 ^ 64 }
+        ensures { pushed_text result ≡ span_pieces left.now right.now verbose amount before }
+    {
+        if !verbose {
+            return FramePieces::corners(left, right, near, before, before + amount);
+        }
+        if amount < 2 {
+            return FramePieces::plain(before, "  ");
+        }
+        FramePieces::corners(left, right, near, before + amount / 2, before + amount)
+    }
+
+    // Appends the pieces in order, or some of them.
+    fn push(&self, out: &mut String) -> Result<(), AllocError>
+        ensures ok { OnOk result
+            (string_bytes out.new ≡ string_bytes out.old ++ pushed_text self.now) }
+        ensures extended { IsExtended (string_bytes out.old) (string_bytes out.new) }
+    {
+        push_spaces(out, self.spaces)?;
+        out.push_str(self.branch)?;
+        if self.filled > 0 {
+            push_repeated(out, self.filler, self.filled)?;
+        }
+        if self.corner.is_empty() {
+            return Ok(());
+        }
+        out.push_str(self.corner)
+    }
+}
+
+// At the left edge only the corner of a span's row is drawn.
+fn edge_frame(mode: SpanMode) -> FramePieces
+    ensures { pushed_text result ≡ frame_text (edge_frame mode) }
+{
+    match mode {
+        SpanMode::Open { .. } | SpanMode::Retrace { .. } => FramePieces::plain(0, "┐"),
+        SpanMode::Close { .. } => FramePieces::plain(0, "┘"),
+        SpanMode::PreOpen | SpanMode::PostClose | SpanMode::Event => FramePieces::plain(0, ""),
+    }
+}
+
+// The first line of a row further right, where so many columns stand before the branch.
+fn first_frame(mode: SpanMode, amount: usize, before: usize) -> FramePieces
+    requires amount { 0 < amount }
+    requires fits { before + amount < 2 ^ 64 }
+    ensures { pushed_text result ≡ frame_text (first_frame mode amount before) }
+{
+    let parent = before + (amount / 2).max(1);
+    match mode {
+        SpanMode::PreOpen => FramePieces::corners("└", "┐", "└─┐", before, parent),
+        SpanMode::PostClose => FramePieces::corners("┌", "┘", "┌─┘", before, parent),
+        SpanMode::Open { verbose } | SpanMode::Retrace { verbose } => {
+            FramePieces::span("└", "┐", "└─┐", verbose, amount, before)
+        }
+        SpanMode::Close { verbose } => FramePieces::span("┌", "┘", "┌─┘", verbose, amount, before),
+        SpanMode::Event if amount == 2 => FramePieces::plain(before, "├─"),
+        SpanMode::Event => FramePieces {
+            spaces: before,
+            branch: "├",
+            filler: "─",
+            filled: amount - 1,
+            corner: "",
+        },
+    }
+}
+
+// A later line of a row further right.
+fn later_frame(mode: SpanMode, amount: usize, before: usize) -> FramePieces
+    ensures { pushed_text result ≡ frame_text (later_frame mode amount before) }
+{
+    let branch = match mode {
+        SpanMode::Open { .. } | SpanMode::Retrace { .. } => "  │",
+        SpanMode::Close { .. } => " │",
+        SpanMode::PreOpen | SpanMode::PostClose | SpanMode::Event => "│",
+    };
+    FramePieces {
+        spaces: before,
+        branch,
+        filler: " ",
+        filled: amount,
+        corner: "",
+    }
+}
+
+// The frame of the first line, or that of each later one, of a row that is drawn with lines at this wrapped level.
+fn lined_frame(mode: SpanMode, amount: usize, wrapped: usize, first: bool) -> FramePieces
+    requires level { wrapped + shift_of mode < 2 ^ 64 }
+    requires width { (wrapped + shift_of mode) * amount < 2 ^ 64 }
+    ensures { pushed_text result
+        ≡ frame_text (lined_frame mode amount wrapped (if first then 0 else 1)) }
+{
+    let used = match mode {
+        SpanMode::PreOpen | SpanMode::PostClose => wrapped + 1,
+        _ => wrapped,
+    };
+    if used == 0 {
+        return edge_frame(mode);
+    }
+    if amount == 0 {
+        return FramePieces::plain(0, "");
+    }
+    let before = used * amount - amount;
+    if first {
+        first_frame(mode, amount, before)
+    } else {
+        later_frame(mode, amount, before)
+    }
+}
+
+/// Appends what stands before the text of a row's first line, or of each later one, where rows are drawn with lines. The level
+/// isn't wrapped; the caller must ensure that its columns fit `usize`. `AllocError` where memory is refused; `out` is as before
+/// then.
+#[tactic(auto, using(tracing_tree_text::proofs::Extended::cuts_back))]
+pub fn push_frame(
+    out: &mut String,
+    mode: SpanMode,
+    level: usize,
+    amount: usize,
+    first: bool,
+) -> Result<(), AllocError>
+    requires level { level + shift_of mode < 2 ^ 64 }
+    requires width { (level + shift_of mode) * amount < 2 ^ 64 }
+    ensures ok { OnOk result (string_bytes out.new
+        ≡ string_bytes out.old
+        ++ frame_text (lined_frame mode amount level (if first then 0 else 1))) }
+    ensures err { OnErr result (string_bytes out.new ≡ string_bytes out.old) }
+{
+    let length = out.len();
+    match lined_frame(mode, amount, level, first).push(out) {
+        Ok(()) => Ok(()),
+        Err(refused) => {
+            out.truncate(length);
+            Err(refused)
+        }
+    }
+}
+
+// The corner of the wrap mark that stands before a row that closes.
+fn corner_before(mode: SpanMode) -> Option<char>
+    ensures { result ≡ mark_before_corner mode }
+{
+    match mode {
+        SpanMode::Close { .. } | SpanMode::PostClose => Some('┐'),
+        _ => None,
+    }
+}
+
+// The corner of the wrap mark that stands after a row that opens.
+fn corner_after(mode: SpanMode) -> Option<char>
+    ensures { result ≡ mark_after_corner mode }
+{
+    match mode {
+        SpanMode::PreOpen | SpanMode::Open { .. } => Some('┘'),
+        _ => None,
+    }
+}
+
+// Appends a text so many times, or fewer, with one growth.
+fn push_repeated(out: &mut String, text: &str, times: usize) -> Result<(), AllocError>
+    ensures ok { OnOk result
+        (string_bytes out.new ≡ string_bytes out.old ++ repeat times text.now) }
+    ensures extended { IsExtended (string_bytes out.old) (string_bytes out.new) }
+{
+    let room = text.len().checked_mul(times).ok_or(AllocError)?;
+    out.reserve(room)?;
+    for _ in 0..times {
+        out.push_str(text)?;
+    }
+    Ok(())
+}
+
+// Appends so many spaces, or fewer.
+fn push_spaces(out: &mut String, count: usize) -> Result<(), AllocError>
+    ensures ok { OnOk result
+        (string_bytes out.new ≡ string_bytes out.old ++ repeat count (space ∷ [])) }
+    ensures extended { IsExtended (string_bytes out.old) (string_bytes out.new) }
+{
+    if count > SPACES.len() {
+        return push_repeated(out, " ", count);
+    }
+    out.push_str(&SPACES[..count])
+}
+
+// A line before a line end loses one carriage return.
+fn without_return(line: &str) -> &str
+    ensures { result.now ≡ strip_carriage_return line.now }
+{
+    line.strip_suffix('\r').unwrap_or(line)
+}
+
+/// Appends the picture of a row with this block at this level (a number of spans, whatever the settings' wraparound). `TooWide`
+/// and `Memory` change nothing.
+#[tactic(auto, using(tracing_tree_text::proofs::Extended::cuts_back))]
+pub fn push_row(
+    out: &mut String,
+    block: &str,
+    level: usize,
+    config: &Config,
+    mode: SpanMode,
+    context: &Context,
+) -> Result<(), Refusal>
+    ensures ok { let prefix = prefix_text config.now context.now in
+        let row = unnamed_row mode level block.now prefix in
+        OnOk result (string_bytes out.new ≡ string_bytes out.old ++ drawn_row config.now row) }
+    ensures fits { let row = unnamed_row mode level [] [] in
+        OnOk result (is_too_wide config.now row ≡ false) }
+    ensures refusal { let row = unnamed_row mode level [] [] in
+        IfErr result (λ refusal.
+        refusal ≡ (if is_too_wide config.now row then Refusal.TooWide else Refusal.Memory)) }
+    ensures err { OnErr result (string_bytes out.new ≡ string_bytes out.old) }
+{
+    config.check_width(mode, level)?;
+    let drawing = RowDrawing {
+        config,
+        context,
+        mode,
+        level,
+    };
+    let length = out.len();
+    match drawing.row(out, block) {
+        Ok(()) => Ok(()),
+        Err(_) => {
+            out.truncate(length);
+            Err(Refusal::Memory)
+        }
+    }
+}
+
+impl RowDrawing<'_> {
+    // Appends the lines of a block, and before or after them the row's wrap mark, or a beginning of that.
+    fn row(&self, out: &mut String, block: &str) -> Result<(), AllocError>
+        requires { is_too_wide self.now.config.now (row_of self.now block.now) ≡ false }
+        ensures ok { OnOk result
+            (string_bytes out.new ≡ string_bytes out.old
+            ++ drawn_row self.now.config.now (row_of self.now block.now)) }
+        ensures extended { IsExtended (string_bytes out.old) (string_bytes out.new) }
+    {
+        if !self.is_last_before_wrap() {
+            return self.lines(out, block);
+        }
+        self.mark(out, corner_before(self.mode))?;
+        self.lines(out, block)?;
+        self.mark(out, corner_after(self.mode))
+    }
+
+    // Appends the lines of a block, or a beginning of them. With lines an empty last part is a line too, and also the last loses
+    // its carriage return.
+    fn lines(&self, out: &mut String, block: &str) -> Result<(), AllocError>
+        requires { HasRoom self.now }
+        ensures ok { OnOk result
+            (string_bytes out.new ≡ string_bytes out.old
+            ++ picture self.now.config.now (row_of self.now block.now)) }
+        ensures extended { IsExtended (string_bytes out.old) (string_bytes out.new) }
+    {
+        let mut frame = self.frame(true);
+        let mut rest = block;
+        while let Some((line, others)) = rest.split_once('\n') {
+            self.line(out, &frame, without_return(line))?;
+            frame = self.frame(false);
+            rest = others;
+        }
+        if self.config.indent_lines() {
+            return self.line(out, &frame, without_return(rest));
+        }
+        if rest.is_empty() {
+            return Ok(());
+        }
+        self.line(out, &frame, rest)
+    }
+
+    // Appends one line, or a beginning of it.
+    fn line(&self, out: &mut String, frame: &FramePieces, text: &str) -> Result<(), AllocError>
+        ensures ok { OnOk result (string_bytes out.new ≡ string_bytes out.old
+            ++ (prefix_text self.now.config.now self.now.context.now ++ pushed_text frame.now
+            ++ text.now ++ 10 ∷ [])) }
+        ensures extended { IsExtended (string_bytes out.old) (string_bytes out.new) }
+    {
+        self.config.push_prefix(out, self.context)?;
+        frame.push(out)?;
+        out.push_str(text)?;
+        out.push_str("\n")
+    }
+
+    // The level that counts for the indent.
+    fn wrapped_level(&self) -> usize
+        ensures value { result ≡ wrapped_level self.now.config.now self.now.level }
+        ensures below { result + 1 < 2 ^ 64 }
+    {
+        self.config.wrapped_level(self.level)
+    }
+
+    // The frame of the first line, or that of each later one.
+    fn frame(&self, first: bool) -> FramePieces
+        requires { HasRoom self.now }
+        ensures { pushed_text result
+            ≡ frame_text
+            (row_frame self.now.config.now self.now.mode self.now.level
+            (if first then 0 else 1)) }
+    {
+        let wrapped = self.wrapped_level();
+        let amount = self.config.indent_amount();
+        if !self.config.indent_lines() {
+            return FramePieces::plain(wrapped * amount, if first { " " } else { "   " });
+        }
+        lined_frame(self.mode, amount, wrapped, first)
+    }
+
+    // Whether the levels wrap round after this one.
+    fn is_last_before_wrap(&self) -> bool
+        ensures { result ≡ is_last_before_wrap self.now.config.now self.now.level }
+    {
+        let last = self.config.wraparound() - 1;
+        self.config.indent_lines() && self.level > 0 && self.wrapped_level() == last
+    }
+
+    // Where the levels wrap round after this one, appends a line up to the indent and the corner, if the row has one, or a
+    // beginning of that.
+    fn mark(&self, out: &mut String, corner: Option<char>) -> Result<(), AllocError>
+        requires room { HasRoom self.now }
+        requires last { is_last_before_wrap self.now.config.now self.now.level ≡ true }
+        ensures ok { OnOk result
+            (string_bytes out.new ≡ string_bytes out.old
+            ++ mark_line self.now.config.now (row_of self.now []) corner) }
+        ensures extended { IsExtended (string_bytes out.old) (string_bytes out.new) }
+    {
+        let Some(corner) = corner else {
+            return Ok(());
+        };
+        let indent = self.wrapped_level() * self.config.indent_amount();
+        self.config.push_prefix(out, self.context)?;
+        push_repeated(out, "─", indent)?;
+        out.push(corner)?;
+        out.push_str("\n")
+    }
+}

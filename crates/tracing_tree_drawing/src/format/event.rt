@@ -1,0 +1,74 @@
+//! The fields of spans and events, as they stand in a row.
+
+ghost use Rattle.std.specs.Prelude.{◌≡◌, ◌++◌, OnOk, OnErr, string_bytes};
+ghost use Rattle.tracing_tree_text.specs.declared.field.Field.{Field};
+ghost use Rattle.tracing_tree_drawing.specs.Format.Texts.{comma_after, event_field, named_value, shown_field};
+
+use std::alloc::AllocError;
+use tracing_tree_text::field::Field;
+
+/// Appends a field of an event after a space, and after a comma if another field stands before it, and notes whether a comma stands
+/// before the next one. A field whose name begins with `log.` is skipped. On `AllocError` nothing has changed.
+pub fn push_event_field(out: &mut String, comma: &mut bool, field: &Field) -> Result<(), AllocError>
+    ensures text { OnOk result (string_bytes out.new
+        ≡ string_bytes out.old ++ event_field comma.old field.now) }
+    ensures comma { OnOk result (comma.new ≡ comma_after comma.old field.now) }
+    ensures err { OnErr result (string_bytes out.new ≡ string_bytes out.old) }
+    ensures kept { OnErr result (comma.new ≡ comma.old) }
+{
+    push_event_texts(out, comma, field.name.as_str(), field.value.as_str())
+}
+
+/// The same of a field that is lent as two texts.
+pub fn push_event_texts(
+    out: &mut String,
+    comma: &mut bool,
+    name: &str,
+    value: &str,
+) -> Result<(), AllocError>
+    ensures text { (field : Field) → field.name ≡ name.now → field.value ≡ value.now
+        → OnOk result (string_bytes out.new ≡ string_bytes out.old ++ event_field comma.old field) }
+    ensures comma { (field : Field) → field.name ≡ name.now → field.value ≡ value.now
+        → OnOk result (comma.new ≡ comma_after comma.old field) }
+    ensures err { OnErr result (string_bytes out.new ≡ string_bytes out.old) }
+    ensures kept { OnErr result (comma.new ≡ comma.old) }
+{
+    if name.starts_with("log.") {
+        return Ok(());
+    }
+    out.reserve(name.len().saturating_add(value.len()).saturating_add(3))?;
+    out.push_str(if *comma { ", " } else { " " })?;
+    *comma = true;
+    if name != "message" {
+        out.push_str(name)?;
+        out.push_str("=")?;
+    }
+    out.push_str(value)
+}
+
+/// Appends a field as `name=value`, and a field named `message` as its value alone. On `AllocError`
+/// nothing is appended.
+pub fn push_shown(out: &mut String, field: &Field) -> Result<(), AllocError>
+    ensures ok { OnOk result (string_bytes out.new
+        ≡ string_bytes out.old ++ shown_field field.now) }
+    ensures err { OnErr result (string_bytes out.new ≡ string_bytes out.old) }
+{
+    if field.name.as_str() == "message" {
+        return out.push_str(field.value.as_str());
+    }
+    push_named(out, field)
+}
+
+/// Appends a field as `name=value`. On `AllocError` nothing is appended.
+pub fn push_named(out: &mut String, field: &Field) -> Result<(), AllocError>
+    ensures ok { OnOk result (string_bytes out.new
+        ≡ string_bytes out.old ++ named_value field.now) }
+    ensures err { OnErr result (string_bytes out.new ≡ string_bytes out.old) }
+{
+    let name = field.name.as_str();
+    let value = field.value.as_str();
+    out.reserve(name.len().saturating_add(value.len()).saturating_add(1))?;
+    out.push_str(name)?;
+    out.push_str("=")?;
+    out.push_str(value)
+}

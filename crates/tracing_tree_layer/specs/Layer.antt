@@ -1,0 +1,8 @@
+-- A layer: what is seen of it, the rows of each call, and calls on it alone.
+pub mod CloseRetrace
+pub mod Turns
+pub mod Block
+pub mod Plan
+pub mod Drawn
+pub mod Layers
+pub mod Bare

@@ -1,0 +1,15 @@
+-- A close off the last path retraces first, where `close_retrace` is on.
+use Rattle.std.specs.Prelude.{Bool, false, not, ◌&&◌, Option}
+use Rattle.std.specs.Option.{option_map_or}
+use Rattle.std.specs.List.{list_any}
+use Rattle.tracing_tree_drawing.specs.Format.Settings.{Settings, retraces}
+use Rattle.tracing_tree_spans.specs.Registry.Ids.{same_id}
+use Rattle.tracing_tree_spans.specs.Registry.Forest.{Forest, is_printed, parent_of, path_of_any}
+use Rattle.tracing_tree_context.specs.declared.context.Id.{Id}
+
+-- a printed span with a parent that is not on the last path is retraced before it closes
+abbrev pub retraces_before_close : Settings → Forest → Option Id → Id → Bool
+retraces_before_close settings forest last i =
+    settings.close_retrace && retraces settings && is_printed forest i
+    && option_map_or (λ above. not (list_any (same_id above) (path_of_any forest last)))
+    (parent_of forest i) false

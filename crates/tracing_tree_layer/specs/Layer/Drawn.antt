@@ -1,0 +1,141 @@
+-- Rows that are drawn one after another, and written once. No public contract names these.
+use Rattle.std.specs.Prelude.{◌≡◌, ◌⊎◌, ℕ, Bool, true, false, List, [], ◌∷◌, ◌++◌, Option, None, Some, Result, Ok, Err, string_bytes}
+use Rattle.std.specs.Option.{option_or}
+use Rattle.std.specs.Bool.{then_some}
+use Rattle.std.specs.Io.KnownBytes.{Appends}
+use Rattle.tracing_tree_drawing.specs.Format.Settings.{Settings}
+use Rattle.tracing_tree_drawing.specs.Format.Picture.{Row, draw}
+use Rattle.tracing_tree_spans.specs.Registry.Forest.{Forest}
+use Rattle.tracing_tree_output.specs.Writers.{LeavesCut, SeenWriter}
+use Rattle.tracing_tree_context.specs.declared.context.Id.{Id}
+use Rattle.tracing_tree_context.specs.declared.context.Refusal.{Refusal}
+use Rattle.tracing_tree_context.specs.declared.context.Refusal.TheVariants.{TooWide, Memory, Timer, Writer}
+use Rattle.tracing_tree_layer.specs.Layered.State.{Turn}
+use Rattle.tracing_tree_layer.specs.Layer.Layers.{LayerView}
+use Rattle.tracing_tree_layer.specs.Layer.Plan.{PlanView, marked_by}
+use Rattle.tracing_tree_layer.specs.Layered.Refused.{draws_too_wide}
+use Rattle.tracing_tree_layer.specs.Layered.Run.{IsRefusedFor}
+use Rattle.tracing_tree_layer.specs.Layered.Answered.{Writes}
+use Rattle.tracing_tree_layer.specs.declared.layer.page.Page.{Page}
+
+-- ---- rows on a page
+
+-- no row is being built
+abbrev pub IsBlank : Page → Type 0
+IsBlank page = string_bytes page.block ≡ []
+
+-- the block and the text of a page stay
+pub record KeepsPage (old new : Page) : Type 0 where
+  pub block : string_bytes new.block ≡ string_bytes old.block
+  pub text : string_bytes new.text ≡ string_bytes old.text
+
+-- The block becomes this text at the end of the page. A row that is too wide is refused for that;
+-- a refusal changes nothing.
+abbrev pub AddsRow : Bool → List ℕ → Result (Unit {0}) Refusal → Page → Page → Type 0
+AddsRow too_wide text (Ok done) old new =
+    (too_wide ≡ false) × IsBlank new × (string_bytes new.text ≡ string_bytes old.text ++ text)
+AddsRow too_wide text (Err TooWide) old new = (too_wide ≡ true) × KeepsPage old new
+AddsRow too_wide text (Err Memory) old new = (too_wide ≡ false) × KeepsPage old new
+AddsRow too_wide text (Err refusal) old new = ⊥
+
+-- why rows are not drawn: one is too wide, or the timer has no text
+abbrev pub rows_cause : Settings → List Row → Bool → Option Refusal
+rows_cause settings rows faults =
+    option_or (then_some (draws_too_wide settings rows) TooWide) (then_some faults Timer)
+
+abbrev pub has_no_row : List Row → Bool
+has_no_row [] = true
+has_no_row (row ∷ others) = false
+
+abbrev pub has_no_id : List Id → Bool
+has_no_id [] = true
+has_no_id (i ∷ others) = false
+
+-- rows are refused for their cause, or for want of memory, unless they take none
+abbrev pub IsUndrawn : Option Refusal → Bool → Refusal → Type 0
+IsUndrawn cause quiet refusal = (cause ≡ Some refusal) ⊎ ((refusal ≡ Memory) × (quiet ≡ false))
+
+-- Rows are drawn after those before them, or refused.
+abbrev pub DrawsRows : Settings → List Row → Bool → Result (Unit {0}) Refusal → Page → Page → Type 0
+DrawsRows settings rows faults (Ok done) old new =
+    (rows_cause settings rows faults ≡ None) × IsBlank new
+    × (string_bytes new.text ≡ string_bytes old.text ++ draw settings rows)
+DrawsRows settings rows faults (Err refusal) old new =
+    IsUndrawn (rows_cause settings rows faults) (has_no_row rows) refusal
+
+-- The rows of a turn are drawn, and the plan has its marks and its last span; or the turn is
+-- refused.
+abbrev pub Drafts : Settings → Forest → Turn → Bool → Bool → Result (Unit {0}) Refusal → Page → Page
+    → PlanView → Type 0
+Drafts settings forest turn faults quiet (Ok done) old new plan =
+    DrawsRows settings turn.rows faults (Ok done) old new
+    × (marked_by plan forest ≡ turn.forest) × (plan.last ≡ turn.last)
+Drafts settings forest turn faults quiet (Err refusal) old new plan =
+    IsUndrawn (rows_cause settings turn.rows faults) quiet refusal
+
+-- a refusal while a text of the timer is appended: for want of memory, or since it has none
+abbrev pub IsUntimed : Bool → Refusal → Type 0
+IsUntimed lacking refusal = ((refusal ≡ Timer) × (lacking ≡ true)) ⊎ (refusal ≡ Memory)
+
+-- ---- what a call leaves
+
+-- whether a layer has failed after this answer
+abbrev pub failed_by : {A : Type 0} → Result A Refusal → Bool
+failed_by (Ok answer) = false
+failed_by (Err Timer) = true
+failed_by (Err Writer) = true
+failed_by (Err refusal) = false
+
+-- this after an accepted call, and else that
+abbrev pub when_ok : {A B : Type 0} → Result A Refusal → B → B → B
+when_ok (Ok answer) new old = new
+when_ok (Err refusal) new old = old
+
+-- no row is being built where rows were drawn
+abbrev pub IsReady : Result (Unit {0}) Refusal → Page → Type 0
+IsReady (Ok done) page = IsBlank page
+IsReady (Err refusal) page = Unit {0}
+
+-- nothing is left on the page
+pub record IsClear (page : Page) : Type 0 where
+  pub block : IsBlank page
+  pub text : string_bytes page.text ≡ []
+
+-- What was drawn is written once, whole, or given up. Only what was drawn whole is written, and
+-- only a fault of the writer leaves a text on the page.
+abbrev pub Sends : Result (Unit {0}) Refusal → Result (Unit {0}) Refusal → Page → Page → SeenWriter
+    → SeenWriter → Type 0
+Sends (Ok done) (Ok sent) old new before after =
+    Appends before.bytes after.bytes (string_bytes old.text) × (after.faults ≡ before.faults)
+    × IsClear new
+Sends (Ok done) (Err Writer) old new before after = LeavesCut (string_bytes old.text) before after
+Sends (Ok done) (Err refusal) old new before after = ⊥
+Sends (Err cause) result old new before after =
+    (result ≡ Err cause) × (after ≡ before) × IsClear new
+
+-- an answer that rows may get: they are refused for their cause, or for want of memory, unless they
+-- take none
+abbrev pub IsAllowed : Option Refusal → Bool → List ℕ → Result (Unit {0}) Refusal → Type 0
+IsAllowed cause quiet text (Ok done) = cause ≡ None
+IsAllowed cause quiet text (Err refusal) = IsRefusedFor cause quiet text refusal
+
+-- rows were written, or refused for their cause
+pub record IsWritten (settings : Settings) (rows : List Row) (faults quiet : Bool)
+    (result : Result (Unit {0}) Refusal) (old new : SeenWriter) : Type 0 where
+  pub answer : IsAllowed (rows_cause settings rows faults) quiet (draw settings rows) result
+  pub written : Writes (draw settings rows) result old new
+
+module _ {W FT : Type 0} where
+  -- A layer does a turn: it writes its rows, and then marks its spans and takes its last span; or
+  -- it is refused.
+  pub record DoesTurn (see : W → SeenWriter) (turn : Turn) (faults quiet : Bool)
+      (result : Result (Unit {0}) Refusal) (old new : LayerView W FT)
+      (forest after : Forest) : Type 0 where
+    pub written : IsWritten old.settings turn.rows faults quiet result
+        (see old.writer) (see new.writer)
+    pub layer : new ≡ record old {
+      writer = new.writer;
+      last = when_ok result turn.last old.last;
+      failed = failed_by result;
+    }
+    pub marked : after ≡ when_ok result turn.forest forest

@@ -1,0 +1,62 @@
+-- What contracts see of a layer, and of a registry with a layer.
+use Rattle.std.specs.Prelude.{◌≡◌, Bool, not, ◌&&◌, Option, is_none}
+use Rattle.std.specs.Io.KnownBytes.{Keeps}
+use Rattle.tracing_tree_drawing.specs.Format.Settings.{Settings}
+use Rattle.tracing_tree_spans.specs.Registry.Forest.{Forest}
+use Rattle.tracing_tree_context.specs.declared.context.Id.{Id}
+use Rattle.tracing_tree_output.specs.declared.output.Output.{Ghosts as Output}
+use Rattle.tracing_tree_time.specs.declared.timer.FormatTime.{Ghosts as FormatTime}
+use Rattle.tracing_tree_output.specs.Writers.{seen_writer}
+use Rattle.tracing_tree_layer.specs.Layered.Seen.{Seen}
+
+-- a layer: its settings, its writer and timer, the last span, and whether it has failed
+pub record LayerView (W FT : Type 0) : Type 0 where
+  pub settings : Settings
+  pub writer : W
+  pub timer : FT
+  pub last : Option Id
+  pub failed : Bool
+
+-- no last span, and nothing has failed
+abbrev pub is_fresh : {W FT : Type 0} → LayerView W FT → Bool
+is_fresh layer = not layer.failed && is_none layer.last
+
+-- a layer's writer passed on what it held back; its known bytes, its count of faults and all else
+-- stay
+pub record IsFlushed {W FT : Type 0} (output : Output W) (old new : LayerView W FT) : Type 0 where
+  pub kept : Keeps (output.contents old.writer) (output.contents new.writer)
+  pub calm : output.fault_count new.writer ≡ output.fault_count old.writer
+  pub same : new ≡ record old { writer = new.writer }
+
+-- a registry with a layer
+pub record LayeredView (W FT : Type 0) : Type 0 where
+  pub forest : Forest
+  pub layer : LayerView W FT
+
+module _ {W FT : Type 0} where
+  -- what `FormatTime` and `Output` tell of it
+  abbrev pub seen : FormatTime FT → Output W → LayeredView W FT → Seen
+  seen time output layered = record {
+    settings = layered.layer.settings;
+    timer = time.timer layered.layer.timer;
+    state = record {
+      forest = layered.forest;
+      last = layered.layer.last;
+      failed = layered.layer.failed;
+    };
+    writer = seen_writer output layered.layer.writer;
+  }
+
+  -- What is changed: settings and timer stay, and this holds of what was seen and what is seen.
+  pub record Changes (see : LayeredView W FT → Seen) (Holds : Seen → Seen → Type 0)
+      (old new : LayeredView W FT) : Type 0 where
+    pub changed : Holds (see old) (see new)
+    pub fixed : new.layer
+        ≡ record old.layer
+        { writer = new.layer.writer; last = new.layer.last; failed = new.layer.failed }
+
+-- what is seen of it where its writer passed on what it held back: its known bytes, its count of
+-- faults and all else stay.
+pub record Flushes (old new : Seen) : Type 0 where
+  pub kept : Keeps old.writer.bytes new.writer.bytes
+  pub same : new ≡ record old { writer = record old.writer { bytes = new.writer.bytes } }

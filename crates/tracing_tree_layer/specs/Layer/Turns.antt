@@ -1,0 +1,161 @@
+-- The rows of a call, and the last span and the printed marks after it.
+use Rattle.std.specs.Prelude.{ℕ, ◌-◌, Bool, false, not, ◌&&◌, if◌then◌else◌, List, [], ◌∷◌, ◌++◌, length, map, Option, Some, None, is_some, option_map, option_and_then}
+use Rattle.std.specs.Option.{option_map_or, option_or}
+use Rattle.tracing_tree_drawing.specs.Format.Settings.{Settings, retraces}
+use Rattle.tracing_tree_drawing.specs.Format.Texts.{prefix_text}
+use Rattle.tracing_tree_time.specs.Clock.{Timer, elapsed}
+use Rattle.tracing_tree_spans.specs.Registry.Forest.{Forest, span_at, if_live, is_printed, parent_of, path_of_any, level_of, fresh_ids, mark_printed, mark_all, named_parent}
+use Rattle.tracing_tree_spans.specs.Registry.Spans.{shown_span}
+use Rattle.tracing_tree_layer.specs.Layer.Block.{span_block, event_block}
+use Rattle.tracing_tree_drawing.specs.Format.Picture.{Row}
+use Rattle.tracing_tree_context.specs.declared.context.Id.{Id}
+use Rattle.tracing_tree_context.specs.declared.context.Context.{Context}
+use Rattle.tracing_tree_drawing.specs.declared.format.SpanMode.{SpanMode}
+use Rattle.tracing_tree_drawing.specs.declared.format.SpanMode.TheVariants.{PreOpen, Open, Close, Retrace, PostClose}
+use Rattle.tracing_tree_drawing.specs.declared.format.SpanMode.TheVariants.{Event as EventMode}
+use Rattle.tracing_tree_spans.specs.declared.registry.Event.{Event}
+use Rattle.tracing_tree_layer.specs.Layered.State.{Turn, quiet_turn}
+use Rattle.tracing_tree_layer.specs.Layer.CloseRetrace.{retraces_before_close}
+
+-- ---- single rows
+
+-- the block of a row about a live span
+abbrev pub block_of : Settings → Forest → SpanMode → Id → List ℕ
+block_of settings forest mode i =
+    option_map_or (λ span. span_block settings mode (shown_span span)) (span_at forest i) []
+
+-- a row about a live span
+abbrev pub span_row : Settings → Context → Forest → SpanMode → Id → Row
+span_row settings context forest mode i = record {
+  mode = mode;
+  span = Some i;
+  level = level_of forest i;
+  block = block_of settings forest mode i;
+  prefix = prefix_text settings context;
+}
+
+-- the current span of an event, if it is live
+abbrev pub current_of : Forest → Context → Option Id
+current_of forest context = if_live forest context.current
+
+-- the parent of an event, if it is live
+abbrev pub event_parent : Forest → Event → Context → Option Id
+event_parent forest event context = if_live forest (named_parent event.parent context.current)
+
+-- how many spans an event stands in
+abbrev pub event_depth : Forest → Event → Context → ℕ
+event_depth forest event context = length (path_of_any forest (event_parent forest event context))
+
+-- an event stands one level below its parent, but without lines at the same level
+abbrev pub event_level : Settings → List Id → ℕ
+event_level settings scope = if settings.indent_lines then length scope else length scope - 1
+
+-- how long ago the current span was made, if it is live
+abbrev pub time_in_current : Forest → Context → Option ℕ
+time_in_current forest context =
+    option_map (λ span. elapsed span.kept.start context.moment.mono)
+    (option_and_then (span_at forest) (current_of forest context))
+
+abbrev pub event_row : Settings → Timer → Forest → Event → Context → Row
+event_row settings timer forest event context = record {
+  mode = EventMode;
+  span = event_parent forest event context;
+  level = event_level settings (path_of_any forest (event_parent forest event context));
+  block = event_block settings timer context.moment (time_in_current forest context) event;
+  prefix = prefix_text settings context;
+}
+
+-- a row about the parent of a span, if the setting is on and there is a parent
+abbrev pub parent_rows : Bool → Settings → Context → Forest → SpanMode → Id → List Row
+parent_rows on settings context forest mode i =
+    if on then option_map_or (λ above. span_row settings context forest mode above ∷ [])
+    (parent_of forest i) [] else []
+
+-- ---- retracing
+
+-- a span that was printed before is retraced, and another opens
+abbrev pub fresh_mode : Forest → Id → Bool → SpanMode
+fresh_mode forest i verbose = if is_printed forest i then Retrace verbose else Open verbose
+
+abbrev pub fresh_row : Settings → Context → Forest → Bool → Id → Row
+fresh_row settings context forest verbose i =
+    span_row settings context forest (fresh_mode forest i verbose) i
+
+-- the rows of fresh spans: the first is verbose if its parent is shown before it
+abbrev pub fresh_rows : Settings → Context → Forest → List Id → List Row
+fresh_rows settings context forest [] = []
+fresh_rows settings context forest (first ∷ others) =
+    parent_rows settings.verbose_entry settings context forest PreOpen first
+    ++ fresh_row settings context forest
+    (settings.verbose_entry && is_some (parent_of forest first)) first
+    ∷ map (fresh_row settings context forest false) others
+
+-- to a span: the rows of the fresh spans, which are printed from now on, and the span is the last
+abbrev pub retrace_to : Settings → Context → Forest → Option Id → Id → Turn
+retrace_to settings context forest last i = record {
+  rows = fresh_rows settings context forest (fresh_ids forest last i);
+  forest = mark_all (fresh_ids forest last i) forest;
+  last = Some i;
+}
+
+-- one turn and then another, which begins where the first ends
+abbrev pub then_turn : Turn → (Forest → Option Id → Turn) → Turn
+then_turn first next =
+    record (next first.forest first.last)
+    { rows = first.rows ++ (next first.forest first.last).rows }
+
+-- ---- calls
+
+-- a new span, which the forest has already
+abbrev pub turn_of_new : Settings → Context → Forest → Option Id → Id → Turn
+turn_of_new settings context forest last i =
+    if settings.deferred_spans then quiet_turn forest last
+    else (if settings.span_retrace then retrace_to settings context (mark_printed i forest) last i
+    else record {
+      rows = parent_rows settings.verbose_entry settings context forest PreOpen i
+          ++ span_row settings context forest (Open settings.verbose_entry) i ∷ [];
+      forest = mark_printed i forest;
+      last = Some i;
+    })
+
+-- an event's row alone
+abbrev pub turn_of_row : Row → Forest → Option Id → Turn
+turn_of_row row forest last = record { rows = row ∷ []; forest = forest; last = last }
+
+-- what comes before an event's row: its current span is retraced, if it is live and the settings
+-- say so
+abbrev pub turn_before_event : Settings → Context → Forest → Option Id → Option Id → Turn
+turn_before_event settings context forest last None = quiet_turn forest last
+turn_before_event settings context forest last (Some current) =
+    if retraces settings then retrace_to settings context forest last current else quiet_turn forest
+    last
+
+abbrev pub turn_of_event : Settings → Timer → Context → Forest → Option Id → Event → Turn
+turn_of_event settings timer context forest last event =
+    then_turn (turn_before_event settings context forest last (current_of forest context))
+    (turn_of_row (event_row settings timer forest event context))
+
+-- a span that closes, and its parent, which is the last span from then on
+abbrev pub close_turn : Settings → Context → Id → Forest → Option Id → Turn
+close_turn settings context i forest last = record {
+  rows = span_row settings context forest (Close settings.verbose_exit) i
+      ∷ parent_rows settings.verbose_exit settings context forest PostClose i;
+  forest = forest;
+  last = option_or (parent_of forest i) last;
+}
+
+-- the close of one span, on the forest before the call: nothing if the span was deferred and never
+-- printed
+abbrev pub turn_of_close : Settings → Context → Forest → Option Id → Id → Turn
+turn_of_close settings context forest last i =
+    if settings.deferred_spans && not (is_printed forest i) then quiet_turn forest last
+    else (if retraces_before_close settings forest last i
+    then then_turn (retrace_to settings context forest last i) (close_turn settings context i)
+    else close_turn settings context i forest last)
+
+-- the closes of these spans, one after another
+abbrev pub turn_of_closes : Settings → Context → List Id → Forest → Option Id → Turn
+turn_of_closes settings context [] forest last = quiet_turn forest last
+turn_of_closes settings context (i ∷ others) forest last =
+    then_turn (turn_of_close settings context forest last i)
+    (turn_of_closes settings context others)

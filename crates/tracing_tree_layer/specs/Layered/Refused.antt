@@ -1,0 +1,117 @@
+-- When a call is refused, and which refusal comes first.
+use Rattle.std.specs.Prelude.{ℕ, ◌==◌, Bool, true, false, not, ◌||◌, List, [], ◌∷◌, Option, None, is_none, is_some, length, option_map}
+use Rattle.std.specs.Option.{option_map_or, option_or}
+use Rattle.std.specs.Bool.{then_some}
+use Rattle.std.specs.List.{list_any}
+use Rattle.tracing_tree_drawing.specs.Format.Settings.{Settings}
+use Rattle.tracing_tree_time.specs.Clock.{Timer}
+use Rattle.tracing_tree_drawing.specs.Format.Picture.{Row, is_too_wide}
+use Rattle.tracing_tree_spans.specs.Registry.Forest.{Forest, is_live, handles_of, closing_of, named_parent, unless_live, any_unless_live, unless_handle, lacks_next, has_all_handles}
+use Rattle.tracing_tree_context.specs.declared.context.Id.{Id}
+use Rattle.tracing_tree_context.specs.declared.context.Context.{Context}
+use Rattle.tracing_tree_context.specs.declared.context.Refusal.{Refusal}
+use Rattle.tracing_tree_spans.specs.declared.registry.Event.{Event as Told}
+use Rattle.tracing_tree_context.specs.declared.context.Refusal.TheVariants.{NotHeld, TooWide, TooMany, Timer as TimerFault, Failed}
+use Rattle.tracing_tree_layer.specs.Layered.State.{State}
+use Rattle.tracing_tree_layer.specs.Layer.Turns.{time_in_current, event_row}
+use Rattle.tracing_tree_layer.specs.Layered.Step.{turn_of}
+use Rattle.tracing_tree_layer.specs.declared.call.Call.{Call}
+use Rattle.tracing_tree_layer.specs.declared.call.Call.TheVariants.{New, Clone, Record, Event, Close}
+
+-- the id that a call needs and that is not held: a parent, a span to be cloned, or one with no
+-- handle left to close
+abbrev pub id_not_held : Forest → Call → Option Id
+id_not_held forest (New attributes context) =
+    any_unless_live forest (named_parent attributes.parent context.current)
+id_not_held forest (Clone i) = unless_live forest i
+id_not_held forest (Record i record') = None
+id_not_held forest (Event event context) = None
+id_not_held forest (Close i context) = unless_handle forest i
+
+-- no id is left for a new span, or no further handle can be counted
+abbrev pub is_too_many : Forest → Call → Bool
+is_too_many forest (New attributes context) = lacks_next forest
+is_too_many forest (Clone i) = has_all_handles forest i
+is_too_many forest (Record i record') = false
+is_too_many forest (Event event context) = false
+is_too_many forest (Close i context) = false
+
+-- one of these rows would be too wide
+abbrev pub draws_too_wide : Settings → List Row → Bool
+draws_too_wide settings rows = list_any (is_too_wide settings) rows
+
+-- the timer has no text for this elapsed time, if there is one
+abbrev pub lacks_elapsed : Settings → Timer → Option ℕ → Bool
+lacks_elapsed settings timer since =
+    option_map_or (λ nanos. is_none (timer.elapsed_text settings.ansi nanos)) since false
+
+-- the timer has no text for the moment of an event, or for the time in its current span
+abbrev pub timer_faults_at : Settings → Timer → Forest → Context → Bool
+timer_faults_at settings timer forest context =
+    is_none (timer.moment_text context.moment)
+    || lacks_elapsed settings timer (time_in_current forest context)
+
+-- the timer has no text for an event
+abbrev pub timer_faults : Settings → Timer → Forest → Call → Bool
+timer_faults settings timer forest (New attributes context) = false
+timer_faults settings timer forest (Clone i) = false
+timer_faults settings timer forest (Record i record') = false
+timer_faults settings timer forest (Event event context) =
+    timer_faults_at settings timer forest context
+timer_faults settings timer forest (Close i context) = false
+
+-- the first of several
+abbrev pub first_of_all : List (Option Refusal) → Option Refusal
+first_of_all [] = None
+first_of_all (o ∷ others) = option_or o (first_of_all others)
+
+-- which causes stand against a call
+pub record Causes : Type 0 where
+  pub failed : Bool
+  pub not_held : Option Id
+  pub too_many : Bool
+  pub too_wide : Bool
+  pub timer_faults : Bool
+
+-- of several causes the first of these
+abbrev pub first_cause : Causes → Option Refusal
+first_cause causes = first_of_all (
+    then_some causes.failed Failed
+    ∷ option_map NotHeld causes.not_held
+    ∷ then_some causes.too_many TooMany
+    ∷ then_some causes.too_wide TooWide
+    ∷ then_some causes.timer_faults TimerFault
+    ∷ [])
+
+-- why a call is refused, want of memory and faults of the writer aside
+abbrev pub cause_of : Settings → Timer → State → Call → Option Refusal
+cause_of settings timer state call = first_cause (record {
+  failed = state.failed;
+  not_held = id_not_held state.forest call;
+  too_many = is_too_many state.forest call;
+  too_wide = draws_too_wide settings (turn_of settings timer state.forest state.last call).rows;
+  timer_faults = timer_faults settings timer state.forest call;
+})
+
+-- the row of an event itself would be too wide
+abbrev pub is_event_too_wide : Settings → Timer → Forest → Told → Context → Bool
+is_event_too_wide settings timer forest event context =
+    is_too_wide settings (event_row settings timer forest event context)
+
+-- A call that grows nothing, or that is refused before it grows anything: a new span whose parent
+-- is not held or for which no id is left, a clone, a record of a span that is not live, an event
+-- whose own row is too wide, and a close with which no span goes.
+abbrev pub is_without_memory : Settings → Timer → Forest → Call → Bool
+is_without_memory settings timer forest (New attributes context) =
+    is_some (id_not_held forest (New attributes context)) || lacks_next forest
+is_without_memory settings timer forest (Clone i) = true
+is_without_memory settings timer forest (Record i record') = not (is_live forest i)
+is_without_memory settings timer forest (Event event context) =
+    is_event_too_wide settings timer forest event context
+is_without_memory settings timer forest (Close i context) =
+    not (handles_of forest i == 1) || (length (closing_of forest i) == 0)
+
+-- a call that is never refused for want of memory; each call on a layer that has failed is one
+abbrev pub takes_no_memory : Settings → Timer → State → Call → Bool
+takes_no_memory settings timer state call =
+    state.failed || is_without_memory settings timer state.forest call

@@ -1,0 +1,30 @@
+-- What a registry with a layer holds between calls.
+use Rattle.std.specs.Prelude.{Bool, false, Option, None, List, []}
+use Rattle.tracing_tree_spans.specs.Registry.Forest.{Forest}
+use Rattle.tracing_tree_drawing.specs.Format.Picture.{Row}
+use Rattle.tracing_tree_context.specs.declared.context.Id.{Id}
+
+-- the live spans with their printed marks, the last span (the one that opened last, or the parent
+-- of the one that closed last), and whether the layer has failed
+pub record State : Type 0 where
+  pub forest : Forest
+  pub last : Option Id
+  pub failed : Bool
+
+-- no span is live, there is no last span, and nothing has failed; the first id, if any is left
+abbrev pub opening_state : Option Id → State
+opening_state first = record {
+  forest = record { spans = []; next = first };
+  last = None;
+  failed = false;
+}
+
+-- what a call draws, and the printed marks and the last span after it
+pub record Turn : Type 0 where
+  pub rows : List Row
+  pub forest : Forest
+  pub last : Option Id
+
+-- no row, and nothing changes
+abbrev pub quiet_turn : Forest → Option Id → Turn
+quiet_turn forest last = record { rows = []; forest = forest; last = last }

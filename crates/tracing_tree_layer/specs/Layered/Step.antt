@@ -1,0 +1,64 @@
+-- An accepted call: what it answers, the rows that it draws, and the state after it.
+use Rattle.std.specs.Prelude.{◌==◌, not, length, Option, unwrap_or}
+use Rattle.tracing_tree_drawing.specs.Format.Settings.{Settings}
+use Rattle.tracing_tree_spans.specs.Registry.Ids.{id_of}
+use Rattle.tracing_tree_time.specs.Clock.{Timer}
+use Rattle.tracing_tree_spans.specs.Registry.Forest.{Forest, new_span, add_span, add_handle, add_fields, closing_of, take_handle, without_spans}
+use Rattle.tracing_tree_context.specs.declared.context.Id.{Id}
+use Rattle.tracing_tree_context.specs.declared.context.Context.{Context}
+use Rattle.tracing_tree_spans.specs.declared.registry.Attributes.{Attributes}
+use Rattle.tracing_tree_layer.specs.Layered.State.{State, Turn, quiet_turn}
+use Rattle.tracing_tree_layer.specs.Layer.Turns.{turn_of_new, turn_of_event, turn_of_closes}
+use Rattle.tracing_tree_layer.specs.declared.call.Call.{Call}
+use Rattle.tracing_tree_layer.specs.declared.call.Call.TheVariants.{New, Clone, Record, Event, Close}
+use Rattle.tracing_tree_layer.specs.declared.call.Reply.{Reply}
+use Rattle.tracing_tree_layer.specs.declared.call.Reply.TheVariants.{Span, Cloned, Done, Closed}
+
+-- the id that a new span gets (where there is none, the call is refused, and nothing depends on
+-- this)
+abbrev pub new_id : Forest → Id
+new_id forest = unwrap_or forest.next (id_of 0)
+
+-- the forest with the new span
+abbrev pub with_new_span : Attributes → Context → Forest → Forest
+with_new_span attributes context forest =
+    add_span (new_span (new_id forest) attributes context.current context.moment.mono) forest
+
+-- what an accepted call answers
+abbrev pub reply_of : Forest → Call → Reply
+reply_of forest (New attributes context) = Span (new_id forest)
+reply_of forest (Clone i) = Cloned i
+reply_of forest (Record i record') = Done
+reply_of forest (Event event context) = Done
+reply_of forest (Close i context) = Closed (not (length (closing_of forest i) == 0))
+
+-- the rows of an accepted call, and the printed marks and the last span after it
+abbrev pub turn_of : Settings → Timer → Forest → Option Id → Call → Turn
+turn_of settings timer forest last (New attributes context) =
+    turn_of_new settings context (with_new_span attributes context forest) last (new_id forest)
+turn_of settings timer forest last (Clone i) = quiet_turn forest last
+turn_of settings timer forest last (Record i record') = quiet_turn forest last
+turn_of settings timer forest last (Event event context) =
+    turn_of_event settings timer context forest last event
+turn_of settings timer forest last (Close i context) =
+    turn_of_closes settings context (closing_of forest i) forest last
+
+-- what else an accepted call changes in the forest, once its marks are made; the first forest is
+-- the one before the call
+abbrev pub changed_forest : Forest → Call → Forest → Forest
+changed_forest before (New attributes context) forest = forest
+changed_forest before (Clone i) forest = add_handle i forest
+changed_forest before (Record i record') forest = add_fields record'.fields i forest
+changed_forest before (Event event context) forest = forest
+changed_forest before (Close i context) forest =
+    without_spans (closing_of before i) (take_handle i forest)
+
+-- the state after an accepted call
+abbrev pub state_after : Settings → Timer → State → Call → State
+state_after settings timer state call =
+    let turn = turn_of settings timer state.forest state.last call in
+    record {
+      forest = changed_forest state.forest call turn.forest;
+      last = turn.last;
+      failed = state.failed;
+    }

@@ -1,0 +1,46 @@
+-- What is seen of a writer, and what it has after a text was written.
+use Rattle.std.specs.Prelude.{◌≡◌, ◌≢◌, ℕ, ◌+◌, Bool, IsTrue, List, [], ◌++◌, Option, Result, Ok, Err}
+use Rattle.std.specs.Io.KnownBytes.{Appends}
+use Rattle.tracing_tree_output.specs.declared.output.Output.{Ghosts as Output}
+use Rattle.tracing_tree_output.specs.declared.output.OutputFault.{OutputFault}
+
+-- a writer: its bytes, if they are known, how many writes it has refused, and whether it takes
+-- texts whole
+pub record SeenWriter : Type 0 where
+  pub bytes : Option (List ℕ)
+  pub faults : ℕ
+  pub whole : Bool
+
+-- what `Output` tells of a writer
+abbrev pub seen_writer : {W : Type 0} → Output W → W → SeenWriter
+seen_writer output writer = record {
+  bytes = output.contents writer;
+  faults = output.fault_count writer;
+  whole = output.WHOLE;
+}
+
+-- a beginning of a text that isn't the whole
+pub record IsCutShort (text front : List ℕ) : Type 0 where
+  pub rest : List ℕ
+  pub whole : text ≡ front ++ rest
+  pub cut : rest ≢ []
+
+-- a fault of the writer: its count rose by one, and what was written is cut short, or nothing where
+-- writes are whole
+pub record LeavesCut (text : List ℕ) (old new : SeenWriter) : Type 0 where
+  pub rose : new.faults ≡ old.faults + 1
+  pub front : List ℕ
+  pub cut : IsCutShort text front
+  pub appends : Appends old.bytes new.bytes front
+  pub nothing : IsTrue old.whole → front ≡ []
+
+-- All of a text is written, or what is written is cut short. Where writes are whole a fault writes
+-- nothing.
+abbrev pub WritesWhole : List ℕ → Result (Unit {0}) OutputFault → SeenWriter → SeenWriter → Type 0
+WritesWhole text (Ok done) old new = Appends old.bytes new.bytes text × (new.faults ≡ old.faults)
+WritesWhole text (Err fault) old new = LeavesCut text old new
+
+-- a text that was written is gone, and after a fault it is still there
+abbrev pub emptied_when_ok : {E : Type 0} → Result (Unit {0}) E → List ℕ → List ℕ
+emptied_when_ok (Ok done) text = []
+emptied_when_ok (Err fault) text = text

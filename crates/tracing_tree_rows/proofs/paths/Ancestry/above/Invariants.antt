@@ -1,5 +1,0 @@
-use Rattle.std.proofs.Common.{◌≡◌, ◌-◌, ◌++◌, None, replicate, take}
-use Rattle.tracing_tree_rows.proofs.paths.Ancestry.above.Given as goal
-
-abbrev pub invariant-loop-absent : goal.invariant-loop-absent
-invariant-loop-absent l = l.places.items ≡ take l.kept l.self ++ replicate (l._absent - l.kept) None

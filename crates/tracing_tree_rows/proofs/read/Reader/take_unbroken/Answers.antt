@@ -1,8 +1,0 @@
-use Rattle.tracing_tree_rows.specs.ReadBack.Line.{one_line_row}
-use Rattle.tracing_tree_rows.proofs.RowsRead.Taken.{first-row}
-use Rattle.tracing_tree_rows.proofs.read.Reader.take_unbroken.Goals as goal
-
-pub of_line-requires : goal.of_line-requires
-of_line-requires c =
-    let first = c.in-Some.first in
-    first-row c.self.inside.amount c.self.invariant c.args.line.now (one_line_row first.shape first.level first.text.now) c.requires c.in-Some.ensures

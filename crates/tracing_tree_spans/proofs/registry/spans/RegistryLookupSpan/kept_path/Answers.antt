@@ -1,0 +1,15 @@
+use Rattle.std.proofs.Common.{refl, sym, ap, ◌∙◌}
+use Rattle.std.specs.Option.{is_some}
+use Rattle.tracing_tree_spans.proofs.Registers.{seen}
+use Rattle.tracing_tree_spans.proofs.registry.spans.RegistryLookupSpan.kept_path.Goals as goal
+
+pub returns-in_err-get-clause-live : goal.returns-in_err-get-clause-live
+returns-in_err-get-clause-live c =
+    let none = ap is_some (seen c.self.inside.nodes _ c.args.self.now c.args.id _ c.self.view_is (sym c.in_err-get.ensures)) in
+    let gone = ap is_some c.from_residual.ensures in
+    ((λ h. none ∙ sym gone ∙ h), (λ h. gone ∙ sym none ∙ h))
+
+pub returns-clause-live : goal.returns-clause-live
+returns-clause-live c =
+    let here = ap is_some (seen c.self.inside.nodes _ c.args.self.now c.args.id _ c.self.view_is (sym c.in_ok-get.ensures)) in
+    ((λ h. here), (λ h. refl))

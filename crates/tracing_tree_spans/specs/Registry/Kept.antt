@@ -1,0 +1,52 @@
+-- The list of spans that a registry keeps.
+use Rattle.std.specs.Prelude.{◌≡◌, ℕ, nat_lt, Bool, not, if◌then◌else◌, IsTrue, List, map, filter, find, length, Option, Some, None, [], option_and_then}
+use Rattle.std.specs.Option.{option_map_or}
+use Rattle.std.specs.List.{list_all}
+use Rattle.tracing_tree_spans.specs.Registry.Spans.{Span, KeptSpan, child_more}
+use Rattle.tracing_tree_spans.specs.Registry.Forest.{has_id, path_of, children_of}
+use Rattle.tracing_tree_spans.specs.Registry.Registered.{alone}
+use Rattle.tracing_tree_context.specs.declared.context.Id.{Id}
+
+-- whether it is the span with this id
+abbrev pub keeps_id : Id → KeptSpan → Bool
+keeps_id i node = has_id i node.span
+
+-- the span with this id, if it is live
+abbrev pub kept_at : List KeptSpan → Id → Option KeptSpan
+kept_at nodes i = find (keeps_id i) nodes
+
+-- the spans alone
+abbrev pub spans_of : List KeptSpan → List Span
+spans_of nodes = map (λ node. node.span) nodes
+
+-- the list with the span of this id changed
+abbrev pub change_kept : (KeptSpan → KeptSpan) → Id → List KeptSpan → List KeptSpan
+change_kept change i nodes = map (λ node. if keeps_id i node then change node else node) nodes
+
+-- the list without the span of this id
+abbrev pub leave_out : Id → List KeptSpan → List KeptSpan
+leave_out i nodes = filter (λ node. not (keeps_id i node)) nodes
+
+-- the path that is kept with a span; empty where the span is missing
+abbrev pub kept_path : List KeptSpan → Option Id → List Id
+kept_path nodes o = option_map_or (λ node. node.path) (option_and_then (kept_at nodes) o) []
+
+-- the list with one child more counted where this is the parent
+abbrev pub with_child : Option Id → List KeptSpan → List KeptSpan
+with_child None nodes = nodes
+with_child (Some above) nodes = change_kept child_more above nodes
+
+-- the spans without the one of this id
+abbrev pub without_span : Id → List Span → List Span
+without_span i spans = filter (λ span. not (has_id i span)) spans
+
+-- all ids are below this number
+abbrev pub AreBelow : ℕ → List KeptSpan → Type 0
+AreBelow n nodes = IsTrue (list_all (λ node. nat_lt node.span.id.0 n) nodes)
+
+-- each span is kept with its path and with the number of its children
+pub record IsTied (nodes : List KeptSpan) : Type 0 where
+  pub paths : (i : Id) (node : KeptSpan) → kept_at nodes i ≡ Some node → node.path
+      ≡ path_of (alone (spans_of nodes)) i
+  pub children : (i : Id) (node : KeptSpan) → kept_at nodes i ≡ Some node →
+      node.children ≡ length (children_of (alone (spans_of nodes)) i)

@@ -1,0 +1,75 @@
+//! Spans: what they are made of, which are live, and looking at them.
+
+ghost use Rattle.std.specs.Prelude.{◌≡◌};
+ghost use Rattle.tracing_tree_spans.specs.Registry.Forest.{named_parent};
+
+pub mod lookup;
+pub mod node;
+mod nodes;
+mod path;
+pub mod paths;
+pub mod prefix;
+mod slot;
+pub mod spans;
+pub mod walked;
+
+pub use lookup::LookupSpan;
+pub use node::{Data, SpanRef};
+pub use paths::common;
+pub use prefix::Common;
+pub use spans::Registry;
+pub use tracing_tree_context::{Context, Id};
+use tracing_tree_text::field::Fields;
+use tracing_tree_text::style::Level;
+use tracing_tree_text::text::Text;
+pub use walked::Walked;
+
+/// The parent that a new span or an event names.
+#[derive(Clone, Copy, Debug, PartialEq, Eq)]
+pub enum Parent {
+    /// None.
+    Root,
+
+    /// The current span, if there is one.
+    Current,
+
+    /// This one, current or not.
+    Of(Id),
+}
+
+impl Parent {
+    /// The parent that is meant where this is the current span, whether it is live or not.
+    pub fn named(self, current: Option<Id>) -> Option<Id>
+        ensures { result ≡ named_parent self current }
+    {
+        match self {
+            Parent::Root => None,
+            Parent::Current => current,
+            Parent::Of(id) => Some(id),
+        }
+    }
+}
+
+/// What a new span is made of.
+#[derive(Debug, Drop, PartialEq, Eq)]
+pub struct Attributes {
+    pub name: Text,
+    pub target: Text,
+    pub parent: Parent,
+    pub fields: Fields,
+}
+
+/// Fields that come later.
+#[derive(Debug, Drop, PartialEq, Eq)]
+pub struct Record {
+    pub fields: Fields,
+}
+
+/// An event.
+#[derive(Debug, Drop, PartialEq, Eq)]
+pub struct Event {
+    pub level: Level,
+    pub target: Text,
+    pub parent: Parent,
+    pub fields: Fields,
+}

@@ -1,0 +1,237 @@
+//! A span as it is kept, and a look at it.
+
+ghost use Rattle.std.specs.Prelude.{◌≡◌, ◌<◌, IfOk, OnOk, OnErr};
+ghost use Rattle.tracing_tree_spans.specs.Registry.Spans.{shown_span, handle_more, handle_less, child_more, child_less, kept_printed, fields_more};
+
+use super::path::SpanPath;
+use std::alloc::AllocError;
+use std::marker::Model;
+use tracing_tree_context::Id;
+use tracing_tree_text::field::Fields;
+use tracing_tree_text::text::Text;
+
+/// What the layer keeps with a span.
+#[derive(Debug, Drop)]
+pub struct Data {
+    /// When it was made, in nanoseconds on the clock that only goes forward.
+    pub start: u64,
+
+    /// Its fields: those that it was made with, and then those of later records.
+    pub fields: Fields,
+
+    /// Whether a row of it was printed.
+    pub written: bool,
+}
+
+// A span as it is kept: with its path, from its root down to it, and with the number of its live children. What clones, records
+// and closes touch stands at its head, close together in memory.
+#[derive(Drop)]
+pub(crate) struct Node {
+    pub(crate) id: Id,
+    pub(crate) handles: u64,
+    pub(crate) children: usize,
+    pub(crate) parent: Option<Id>,
+    pub(crate) path: SpanPath,
+    pub(crate) kept: Data,
+    pub(crate) name: Text,
+    pub(crate) target: Text,
+}
+
+impl Model for Node {
+    ghost use Rattle.tracing_tree_spans.specs.Registry.Spans.{KeptSpan, path_ids};
+
+    ghost Value = { KeptSpan };
+
+    ghost view = { λ n. record {
+      span = record {
+        id = n.id;
+        parent = n.parent;
+        name = n.name;
+        target = n.target;
+        kept = n.kept;
+        handles = n.handles;
+      };
+      path = path_ids n.path;
+      children = n.children;
+    } };
+}
+
+impl Node {
+    pub(crate) fn id(&self) -> Id
+        ensures { result ≡ self.now.span.id }
+    {
+        self.id
+    }
+
+    pub(crate) fn parent(&self) -> Option<Id>
+        ensures { result ≡ self.now.span.parent }
+    {
+        self.parent
+    }
+
+    pub(crate) fn data(&self) -> &Data
+        ensures { result.now ≡ self.now.span.kept }
+    {
+        &self.kept
+    }
+
+    pub(crate) fn handles(&self) -> u64
+        ensures { result ≡ self.now.span.handles }
+    {
+        self.handles
+    }
+
+    pub(crate) fn children(&self) -> usize
+        ensures { result ≡ self.now.children }
+    {
+        self.children
+    }
+
+    pub(crate) fn path(&self) -> &[Id]
+        ensures { result.now ≡ self.now.path }
+    {
+        self.path.as_slice()
+    }
+
+    pub(crate) fn look(&self) -> SpanRef<'_>
+        ensures { result ≡ shown_span self.now.span }
+    {
+        SpanRef {
+            id: self.id,
+            parent: self.parent,
+            name: &self.name,
+            target: &self.target,
+            kept: &self.kept,
+        }
+    }
+
+    pub(crate) fn add_handle(&mut self)
+        requires { self.old.span.handles < u64.MAX }
+        ensures { self.new ≡ handle_more self.old }
+    {
+        self.handles += 1;
+    }
+
+    pub(crate) fn take_handle(&mut self)
+        requires { 0 < self.old.span.handles }
+        ensures { self.new ≡ handle_less self.old }
+    {
+        self.handles -= 1;
+    }
+
+    pub(crate) fn add_child(&mut self)
+        requires { self.old.children < usize.MAX }
+        ensures { self.new ≡ child_more self.old }
+    {
+        self.children += 1;
+    }
+
+    pub(crate) fn take_child(&mut self)
+        requires { 0 < self.old.children }
+        ensures { self.new ≡ child_less self.old }
+    {
+        self.children -= 1;
+    }
+
+    pub(crate) fn set_written(&mut self)
+        ensures { self.new ≡ kept_printed self.old }
+    {
+        self.kept.written = true;
+    }
+
+    pub(crate) fn record(&mut self, fields: Fields) -> Result<(), AllocError>
+        ensures ok { OnOk result (self.new ≡ fields_more fields self.old) }
+        ensures err { OnErr result (self.new ≡ self.old) }
+    {
+        self.kept.fields.append(fields)
+    }
+}
+
+/// A look at a live span. (`SpanRef` of the Rust crate's registry.)
+#[derive(Drop)]
+pub struct SpanRef<'a> {
+    id: Id,
+    parent: Option<Id>,
+    name: &'a Text,
+    target: &'a Text,
+    kept: &'a Data,
+}
+
+impl<'a> Model for SpanRef<'a> {
+    ghost use Rattle.tracing_tree_spans.specs.Registry.Spans.{ShownSpan};
+
+    ghost Value = { ShownSpan };
+
+    ghost view = { λ s. record {
+      id = s.id;
+      parent = s.parent;
+      name = s.name.now;
+      target = s.target.now;
+      kept = s.kept.now;
+    } };
+}
+
+impl<'a> SpanRef<'a> {
+    /// A look at a span of these parts, for a registry of one's own.
+    pub fn new(
+        id: Id,
+        parent: Option<Id>,
+        name: &'a Text,
+        target: &'a Text,
+        kept: &'a Data,
+    ) -> SpanRef<'a>
+        ensures { result
+            ≡ record {
+              id = id;
+              parent = parent;
+              name = name.now;
+              target = target.now;
+              kept = kept.now;
+            } }
+    {
+        SpanRef {
+            id,
+            parent,
+            name,
+            target,
+            kept,
+        }
+    }
+
+    /// The span's number.
+    pub fn id(&self) -> Id
+        ensures { result ≡ self.now.id }
+    {
+        self.id
+    }
+
+    /// The span's name.
+    pub fn name(&self) -> &'a str
+        ensures { result.now ≡ self.now.name }
+    {
+        let name = self.name;
+        name.as_str()
+    }
+
+    /// The span's target.
+    pub fn target(&self) -> &'a str
+        ensures { result.now ≡ self.now.target }
+    {
+        let target = self.target;
+        target.as_str()
+    }
+
+    /// The span's parent; none for a root.
+    pub fn parent(&self) -> Option<Id>
+        ensures { result ≡ self.now.parent }
+    {
+        self.parent
+    }
+
+    /// What is kept with the span.
+    pub fn data(&self) -> &'a Data
+        ensures { result.now ≡ self.now.kept }
+    {
+        self.kept
+    }
+}

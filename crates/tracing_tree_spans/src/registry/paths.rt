@@ -1,0 +1,33 @@
+//! What two paths share.
+
+ghost use Rattle.std.specs.Prelude.{◌≡◌};
+ghost use Rattle.std.specs.List.{common_prefix_len};
+ghost use Rattle.tracing_tree_spans.specs.Registry.Ids.{same_id};
+ghost use Rattle.tracing_tree_spans.specs.Registry.Paths.{PartOnce, looks_back};
+
+use super::prefix::Common;
+use tracing_tree_context::Id;
+
+/// Returns what two paths of one forest share. Takes no memory.
+///
+/// It starts at the last place that both have and goes back to the first place where they agree. So it compares as many places
+/// as the shorter path has past the common beginning, and one more where the paths share a beginning.
+///
+/// The caller must ensure that the paths part once: where two places agree, all places before them agree. Paths of one forest
+/// do.
+pub fn common(old: &[Id], new: &[Id]) -> Common
+    requires { PartOnce old.now new.now }
+    ensures length { result.length ≡ common_prefix_len same_id old.now new.now }
+    ensures compared { result.compared ≡ looks_back old.now new.now result.length }
+{
+    let mut length = old.len().min(new.len());
+    let mut compared = 0;
+    while length > 0 {
+        compared += 1;
+        if old[length - 1] == new[length - 1] {
+            break;
+        }
+        length -= 1;
+    }
+    Common { length, compared }
+}

@@ -1,0 +1,337 @@
+//! The live spans.
+
+mod surface;
+
+ghost use Rattle.std.specs.Prelude.{◌≡◌, ◌<◌, ◌++◌, [], ◌∷◌, None, Some, IfOk, IfSome, IsSome, OnOk, OnErr, Option, reverse, length, false, IsTrue, ◌↔◌};
+ghost use Rattle.std.specs.List.{list_any};
+ghost use Rattle.tracing_tree_spans.specs.Registry.Ids.{id_of};
+ghost use Rattle.tracing_tree_spans.specs.Registry.Forest.{IsForest, IsPathIfLive, IsClosing, empty_forest, span_at, is_live, is_child_of, parent_of, any_unless_live, path_of, id_after, closing_of, going_up, without_spans, take_back};
+ghost use Rattle.tracing_tree_spans.specs.Registry.Registered.{IsNewSpan, IsCloned, IsClosed, ListsClosing, AsksLastHandle, listed, IsNewest, IsKept, alone};
+ghost use Rattle.tracing_tree_spans.specs.Registry.Kept.{spans_of, kept_at, kept_path, with_child, without_span, AreBelow, IsTied};
+
+use super::node::Node;
+use super::nodes::Nodes;
+use super::path::SpanPath;
+use super::{Attributes, Context, Data, LookupSpan, SpanRef};
+use std::alloc::{AllocError, Global};
+use std::marker::Model;
+use tracing_tree_context::{Id, Refusal};
+use tracing_tree_text::field::Fields;
+
+/// The live spans and the next id. A span is live while it has a handle or a live child.
+///
+/// Each span is kept with its path and with the number of its children. So a path is there at once, and a close looks at no
+/// span but those on the path of the span that closes.
+///
+/// Paths aren't shared, so they cost memory by their depth. One of at most five spans lies in the span's record, which takes 256
+/// bytes; a longer one takes eight bytes more for each of its spans: 80 at depth 10, 800 at depth 100, 8,000 at depth 1,000. The
+/// list of records doubles where it grows. So 100,000 live spans take 34 MB up to depth 5, 400 MB more at depth 500, and 800 MB
+/// more at depth 1,000.
+///
+/// A child keeps its parent live:
+/// ```rust
+/// let mut spans = Registry::new(alloc);
+/// let parent = spans.new_span(root, here)?;
+/// let id = spans.new_span(child, here)?; // below `Parent::Of(parent)`
+/// spans.try_close(parent)?; // false: the child is live
+/// spans.try_close(id)?; // true: both are gone
+/// ```
+#[derive(Drop)]
+pub struct Registry {
+    nodes: Nodes,
+    next: Option<Id>,
+}
+
+impl Model for Registry {
+    ghost use Rattle.tracing_tree_spans.specs.Registry.Forest.{Forest};
+    ghost use Rattle.tracing_tree_spans.specs.Registry.Registered.{IsKept};
+    ghost use Rattle.tracing_tree_spans.specs.Registry.Kept.{spans_of, IsTied};
+
+    ghost Value = { Forest };
+
+    ghost view = { λ r. record { spans = spans_of r.nodes; next = r.next } };
+
+    ghost invariant = { λ r. IsKept (spans_of r.nodes) r.next × IsTied r.nodes };
+}
+
+impl Registry {
+    /// A registry without spans, whose first id is 1. Takes no memory.
+    pub fn new(alloc: Global) -> Registry
+        ensures { result ≡ empty_forest (id_of 1) }
+    {
+        Registry::starting_at(alloc, 1)
+    }
+
+    /// A registry without spans, whose first id is this. Takes no memory.
+    pub fn starting_at(alloc: Global, first: u64) -> Registry
+        ensures { result ≡ empty_forest (id_of first) }
+    {
+        Registry {
+            nodes: Nodes::new(alloc),
+            next: Some(Id(first)),
+        }
+    }
+
+    /// Returns the id that the next new span gets; none after `u64::MAX` was given out.
+    pub fn next_id(&self) -> Option<Id>
+        ensures { result ≡ self.now.next }
+    {
+        self.next
+    }
+
+    /// Makes a span with one handle, not printed yet, which starts at the context's moment, and returns its id.
+    ///
+    /// `NotHeld` of a parent that isn't live, `TooMany` after `u64::MAX` was given out, `Memory`. On a refusal the registry is
+    /// as it was, and the attributes are gone.
+    pub fn new_span(&mut self, attributes: Attributes, context: &Context) -> Result<Id, Refusal>
+        ensures made { IsNewSpan attributes context.now result self.old self.new }
+
+        // It is the newest span, and taking it back undoes this.
+        ensures newest { IfOk result (λ id. IsNewest id self.new) }
+        ensures undone { IfOk result (λ id. take_back id self.new ≡ self.old) }
+    {
+        let parent = attributes.parent.named(context.current);
+        if let Some(id) = missing(&self.nodes, parent) {
+            return Err(Refusal::NotHeld(id));
+        }
+        let id = self.next.ok_or(Refusal::TooMany)?;
+        let path = SpanPath::below(self.nodes.allocator(), path_at(&self.nodes, parent), id)?;
+        let Attributes {
+            name,
+            target,
+            parent: _,
+            fields,
+        } = attributes;
+        let node = Node {
+            id,
+            handles: 1,
+            children: 0,
+            parent,
+            path,
+            kept: Data {
+                start: context.moment.mono,
+                fields,
+                written: false,
+            },
+            name,
+            target,
+        };
+        push_below(&mut self.nodes, parent, node)?;
+        self.next = following(id);
+        Ok(id)
+    }
+
+    /// Adds one handle to a live span, also to one that only a child holds. Returns its id. Takes no memory.
+    ///
+    /// `NotHeld` of a span that isn't live, `TooMany` where its handles can't be counted further; nothing has changed then.
+    pub fn clone_span(&mut self, id: Id) -> Result<Id, Refusal>
+        ensures { IsCloned id result self.old self.new }
+    {
+        let Some(node) = self.nodes.get(id) else {
+            return Err(Refusal::NotHeld(id));
+        };
+        if node.handles() == u64::MAX {
+            return Err(Refusal::TooMany);
+        }
+        self.nodes.add_handle(id);
+        Ok(id)
+    }
+
+    /// Takes one handle of a span away. A span with neither handle nor child left goes, then its parent if it has neither, and
+    /// so on upward. Returns whether the span went. Takes no memory.
+    ///
+    /// `NotHeld` of a span that isn't live or has no handle left; nothing has changed then.
+    pub fn try_close(&mut self, id: Id) -> Result<bool, Refusal>
+        ensures { IsClosed id result self.old self.new }
+    {
+        let Some(node) = self.nodes.get(id) else {
+            return Err(Refusal::NotHeld(id));
+        };
+        if node.handles() == 0 {
+            return Err(Refusal::NotHeld(id));
+        }
+        let count = closing_part(&self.nodes, node).len();
+        self.nodes.take_handle(id);
+        remove_upward(&mut self.nodes, id, count);
+        Ok(count > 0)
+    }
+
+    /// The ids that `try_close` would remove, in order, in place of what the list has: the span, its parent, and so on, as far as each
+    /// has neither handle nor another child. None where the span keeps a handle or a child. It takes memory only where the list has
+    /// too little room. After an error the list is of no use.
+    ///
+    /// `NotHeld` as of `try_close`, `Memory`.
+    pub fn closing_into(&self, id: Id, ids: &mut Vec<Id>) -> Result<(), Refusal>
+        ensures lists { ListsClosing id (listed ids.new result) self.now }
+        ensures longest { IfOk result (λ done. IsClosing self.now id ids.new.items) }
+        ensures last { AsksLastHandle id (listed ids.new result) self.now }
+    {
+        ids.clear();
+        let Some(node) = self.nodes.get(id) else {
+            return Err(Refusal::NotHeld(id));
+        };
+        if node.handles() == 0 {
+            return Err(Refusal::NotHeld(id));
+        }
+        let part = closing_part(&self.nodes, node);
+        if part.is_empty() {
+            return Ok(());
+        }
+        ids.extend_from_slice(part)?;
+        ids.reverse();
+        Ok(())
+    }
+
+    /// Takes a new span out again: its id is the next one again. Takes no memory. The caller must
+    /// ensure that the span is the newest given out, live, with one handle and no child.
+    pub fn take_back(&mut self, id: Id)
+        requires { IsNewest id self.old }
+        ensures { self.new ≡ take_back id self.old }
+    {
+        remove_leaf(&mut self.nodes, id);
+        self.next = Some(id);
+    }
+}
+
+// The id, if there is one that no span has.
+fn missing(nodes: &Nodes, id: Option<Id>) -> Option<Id>
+    ensures { result ≡ any_unless_live (alone (spans_of nodes.now)) id }
+{
+    let id = id?;
+    nodes.get(id).is_none().then_some(id)
+}
+
+// The id after this one, if there is one.
+fn following(id: Id) -> Option<Id>
+    ensures { result ≡ id_after id }
+{
+    id.0.checked_add(1).map(Id)
+}
+
+// The path of a span that may be missing; empty where it is.
+fn path_at(nodes: &Nodes, id: Option<Id>) -> &[Id]
+    ensures { result.now ≡ kept_path nodes.now id }
+{
+    match id.and_then(|id| nodes.get(id)) {
+        Some(node) => node.path(),
+        None => &[],
+    }
+}
+
+// Puts a new span at the end, and counts it among its parent's children. Nothing has changed where memory is refused.
+fn push_below(nodes: &mut Nodes, parent: Option<Id>, node: Node) -> Result<(), AllocError>
+    requires below { AreBelow node.span.id.0 nodes.old }
+    requires tied { IsTied nodes.old }
+    requires childless { node.children ≡ 0 }
+    ensures ok { OnOk result (nodes.new ≡ with_child parent (nodes.old ++ node ∷ [])) }
+    ensures err { OnErr result (nodes.new ≡ nodes.old) }
+{
+    nodes.push(node)?;
+    if let Some(above) = parent {
+        nodes.add_child(above);
+    }
+    Ok(())
+}
+
+// The end of a span's path that closes when a handle of the span is taken away: the span itself where it keeps neither a handle
+// nor a child, its parent where that has no handle and no other child, and so on upward.
+fn closing_part<'a>(nodes: &Nodes, node: &'a Node) -> &'a [Id]
+    requires kept { IsKept (spans_of nodes.now) None }
+    requires tied { IsTied nodes.now }
+    requires there { kept_at nodes.now node.now.span.id ≡ Some node.now }
+    requires held { 0 < node.now.span.handles }
+    ensures { reverse result.now ≡ closing_of (alone (spans_of nodes.now)) node.now.span.id }
+{
+    let path = node.path();
+    if node.handles() != 1 || node.children() != 0 {
+        return &path[path.len()..];
+    }
+    let mut count = 1;
+    let mut above = node.parent();
+    while let Some(id) = above {
+        let Some(parent) = nodes.get(id) else {
+            break;
+        };
+        if parent.handles() != 0 || parent.children() != 1 {
+            break;
+        }
+        count += 1;
+        above = parent.parent();
+    }
+    &path[path.len() - count..]
+}
+
+// Removes a span without children, and counts it no longer among its parent's. Returns the parent.
+fn remove_leaf(nodes: &mut Nodes, id: Id) -> Option<Id>
+    requires kept { IsKept (spans_of nodes.old) None }
+    requires tied { IsTied nodes.old }
+    requires childless { list_any (is_child_of id) (spans_of nodes.old) ≡ false }
+    ensures parent { result ≡ parent_of (alone (spans_of nodes.old)) id }
+    ensures spans { spans_of nodes.new ≡ without_span id (spans_of nodes.old) }
+    ensures tied { IsTied nodes.new }
+{
+    let parent = nodes.remove(id)?.parent()?;
+    nodes.take_child(parent);
+    Some(parent)
+}
+
+// Removes so many spans, this one, its parent, and so on upward.
+fn remove_upward(nodes: &mut Nodes, id: Id, count: usize)
+    requires kept { IsKept (spans_of nodes.old) None }
+    requires tied { IsTied nodes.old }
+    requires all { count ≡ length (going_up (alone (spans_of nodes.old)) id) }
+    ensures spans { spans_of nodes.new ≡
+        (without_spans (going_up (alone (spans_of nodes.old)) id)
+        (alone (spans_of nodes.old))).spans }
+    ensures kept { (next : Option Id) → IsKept (spans_of nodes.old) next
+        → IsKept (spans_of nodes.new) next }
+    ensures tied { IsTied nodes.new }
+{
+    let mut above = Some(id);
+    for _ in 0..count {
+        let Some(id) = above else {
+            break;
+        };
+        above = remove_leaf(nodes, id);
+    }
+}
+
+impl LookupSpan for Registry {
+    ghost forest = { λ r. r };
+
+    fn span(&self, id: Id) -> Option<SpanRef<'_>> {
+        Some(self.nodes.get(id)?.look())
+    }
+
+    fn parent(&self, id: Id) -> Option<Id> {
+        self.nodes.get(id)?.parent()
+    }
+
+    fn path(&self, alloc: Global, id: Id) -> Result<Vec<Id>, AllocError> {
+        match self.nodes.get(id) {
+            Some(node) => node.path().to_vec(alloc),
+            None => Ok(Vec::new(alloc)),
+        }
+    }
+
+    /// The path of a span; none exactly of an id that isn't live.
+    fn kept_path(&self, id: Id) -> Option<&[Id]>
+        ensures kept { IfSome result (λ path. path.now ≡ path_of self.now id) }
+        ensures live { IsSome result ↔ IsTrue (is_live self.now id) }
+        ensures formed { IsForest self.now }
+    {
+        Some(self.nodes.get(id)?.path())
+    }
+
+    fn data(&self, id: Id) -> Option<&Data> {
+        Some(self.nodes.get(id)?.data())
+    }
+
+    fn record(&mut self, id: Id, fields: Fields) -> Result<(), AllocError> {
+        self.nodes.record(id, fields)
+    }
+
+    fn set_written(&mut self, id: Id) {
+        self.nodes.set_written(id);
+    }
+}

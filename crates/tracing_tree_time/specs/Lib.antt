@@ -1,0 +1,4 @@
+pub mod Clock
+pub mod Numbers
+pub mod Pieces
+pub mod Timers

@@ -1,0 +1,22 @@
+//! Timers: what a layer shows of the moment of an event, and of the time since a span began.
+//!
+//! [`UtcDateTime`], [`LocalDateTime`] and [`Uptime`] are timers, `()` is the one that shows nothing, and [`Clock`] is any of these, chosen
+//! while the program runs. Any other [`FormatTime`] will do.
+#![tactic(auto)]
+
+mod civil;
+pub mod clocks;
+mod elapsed;
+pub mod local;
+mod pieces;
+mod short;
+mod timer;
+pub mod uptime;
+pub mod utc;
+
+pub use clocks::Clock;
+pub use local::LocalDateTime;
+pub use timer::{FormatTime, TimeFault};
+pub use tracing_tree_context::Moment;
+pub use uptime::Uptime;
+pub use utc::UtcDateTime;
