@@ -3,8 +3,9 @@
 
 NAME is a function, as `read_rows`, a method, as `Layered::run`, or a definition of specs/, as `IsRunOf`. Printed are the function's
 contract and then each definition that it rests on, once: those that it names first, then those that these name, and so on, grouped by
-file under the file's first comment. After them come the types of the code and the words of the toolchain's library, with the modules
-that have them, and last 'N lines, M definitions' (comments and blank lines not counted), which --count prints alone. --check compares the counts in docs/PROVED.md with what is counted now."""
+file under the file's first comment, with the names that the file gives to what it imports. After them come the types of the code and the
+words of the toolchain's library, with the modules that have them, and last 'N lines, M definitions' (comments and blank lines not
+counted), which --count prints alone. --check compares the counts in docs/PROVED.md with what is counted now."""
 import argparse, collections, difflib, glob, os, re, sys
 
 TOP = os.path.dirname(os.path.dirname(os.path.abspath(__file__)))
@@ -187,6 +188,14 @@ def find(name, definitions, functions):
     sys.exit(f"claim: nothing is named {name}; near are {', '.join(near)}")
 
 
+def renamed_in(path, texts):
+    """Returns a line for each name that a file of specs/ gives to what it imports, where these texts have it."""
+    text, code = read(path), without_comments("\n".join(texts))
+    whole = re.findall(rf"(?m)^use ([\w.]+)\.(\w+) as ({WORD})$", text)
+    each = [(use["module"], *it.strip().split(" as ")) for use in IMPORT.finditer(text) for it in (use["names"] or "").split(",") if " as " in it]
+    return [f"-- {new} here is {name} of {module}" for module, name, new in whole + each if re.search(rf"\b{new}\b", code)]
+
+
 def show(start, found, words):
     print(f"-- {os.path.relpath(start.file, TOP)}\n\n{start.text}\n")
     files = collections.defaultdict(list)
@@ -194,7 +203,8 @@ def show(start, found, words):
         files[it.file].append(it)
     for path, each in files.items():
         first = read(path).split("\n")[0]
-        print(f"---- {os.path.relpath(path, TOP)}{': ' + first[3:] if first.startswith('-- ') else ''}\n")
+        print(f"---- {os.path.relpath(path, TOP)}{': ' + first[3:] if first.startswith('-- ') else ''}")
+        print("\n".join([*renamed_in(path, [it.text for it in each]), ""]))
         print("\n\n".join(it.text for it in each) + "\n")
     modules = collections.defaultdict(list)
     for name, module in sorted(words.items()):
