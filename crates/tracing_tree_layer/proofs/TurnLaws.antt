@@ -163,21 +163,16 @@ module _ {W FT : Type 0} (time : FormatTime FT) (output : Output W) where
         });
       }
 
--- A close for which a handle was found is not refused by the registry once the marks are made.
-pub closes_held : (settings : Settings) (context : Context) (i : Id) (refusal : Refusal) (forest marked new : Forest) (last : Option Id) (ids : List Id) →
-    unless_handle forest i ≡ None → marked ≡ (turn_of_closes settings context ids forest last).forest → IsClosed i (Err refusal) marked new → ⊥
-closes_held settings context i refusal forest marked new last ids held marks closed =
+-- Marks leave a handle, and what closes with it.
+pub closes_held : (settings : Settings) (context : Context) (i : Id) (forest marked : Forest) (last : Option Id) (ids : List Id) →
+    unless_handle forest i ≡ None → marked ≡ (turn_of_closes settings context ids forest last).forest → unless_handle marked i ≡ None
+closes_held settings context i forest marked last ids held marks =
     let fresh : List Id = (plan_of_closes settings forest ids (empty_plan last)).fresh in
-    let same : unless_handle marked i ≡ None =
     ap (λ f. unless_handle f i) (marks ∙ closes-marked settings context ids forest last)
-    ∙ ap (λ (n : ℕ). then_some (n == 0) i) (handles_of-marked fresh forest i) ∙ held in
-    by refusal closed same
-  where
-    by : (r : Refusal) → IsClosed i (Err r) marked new → unless_handle marked i ≡ None → ⊥
-    by (NotHeld j) h e = let clash = sym h.0 ∙ e in cc
-    by TooWide h e = h
-    by TooMany h e = h
-    by Memory h e = h
-    by Refused.Timer h e = h
-    by Writer h e = h
-    by Failed h e = h
+    ∙ ap (λ (n : ℕ). then_some (n == 0) i) (handles_of-marked fresh forest i) ∙ held
+
+pub closes_listed : (settings : Settings) (context : Context) (i : Id) (forest marked : Forest) (last : Option Id) (ids : List Id) →
+    ids ≡ closing_of forest i → marked ≡ (turn_of_closes settings context ids forest last).forest → ids ≡ closing_of marked i
+closes_listed settings context i forest marked last ids listed marks =
+    let fresh : List Id = (plan_of_closes settings forest ids (empty_plan last)).fresh in
+    listed ∙ sym (closing_of-marked fresh forest i) ∙ ap (λ f. closing_of f i) (sym (marks ∙ closes-marked settings context ids forest last))

@@ -236,7 +236,7 @@ impl<W: Output, FT: FormatTime> Layered<W, FT> {
         self.registry.closing_into(id, &mut self.closing)?;
         let ids = self.closing.as_slice();
         self.layer.write_closes(ids, &mut self.registry, context)?;
-        Ok(Reply::Closed(self.registry.try_close(id)?))
+        Ok(Reply::Closed(self.registry.close_listed(id, ids)))
     }
 
     // Nothing is drawn.
@@ -277,7 +277,7 @@ impl<W: Output, FT: FormatTime> Layered<W, FT> {
     }
 }
 
-// How many spans lead down to this one; none where it isn't there or isn't live. The registry keeps
+// How many spans lead down to the span, itself among them; 0 where it isn't there or isn't live. The registry keeps
 // all paths, so no memory is taken.
 fn depth(registry: &Registry, id: Option<Id>) -> usize
     ensures { result ≡ length (path_of_any registry.now (if_live registry.now id)) }

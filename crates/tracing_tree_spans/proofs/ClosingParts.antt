@@ -110,7 +110,7 @@ lacks-one (x ∷ spans) b i t rising found child = by (λ k. lacks-one spans b i
 
 -- ---- the part of a path that closes
 
--- so many spans have closed, up to one whose parent is looked at next
+-- `count` spans have closed, up to one whose parent is looked at next
 pub record HasClosed (spans : List Span) (i : Id) (whole count : ℕ) (above : Option Id) : Type 0 where
   pub going : List Id
   pub last : Id
@@ -330,7 +330,7 @@ stays-child node other = let second : (node.children == 1) ≡ false = grind (ar
 
 -- ---- the removal of what closes
 
--- some spans were removed from the id on upward, and so many are left to remove from here on
+-- some spans were removed from the id on upward, and `count` are left to remove from here on
 pub record HasRemoved (old now : List Span) (first above : Option Id) (count : ℕ) : Type 0 where
   pub kept : (next : Option Id) → IsKept old next → IsKept now next
   pub spans : left (rest_of now above) now ≡ left (rest_of old first) old

@@ -1,5 +1,5 @@
 -- A registry over the list of spans that it keeps: what is read of a span, and what is left when one changes, comes or goes.
-use Rattle.std.proofs.Common.{◌≡◌, ◌≢◌, ℕ, ◌-◌, ◌<◌, ◌≤◌, nat_lt, ◌==◌, Bool, true, false, ◌&&◌, not, List, [], ◌∷◌, ◌++◌, length, map, reverse, find, filter, Option, Some, None, IfSome, IfOk, Result, Ok, Err, Bor, if◌then◌else◌, arith, refl, sym, ap, ◌∙◌, subst, length-append}
+use Rattle.std.proofs.Common.{◌≡◌, ◌≢◌, ℕ, zero, suc, ◌-◌, ◌<◌, ◌≤◌, nat_lt, ◌==◌, Bool, true, false, ◌&&◌, not, List, [], ◌∷◌, ◌++◌, length, map, reverse, find, filter, Option, Some, None, IfSome, IfOk, Result, Ok, Err, Bor, if◌then◌else◌, arith, refl, sym, ap, ◌∙◌, subst, length-append}
 use Rattle.std.specs.List.{list_all, list_any}
 use Rattle.std.specs.Option.{option_map, option_map_or, option_or, option_copied, is_some}
 use Rattle.std.specs.Bool.{then_some}
@@ -56,6 +56,19 @@ pub some-handles : (now : Forest) (i : Id) (s : Span) → span_at now i ≡ Some
 some-handles now i s here some =
     let first : (s.handles == 0) ≡ false = grind (arith, nat_tests) in
     ap (λ o. then_some (option_map_or (λ (span : Span). span.handles) o 0 == 0) i) here ∙ ap (λ b. then_some b i) first
+
+-- a span with a handle left has one at least
+some-left : (now : Forest) (i : Id) (s : Span) → span_at now i ≡ Some s → unless_handle now i ≡ None → (n : ℕ) → s.handles ≡ n → 0 < n
+some-left now i s here held zero e = let clash = sym (zero-handles now i s here e) ∙ held in cc
+some-left now i s here held (suc n) e = omega arith
+
+pub handle-left : (nodes : List KeptSpan) (next : Option Id) (now : Forest) (i : Id) → forest_of (spans_of nodes) next ≡ now → unless_handle now i ≡ None →
+    IfSome (kept_at nodes i) (λ node. 0 < node.span.handles)
+handle-left nodes next now i view held =
+    elim (kept_at nodes i) as (λ o. kept_at nodes i ≡ o → IfSome o (λ node. 0 < node.span.handles)) [
+      | None ↦ (λ e. tt)
+      | Some node ↦ (λ e. some-left now i node.span (seen nodes next now i (Some node) view e) held node.span.handles refl)
+    ] refl
 
 -- a kept span is the one of its own id
 pub kept-own : (nodes : List KeptSpan) (i : Id) (node : KeptSpan) → kept_at nodes i ≡ Some node → kept_at nodes node.span.id ≡ Some node
@@ -212,14 +225,6 @@ closing-one now formed i s here some closes =
         let goes : ((s.handles - 1 == 0) && lacks_others now.spans None i) ≡ false = rw e refl in
         absurd (closes (closing-first now formed i s here
         ∙ ap (λ b. if b then i ∷ going_after now (Some i) (way_up now s.parent) else []) goes))
-
--- so many spans are left to remove, once the handle is taken away
-pub count-up : (nodes new : List KeptSpan) (i j : Id) (part : List Id) (count : ℕ) → new ≡ change_kept handle_less i nodes → j ≡ i →
-    reverse part ≡ closing_of (alone (spans_of nodes)) j → count ≡ length part → count ≡ length (going_up (alone (spans_of new)) i)
-count-up nodes new i j part count e same closes counted =
-    let spans : spans_of new ≡ map (changed one_less i) (spans_of nodes) = ap spans_of e ∙ spans-changed handle_less one_less (λ n. refl) i nodes in
-    counted ∙ sym (length-reverse part) ∙ ap (λ (ids : List Id). length ids) (closes ∙ ap (closing_of (alone (spans_of nodes))) same)
-    ∙ ap (λ xs. length (going_up (alone xs) i)) (sym spans)
 
 -- whether it is more than none
 pub more-none : (n : ℕ) → nat_lt 0 n ≡ not (n == 0)

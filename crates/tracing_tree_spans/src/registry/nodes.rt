@@ -232,7 +232,7 @@ fn ends(slots: &[Slot]) -> (u64, u64) {
     }
 }
 
-// As large a part of so many places as these ids are of all. The product can wrap where ids are far apart, and the part is then
+// As large a part of the places as these ids are of all. The product can wrap where ids are far apart, and the part is then
 // no good guess.
 fn share(places: usize, ids: u64, all: u64) -> usize {
     let scaled = ids.wrapping_mul(places as u64);

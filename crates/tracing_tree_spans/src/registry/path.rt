@@ -7,7 +7,7 @@ use std::alloc::{AllocError, Global};
 use std::marker::Model;
 use tracing_tree_context::Id;
 
-// Paths of at most so many spans lie in the span's record itself. Few spans are nested deeper.
+// Paths of at most five spans lie in the span's record itself. Few spans are nested deeper.
 const SHORT: usize = 5;
 
 // A path, root first.

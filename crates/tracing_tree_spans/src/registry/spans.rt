@@ -2,10 +2,10 @@
 
 mod surface;
 
-ghost use Rattle.std.specs.Prelude.{◌≡◌, ◌<◌, ◌++◌, [], ◌∷◌, None, Some, IfOk, IfSome, IsSome, OnOk, OnErr, Option, reverse, length, false, IsTrue, ◌↔◌};
+ghost use Rattle.std.specs.Prelude.{◌≡◌, ◌<◌, ◌++◌, [], ◌∷◌, None, Some, Ok, IfOk, IfSome, IsSome, OnOk, OnErr, Option, reverse, length, false, IsTrue, ◌↔◌};
 ghost use Rattle.std.specs.List.{list_any};
 ghost use Rattle.tracing_tree_spans.specs.Registry.Ids.{id_of};
-ghost use Rattle.tracing_tree_spans.specs.Registry.Forest.{IsForest, IsPathIfLive, IsClosing, empty_forest, span_at, is_live, is_child_of, parent_of, any_unless_live, path_of, id_after, closing_of, going_up, without_spans, take_back};
+ghost use Rattle.tracing_tree_spans.specs.Registry.Forest.{IsForest, IsPathIfLive, IsClosing, empty_forest, span_at, is_live, is_child_of, parent_of, any_unless_live, path_of, id_after, closing_of, going_up, without_spans, take_back, unless_handle};
 ghost use Rattle.tracing_tree_spans.specs.Registry.Registered.{IsNewSpan, IsCloned, IsClosed, ListsClosing, AsksLastHandle, listed, IsNewest, IsKept, alone};
 ghost use Rattle.tracing_tree_spans.specs.Registry.Kept.{spans_of, kept_at, kept_path, with_child, without_span, AreBelow, IsTied};
 
@@ -151,9 +151,29 @@ impl Registry {
             return Err(Refusal::NotHeld(id));
         }
         let count = closing_part(&self.nodes, node).len();
+        Ok(self.close(id, count))
+    }
+
+    /// Closes a span as `try_close` does, where `closing_into` has listed before what goes with it, and at most marks have changed since.
+    /// The caller must ensure that a handle of the span is left, and that these ids are what goes. Returns whether the span went. Takes
+    /// no memory.
+    pub fn close_listed(&mut self, id: Id, ids: &[Id]) -> bool
+        requires held { unless_handle self.old id ≡ None }
+        requires listed { ids.now ≡ closing_of self.old id }
+        ensures { IsClosed id (Ok result) self.old self.new }
+    {
+        self.close(id, ids.len())
+    }
+
+    // Takes a handle away, and the spans that go with it, `count` of them.
+    fn close(&mut self, id: Id, count: usize) -> bool
+        requires held { unless_handle self.old id ≡ None }
+        requires counted { count ≡ length (closing_of self.old id) }
+        ensures { IsClosed id (Ok result) self.old self.new }
+    {
         self.nodes.take_handle(id);
         remove_upward(&mut self.nodes, id, count);
-        Ok(count > 0)
+        count > 0
     }
 
     /// The ids that `try_close` would remove, in order, in place of what the list has: the span, its parent, and so on, as far as each
@@ -275,7 +295,7 @@ fn remove_leaf(nodes: &mut Nodes, id: Id) -> Option<Id>
     Some(parent)
 }
 
-// Removes so many spans, this one, its parent, and so on upward.
+// Removes `count` spans: the span of this id, its parent, and so on upward.
 fn remove_upward(nodes: &mut Nodes, id: Id, count: usize)
     requires kept { IsKept (spans_of nodes.old) None }
     requires tied { IsTied nodes.old }

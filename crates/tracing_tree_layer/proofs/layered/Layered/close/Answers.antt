@@ -1,13 +1,19 @@
 use Rattle.std.proofs.Common.{◌≡◌, false, ap, ◌∙◌}
 use Rattle.tracing_tree_layer.specs.Layer.Drawn.{has_no_id}
-use Rattle.tracing_tree_layer.proofs.TurnLaws.{closes, closes_held}
+use Rattle.tracing_tree_layer.proofs.TurnLaws.{closes, closes_held, closes_listed}
 use Rattle.tracing_tree_layer.proofs.layered.Layered.close.Goals as goal
 
-pub returns-in_err-try_close : goal.returns-in_err-try_close
-returns-in_err-try_close g c =
+pub close_listed-requires-clause-held : goal.close_listed-requires-clause-held
+close_listed-requires-clause-held g c =
     let before = c.self.inside in
-    absurd (closes_held before.layer.settings c.args.context.now c.args.id c.in_err-try_close.field-0.0 before.registry c.write_closes.new.spans c.try_close.new.self
-    before.layer.last c.as_slice-ids.result.now c.in_ok-closing_into.ensures.lists.0 c.in_ok-write_closes.ensures.marked c.in_err-try_close.ensures)
+    closes_held before.layer.settings c.args.context.now c.args.id before.registry c.write_closes.new.spans before.layer.last c.as_slice-ids.result.now
+    c.in_ok-closing_into.ensures.lists.0 c.in_ok-write_closes.ensures.marked
+
+pub close_listed-requires-clause-listed : goal.close_listed-requires-clause-listed
+close_listed-requires-clause-listed g c =
+    let before = c.self.inside in
+    closes_listed before.layer.settings c.args.context.now c.args.id before.registry c.write_closes.new.spans before.layer.last c.as_slice-ids.result.now
+    (c.as_slice-ids.ensures.value ∙ c.in_ok-closing_into.ensures.lists.1) c.in_ok-write_closes.ensures.marked
 
 pub returns : goal.returns
 returns g c =
@@ -15,6 +21,6 @@ returns g c =
     let sound : before.layer.failed ≡ false = ap (λ l. l.layer.failed) c.self.view_is ∙ c.requires in
     let ids = c.as_slice-ids.result.now in
     rw (← c.self.view_is)
-    (closes g.FT.FormatTime g.W.Output c.args.id c.args.context.now c.in_ok-try_close.field-0 (has_no_id ids) c.in_ok-write_closes.field-0
-    (record { forest = before.registry; layer = before.layer }) (record { forest = c.try_close.new.self; layer = c.write_closes.new.self }) ids c.write_closes.new.spans
-    sound (c.in_ok-closing_into.ensures.lists.0, c.as_slice-ids.ensures.value ∙ c.in_ok-closing_into.ensures.lists.1) c.in_ok-write_closes.ensures c.in_ok-try_close.ensures)
+    (closes g.FT.FormatTime g.W.Output c.args.id c.args.context.now c.close_listed.result (has_no_id ids) c.in_ok-write_closes.field-0
+    (record { forest = before.registry; layer = before.layer }) (record { forest = c.close_listed.new.self; layer = c.write_closes.new.self }) ids c.write_closes.new.spans
+    sound (c.in_ok-closing_into.ensures.lists.0, c.as_slice-ids.ensures.value ∙ c.in_ok-closing_into.ensures.lists.1) c.in_ok-write_closes.ensures c.close_listed.ensures)
