@@ -77,7 +77,7 @@ differing-none (i ∷ left) [] h = refl
 differing-none (i ∷ left) (j ∷ right) h =
     differing-unequal same_id i left j right (h 0) ∙ ap (λ ids. j ∷ ids) (differing-none left right (λ place. h (suc place)))
 
-drop-next : (n : ℕ) (j : Id) (right : List Id) → drop (1 + n) (j ∷ right) ≡ drop n right
+pub drop-next : (n : ℕ) (j : Id) (right : List Id) → drop (1 + n) (j ∷ right) ≡ drop n right
 drop-next n j right = let e : 1 + n ≡ suc n = omega arith in ap (λ m. drop m (j ∷ right)) e
 
 -- where lists agree downward, what differs is what follows their common beginning

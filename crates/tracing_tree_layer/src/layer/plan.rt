@@ -1,7 +1,7 @@
 //! What a call is going to do, before any of it is done: its rows about spans, the spans that become
 //! printed, and the last span afterwards.
 
-ghost use Rattle.std.specs.Prelude.{◌≡◌, ◌≢◌, ◌≤◌, ◌-◌, ◌++◌, ◌∷◌, [], Some, None, OnOk, OnErr, IfOk, drop, length};
+ghost use Rattle.std.specs.Prelude.{◌≡◌, ◌≢◌, ◌≤◌, ◌-◌, ◌++◌, ◌∷◌, [], true, Some, None, OnOk, OnErr, IfOk, drop, length};
 ghost use Rattle.std.specs.List.{common_prefix_len, list_any};
 ghost use Rattle.tracing_tree_drawing.specs.Format.Settings.{retraces};
 ghost use Rattle.tracing_tree_spans.specs.Registry.Ids.{same_id};
@@ -9,7 +9,7 @@ ghost use Rattle.tracing_tree_spans.specs.Registry.Paths.{PartOnce};
 ghost use Rattle.tracing_tree_spans.specs.Registry.Forest.{IsForest, is_printed, path_of, path_of_any};
 ghost use Rattle.tracing_tree_layer.specs.Layer.CloseRetrace.{retraces_before_close};
 ghost use Rattle.tracing_tree_layer.specs.Layer.Turns.{current_of};
-ghost use Rattle.tracing_tree_layer.specs.Layer.Plan.{ids_of, empty_plan, with_rows, marked_by, planned_row, planned_parent, planned_fresh, planned_fresh_rows, retraced_plan, closed_plan, plan_of_new, plan_before_event, plan_of_close, plan_of_closes};
+ghost use Rattle.tracing_tree_layer.specs.Layer.Plan.{ids_of, empty_plan, with_rows, marked_by, planned_row, planned_parent, planned_fresh, planned_fresh_rows, retraced_plan, closed_plan, fresh_after, plan_of_new, plan_before_event, plan_of_close, plan_of_closes};
 
 use super::path::Path;
 use std::alloc::{AllocError, Global};
@@ -223,7 +223,7 @@ impl<S: LookupSpan> Planner<'_, S> {
         self.config.span_retrace() || self.config.deferred_spans()
     }
 
-    // Shows the spans on the path to this one that the last path lacks. They become printed, and
+    // Shows the spans on the path to the span that the last path lacks. They become printed, and
     // the span is the last one.
     fn retrace_to(&self, plan: &mut Plan, id: Id) -> Result<(), AllocError>
         ensures { let forest = S.forest self.now.spans.now in
@@ -232,9 +232,37 @@ impl<S: LookupSpan> Planner<'_, S> {
         if plan.last() == Some(id) {
             return Ok(());
         }
+        if self.follows_last(plan, id) {
+            return self.show(plan, &[id], id);
+        }
         let old = self.path(plan.allocator(), plan.last())?;
         let new = self.path(plan.allocator(), Some(id))?;
         let fresh = beyond(old.as_slice(), new.as_slice());
+        self.show(plan, fresh, id)
+    }
+
+    // Returns whether the span's parent is the last span. It alone is fresh then.
+    fn follows_last(&self, plan: &Plan, id: Id) -> bool
+        ensures { let fresh = fresh_after (S.forest self.now.spans.now) id plan.now in
+            result ≡ true → fresh ≡ id ∷ [] }
+    {
+        match self.spans.parent(id) {
+            Some(parent) => plan.last() == Some(parent),
+            None => false,
+        }
+    }
+
+    // Shows these fresh spans on the way to a span. They become printed, and the span is the last one.
+    fn show(&self, plan: &mut Plan, fresh: &[Id], id: Id) -> Result<(), AllocError>
+        ensures { let forest = S.forest self.now.spans.now in
+            let marked = marked_by plan.old forest in
+            let rows = planned_fresh_rows self.now.config.now marked forest fresh.now in
+            OnOk result (plan.new ≡ record {
+              rows = plan.old.rows ++ rows;
+              fresh = plan.old.fresh ++ fresh.now;
+              last = Some id;
+            }) }
+    {
         self.fresh_rows(plan, fresh)?;
         plan.print(fresh)?;
         plan.reach(id);
@@ -298,7 +326,7 @@ impl<S: LookupSpan> Planner<'_, S> {
         plan.push(PlannedRow { mode, id, level })
     }
 
-    // How many spans stand above this one.
+    // How many spans stand above the span.
     fn level(&self, alloc: Global, id: Id) -> Result<usize, AllocError>
         ensures { let path = path_of (S.forest self.now.spans.now) id in
             IfOk result (λ level. level ≡ length path - 1) }
