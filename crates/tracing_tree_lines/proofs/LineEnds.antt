@@ -1,6 +1,9 @@
 -- Where lines end in the bytes that a reader shows, and which line comes first.
-use Rattle.std.proofs.Common.{◌≡◌, ℕ, ◌+◌, ◌<◌, ◌==◌, Bool, true, false, not, List, [], ◌∷◌, ◌++◌, length, take, get_or, Option, Some, None, Ok, position, refl, sym, ap, subst, ◌∙◌, arith, append_assoc, append-nil, eqb-true, ⊎_elim}
-use Rattle.std.specs.Io.KnownBytes.{Consumes, Keeps, IsAtEnd}
+use Rattle.std.proofs.Common.{◌≡◌, ℕ, ◌+◌, ◌<◌, ◌==◌, Bool, true, false, not, List, [], ◌∷◌, ◌++◌, length, take, drop, get_or, if◌then◌else◌, take-append-drop, Option, Some, None, Ok, position, refl, sym, ap, subst, ◌∙◌, arith, append_assoc, append-nil, eqb-true, ⊎_elim}
+use Rattle.std.specs.declared.alloc.Global.{Global}
+use Rattle.std.specs.declared.io.buffered.BufReader.{BufReader}
+use Rattle.std.specs.Io.Buffered.{reader_buffer, reader_inner, reader_capacity, reader_remaining}
+use Rattle.std.specs.Io.KnownBytes.{Consumes, Keeps, IsAtEnd, prepend_known}
 use Rattle.memchr.specs.Find.{IsFirstByte, is_byte}
 use Rattle.std.proofs.Math.Nat.{eq-or-lt_of_le}
 use Rattle.std.proofs.lemmas.Bool.{cases_lt, false≢true}
@@ -155,3 +158,27 @@ takes_last (Some x) left line true taken is =
     nothing (b ∷ bytes) e = cc
 takes_last (Some x) left line false taken is =
     subst (λ l. TakesLine (Some x) l line) (sym taken.2) (ap input_lines taken.1 ∙ only_line_of line taken.0 (sym is))
+
+-- ---- a line that a buffer holds
+
+held_taken : (held : List ℕ) (n : ℕ) (is_empty : Bool) (inner : Option (List ℕ)) →
+    Consumes (if is_empty then None else prepend_known held inner) (if is_empty then None else prepend_known (drop n held) inner) (take n held)
+held_taken held n true inner = tt
+held_taken held n false None = tt
+held_taken held n false (Some rest) =
+    ap (λ bytes. bytes ++ rest) (sym (take-append-drop n held)) ∙ append_assoc (take n held) (drop n held) rest
+
+-- what a buffer holds up to a line end is the first line, once it is consumed
+pub held_line : {T : Type 0} (remaining : T → Option (List ℕ)) (old new : BufReader T Global) (i : ℕ) → position is_end (reader_buffer old) ≡ Some i →
+    reader_buffer new ≡ drop (i + 1) (reader_buffer old) → reader_inner new ≡ reader_inner old → reader_capacity new ≡ reader_capacity old →
+    TakesLine (reader_remaining remaining old) (reader_remaining remaining new) (take i (reader_buffer old))
+held_line remaining old new i found bytes inner room =
+    let held = reader_buffer old in
+    let e = ends_at held i found in
+    let left : reader_remaining remaining new ≡ (if reader_capacity old == 0 then None else prepend_known (drop (i + 1) held) (remaining (reader_inner old))) =
+    (λ k. if room k == 0 then None else prepend_known (bytes k) (remaining (inner k))) in
+    takes_first _ _ (take i held) (record {
+      within = e.clean;
+      taken = subst (λ l. Consumes (reader_remaining remaining old) l (take i held ++ 10 ∷ [])) (sym left)
+          (subst (Consumes _ _) e.through (held_taken held (i + 1) (reader_capacity old == 0) (remaining (reader_inner old))));
+    })

@@ -112,7 +112,7 @@ no_float_part Absent = refl
 no_float_part (Text text) = refl
 no_float_part (Whole n) = refl
 no_float_part (Negative z) = refl
-no_float_part (Fields fields) = no_float_fields fields
+no_float_part (Fields fields) = no_float_fields fields.items
 no_float_part Other = refl
 
 pub no_float_parts : (p : Parts) → has_float (parts_data p) ≡ false

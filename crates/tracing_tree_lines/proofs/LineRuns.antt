@@ -1,5 +1,5 @@
 -- Runs over lines: one line more, and what the run leaves at its end.
-use Rattle.std.proofs.Common.{◌≡◌, ℕ, ◌+◌, ◌<◌, ◌≤◌, true, false, not, List, [], ◌∷◌, ◌++◌, length, take, Option, Some, None, IfSome, Ok, Err, refl, sym, ap, subst, ◌∙◌, arith, append_assoc, append-nil, length-append, MatchBool}
+use Rattle.std.proofs.Common.{◌≡◌, Result, ℕ, ◌+◌, ◌<◌, ◌≤◌, true, false, not, List, [], ◌∷◌, ◌++◌, length, take, Option, Some, None, IfSome, Ok, Err, refl, sym, ap, subst, ◌∙◌, arith, append_assoc, append-nil, length-append, MatchBool}
 use Rattle.std.specs.Prelude.{slice_get, IsSomeAnd, ⊤}
 use Rattle.std.specs.Io.KnownBytes.{Appends}
 use Rattle.std.proofs.KnownBytes.{Appends-nil, Appends-trans, Appends-kept}
@@ -20,7 +20,7 @@ use Rattle.tracing_tree_lines.specs.Lines.Values.{IsUnlessMemory}
 use Rattle.tracing_tree_lines.specs.Lines.Runs.{EndsRun, IsLeftAfter, IsLeftByFault, is_from_outside, last_number, CountsCause}
 use Rattle.tracing_tree_lines.specs.Lines.Reads.{TakesLine, HasNoLine}
 use Rattle.tracing_tree_layer.specs.Layer.Layers.{Flushes}
-use Rattle.tracing_tree_lines.specs.Lines.Steps.{MakesCall, SkipsLine, FailsLine, JudgesLine, RunsOver, EndsLines}
+use Rattle.tracing_tree_lines.specs.Lines.Steps.{MakesCall, SkipsLine, FailsLine, JudgesLine, ShowsAndJudges, RunsOver, EndsLines}
 use Rattle.tracing_tree_layer.specs.declared.call.Call.{Call}
 use Rattle.tracing_tree_layer.specs.declared.call.Reply.{Reply}
 use Rattle.tracing_tree_lines.specs.declared.lines.Judged.{Judged}
@@ -398,6 +398,13 @@ goes_on_flushed known middle accepted number first now next h k = record {
   so_far = flushes first known middle accepted number now next h.so_far k;
   calm = ap (λ (s : Seen). s.writer.faults) k.same ∙ h.calm;
 }
+
+-- what was drawn may be passed on before a line is judged
+pub shown_first : (known middle left : Option (List ℕ)) (accepted number : ℕ) (result : Result Judged LineCause) {Both : Seen → Seen → Type 0} →
+    ((first now next : Seen) → GoesOver known middle accepted number first now → JudgesLine middle left result now next → Both first next) →
+    (first now next : Seen) → GoesOver known middle accepted number first now → ShowsAndJudges middle left result now next → Both first next
+shown_first known middle left accepted number result judge first now next h k =
+    judge first k.shown next (goes_on_flushed known middle accepted number first now k.shown h k.flushed) k.judged
 
 -- one line more, that doesn't end the run
 pub goes_on_skipped : (known middle left : Option (List ℕ)) (accepted number : ℕ) (first now next : Seen) →

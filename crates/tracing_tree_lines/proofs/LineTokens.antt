@@ -3,6 +3,8 @@ use Rattle.std.specs.Prelude.{◌≡◌, ℕ, ◌≤◌, ◌-◌, ◌&&◌, ◌|
 use Rattle.std.proofs.Common.{sym, ap, ◌∙◌, append-nil, arith, true≢false}
 use Rattle.std.proofs.lemmas.Option.{none-some}
 use Rattle.std.specs.Borrow.{Bor}
+use Rattle.std.specs.Prelude.{Vec}
+use Rattle.std.specs.declared.alloc.Global.{Global}
 use Rattle.std.specs.Result.{IsErr, IsErrAnd}
 use Rattle.json.specs.Reads.{skip_members}
 use Rattle.json.specs.Token.{Token}
@@ -28,7 +30,7 @@ use Rattle.tracing_tree_lines.specs.declared.lines.parts.Parts.{Parts}
 
 -- ---- members
 
--- so many members were read, and these parts hold what is read of them
+-- some members were read, and these parts hold what is read of them
 pub record ReadsMembers (first now : List Token) (parts : Parts) : Type 0 where
   pub turns : ℕ
   pub room : length now ≤ turns
@@ -87,7 +89,7 @@ member_read first now s r parts new key part value read at taken holds set other
 
 -- ---- fields
 
--- so many items were read; these are their fields, where each is one
+-- some items were read; these are their fields, where each is one
 pub record ReadsItems (first now : List Token) (fields : List Field) (are_fields : Bool) : Type 0 where
   pub turns : ℕ
   pub room : length now ≤ turns
@@ -190,13 +192,13 @@ pub items_end_read : (first now r : List Token) (fields : List Field) (are_field
     → json.items (json.value 125) (length first) first ≡ Some (read.before json.no_items, r)
 items_end_read first now r fields are_fields read end = read.parsed ∙ ap (parse_map read.before) (items_end (json.value 125) read.turns now r read.room end)
 
-pub fields_part : (first now r : List Token) (fields : List Field) (are_fields : Bool) → ReadsItems first now fields are_fields → are_fields ≡ true → after_end_array now ≡ Some r
+pub fields_part : (first now r : List Token) (fields : Vec Field Global) (are_fields : Bool) → ReadsItems first now fields.items are_fields → are_fields ≡ true → after_end_array now ≡ Some r
     → AreFieldsTaken first r (Fields fields)
 fields_part first now r fields are_fields read all end =
-    let found = read.all all json.no_items ∙ ap Some (append-nil fields) in
+    let found = read.all all json.no_items ∙ ap Some (append-nil fields.items) in
     record {
       items = read.before json.no_items;
-      taken = items_end_read first now r fields are_fields read end;
+      taken = items_end_read first now r fields.items are_fields read end;
       kept = record { kept = sym (ap readable_fields found); whole = λ none. read.whole all json.no_items refl };
     }
 

@@ -9,16 +9,17 @@ pub(crate) mod read;
 mod settings;
 mod value;
 
-ghost use Rattle.std.specs.Prelude.{◌≡◌, IfErr, IfSome, MatchResult};
+ghost use Rattle.std.specs.Prelude.{◌≡◌, ℕ, List, Option, IfErr, IfSome, MatchResult};
 ghost use Rattle.std.specs.Io.Buffered.{reader_remaining};
-ghost use Rattle.tracing_tree_layer.specs.Layer.Layers.{seen, Changes, Flushes};
-ghost use Rattle.tracing_tree_lines.specs.Lines.Reads.{IsBeforeCalls, OpensWith};
+ghost use Rattle.tracing_tree_layer.specs.Layer.Layers.{seen, Changes};
+ghost use Rattle.tracing_tree_lines.specs.Lines.Reads.{IsBeforeCalls, OpensWith, TakesLine};
 ghost use Rattle.tracing_tree_lines.specs.Lines.Runs.{CountsEnd, EndsAtFirst, LeavesRun, status_of};
-ghost use Rattle.tracing_tree_lines.specs.Lines.Steps.{EndsLines, JudgesLine};
+ghost use Rattle.tracing_tree_lines.specs.Lines.Steps.{EndsLines, JudgesLine, ShowsAndJudges};
 ghost use Rattle.tracing_tree_output.specs.Writers.{seen_writer};
 
 use call::call_of_line;
 use json::{Invalid, Scratch};
+use read::line_end;
 pub use read::{BLOCK, holds_line, is_skipped, read_line};
 use settings::{Setup, settings_of_line};
 use std::alloc::{AllocError, AllocFailed, Global};
@@ -221,7 +222,6 @@ fn run_calls<R: Read, W: Output, FT: FormatTime>(
     let mut scratch = Scratch::new(alloc);
     let mut accepted = 0;
     for number in 2..u64::MAX {
-        show_before_read(lines, layered);
         match run_line(alloc, lines, &mut line, &mut scratch, layered) {
             Ok(Judged::End) => return (accepted, None),
             Ok(Judged::Skipped) => {}
@@ -242,18 +242,6 @@ fn run_calls<R: Read, W: Output, FT: FormatTime>(
     (accepted, Some(fault))
 }
 
-// Has what is drawn passed on where the next line isn't read yet, since the read may wait.
-fn show_before_read<R: Read, W: Output, FT: FormatTime>(
-    lines: &BufReader<R>,
-    layered: &mut Layered<W, FT>,
-)
-    ensures { Changes (seen FT.FormatTime W.Output) Flushes layered.old layered.new }
-{
-    if !holds_line(lines) {
-        layered.flush();
-    }
-}
-
 // What became of a line.
 enum Judged {
     // There is none.
@@ -263,25 +251,47 @@ enum Judged {
     Accepted,
 }
 
-// Reads one line, and makes the call that it spells.
-fn run_line<B: BufRead, W: Output, FT: FormatTime>(
+// Makes the call of the next line. Where the reader's buffer holds the line whole, it is read there. Else what is drawn is passed on
+// first, since the read may wait.
+fn run_line<R: Read, W: Output, FT: FormatTime>(
     alloc: Global,
-    lines: &mut B,
+    lines: &mut BufReader<R>,
     line: &mut Vec<u8>,
     scratch: &mut Scratch,
     layered: &mut Layered<W, FT>,
 ) -> Result<Judged, LineCause>
     ensures { Changes (seen FT.FormatTime W.Output)
-        (JudgesLine (B.remaining lines.old) (B.remaining lines.new) result)
+        (ShowsAndJudges (reader_remaining R.remaining lines.old)
+        (reader_remaining R.remaining lines.new) result)
         layered.old layered.new }
 {
+    if let Some(end) = line_end(lines.buffer()) {
+        let judged = judge(alloc, &lines.buffer()[..end], scratch, layered);
+        lines.consume(end + 1);
+        return judged;
+    }
+    layered.flush();
     if !read_line(lines, line)? {
         return Ok(Judged::End);
     }
-    if is_skipped(line.as_slice()) {
+    judge(alloc, line.as_slice(), scratch, layered)
+}
+
+// What becomes of a line: it is skipped, or the call that it spells is made.
+fn judge<W: Output, FT: FormatTime>(
+    alloc: Global,
+    line: &[u8],
+    scratch: &mut Scratch,
+    layered: &mut Layered<W, FT>,
+) -> Result<Judged, LineCause>
+    ensures { (known left : Option (List ℕ)) → TakesLine known left line.now
+        → Changes (seen FT.FormatTime W.Output) (JudgesLine known left result)
+        layered.old layered.new }
+{
+    if is_skipped(line) {
         return Ok(Judged::Skipped);
     }
-    let call = call_of_line(alloc, line.as_slice(), scratch)?;
+    let call = call_of_line(alloc, line, scratch)?;
     layered.call(call)?;
     Ok(Judged::Accepted)
 }

@@ -60,7 +60,7 @@ part_data Absent = null
 part_data (Text text) = string text.now
 part_data (Whole n) = number (unsigned n)
 part_data (Negative z) = number (negative z)
-part_data (Fields fields) = array (fields_data fields)
+part_data (Fields fields) = array (fields_data fields.items)
 part_data Other = boolean false
 
 abbrev pub is_other : Part → Bool
@@ -100,7 +100,7 @@ parts_data p = object (parts_members p)
 abbrev pub no_parts : Members
 no_parts = keyed null null null null null null null null null null null null
 
--- the value at a key becomes this one, where the object has the key
+-- the value at `key` becomes `value`, where the object has the key
 abbrev pub with_key : List ℕ → Data → Members → Members
 with_key key value no_members = no_members
 with_key key value (member other old ms) =

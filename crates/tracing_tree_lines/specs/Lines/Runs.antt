@@ -75,7 +75,7 @@ pub record StopsAtFirst (input : List ℕ) (accepted : ℕ) (fault : Option Line
 abbrev pub last_number : ℕ
 last_number = 2 ^ 64 - 1
 
--- so many lines after the first may be judged, and no other cause ends the run at the last number
+-- this count of lines after the first may be judged, and no other cause ends the run at the last number
 abbrev pub IsCounted : ℕ → Option LineFault → Type 0
 IsCounted judged fault =
     (judged + 1 < last_number)

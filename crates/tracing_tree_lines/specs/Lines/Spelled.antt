@@ -65,7 +65,7 @@ unless_null (object ms) = Some (object ms)
 abbrev pub value_at : List ℕ → Data → Option Data
 value_at key value = option_and_then unless_null (get key value)
 
--- the value of a key as it is read, or else this one where the key is absent; `None` is a value
+-- the value of a key as it is read, or else `absent` where the key is absent; `None` is a value
 -- that can't be read
 abbrev pub read_or : {A : Type 0} → Option A → (Data → Option A) → List ℕ → Data → Option A
 read_or absent reader key value = option_map_or reader (value_at key value) absent

@@ -4,6 +4,7 @@ use Rattle.std.specs.Io.KnownBytes.{Appends}
 use Rattle.tracing_tree_drawing.specs.Format.Picture.{draw}
 use Rattle.tracing_tree_context.specs.declared.context.Refusal.{Refusal}
 use Rattle.tracing_tree_layer.specs.Layered.Seen.{Seen}
+use Rattle.tracing_tree_layer.specs.Layer.Layers.{Flushes}
 use Rattle.tracing_tree_layer.specs.Layered.Headline.{run_from}
 use Rattle.tracing_tree_layer.specs.Layered.Answered.{IsAnswered}
 use Rattle.tracing_tree_lines.specs.Lines.Spelled.{input_lines, is_skipped, SpellsCall, SpellCalls, SpellsNothing}
@@ -51,6 +52,13 @@ JudgesLine known left (Err NotACall) old new = FailsLine known left × (new ≡ 
 JudgesLine known left (Err Read) old new = new ≡ old
 JudgesLine known left (Err Memory) old new = new ≡ old
 JudgesLine known left (Err (Refused refusal)) old new = MakesCall known left (Err refusal) old new
+
+-- the writer may have passed on what it held back, before the first line of the input was judged
+pub record ShowsAndJudges (known left : Option (List ℕ)) (result : Result Judged LineCause)
+    (old new : Seen) : Type 0 where
+  pub shown : Seen
+  pub flushed : Flushes old shown
+  pub judged : JudgesLine known left result shown new
 
 -- A run over lines: the calls that these lines spell are accepted, the others are skipped, and the
 -- next line is to blame. What is written is the drawing of the run of these calls, and what the

@@ -12,7 +12,7 @@ use Rattle.tracing_tree_lines.specs.declared.lines.settings.timer.Timer.TheVaria
 use Rattle.tracing_tree_lines.specs.declared.lines.LineCause.{LineCause}
 use Rattle.tracing_tree_lines.specs.declared.lines.LineCause.TheVariants.{Settings as NoSettings, NotACall, Read, Memory, Refused}
 
--- the cause is want of memory, or this one for that reason
+-- the cause is want of memory, or `blamed` for that reason
 abbrev pub IsUnlessMemory : LineCause → Type 0 → LineCause → Type 0
 IsUnlessMemory blamed reason NoSettings = (blamed ≡ NoSettings) × reason
 IsUnlessMemory blamed reason NotACall = (blamed ≡ NotACall) × reason

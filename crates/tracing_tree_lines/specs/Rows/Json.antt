@@ -88,7 +88,7 @@ all_but_last rows = take (length rows - 1) rows
 
 -- ---- an input
 
--- so many lines of the input, at least, have a line end, and they are the drawing of these rows and
+-- at least `count` lines of the input have a line end, and they are the drawing of these rows and
 -- of no others
 pub record BeginsWithRows (amount : ℕ) (input : List ℕ) (count : ℕ)
     (rows : List TextRow) : Type 0 where

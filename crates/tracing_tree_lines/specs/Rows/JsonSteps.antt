@@ -41,7 +41,7 @@ WritesNext start rows row (Err Writer) json now =
     (count : ℕ)
     × Appends start now (json_lines rows ++ take count (json_line rows (length rows) row))
 
--- So many lines of the input were read, and this is left. The lines of all rows but the last were
+-- `count` lines of the input were read, and this is left. The lines of all rows but the last were
 -- written.
 pub record SoFar (amount : ℕ) (input : List ℕ) (start : Option (List ℕ)) (count : ℕ)
     (rest : List ℕ) (read : RowsRead) (now : Option (List ℕ)) : Type 0 where
@@ -53,7 +53,7 @@ pub record SoFar (amount : ℕ) (input : List ℕ) (start : Option (List ℕ)) (
   pub fresh : read.reader.last ≡ None → rows ≡ []
   pub written : HasWritten start rows read.json now
 
--- The reading ended after so many lines: at the input's end, or for a cause, at the next line.
+-- The reading ended after this count of lines: at the input's end, or for a cause, at the next line.
 abbrev pub HasEnded : ℕ → List ℕ → Option (List ℕ) → ℕ → Option RowCause → RowsRead
     → Option (List ℕ) → Type 0
 HasEnded amount input start count None read now = SoFar amount input start count [] read now

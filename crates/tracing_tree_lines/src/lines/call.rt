@@ -56,7 +56,7 @@ enum Kind {
 fn kind_in(parts: &Parts<'_>) -> Option<Kind>
     ensures { IsKindIn (parts_data parts.now) result }
 {
-    match parts.call.present()?.as_str()? {
+    match parts.call.unless_null()?.as_str()? {
         "new" => Some(Kind::New),
         "clone" => Some(Kind::Clone),
         "record" => Some(Kind::Record),
@@ -127,7 +127,7 @@ fn event_in(alloc: Global, parts: &mut Parts<'_>, context: Context) -> Result<Ca
 fn id_in(parts: &Parts<'_>) -> Option<Id>
     ensures { result ≡ id_in (parts_data parts.now) }
 {
-    id_value(parts.id.present()?)
+    id_value(parts.id.unless_null()?)
 }
 
 // The name of a span. `NotACall` where it isn't there or can't be read.
@@ -135,7 +135,7 @@ fn id_in(parts: &Parts<'_>) -> Option<Id>
 fn name_in(alloc: Global, parts: &Parts<'_>) -> Result<Text, LineCause>
     ensures { IsReadAs (required as_str (codes "name") (parts_data parts.now)) result }
 {
-    let name = parts.name.present().ok_or(LineCause::NotACall)?;
+    let name = parts.name.unless_null().ok_or(LineCause::NotACall)?;
     text_value(alloc, name)
 }
 
@@ -144,7 +144,7 @@ fn name_in(alloc: Global, parts: &Parts<'_>) -> Result<Text, LineCause>
 fn level_in(parts: &Parts<'_>) -> Option<Level>
     ensures { result ≡ required level_value (codes "level") (parts_data parts.now) }
 {
-    level_value(parts.level.present()?)
+    level_value(parts.level.unless_null()?)
 }
 
 // A target, empty where it isn't there.
@@ -152,7 +152,7 @@ fn level_in(parts: &Parts<'_>) -> Option<Level>
 fn target_in(alloc: Global, parts: &Parts<'_>) -> Result<Text, LineCause>
     ensures { IsReadAs (target_in (parts_data parts.now)) result }
 {
-    match parts.target.present() {
+    match parts.target.unless_null() {
         Some(target) => text_value(alloc, target),
         None => Ok(Text::from_str(alloc, "")?),
     }
@@ -163,7 +163,7 @@ fn target_in(alloc: Global, parts: &Parts<'_>) -> Result<Text, LineCause>
 fn parent_in(parts: &Parts<'_>) -> Option<Parent>
     ensures { result ≡ parent_in (parts_data parts.now) }
 {
-    match parts.parent.present() {
+    match parts.parent.unless_null() {
         Some(parent) => parent_value(parent),
         None => Some(Parent::Current),
     }
@@ -176,7 +176,7 @@ fn fields_in(alloc: Global, parts: &mut Parts<'_>) -> Result<Fields, LineCause>
 {
     match parts.take_fields() {
         Part::Absent => Ok(Fields::new(alloc)),
-        Part::Fields(fields) => Ok(fields),
+        Part::Fields(fields) => Ok(Fields::from(fields)),
         _ => Err(LineCause::NotACall),
     }
 }

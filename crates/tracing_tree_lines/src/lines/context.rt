@@ -37,7 +37,7 @@ pub(super) fn context_in(alloc: Global, parts: &Parts<'_>) -> Result<Context, Li
 fn current_in(parts: &Parts<'_>) -> Option<Option<Id>>
     ensures { result ≡ current_in (parts_data parts.now) }
 {
-    match parts.current.present() {
+    match parts.current.unless_null() {
         Some(current) => Some(Some(id_value(current)?)),
         None => Some(None),
     }
@@ -56,7 +56,7 @@ fn thread_in(parts: &Parts<'_>) -> Option<u64>
 fn thread_name_in(alloc: Global, parts: &Parts<'_>) -> Result<Option<Text>, LineCause>
     ensures { IsReadAs (thread_name_in (parts_data parts.now)) result }
 {
-    match parts.thread_name.present() {
+    match parts.thread_name.unless_null() {
         Some(name) => Ok(Some(text_value(alloc, name)?)),
         None => Ok(None),
     }
@@ -85,17 +85,17 @@ fn mono_in(parts: &Parts<'_>) -> Option<u64>
 fn wall_in(parts: &Parts<'_>) -> Option<i64>
     ensures { result ≡ wall_in (parts_data parts.now) }
 {
-    match parts.wall.present() {
+    match parts.wall.unless_null() {
         Some(wall) => wall.as_signed(),
         None => Some(0),
     }
 }
 
-// A whole number of 64 bits, or this one where nothing stands there. None where it can't be read.
+// A whole number of 64 bits, or `absent` where nothing stands there. None where it can't be read.
 fn whole_or(absent: u64, part: &Part<'_>) -> Option<u64>
     ensures { result ≡ option_map_or whole_value (unless_null (part_data part.now)) (Some absent) }
 {
-    match part.present() {
+    match part.unless_null() {
         Some(found) => found.as_whole(),
         None => Some(absent),
     }

@@ -5,7 +5,7 @@ ghost use Rattle.serde_json.specs.Find.{as_str};
 ghost use Rattle.tracing_tree_lines.specs.Lines.Parts.{is_other, part_data};
 ghost use Rattle.tracing_tree_lines.specs.Lines.Spelled.{signed_value, unless_null, whole_value};
 
-use tracing_tree_text::field::Fields;
+use tracing_tree_text::field::Field;
 
 // What a call is read from.
 #[derive(Drop)]
@@ -17,15 +17,15 @@ pub(super) enum Part<'a> {
     Whole(u64),
     // A whole number of 64 bits below zero.
     Negative(i64),
-    // An array of pairs of texts.
-    Fields(Fields),
+    // An array of pairs of texts. A list takes less room in a part than `Fields` do.
+    Fields(Vec<Field>),
     // Another value. No part of a call is read from it.
     Other,
 }
 
 impl<'a> Part<'a> {
-    // The part itself, if something stands there.
-    pub(super) fn present(&self) -> Option<&Part<'a>>
+    // The part itself. None where it is absent.
+    pub(super) fn unless_null(&self) -> Option<&Part<'a>>
         ensures { option_map (λ part. part_data part.now) result ≡ unless_null (part_data self.now) }
     {
         match self {

@@ -19,7 +19,7 @@ use json::{Invalid, Reader, Scratch, Token, Value};
 use simdutf8::basic::from_utf8;
 use std::alloc::{AllocError, Global};
 use std::mem;
-use tracing_tree_text::field::{Field, Fields};
+use tracing_tree_text::field::Field;
 use tracing_tree_text::text::Text;
 
 // How deep arrays and objects may nest in an item of an array that stands at a key. A line may nest 127 deep.
@@ -224,7 +224,7 @@ fn read_fields<'a>(alloc: Global, reader: &mut Reader<'_>) -> Result<Part<'a>, L
     if !are_fields {
         return Ok(Part::Other);
     }
-    Ok(Part::Fields(Fields::from(fields)))
+    Ok(Part::Fields(fields))
 }
 
 // The texts of the next value, where it is an array of two texts.

@@ -96,7 +96,7 @@ fn read_part<B: BufRead>(reader: &mut B, line: &mut Vec<u8>) -> Result<Part, Lin
 
 // Where the first line end stands.
 #[tactic(auto, using(crate::proofs::LineEnds::is_place))]
-fn line_end(held: &[u8]) -> Option<usize>
+pub(super) fn line_end(held: &[u8]) -> Option<usize>
     ensures { result ≡ position (λ byte. byte == 10) held.now }
 {
     memchr(b'\n', held)

@@ -9,6 +9,7 @@ ghost use Rattle.tracing_tree_lines.specs.Lines.Values.{ReadsFirst};
 ghost use Rattle.tracing_tree_lines.specs.Lines.Spelled.{chosen_timer, object_settings, positive_value, unnamed_settings, with_member, with_setting};
 
 use super::LineCause;
+use super::value::unless_null;
 use serde_json::Value;
 use std::alloc::Global;
 use std::marker::Model;
@@ -74,15 +75,14 @@ impl Setup {
         Some(Setup { config, timer })
     }
 
-    // The same with a member of the object. A null counts as absent.
-    #[tactic(auto, using(crate::proofs::OpenedLines::absent, crate::proofs::OpenedLines::there))]
+    // The same with a member of the object.
     fn with_member(self, key: &str, value: &Value) -> Option<Setup>
         ensures { result ≡ with_member key.now (view value.now) self }
     {
-        if value.is_null() {
-            return Some(self);
+        match unless_null(value) {
+            Some(value) => self.with(key, value),
+            None => Some(self),
         }
-        self.with(key, value)
     }
 
     // The settings and the timer by themselves.

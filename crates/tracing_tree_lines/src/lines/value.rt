@@ -3,18 +3,25 @@
 ghost use Rattle.std.specs.Prelude.{◌≡◌, Some, option_map};
 ghost use Rattle.serde_json.specs.View.{view, items_view, members_view};
 ghost use Rattle.serde_json.specs.Written.{has_float, items_have_float, members_have_float};
-ghost use Rattle.tracing_tree_lines.specs.Lines.Spelled.{value_at, flag, read_or, whole_value};
+ghost use Rattle.tracing_tree_lines.specs.Lines.Spelled.{value_at, flag, read_or, unless_null, whole_value};
 
 use serde_json::{Map, Value};
 
-// The value of a key; a null counts as absent.
+// The value itself. None where it is a null, which counts as absent.
+pub(super) fn unless_null(value: &Value) -> Option<&Value>
+    ensures { option_map (λ found. view found.now) result ≡ unless_null (view value.now) }
+{
+    match value {
+        Value::Null => None,
+        _ => Some(value),
+    }
+}
+
+// The value of a key.
 pub(super) fn value_at<'v>(value: &'v Value, key: &str) -> Option<&'v Value>
     ensures { option_map (λ found. view found.now) result ≡ value_at key.now (view value.now) }
 {
-    match value.get(key) {
-        Some(Value::Null) => None,
-        found => found,
-    }
+    unless_null(value.get(key)?)
 }
 
 // A truth value, false where the key is absent. None where it can't be read.
@@ -27,7 +34,7 @@ pub(super) fn flag(value: &Value, key: &str) -> Option<bool>
     }
 }
 
-// A whole number of 64 bits, or this one where the key is absent. None where it can't be read.
+// A whole number of 64 bits, or `absent` where the key is absent. None where it can't be read.
 pub(super) fn whole_or(absent: u64, value: &Value, key: &str) -> Option<u64>
     ensures { result ≡ read_or (Some absent) whole_value key.now (view value.now) }
 {

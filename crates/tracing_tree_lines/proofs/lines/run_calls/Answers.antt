@@ -1,9 +1,9 @@
-use Rattle.std.proofs.Common.{◌≡◌, refl, arith, rules, Ok}
+use Rattle.std.proofs.Common.{◌≡◌, refl, arith, rules, Ok, Err}
 use Rattle.std.specs.Io.Buffered.{reader_remaining}
 use Rattle.tracing_tree_layer.specs.Layer.Layers.{seen}
-use Rattle.tracing_tree_lines.specs.declared.lines.Judged.TheVariants.{Skipped, Accepted}
+use Rattle.tracing_tree_lines.specs.declared.lines.Judged.TheVariants.{End, Skipped, Accepted}
 use Rattle.tracing_tree_layer.proofs.Runs.{change_then}
-use Rattle.tracing_tree_lines.proofs.LineRuns.{starts, goes_on_flushed, goes_on_skipped, goes_on_accepted, ends_input, ends_at, ends_unjudged}
+use Rattle.tracing_tree_lines.proofs.LineRuns.{starts, shown_first, goes_on_skipped, goes_on_accepted, ends_input, ends_at, ends_unjudged}
 use Rattle.tracing_tree_lines.proofs.lines.run_calls.Goals.{in-Ok-Skipped, in-Ok-Accepted}
 use Rattle.tracing_tree_lines.proofs.lines.run_calls.Goals as goal
 
@@ -19,23 +19,25 @@ loop-number-init g c = record {
 pub returns-in-Ok-End : goal.returns-in-Ok-End
 returns-in-Ok-End g c =
     let remaining = reader_remaining g.R.Read.remaining in
-    let shown = change_then (seen g.FT.FormatTime g.W.Output)
-    (goes_on_flushed (remaining c.args.lines.now) (remaining c.loop-number.lines) c.loop-number.accepted c.loop-number.number)
-    c.args.layered.now c.loop-number.layered c.show_before_read.new.layered c.loop-number.invariant.change c.show_before_read.ensures in
+    let known = remaining c.args.lines.now in
+    let middle = remaining c.loop-number.lines in
+    let left = remaining c.run_line.new.lines in
     let line = rw (c.in-Ok-End.is, c.in-Ok-End.field-0-is) at c.run_line.ensures in
     change_then (seen g.FT.FormatTime g.W.Output)
-    (ends_input (remaining c.args.lines.now) (remaining c.loop-number.lines) (remaining c.run_line.new.lines) c.loop-number.accepted c.loop-number.number (omega arith))
-    c.args.layered.now c.show_before_read.new.layered c.run_line.new.layered shown line
+    (shown_first known middle left c.loop-number.accepted c.loop-number.number (Ok End)
+    (ends_input known middle left c.loop-number.accepted c.loop-number.number (omega arith)))
+    c.args.layered.now c.loop-number.layered c.run_line.new.layered c.loop-number.invariant.change line
 
 pub returns-in-Err : goal.returns-in-Err
 returns-in-Err g c =
     let remaining = reader_remaining g.R.Read.remaining in
-    let shown = change_then (seen g.FT.FormatTime g.W.Output)
-    (goes_on_flushed (remaining c.args.lines.now) (remaining c.loop-number.lines) c.loop-number.accepted c.loop-number.number)
-    c.args.layered.now c.loop-number.layered c.show_before_read.new.layered c.loop-number.invariant.change c.show_before_read.ensures in
+    let known = remaining c.args.lines.now in
+    let middle = remaining c.loop-number.lines in
+    let left = remaining c.run_line.new.lines in
     change_then (seen g.FT.FormatTime g.W.Output)
-    (ends_at (remaining c.args.lines.now) (remaining c.loop-number.lines) (remaining c.run_line.new.lines) c.loop-number.accepted c.loop-number.number c.in-Err.cause (omega arith))
-    c.args.layered.now c.show_before_read.new.layered c.run_line.new.layered shown c.in-Err.ensures
+    (shown_first known middle left c.loop-number.accepted c.loop-number.number (Err c.in-Err.cause)
+    (ends_at known middle left c.loop-number.accepted c.loop-number.number c.in-Err.cause (omega arith)))
+    c.args.layered.now c.loop-number.layered c.run_line.new.layered c.loop-number.invariant.change c.in-Err.ensures
 
 pub loop-number-preserved : goal.loop-number-preserved
 loop-number-preserved g c =
@@ -44,21 +46,23 @@ loop-number-preserved g c =
     let middle = remaining c.loop-number.lines in
     let left = remaining c.run_line.new.lines in
     let see = seen g.FT.FormatTime g.W.Output in
-    let shown = change_then see (goes_on_flushed known middle c.loop-number.accepted c.loop-number.number)
-    c.args.layered.now c.loop-number.layered c.show_before_read.new.layered c.loop-number.invariant.change c.show_before_read.ensures in
     record {
       room = search rules;
       change = elim c.match-run_line-2.branch [
         | in-Ok-Skipped w ↦
             let is : c.run_line.result ≡ Ok Skipped = cc in
             let line = rw is at c.run_line.ensures in
-            rw w.accepted-is (change_then see (goes_on_skipped known middle left c.loop-number.accepted c.loop-number.number)
-            c.args.layered.now c.show_before_read.new.layered c.run_line.new.layered shown line)
+            rw w.accepted-is (change_then see
+            (shown_first known middle left c.loop-number.accepted c.loop-number.number (Ok Skipped)
+            (goes_on_skipped known middle left c.loop-number.accepted c.loop-number.number))
+            c.args.layered.now c.loop-number.layered c.run_line.new.layered c.loop-number.invariant.change line)
         | in-Ok-Accepted w ↦
             let is : c.run_line.result ≡ Ok Accepted = cc in
             let line = rw is at c.run_line.ensures in
-            rw w.accepted-is (change_then see (goes_on_accepted known middle left c.loop-number.accepted c.loop-number.number)
-            c.args.layered.now c.show_before_read.new.layered c.run_line.new.layered shown line)
+            rw w.accepted-is (change_then see
+            (shown_first known middle left c.loop-number.accepted c.loop-number.number (Ok Accepted)
+            (goes_on_accepted known middle left c.loop-number.accepted c.loop-number.number))
+            c.args.layered.now c.loop-number.layered c.run_line.new.layered c.loop-number.invariant.change line)
       ];
     }
 

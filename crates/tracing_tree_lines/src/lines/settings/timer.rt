@@ -7,7 +7,7 @@ ghost use Rattle.tracing_tree_time.specs.Clock.{clock_timer};
 ghost use Rattle.tracing_tree_lines.specs.Lines.Values.{choice_of};
 ghost use Rattle.tracing_tree_lines.specs.Lines.Spelled.{chosen_timer, has_only_keys, offset_value, present_keys, timer_value, none_value, utc_value, local_value, uptime_value};
 
-use crate::lines::value::{flag, value_at, whole_or};
+use crate::lines::value::{flag, unless_null, value_at, whole_or};
 use jiff::tz::Offset;
 use serde_json::{Map, Value};
 use tracing_tree_time::{Clock, LocalDateTime, Uptime, UtcDateTime};
@@ -106,7 +106,7 @@ fn offset_value(value: &Value) -> Option<Offset>
     Offset::from_seconds(seconds).ok()
 }
 
-// Whether the value is an object with these keys alone. A null counts as absent.
+// Whether the value is an object with these keys alone.
 fn has_only_keys(value: &Value, keys: &[&str]) -> bool
     ensures { result ≡ has_only_keys (map (λ key. key.now) keys.now) (view value.now) }
 {
@@ -116,13 +116,13 @@ fn has_only_keys(value: &Value, keys: &[&str]) -> bool
     }
 }
 
-// Whether all members that aren't null have one of these keys.
+// Whether all members that are there have one of these keys.
 fn are_among(members: &Map<String, Value>, keys: &[&str]) -> bool
     ensures { result ≡ list_all (λ key. list_any (bytes_eq key) (map (λ key. key.now) keys.now))
         (present_keys (members_view members.now.entries)) }
 {
     for (key, member) in members.iter() {
-        if !member.is_null() && !is_among(key.as_str(), keys) {
+        if unless_null(member).is_some() && !is_among(key.as_str(), keys) {
             return false;
         }
     }

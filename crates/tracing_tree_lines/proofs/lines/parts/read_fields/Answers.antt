@@ -67,5 +67,4 @@ pub returns : goal.returns
 returns c =
     let l = c.loop-alloc in
     let all : l.are_fields ≡ true = search rules in
-    let list : c.from.result ≡ l.fields.items = search rules in
-    rw list (fields_part c.args.reader.now l.reader c.take_end_array.new.self l.fields.items l.are_fields l.invariant all (grind arith))
+    fields_part c.args.reader.now l.reader c.take_end_array.new.self l.fields l.are_fields l.invariant all (grind arith)
