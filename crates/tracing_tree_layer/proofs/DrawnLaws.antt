@@ -23,7 +23,7 @@ use Rattle.tracing_tree_layer.specs.Layered.State.{Turn}
 use Rattle.tracing_tree_layer.specs.Layered.Refused.{draws_too_wide, is_event_too_wide}
 use Rattle.tracing_tree_layer.specs.Layer.Turns.{then_turn, turn_of_row, turn_of_closes, event_depth, event_level, event_parent}
 use Rattle.tracing_tree_layer.specs.Layer.Plan.{PlanView, rows_of_planned, row_of_planned, turn_of_plan}
-use Rattle.tracing_tree_layer.specs.Layer.Drawn.{AddsRow, DrawsRows, Drafts, IsUndrawn, IsWritten, Sends, has_no_id, has_no_row, rows_cause, when_ok}
+use Rattle.tracing_tree_layer.specs.Layer.Drawn.{AddsRow, DoesTurn, DrawsRows, Drafts, IsUndrawn, IsWritten, Sends, failed_by, has_no_id, has_no_row, rows_cause, when_ok}
 use Rattle.tracing_tree_layer.specs.declared.layer.page.Page.{Page}
 use Rattle.tracing_tree_layer.specs.declared.layer.plan.PlannedRow.{PlannedRow}
 
@@ -304,3 +304,20 @@ drafts-drawn settings forest turn faults quiet (Err refusal) a b plan h = h
 pub refused-same : {A : Type 0} → (sent : Result (Unit {0}) Refusal) (next before : A) → is_ok sent ≡ false → before ≡ when_ok sent next before
 refused-same (Ok done) next before e = cc
 refused-same (Err refusal) next before e = refl
+
+-- a turn whose rows were not written is refused
+pub gives_up : {W FT : Type 0} → (see : W → SeenWriter) (settings : Settings) (forest : Forest) (turn : Turn) (faults quiet : Bool) (drawn sent : Result (Unit {0}) Refusal) (a b c : Page) (plan : PlanView)
+    (writer next : W) (timer : FT) (last : Option Id) (was failed : Bool) →
+    Drafts settings forest turn faults quiet drawn a b plan → string_bytes a.text ≡ [] → Sends drawn sent b c (see writer) (see next) →
+    failed ≡ failed_by sent → is_ok sent ≡ false →
+    DoesTurn see turn faults quiet sent
+    (record { settings = settings; writer = writer; timer = timer; last = last; failed = was })
+    (record { settings = settings; writer = next; timer = timer; last = last; failed = failed })
+    forest forest
+gives_up see settings forest turn faults quiet drawn sent a b c plan writer next timer last was failed drafts clear sends fails refused =
+    let stays = refused-same sent turn.last last refused in
+    record {
+      written = written settings turn.rows faults quiet drawn sent a b c _ _ (drafts-drawn settings forest turn faults quiet drawn a b plan drafts) clear sends;
+      layer = (λ i. record { settings = settings; writer = next; timer = timer; last = stays i; failed = fails i });
+      marked = refused-same sent turn.forest forest refused;
+    }

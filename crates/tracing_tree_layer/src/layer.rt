@@ -233,13 +233,8 @@ impl<W: Output, FT: FormatTime> HierarchicalLayer<W, FT> {
             DoesTurn (seen_writer W.Output) turn false false result old self.new
             forest (S.forest spans.new) }
     {
-        let drawn = CallDrawing {
-            config: &self.config,
-            spans: &*spans,
-            last: self.last,
-            context,
-        }
-        .new_span(&mut self.page, &mut self.plan, id);
+        let drawing = CallDrawing::new(&self.config, &*spans, self.last, context);
+        let drawn = drawing.new_span(&mut self.page, &mut self.plan, id);
         let sent = send(drawn, &mut self.page, &mut self.writer, &mut self.failed);
         if sent.is_ok() {
             commit(&self.plan, &mut self.last, spans);
@@ -247,7 +242,7 @@ impl<W: Output, FT: FormatTime> HierarchicalLayer<W, FT> {
         sent
     }
 
-    // Draws an event so many spans deep. A tail that was drawn before is used.
+    // Draws an event that stands in `depth` spans. A tail that was drawn before is used.
     pub(crate) fn write_event<S: LookupSpan, E: ToldEvent>(
         &mut self,
         event: &E,
@@ -268,13 +263,8 @@ impl<W: Output, FT: FormatTime> HierarchicalLayer<W, FT> {
             DoesTurn (seen_writer W.Output) turn faults wide result old self.new
             forest (S.forest spans.new) }
     {
-        let drawn = CallDrawing {
-            config: &self.config,
-            spans: &*spans,
-            last: self.last,
-            context,
-        }
-        .event(
+        let drawing = CallDrawing::new(&self.config, &*spans, self.last, context);
+        let drawn = drawing.event(
             &mut self.page,
             &mut self.plan,
             &self.timer,
@@ -303,13 +293,8 @@ impl<W: Output, FT: FormatTime> HierarchicalLayer<W, FT> {
             DoesTurn (seen_writer W.Output) turn false (has_no_id ids.now) result old self.new
             forest (S.forest spans.new) }
     {
-        let drawn = CallDrawing {
-            config: &self.config,
-            spans: &*spans,
-            last: self.last,
-            context,
-        }
-        .closes(&mut self.page, &mut self.plan, ids);
+        let drawing = CallDrawing::new(&self.config, &*spans, self.last, context);
+        let drawn = drawing.closes(&mut self.page, &mut self.plan, ids);
         let sent = send(drawn, &mut self.page, &mut self.writer, &mut self.failed);
         if sent.is_ok() {
             commit(&self.plan, &mut self.last, spans);

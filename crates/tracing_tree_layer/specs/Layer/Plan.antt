@@ -91,7 +91,7 @@ planned_fresh_rows settings marked forest (first ∷ others) =
     first
     ∷ map (planned_fresh marked forest false) others
 
--- the spans that a plan has to show again, or for the first time, before this one
+-- the spans that a plan has to show again, or for the first time, down to the span of this id
 abbrev pub fresh_after : Forest → Id → PlanView → List Id
 fresh_after forest i plan = fresh_ids forest plan.last i
 

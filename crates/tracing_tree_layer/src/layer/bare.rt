@@ -116,7 +116,7 @@ impl<W: Output, FT: FormatTime> HierarchicalLayer<W, FT> {
     }
 }
 
-// How many spans lead down to this one; none where it isn't there or isn't live. Memory is taken
+// How many spans lead down to the span, itself among them; 0 where it isn't there or isn't live. Memory is taken
 // only for a path that isn't kept.
 fn depth<S: LookupSpan>(alloc: Global, spans: &S, id: Option<Id>) -> Result<usize, AllocError>
     ensures { let forest = S.forest spans.now in

@@ -21,13 +21,34 @@ use tracing_tree_time::FormatTime;
 // A call that is being drawn: the settings, the live spans, the last of them, and what was handed in with the call.
 #[derive(Drop)]
 pub(super) struct CallDrawing<'a, S: LookupSpan> {
-    pub(super) config: &'a Config,
-    pub(super) spans: &'a S,
-    pub(super) last: Option<Id>,
-    pub(super) context: &'a Context,
+    config: &'a Config,
+    spans: &'a S,
+    last: Option<Id>,
+    context: &'a Context,
 }
 
-impl<S: LookupSpan> CallDrawing<'_, S> {
+impl<'a, S: LookupSpan> CallDrawing<'a, S> {
+    pub(super) fn new(
+        config: &'a Config,
+        spans: &'a S,
+        last: Option<Id>,
+        context: &'a Context,
+    ) -> CallDrawing<'a, S>
+        ensures { result ≡ record {
+          config = config.entry;
+          spans = spans.entry;
+          last = last;
+          context = context.entry;
+        } }
+    {
+        CallDrawing {
+            config,
+            spans,
+            last,
+            context,
+        }
+    }
+
     // A new span.
     pub(super) fn new_span(&self, page: &mut Page, plan: &mut Plan, id: Id) -> Result<(), Refusal>
         requires { IsBlank page.old }
@@ -55,7 +76,7 @@ impl<S: LookupSpan> CallDrawing<'_, S> {
         self.rows(page, plan.rows())
     }
 
-    // An event so many spans deep, after the rows of the spans that it stands in, where they are to
+    // An event that stands in `depth` spans, after the rows of these, where they are to
     // be shown. Its own width is tested before any memory is taken. A tail that was drawn before is
     // used.
     pub(super) fn event<FT: FormatTime, E: ToldEvent>(
