@@ -90,13 +90,13 @@ SEED = 1
 SOAKED = 100000000
 SOAKED_CALLS = 100000000
 
-# Outside the gate: so many random lines, calls and lines of drawings through the programs. A model that is written from the docs alone says
+# Outside the gate: random lines, calls and lines of drawings through the programs. A model that is written from the docs alone says
 # what is right; first it must agree with the worked cases. Each failure is left below bin/fuzz, to be run again.
 fuzz: need-python build
 	@python3 scripts/model.py $(DATA)
 	@python3 scripts/fuzz.py --lines $(LINES) --calls $(CALLS) --drawings $(DRAWN) --seed $(SEED) bin/tracing_tree bin/tracing_tree_read
 
-# Outside the gate: so many calls through the program, and so many on the library itself: what is kept, and how fast it is at the start and
+# Outside the gate: many calls through the program, and many on the library itself: what is kept, and how fast it is at the start and
 # at the end.
 soak: need-python need-cc build bin/tracing_tree_bench
 	@$(CC) -O2 -o bin/soak scripts/soak.c

@@ -67,7 +67,7 @@ def opened(spans):
 
 
 def spread(spans, calls):
-    """Clones and records, in turn, spread over so many spans."""
+    """Clones and records, in turn, spread over the spans."""
     for n in range(calls):
         i = n * 7919 % spans + 1
         if n % 2 == 0:
@@ -77,7 +77,7 @@ def spread(spans, calls):
 
 
 def oldest(calls):
-    """So many closes, each of the oldest span."""
+    """Closes, each of the oldest span."""
     for i in range(1, calls + 1):
         yield close(i)
 
@@ -123,7 +123,7 @@ def best(program, calls):
 
 
 def report_live(program, spans):
-    """What a call costs among so many live spans, beyond what it takes to make them and to let go of them."""
+    """What a call costs among this many live spans, beyond what it takes to make them and to let go of them."""
     without = best(program, opened(spans))
     for name, count, calls in (
         ("a clone or a record", 1_000_000, spread(spans, 1_000_000)),

@@ -144,7 +144,7 @@ class Input:
 
 
 def fuzz_lines(tally, program, count, is_wide, share):
-    """Runs of calls, in all so many lines, of which this share is changed."""
+    """Runs of calls, `count` lines in all, of which this share is changed."""
     name = "lines" if share else "calls"
     rng, lines, runs, faults = random.Random(f"{name} {tally.seed}"), 0, 0, {}
     while lines < count:
@@ -246,7 +246,7 @@ def is_law_kept(source, out, amount):
 
 
 def fuzz_drawings(tally, program, count):
-    """Drawings, in all so many lines."""
+    """Drawings, `count` lines in all."""
     rng, lines, bad, laws = random.Random(f"drawings {tally.seed}"), 0, 0, 0
     while lines < count:
         amount = rng.choice((2, 2, 2, 3, 4, 5, 8))

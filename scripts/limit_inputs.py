@@ -106,7 +106,7 @@ def wide_row():
 
 
 def go_lines(count):
-    """So many times the lines of tests in Go of which some fail."""
+    """`count` times the lines of tests in Go of which some fail."""
     with open(f"{TOP}/examples/go-fail.jsonl", "rb") as file:
         return file.read() * count
 

@@ -58,7 +58,7 @@ class Memcheck:
 
 
 def calls(count):
-    """An input of so many spans, each with an event: half of them are closed again, and the others live at the end."""
+    """An input of `count` spans, each with an event: half of them are closed again, and the others live at the end."""
     lines = [b'{"indent_lines":true,"span_retrace":true,"deferred_spans":true}']
     for at in range(1, count + 1):
         lines += [b'{"call":"new","name":"a long name of a span","fields":[["key","a value past sixteen bytes"],["b","c"]]%s}'

@@ -9,7 +9,7 @@ The last line of a comparison is 'model: N of M cases agree'. Nothing here is qu
 import collections, datetime, json, os, sys
 
 MOST = 2**64 - 1
-# Rows of more columns than this are not built, since the machine decides whether memory holds them. Past so many it never does.
+# Rows of more columns than this are not built, since the machine decides whether memory holds them. Past the second number it never does.
 COLUMNS = 2**17
 TOO_MANY_COLUMNS = 2**44
 CODES = {"dimmed": "2", "green": "1;32", "purple": "1;35", "blue": "1;34", "warn": "1;38;2;252;234;160", "red": "1;31"}

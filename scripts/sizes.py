@@ -15,7 +15,7 @@ def close(span):
 
 
 def chain(size, first=1, above=None):
-    """So many spans, each in the one before it."""
+    """`size` spans, each in the one before it."""
     return [new(above if at == 0 else first + at - 1) for at in range(size)]
 
 
@@ -36,7 +36,7 @@ def live_spans(size):
 
 
 def children(size):
-    """A span that so many children keep alive, which close in the order in which they were made."""
+    """A span that `size` children keep alive, which close in the order in which they were made."""
     return [new(), *([new(1)] * size), event(2 if size else 1), close(1), *(close(at) for at in range(2, size + 2)), event(1)]
 
 
@@ -78,7 +78,7 @@ def branches(size):
 
 
 def turns(size):
-    """Two spans in turn, so many times."""
+    """Two spans in turn, `size` times."""
     return [new(), new(), *([event(1), event(2)] * size), close(1), close(2)]
 
 

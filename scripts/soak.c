@@ -1,4 +1,4 @@
-/* Writes lines for the program: settings, and then calls in so many rounds: soak SETTINGS ROUNDS
+/* Writes lines for the program: settings, and then calls in ROUNDS rounds: soak SETTINGS ROUNDS
  *
  * A round opens and closes the same spans each time, all of them, so each round draws the same text. Only the ids rise. It has a wave of
  * 100,000 roots at once, 20,000 children of one span, many chains in two branches, fields that grow, and long texts. On standard error
@@ -87,7 +87,7 @@ static void children(int count)
     closed(parent);
 }
 
-/* Two branches of so many spans below one root, with events in turn, so that each is shown again. The handles go from the root on, and
+/* Two branches of `depth` spans below one root, with events in turn, so that each is shown again. The handles go from the root on, and
  * each branch closes at once. */
 static void branches(int depth)
 {

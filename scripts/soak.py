@@ -39,7 +39,7 @@ def first_round(generator, settings):
 
 
 class Soak:
-    """A run of so many rounds. At the end of each round's text memory and time are looked at."""
+    """A run of `rounds` rounds. At the end of each round's text memory and time are looked at."""
 
     def __init__(self, program, generator, settings, rounds):
         self.calls, self.length, self.sum = first_round(generator, settings)

@@ -34,7 +34,7 @@ def waves_of(program, settings, waves):
 
 
 def is_steady(program, settings, count):
-    """Runs so many calls under these settings, prints the figures, and returns whether they are as they must be."""
+    """Runs calls under these settings, prints the figures, and returns whether they are as they must be."""
     first, status = waves_of(program, settings, 1)
     if status or not first:
         print(f"soak: {settings}: FAILED: the first wave ended with status {status}")

@@ -1,5 +1,5 @@
 /* Calls whose instructions bench.sh counts: bench COUNT KIND. KIND 0 is an event in two spans, KIND 1 two spans, an event and two
- * closes, each so many times, with lines; 2 and 3 are the same with colours, targets and retracing. */
+ * closes, each COUNT times, with lines; 2 and 3 are the same with colours, targets and retracing. */
 #include "tracing_tree.h"
 #include <stdio.h>
 #include <stdlib.h>

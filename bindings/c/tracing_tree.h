@@ -100,7 +100,7 @@ enum {
 typedef struct tt_settings {
   uint64_t size;          /* sizeof(tt_settings). Any other number is refused, so that an older header isn't misread */
   uint64_t indent_amount; /* columns for each level */
-  uint64_t wraparound;    /* the indent begins again at the left after so many levels; not 0 */
+  uint64_t wraparound;    /* after this many levels the indent begins again at the left; not 0 */
   uint64_t epoch;         /* for TT_TIMER_UPTIME: where the uptime begins, in nanoseconds of `mono` */
   uint32_t timer;         /* one of TT_TIMER_.. */
   int32_t offset;         /* for TT_TIMER_LOCAL: seconds east of UTC, -93599 to 93599 */
@@ -190,7 +190,7 @@ uint32_t tt_utf8_event(tt_tree *tree, const tt_event_ref *event, const tt_field 
 
 /* ---- Texts, fields and settings. */
 
-/* A text of so many bytes. NULL makes the empty text. */
+/* A text of `len` bytes. NULL makes the empty text. */
 static inline tt_text_ref tt_bytes(const void *at, size_t len) {
   tt_text_ref text;
   text.at = at ? (const uint8_t *)at : (const uint8_t *)"";

@@ -60,7 +60,7 @@ impl Default for HierarchicalLayer {
 }
 
 impl HierarchicalLayer {
-    /// A layer that writes to standard error, with so many columns for each level. It uses colours if standard error is a terminal.
+    /// A layer that writes to standard error, with `indent_amount` columns for each level. It uses colours if standard error is a terminal.
     pub fn new(indent_amount: usize) -> Self {
         HierarchicalLayer {
             make_writer: io::stderr,
@@ -143,7 +143,7 @@ where
         self
     }
 
-    /// Begins the indent again at the left after so many levels. 0 counts as 1.
+    /// Begins the indent again at the left after `wraparound` levels. 0 counts as 1.
     pub fn with_wraparound(mut self, wraparound: usize) -> Self {
         self.settings.wraparound = wraparound.max(1) as u64;
         self

@@ -135,7 +135,7 @@ pub struct LocalDateTime {
 }
 
 impl LocalDateTime {
-    /// At so many seconds east of UTC. `None` at 26 hours and above, and at that much west.
+    /// At this offset in seconds east of UTC. `None` at 26 hours and above, and at that much west.
     pub fn with_offset(seconds: i32) -> Option<Self> {
         let fits = (-93_599..=93_599).contains(&seconds);
         fits.then_some(LocalDateTime { offset: seconds, higher_precision: false })

@@ -45,7 +45,7 @@ impl Calls {
         mem::replace(&mut self.list, Vec::new(self.alloc))
     }
 
-    // A new span below this one.
+    // A new span below the span `current`.
     pub fn open(&mut self, current: Option<u64>) -> Result<u64, AllocError> {
         let id = self.next;
         let attributes = Attributes {

@@ -55,7 +55,7 @@ struct Soak {
     wave: Wave,
 }
 
-// Makes so many waves, and prints what each took.
+// Makes waves, and prints what each took.
 pub fn run<R: AllocGlobal + MachineClock + Print>(
     rt: &R,
     waves: u32,
@@ -145,7 +145,7 @@ fn open_row(soak: &mut Soak) -> anyhow::Result<()> {
     Ok(())
 }
 
-// A chain of so many spans below this one. Returns its last.
+// A chain of `depth` spans below the span `above`. Returns its last.
 fn chain(soak: &mut Soak, above: u64, depth: u64) -> anyhow::Result<u64> {
     let mut last = above;
     for _span in 0..depth {

@@ -9,7 +9,7 @@ use std::alloc::{AllocError, Global};
 use tracing_tree::layer::HierarchicalLayer;
 use tracing_tree::time::{Clock, LocalDateTime, Uptime, UtcDateTime};
 
-// The rounds of a batch: from this one on, and before that one, of so many.
+// The rounds of a batch: the first, the one after the last, and how many there are in all.
 #[derive(Clone, Copy)]
 pub struct Batch {
     pub from: u32,
@@ -184,7 +184,7 @@ impl Work {
         }
     }
 
-    // What has to stand before so many rounds.
+    // What has to stand before these rounds.
     pub fn prepare(self, calls: &mut Calls, rounds: u32) -> Result<(), AllocError> {
         match self {
             Work::Alternating10 => leaves(calls, 10),
@@ -218,7 +218,7 @@ impl Work {
         Ok(())
     }
 
-    // The calls of a round, of so many.
+    // The calls of a round, of which there are `of`.
     fn round(self, calls: &mut Calls, round: u64, of: u64) -> Result<(), AllocError> {
         match self {
             Work::Nested | Work::NestedStyled | Work::NestedRetraced => nested(calls),
@@ -283,7 +283,7 @@ fn roots(calls: &mut Calls, spans: u32) -> Result<(), AllocError> {
     Ok(())
 }
 
-// So many roots, of which one in ten stays, and half as many again. Among these the list of spans is full once, which closes the gaps.
+// Roots, of which one in ten stays, and half as many again. Among these the list of spans is full once, which closes the gaps.
 fn few_old(calls: &mut Calls, spans: u32) -> Result<(), AllocError> {
     roots(calls, spans)?;
     for id in 1..=u64::from(spans) {
@@ -307,7 +307,7 @@ fn leaves_of_one(calls: &mut Calls, spans: u32) -> Result<(), AllocError> {
     Ok(())
 }
 
-// A chain of so many spans, each the parent of the next.
+// A chain of spans, each the parent of the next.
 fn chain(calls: &mut Calls, spans: u32) -> Result<(), AllocError> {
     let mut above = None;
     for _span in 0..spans {
@@ -316,7 +316,7 @@ fn chain(calls: &mut Calls, spans: u32) -> Result<(), AllocError> {
     Ok(())
 }
 
-// A chain of so many spans, and a second leaf beside its last.
+// A chain of spans, and a second leaf beside its last.
 fn leaves(calls: &mut Calls, depth: u32) -> Result<(), AllocError> {
     let mut above = None;
     let mut last = None;

@@ -69,7 +69,7 @@ abbrev pub last_in : List Item → Lane → Option ℕ
 last_in [] lane = None
 last_in (one ∷ others) lane = further_or (last_in others lane) (same_lane one.lane lane)
 
--- a span that began, with what the element of its end says, before which so many came
+-- a span that began, with what the element of its end says, which stands at place `index`
 abbrev pub whole : Item → Entry → ℕ → Item
 whole one last index = record one {
   end = point (max one.start.time last.start) index;

@@ -2,7 +2,7 @@
 use Rattle.std.specs.Prelude.{ℕ, ◌/◌, ◌%◌, nat_le, if◌then◌else◌, List, ◌++◌, codes, decimal}
 use Rattle.tracing_tree_time.specs.Clock.{micro_unit}
 
--- so many thousandths of a unit
+-- `count` thousandths of a unit
 abbrev pub thousandths_text : ℕ → List ℕ
 thousandths_text count =
     decimal (count / 1000) ++ codes "." ++ decimal (count / 100 % 10) ++ decimal (count / 10 % 10)

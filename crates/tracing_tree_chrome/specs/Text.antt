@@ -65,7 +65,7 @@ abbrev pub byte_read : ℕ → ℕ → ℕ → ScanState → ScanState
 byte_read level at byte s =
     if s.in_text then read_in_text byte s else read_outside level at byte s
 
--- the bytes after the first so many
+-- the bytes from the place `at` on
 abbrev pub scan_from : ℕ → ℕ → List ℕ → ScanState → ScanState
 scan_from level at [] s = s
 scan_from level at (byte ∷ others) s =

@@ -100,7 +100,7 @@ abbrev pub ended_by : Option Point → Point → Bool
 ended_by (Some end) point = is_by end point
 ended_by None point = false
 
--- an open span with so many below it is left
+-- an open span with `below` spans below it is left
 abbrev pub is_left : Until → Frame → ℕ → Bool
 is_left (Depth depth) frame below = nat_le depth below
 is_left (Ended point) frame below = ended_by frame.end point

@@ -126,7 +126,7 @@ impl Gathered {
         }
     }
 
-    // Ends the span of the lane that began last, at the element with so many before it; nothing where there is none.
+    // Ends the span of the lane that began last, at the element at place `index`; nothing where there is none.
     fn end(&mut self, entry: Entry, index: u64) -> Result<(), AllocError>
         ensures { OnOk result (self.new ≡ ended entry index self.old) }
     {
@@ -188,7 +188,7 @@ fn item_of(entry: Entry, end: u64, shape: Shape, index: u64) -> Item
     }
 }
 
-// A span that began, with what the element of its end says, before which so many came.
+// A span that began, with what the element of its end says, which stands at place `index`.
 fn whole(one: Item, end: Entry, index: u64) -> Result<Item, AllocError>
     ensures { IfOk result (λ item. item ≡ whole one end index) }
 {

@@ -114,7 +114,7 @@ impl Scan {
         }
     }
 
-    // Reads one more byte, up to which so many stand.
+    // Reads the byte at the place `at`.
     fn read(&mut self, level: usize, at: usize, byte: u8) -> Result<(), AllocError>
         ensures { OnOk result (self.new ≡ byte_read level at byte self.old) }
     {

@@ -27,7 +27,7 @@ pub struct Cut {
     /// Those that took fewer nanoseconds.
     pub least: u64,
 
-    /// Those that stand in so many others or more, their process and their thread among these. None where it is none.
+    /// Those that stand in `depth` others or more, their process and their thread among these. None where it is none.
     pub depth: Option<usize>,
 }
 

@@ -42,7 +42,7 @@ struct Frame {
 // Which open spans are left.
 #[derive(Clone, Copy)]
 enum Until {
-    // Those with so many below them, or more.
+    // Those with this count of spans below them, or more.
     Depth(usize),
     // Those that ended by then.
     Ended(Point),
@@ -415,7 +415,7 @@ fn frame_of(id: Option<Id>, above: Option<Id>, end: Option<Point>) -> Frame
     }
 }
 
-// Whether an open span is left, with so many below it.
+// Whether an open span is left, with `below` spans below it.
 fn is_left(until: Until, frame: &Frame, below: usize) -> bool
     ensures { result ≡ is_left until frame.now below }
 {

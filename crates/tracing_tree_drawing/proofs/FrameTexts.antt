@@ -12,7 +12,7 @@ use Rattle.tracing_tree_drawing.specs.Format.Picture.{wrapped_level, row_frame, 
 use Rattle.tracing_tree_drawing.specs.declared.format.SpanMode.{SpanMode}
 use Rattle.tracing_tree_drawing.specs.declared.format.SpanMode.TheVariants.{Open, Retrace, Close}
 
--- the characters of so many columns, from this one on, as bytes
+-- the characters of `many` columns, from the column `from` on, as bytes
 abbrev columns_text : (ℕ → ℕ) → ℕ → ℕ → List ℕ
 columns_text glyph from many = encode_utf8_all (map glyph (range_with_len from many))
 
@@ -197,7 +197,7 @@ continued-pieces from amount =
     (λ k low high. continued-after from amount k low) in
     simp append-nil (sym parts)
 
--- so many times, and then more times
+-- `many` times, and then `more` times
 repeat-append : (many more : ℕ) (piece : List ℕ) → repeat (many + more) piece ≡ repeat many piece ++ repeat more piece
 repeat-append zero more piece = ap (λ n. repeat n piece) (zero-add more)
 repeat-append (suc many) more piece =
@@ -212,7 +212,7 @@ repeated-step start before after piece many h e =
     e ∙ ap (λ text. text ++ piece) h ∙ append_assoc start (repeat many piece) piece
     ∙ ap (λ text. start ++ text) (ap (λ text. repeat many piece ++ text) (sym (append-nil piece)) ∙ sym (repeat-append many 1 piece))
 
--- a bar that stands so many columns further right
+-- a bar that stands `shift` columns further right
 pub later-pieces : (before shift amount : ℕ) →
     frame_pieces before (repeat shift (space ∷ []) ++ encode_utf8 vertical) (space ∷ []) amount []
     ≡ frame_text (continued (before + shift) amount)

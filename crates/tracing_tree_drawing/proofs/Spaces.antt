@@ -7,7 +7,7 @@ use Rattle.std.specs.Prelude.{replicate, IsAscii}
 use Rattle.std.proofs.lemmas.List.{take-replicate}
 use Rattle.tracing_tree_drawing.specs.Format.Picture.{space}
 
--- so many spaces, one behind the other
+-- `count` spaces, one after the other
 repeat-space : (count : ℕ) → repeat count (space ∷ []) ≡ replicate count space
 repeat-space zero = refl
 repeat-space (suc count) = ap (λ rest. space ∷ rest) (repeat-space count)

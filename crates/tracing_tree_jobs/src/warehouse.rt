@@ -11,7 +11,7 @@ const STOCK: u64 = 40;
 // The order that asks for more pieces than there ever were.
 const LARGE: u64 = 7;
 
-/// So many pieces are to be packed.
+/// How many pieces are to be packed.
 #[derive(Clone, Copy)]
 pub struct Order {
     pub id: u64,
@@ -44,7 +44,7 @@ impl Warehouse {
         self.queue.pop_front()
     }
 
-    /// Takes so many pieces, and returns how many are left. Without enough of them the stock stays.
+    /// Takes pieces, and returns how many are left. Without enough of them the stock stays.
     pub fn take(&mut self, pieces: u64) -> Option<u64> {
         self.stock = self.stock.checked_sub(pieces)?;
         Some(self.stock)

@@ -35,7 +35,7 @@ impl Stock {
         found.map_or(0, |item| item.count)
     }
 
-    /// Keeps so many of an item from now on.
+    /// Sets how many of an item are kept.
     pub fn set(&mut self, name: &str, count: u64) -> Result<(), AllocError> {
         for item in &mut self.items {
             if item.name.as_str() == name {

@@ -39,7 +39,7 @@ pub record IsStranger {FT : Type 0} (passes : List Slips) (place : ℕ)
   pub first : IsFirstStrange book.history passes place
   pub counted : length book.history ≡ sum_by length passes
 
--- what taking passes back answers, where so many were opened
+-- what taking passes back answers, where this count of passes was opened
 abbrev pub IsFinishAnswer : {FT : Type 0} → ℕ → List Slips → Result Finished (FinishFault FT)
     → Type 0
 IsFinishAnswer opened passes (Ok finished) = (opened ≤ length passes) × IsFinished passes finished

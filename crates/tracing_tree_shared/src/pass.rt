@@ -145,7 +145,7 @@ impl<FT: FormatTime, L: Ledger> Model for SharedLayer<FT, L> {
 }
 
 impl<FT: FormatTime + Drop, L: Ledger> SharedLayer<FT, L> {
-    /// Opens a layer with so many passes, none of which has receipts. The caller must ensure that the ledger has one part more
+    /// Opens a layer with this count of passes, none of which has receipts. The caller must ensure that the ledger has one part more
     /// than there are passes, that no span is live, that the layer is fresh, and that the tape holds nothing.
     pub fn open(
         alloc: Global,

@@ -101,7 +101,7 @@ is_quiet Read = true
 is_quiet Memory = true
 is_quiet (Refused refusal) = false
 
--- what may end a run early after so many unknown lines: the notes only after one
+-- what may end a run early after this count of unknown lines: the notes only after one
 abbrev pub MayEnd : LineCause → ℕ → Type 0
 MayEnd NoSettings unknown = ⊥
 MayEnd NotACall unknown = 0 < unknown
@@ -109,9 +109,9 @@ MayEnd Read unknown = ⊤
 MayEnd Memory unknown = ⊤
 MayEnd (Refused refusal) unknown = ⊤
 
--- How many unknown lines were counted where a run ended at a line: those before it, of which there were
--- so many, and the line itself, of which as many are unknown, where the notes ended the run. Memory may
--- be refused before the line is known and after.
+-- How many unknown lines were counted where a run ended at a line: those before it (`before`), and the
+-- line itself where the notes ended the run. `here` is 1 where that line is unknown, and else 0. Memory
+-- may be refused before the line is known and after.
 abbrev pub CountsUnknown : LineCause → ℕ → ℕ → ℕ → Type 0
 CountsUnknown NoSettings before here unknown = unknown ≡ before
 CountsUnknown NotACall before here unknown = (here ≡ 1) × (unknown ≡ before + 1)

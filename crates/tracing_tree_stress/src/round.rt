@@ -142,7 +142,7 @@ fn vacated<L: Ledger>(
     Ok((passes, callers))
 }
 
-/// So many threads share a layer with a history.
+/// Several threads share a layer with a history.
 pub fn shared_round<L: Ledger + Send + Sync, R: Threads + Wait + Sync>(
     rt: &R,
     blank: Blank,

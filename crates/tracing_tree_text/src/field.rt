@@ -100,7 +100,7 @@ fn push_code(out: &mut String, byte: u8) -> Result<(), AllocError>
     out.push_str("}")
 }
 
-// A list of more than one field begins with room for so many.
+// A list of more than one field begins with room for four.
 const ROOM: usize = 4;
 
 /// A list of fields in order, which contracts see as that list. Equal names stay side by side.

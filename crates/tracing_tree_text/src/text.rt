@@ -6,7 +6,7 @@ use arrayvec::ArrayString;
 use std::alloc::{AllocError, Global};
 use std::marker::Model;
 
-// Names, targets and most values have at most so many bytes. They then lie in the value itself.
+// Names, targets and most values have at most 16 bytes. They then lie in the value itself.
 const SHORT: usize = 16;
 
 /// A text, which contracts see as its bytes.

@@ -1,4 +1,4 @@
--- Numbers in so many places, and the digits of a fraction.
+-- Numbers in a fixed count of places, and the digits of a fraction.
 use Rattle.std.proofs.Common.{◌≡◌, ℕ, zero, suc, ◌+◌, ◌-◌, ◌*◌, ◌/◌, ◌%◌, ◌^◌, ◌<◌, ◌≤◌, ◌==◌, Bool, true, false, List, [], ◌∷◌, ◌++◌, length, replicate, reverse, drop, arith, rules, refl, sym, ap, ◌∙◌, subst, decimal, cond, nat_lt}
 use Rattle.std.specs.List.{prefix_len}
 use Rattle.std.proofs.lemmas.List.{append_assoc, length-append, reverse-append, reverse-reverse, replicate_more}

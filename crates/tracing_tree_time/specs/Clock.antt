@@ -37,7 +37,7 @@ distance m n = (m - n) + (n - m)
 abbrev pub is_even : ℕ → Bool
 is_even n = n % 2 == 0
 
--- twice the distance of n and so many units is below a unit, or is a unit and the count is even
+-- twice the distance of n and `count` units is below a unit, or is a unit and the count is even
 abbrev pub is_nearest_count : ℕ → ℕ → ℕ → Bool
 is_nearest_count unit n count =
     nat_lt (2 * distance n (count * unit)) unit
@@ -101,7 +101,7 @@ pub record Civil : Type 0 where
   pub second : ℕ
   pub nanosecond : ℕ
 
--- the calendar's date with this day number, and the time so many nanoseconds after its midnight
+-- the calendar's date with this day number, and the time `nanos` nanoseconds after its midnight
 pub record IsCivilOn (day : ℤ) (nanos : ℕ) (civil : Civil) : Type 0 where
   pub date : IsCivilDate civil.year civil.month civil.day
   pub number : days_from_civil civil.year civil.month civil.day ≡ day
@@ -121,7 +121,7 @@ month_on year day =
 abbrev pub days_before : ℤ → ℤ → ℕ
 days_before year day = unsigned_abs (day -ℤ days_from_civil year 1 1)
 
--- What is shown on a day of a year, so many nanoseconds after midnight. `CivilLaws` proves
+-- What is shown on a day of a year, at a count of nanoseconds after midnight. `CivilLaws` proves
 -- `IsCivilOn` of it on each day that the calendar has, in that day's year, and of nothing else.
 abbrev pub civil_in : ℤ → ℤ → ℕ → Civil
 civil_in year day nanos = record {
@@ -134,7 +134,7 @@ civil_in year day nanos = record {
   nanosecond = nanos % 1_000_000_000;
 }
 
--- the day number of so many nanoseconds after the start of 1970, and the nanoseconds after that
+-- the day number of a count of nanoseconds after the start of 1970, and the nanoseconds after that
 -- day's midnight
 abbrev pub day_at : ℤ → ℤ
 day_at nanos = int_div_euclid nanos (pos 86_400_000_000_000)
@@ -142,7 +142,7 @@ day_at nanos = int_div_euclid nanos (pos 86_400_000_000_000)
 abbrev pub nanos_of_day : ℤ → ℕ
 nanos_of_day nanos = unsigned_abs (int_rem_euclid nanos (pos 86_400_000_000_000))
 
--- what is shown so many nanoseconds after the start of 1970
+-- what is shown `nanos` nanoseconds after the start of 1970
 abbrev pub civil_at : ℤ → Civil
 civil_at nanos = civil_in (year_of_day (day_at nanos)) (day_at nanos) (nanos_of_day nanos)
 

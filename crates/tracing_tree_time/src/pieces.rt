@@ -15,22 +15,22 @@ pub(super) enum Piece {
     // A text as it is.
     Text(&'static str),
 
-    // A number in at least so many digits.
+    // A number in at least `places` digits.
     Digits { number: u64, places: usize },
 
-    // A number right in so many places.
+    // A number at the right end of `places` places.
     Right { number: u64, places: usize },
 }
 
 impl Piece {
-    /// A number in at least so many digits, with zeros at its front.
+    /// A number in at least `places` digits, with zeros at its front.
     pub(super) fn digits(places: usize, number: u64) -> Piece
         ensures { piece_text result ≡ digits_in places number }
     {
         Piece::Digits { number, places }
     }
 
-    /// A number right in so many places, with spaces before it.
+    /// A number at the right end of `places` places, with spaces before it.
     pub(super) fn right(places: usize, number: u64) -> Piece
         ensures { piece_text result ≡ right_in places (decimal number) }
     {
@@ -98,7 +98,7 @@ fn push_piece(out: &mut String, piece: Piece) -> Result<(), AllocError>
     }
 }
 
-// Appends a number right in so many places, with the character before it, or some of it.
+// Appends a number at the right end of `places` places, with the character before it, or some of it.
 fn push_number(out: &mut String, fill: char, places: usize, number: u64) -> Result<(), AllocError>
     requires { fill < 128 }
     ensures ok { OnOk result (string_bytes out.new
@@ -114,7 +114,7 @@ fn push_number(out: &mut String, fill: char, places: usize, number: u64) -> Resu
     out.push(char::from(b'0' + (number % 10) as u8))
 }
 
-// Appends the character so many times, or fewer.
+// Appends the character `times` times, or fewer.
 fn push_fill(out: &mut String, fill: char, times: usize) -> Result<(), AllocError>
     requires { fill < 128 }
     ensures ok { OnOk result (string_bytes out.new ≡ string_bytes out.old ++ replicate times fill) }

@@ -8,7 +8,7 @@ use super::TimeFault;
 use std::marker::Model;
 use std::str;
 
-// A date, a time and an offset have at most so many bytes.
+// A date, a time and an offset together have at most 40 bytes.
 const ROOM: usize = 40;
 
 /// An ASCII text of at most 40 bytes.
@@ -62,7 +62,7 @@ impl ShortText {
         self.push(b'0' + (number % 10) as u8);
     }
 
-    /// Appends a number in so many digits.
+    /// Appends a number in `places` digits.
     pub(super) fn push_digits(&mut self, places: usize, number: u64)
         requires some { 1 ≤ places }
         requires below { number < 10 ^ places }

@@ -155,7 +155,7 @@ module _ {C N : Type 0} (answers : Call → Result Reply Refusal → C → C →
   ThenCloses Others (Ok went) answer between new = Others answer between new
   ThenCloses Others (Err fault) answer between new = (answer ≡ Err fault) × (new ≡ between)
 
-  -- so many spans were closed, each the current one, or as many as could be
+  -- this count of spans was closed, each the current one, or as many as could be
   abbrev pub AreClosed : ℕ → Result (Unit {0}) TraceFault → TracerView C N → TracerView C N
       → Type 0
   AreClosed zero answer old new = (answer ≡ Ok tt) × (new ≡ old)
@@ -163,7 +163,7 @@ module _ {C N : Type 0} (answers : Call → Result Reply Refusal → C → C →
       (first : Result Bool TraceFault) × (between : TracerView C N)
       × IsClosed first old between × ThenCloses (AreClosed n) first answer between new
 
-  -- all open spans but so many were closed
+  -- all open spans but this count were closed
   abbrev pub AreClosedTo : ℕ → Result (Unit {0}) TraceFault → TracerView C N → TracerView C N
       → Type 0
   AreClosedTo depth answer old new = AreClosed (length old.spans - depth) answer old new

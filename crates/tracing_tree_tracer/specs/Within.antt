@@ -14,7 +14,7 @@ module _ {T E : Type 0} (gives : TraceFault → E → Type 0) where
   Joins (Ok value) (Err fault) answer = (error : E) × gives fault error × (answer ≡ Err error)
 
   module _ {S : Type 0} (spans : Spans S) (Does : S → Result T E → S → Type 0) where
-    -- A span was to be opened where so many were open. It was: this was done in it, and then what
+    -- A span was to be opened where this count of spans was open. It was: this was done in it, and then what
     -- was open beyond them was closed. Or it wasn't, and nothing was done.
     abbrev pub AfterOpen : ℕ → Result Id TraceFault → Result T E → S → S → Type 0
     AfterOpen depth (Ok id) answer begun new =

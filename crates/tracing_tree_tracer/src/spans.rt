@@ -20,7 +20,7 @@ pub trait Spans {
     /// What opening a span of this name, with these fields, answers and leaves.
     ghost opens: { List ℕ → List Field → Result Id TraceFault → Self → Self → Type 0 };
 
-    /// What closing all open spans but so many answers and leaves.
+    /// What closing all open spans but a count of them answers and leaves.
     ghost closes_to: { ℕ → Result (Unit {0}) TraceFault → Self → Self → Type 0 };
 
     /// How many spans are open.
@@ -31,7 +31,7 @@ pub trait Spans {
     fn open(&mut self, name: &str, fields: &[(&str, Value<'_>)]) -> Result<Id, TraceFault>
         ensures { opens name.now (fields_of fields.now) result self.old self.new };
 
-    /// Closes spans, innermost first, until no more than so many are open.
+    /// Closes spans, innermost first, until no more than `depth` are open.
     fn close_to(&mut self, depth: usize) -> Result<(), TraceFault>
         ensures { closes_to depth result self.old self.new };
 }

@@ -263,7 +263,7 @@ impl<C: Calls, N: Now> Tracer<C, N> {
         Ok(())
     }
 
-    /// Closes spans, innermost first, until no more than so many are open. At the first that can't be closed it ends.
+    /// Closes spans, innermost first, until no more than `depth` are open. At the first that can't be closed it ends.
     pub fn close_to(&mut self, depth: usize) -> Result<(), TraceFault>
         ensures { AreClosedTo C.answers N.tells depth result self.old self.new }
     {

@@ -27,7 +27,7 @@ use tracing_tree_sources::{
 };
 use tracing_tree_tracing::Tracing;
 
-// So many skipped lines are told one by one.
+// The first skipped lines, up to this count, are told one by one.
 const NOTED: u64 = 10;
 
 // What `--help` says of the first line.
@@ -195,7 +195,7 @@ fn depth_option<'a>(alloc: Global) -> Arg<'a> {
     Arg::new(alloc, "depth")
         .long("depth")
         .value_name("N")
-        .help("Leaves out the spans of a trace below so many levels")
+        .help("Leaves out the spans of a trace below N levels")
         .value_parser(value_parser!(usize))
 }
 

@@ -78,7 +78,7 @@ pub enum Hand {
     Draft(Draft),
 }
 
-// An event in span 1 with a message and so many fields less one.
+// An event in span 1 with `count` fields, of which the first is the message.
 pub fn event(alloc: Global, count: usize) -> Result<Call, AllocError> {
     let mut fields = vec![in alloc; Field::rendered(alloc, "message", "something happened")?]?;
     for _ in 1..count {

@@ -6,7 +6,7 @@ use Rattle.tracing_tree_drawing.specs.Format.Texts.{prefix_text}
 use Rattle.tracing_tree_drawing.specs.declared.format.draw.RowDrawing.{RowDrawing}
 use Rattle.tracing_tree_drawing.specs.declared.format.draw.FramePieces.{FramePieces}
 
--- spaces, a branch, so many of a filler, and a corner
+-- spaces, a branch, `filled` fillers, and a corner
 abbrev pub frame_pieces : ℕ → List ℕ → List ℕ → ℕ → List ℕ → List ℕ
 frame_pieces spaces branch filler filled corner =
     repeat spaces (space ∷ []) ++ branch ++ repeat filled filler ++ corner

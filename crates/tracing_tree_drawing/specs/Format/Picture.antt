@@ -112,7 +112,7 @@ branched from width = record {
       column then horizontal else space);
 }
 
--- `│` in a column, and so many spaces after it
+-- `│` in the column `from`, and `amount` spaces after it
 abbrev pub continued : ℕ → ℕ → Frame
 continued from amount = record {
   width = from + 1 + amount;
@@ -133,7 +133,7 @@ edge_frame (Retrace verbose) = single corner_down_left
 edge_frame (Close verbose) = single corner_up_left
 edge_frame mode = blank 0
 
--- the first line of a row, further right: so many columns stand before the branch
+-- the first line of a row, further right: `before` columns stand before the branch
 abbrev pub first_frame : SpanMode → ℕ → ℕ → Frame
 first_frame PreOpen amount before =
     corners corner_up_right corner_down_left before (before + max (amount / 2) 1)

@@ -19,7 +19,7 @@ after_front (byte ∷ front) (first ∷ text) = if byte == first then after_fron
 abbrev pub start_spaces : List ℕ → ℕ
 start_spaces line = prefix_len (λ byte. byte == space) line
 
--- what follows so many `─` and this character
+-- what follows `count` `─` and the character
 abbrev pub after_run : ℕ → ℕ → List ℕ → Option (List ℕ)
 after_run count character text =
     after_front (repeat count (encode_utf8 horizontal) ++ encode_utf8 character) text
@@ -54,7 +54,7 @@ read_event amount spaces text =
     (after_front (repeat (amount - 1) (encode_utf8 horizontal)) text)
     else None
 
--- a line, so many spaces at its start, and what follows these
+-- a line, the number of spaces at its start, and what follows these
 abbrev pub read_first_at : ℕ → List ℕ → ℕ → List ℕ → Option TextRow
 read_first_at amount line spaces rest =
     option_map_or (read_root OpenRoot spaces) (after_front (encode_utf8 corner_down_left) rest)

@@ -27,7 +27,7 @@ TakesRow old place row (Ok path) new =
 TakesRow old place row (Err error) new =
     (rows : List TextRow) → AreLastPlaces rows old → AreLastPlaces rows new
 
--- after these rows, so many, the places and the paths of their events are these
+-- after these rows, `count` of them, the places and the paths of their events are these
 pub record ArePathsOf (rows : List TextRow) (places : List (Option ℕ)) (count : ℕ)
     (paths : List EventPath) : Type 0 where
   pub last : AreLastPlaces rows places

@@ -24,7 +24,7 @@ struct RowDrawing<'a> {
     level: usize,
 }
 
-// What stands between the prefix and the text of a line: spaces, a branch, so many of a filler, and a corner.
+// What stands between the prefix and the text of a line: spaces, a branch, a filler a number of times, and a corner.
 #[derive(Clone, Copy)]
 struct FramePieces {
     spaces: usize,
@@ -125,7 +125,7 @@ fn edge_frame(mode: SpanMode) -> FramePieces
     }
 }
 
-// The first line of a row further right, where so many columns stand before the branch.
+// The first line of a row further right, where `before` columns stand before the branch.
 fn first_frame(mode: SpanMode, amount: usize, before: usize) -> FramePieces
     requires amount { 0 < amount }
     requires fits { before + amount < 2 ^ 64 }
@@ -241,7 +241,7 @@ fn corner_after(mode: SpanMode) -> Option<char>
     }
 }
 
-// Appends a text so many times, or fewer, with one growth.
+// Appends a text `times` times, or fewer, with one growth.
 fn push_repeated(out: &mut String, text: &str, times: usize) -> Result<(), AllocError>
     ensures ok { OnOk result
         (string_bytes out.new ≡ string_bytes out.old ++ repeat times text.now) }
@@ -255,7 +255,7 @@ fn push_repeated(out: &mut String, text: &str, times: usize) -> Result<(), Alloc
     Ok(())
 }
 
-// Appends so many spaces, or fewer.
+// Appends `count` spaces, or fewer.
 fn push_spaces(out: &mut String, count: usize) -> Result<(), AllocError>
     ensures ok { OnOk result
         (string_bytes out.new ≡ string_bytes out.old ++ repeat count (space ∷ [])) }

@@ -19,7 +19,7 @@ pub fn push_event_field(out: &mut String, comma: &mut bool, field: &Field) -> Re
     push_event_texts(out, comma, field.name.as_str(), field.value.as_str())
 }
 
-/// The same of a field that is lent as two texts.
+/// Appends a field as [`push_event_field`] does, from a name and a value that are lent. On `AllocError` nothing has changed.
 pub fn push_event_texts(
     out: &mut String,
     comma: &mut bool,

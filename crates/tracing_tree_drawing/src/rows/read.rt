@@ -30,7 +30,7 @@ struct Corners {
     verbose: Shape,
 }
 
-// What follows so many `─` and this corner.
+// What follows `count` `─` and the corner.
 fn after_run(text: &str, count: usize, corner: char) -> Option<&str>
     ensures { MatchOption result (after_run count corner text.now ≡ None)
         (λ x. after_run count corner text.now ≡ Some x.now) }

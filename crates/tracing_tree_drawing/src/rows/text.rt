@@ -15,7 +15,7 @@ pub(super) fn after<'a>(text: &'a str, front: &str) -> Option<&'a str>
     text.strip_prefix(front)
 }
 
-// What follows so many of this beginning, if the text has them.
+// What follows the piece `count` times, if the text begins so.
 pub(super) fn after_repeated<'a>(text: &'a str, piece: &str, count: usize) -> Option<&'a str>
     ensures { MatchOption result (after_front (repeat count piece.now) text.now ≡ None)
         (λ x. after_front (repeat count piece.now) text.now ≡ Some x.now) }

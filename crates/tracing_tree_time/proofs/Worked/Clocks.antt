@@ -35,7 +35,7 @@ leap_year = ap year_of_day (sym leap_day_number) ∙ year_of_day-date leap_day
 abbrev leap_moment : ℤ
 leap_moment = pos 951_827_696_050_000_000
 
--- what is shown at so many nanoseconds after midnight
+-- what is shown at a count of nanoseconds after midnight
 leap_day_text : civil_text (civil_in (pos 2000) (pos 11016) 45_296_050_000_000) ≡ codes "2000-02-29 12:34:56.05"
 unfolding digits days_from_civil day_count days_of_years days_of_months
 leap_day_text = refl
