@@ -98,7 +98,7 @@ enum {
 
 /* What a tree draws and how. `tt_default_settings` sets all of it. */
 typedef struct tt_settings {
-  uint64_t size;          /* sizeof(tt_settings). Any other number is refused, so that an older header isn't misread */
+  uint64_t size;          /* sizeof(tt_settings). Any other number is refused; `tt_version` tells whether the header fits */
   uint64_t indent_amount; /* columns for each level */
   uint64_t wraparound;    /* after this many levels the indent begins again at the left; not 0 */
   uint64_t epoch;         /* for TT_TIMER_UPTIME: where the uptime begins, in nanoseconds of `mono` */
