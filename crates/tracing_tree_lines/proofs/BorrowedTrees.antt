@@ -1,4 +1,4 @@
--- What a tree of borrowed texts stands for is what its line reads as.
+-- What a JSON value stands for is what its line reads as.
 use Rattle.std.specs.Prelude.{◌≡◌, ℕ, ◌==◌, ◌||◌, Bool, true, false, List, [], ◌∷◌, drop, slice_index, Option, Some, None, option_map, option_and_then, if◌then◌else◌, Float, refl}
 use Rattle.std.proofs.Common.{sym, ap, ◌∙◌, Ordering, Less, Equal, Greater}
 use Rattle.std.proofs.lemmas.Bool.{and_parts}
@@ -8,7 +8,6 @@ use Rattle.std.specs.Ordering.{nat_cmp, match_ordering}
 use Rattle.json.specs.Json as json
 use Rattle.json.specs.Token.{Token}
 use Rattle.json.specs.Lex.{tokens}
-use Rattle.json.specs.Find as look
 use Rattle.serde_json.specs.Data.{Num, unsigned, negative, float, Data, null, boolean, number, string, array, object, Items, no_items, item, Members, no_members, member, put}
 use Rattle.std.specs.Float.{binary64, float_is_finite}
 use Rattle.fast_float.specs.Text.{Parts, scan, nearest}
@@ -143,15 +142,6 @@ mutual
 pub no_str : (o : Option Num) → as_str (number_data o) ≡ None
 no_str None = refl
 no_str (Some n) = refl
-
--- the text of a value
-pub data_str : (j : json.Json) → as_str (data_of j) ≡ look.as_str j
-data_str json.null = refl
-data_str (json.boolean b) = refl
-data_str (json.number s) = no_str (number_of s)
-data_str (json.string s) = refl
-data_str (json.array js) = refl
-data_str (json.object ms) = refl
 
 -- a number is no field
 pub no_field : (o : Option Num) → field_value (number_data o) ≡ None

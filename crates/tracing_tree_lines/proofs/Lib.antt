@@ -5,6 +5,7 @@ pub mod BorrowedTrees
 pub mod NumberParts
 pub mod LineParts
 pub mod LineTokens
+pub mod PairTokens
 pub mod ObjectLines
 pub mod SpelledLines
 pub mod LineEnds

@@ -41,11 +41,11 @@ pub record ReadsMembers (first now : List Token) (parts : Parts) : Type 0 where
   pub whole : parts.has_other ≡ false → (rest : json.Members) → members_are_whole rest ≡ true → members_are_whole (before rest) ≡ true
   pub kept : parts_members parts ≡ call_members (object found)
 
-parsed_itself : {A : Type 0} (o : Option (A × List Token)) → o ≡ parse_map (λ a. a) o
+pub parsed_itself : {A : Type 0} (o : Option (A × List Token)) → o ≡ parse_map (λ a. a) o
 parsed_itself None = refl
 parsed_itself (Some p) = refl
 
-parsed_twice : {A : Type 0} (f g : A → A) (o : Option (A × List Token)) → parse_map f (parse_map g o) ≡ parse_map (λ a. f (g a)) o
+pub parsed_twice : {A : Type 0} (f g : A → A) (o : Option (A × List Token)) → parse_map f (parse_map g o) ≡ parse_map (λ a. f (g a)) o
 parsed_twice f g None = refl
 parsed_twice f g (Some p) = refl
 
@@ -244,10 +244,6 @@ unless_memory P Q NotACall then is = (is.0, then is.1)
 unless_memory P Q Read then is = is
 unless_memory P Q Memory then is = tt
 unless_memory P Q (Refused refusal) then is = is
-
-pub fields_failed : (first now r : List Token) (fields : List Field) (are_fields : Bool) (cause : LineCause) → ReadsItems first now fields are_fields → after_end_array now ≡ None
-    → IsUnlessMemory NotACall (json.value 125 now ≡ None) cause → TakesFields first r (Err cause)
-fields_failed first now r fields are_fields cause read going is = unless_memory _ _ cause (λ none. item_failed first now fields are_fields read going none) is
 
 pub parts_failed : (A : Type 0) (first now s r : List Token) (parts after : Parts) (key : List ℕ) (cause : LineCause) → ReadsMembers first now parts → read_key now ≡ Some (Some key, s)
     → IsUnlessMemory NotACall (json.value 126 s ≡ None) cause → TakesParts {A = A} first r after (Err cause)

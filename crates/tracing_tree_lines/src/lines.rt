@@ -3,10 +3,12 @@
 mod call;
 mod context;
 mod number;
+mod pair;
 mod part;
 mod parts;
 pub(crate) mod read;
 mod settings;
+mod skip;
 mod value;
 
 ghost use Rattle.std.specs.Prelude.{◌≡◌, ℕ, List, Option, IfErr, IfSome, MatchResult};

@@ -1,9 +1,6 @@
--- The data that a tree of borrowed texts stands for.
+-- The data that a JSON value stands for.
 use Rattle.std.specs.Prelude.{◌≡◌, ℕ, ◌&&◌, Bool, true, false, not, List, Option, Some, None, Result, Ok, Err}
-use Rattle.std.specs.declared.alloc.Global.{Global}
 use Rattle.json.specs.Json as json
-use Rattle.json.specs.Value.{value_view}
-use Rattle.json.specs.declared.value.Value.{Value}
 use Rattle.serde_json.specs.Data.{Num, Data, null, boolean, number, string, array, object, Items, no_items, item, Members, no_members, put}
 use Rattle.serde_json.specs.Find.{is_float}
 use Rattle.serde_json.specs.Read.{number_of, read}
@@ -45,9 +42,6 @@ abbrev mutual
   pub members_data : json.Members → Members → Members
   members_data json.no_members found = found
   members_data (json.member k j ms) found = members_data ms (put k (data_of j) found)
-
-abbrev pub borrowed_data : Value Global → Data
-borrowed_data value = data_of (value_view value)
 
 -- each number in it is whole
 abbrev mutual

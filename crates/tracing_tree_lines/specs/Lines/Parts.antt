@@ -8,12 +8,12 @@ use Rattle.json.specs.declared.token.Token.TheVariants as Read
 use Rattle.json.specs.declared.error.Error.{Error}
 use Rattle.json.specs.declared.error.Error.TheVariants.{Invalid, OutOfMemory, TooLong, DuplicateKey}
 use Rattle.serde_json.specs.Data.{Num, unsigned, negative, float, Data, null, boolean, number, string, array, object, Items, no_items, item, Members, no_members, member}
-use Rattle.serde_json.specs.Find.{get}
+use Rattle.serde_json.specs.Find.{as_str, get}
 use Rattle.serde_json.specs.Read.{of_json, read}
 use Rattle.serde_json.specs.Written.{has_float}
 use Rattle.tracing_tree_text.specs.declared.field.Field.{Field}
-use Rattle.tracing_tree_lines.specs.Lines.Borrowed.{data_of, members_data, is_whole, members_are_whole}
-use Rattle.tracing_tree_lines.specs.Lines.Spelled.{field_value, item_fields, SpellsCall}
+use Rattle.tracing_tree_lines.specs.Lines.Borrowed.{data_of, items_data, members_data, is_whole, members_are_whole}
+use Rattle.tracing_tree_lines.specs.Lines.Spelled.{field_value, item_fields, pair_field, SpellsCall}
 use Rattle.tracing_tree_lines.specs.Lines.Values.{IsUnlessMemory}
 use Rattle.tracing_tree_layer.specs.declared.call.Call.{Call}
 use Rattle.tracing_tree_lines.specs.declared.lines.LineCause.{LineCause}
@@ -21,6 +21,8 @@ use Rattle.tracing_tree_lines.specs.declared.lines.LineCause.TheVariants.{NotACa
 use Rattle.tracing_tree_lines.specs.declared.lines.part.Part.{Part}
 use Rattle.tracing_tree_lines.specs.declared.lines.part.Part.TheVariants.{Absent, Text, Whole, Negative, Fields, Other}
 use Rattle.tracing_tree_lines.specs.declared.lines.parts.Parts.{Parts}
+use Rattle.tracing_tree_lines.specs.declared.lines.pair.Texts.{Texts}
+use Rattle.tracing_tree_lines.specs.declared.lines.pair.Texts.TheVariants.{None as NoText, One, Two, Other as OtherItems}
 
 -- ---- what is read of a value
 
@@ -150,6 +152,25 @@ pub record IsItemTaken (old new : List Token) (field : Option Field) : Type 0 wh
   pub value : json.Json
   pub taken : json.value 125 old ≡ Some (value, new)
   pub is : field ≡ field_value (data_of value)
+
+-- the field of an array of these texts and then these items, if it is a pair
+abbrev pub pair_with : Texts → Items → Option Field
+pair_with NoText rest = pair_field rest
+pair_with (One name) rest = pair_field (item (string name.now) rest)
+pair_with (Two name text) rest = pair_field (item (string name.now) (item (string text.now) rest))
+pair_with OtherItems rest = None
+
+-- the tokens of a value in a pair were taken, and this is its text, if it is one
+pub record IsTextTaken (old new : List Token) (text : Option (List ℕ)) : Type 0 where
+  pub value : json.Json
+  pub taken : json.value 124 old ≡ Some (value, new)
+  pub is : text ≡ as_str (data_of value)
+
+-- the tokens of an array after its bracket were taken, and this is its field, if it is a pair
+pub record IsPairTaken (old new : List Token) (field : Option Field) : Type 0 where
+  pub items : json.Items
+  pub taken : json.items (json.value 124) (length old) old ≡ Some (items, new)
+  pub is : field ≡ pair_field (items_data items)
 
 -- the tokens of an array after its bracket were taken
 pub record AreFieldsTaken (old new : List Token) (part : Part) : Type 0 where

@@ -1,29 +1,21 @@
 //! What a line's object has at the keys of a call, read in one pass.
 
-ghost use Rattle.std.specs.Prelude.{◌≡◌, ◌||◌, false, None, Some, MatchResult, IfOk, option_map};
-ghost use Rattle.json.specs.Json as json;
-ghost use Rattle.json.specs.Reads.{skip_members};
-ghost use Rattle.json.specs.Value.{items_view};
-ghost use Rattle.serde_json.specs.Find.{as_array};
-ghost use Rattle.tracing_tree_lines.specs.Lines.Borrowed.{borrowed_data, items_data, RefusesFloat};
-ghost use Rattle.tracing_tree_lines.specs.Lines.Parts.{field_of, is_other, no_parts, opens_object, part_data, parts_members, with_key, IsItemTaken, ReadsObject, ReadsParts, TakesFields, TakesPart, TakesParts};
-ghost use Rattle.tracing_tree_lines.specs.Lines.Spelled.{field_value};
-ghost use Rattle.tracing_tree_lines.specs.Lines.Values.{IsUnlessMemory};
-ghost use Rattle.tracing_tree_lines.specs.declared.lines.LineCause.TheVariants.{NotACall};
+ghost use Rattle.std.specs.Prelude.{◌≡◌, ◌||◌, false, IfOk};
+ghost use Rattle.tracing_tree_lines.specs.Lines.Borrowed.{RefusesFloat};
+ghost use Rattle.tracing_tree_lines.specs.Lines.Parts.{field_of, is_other, no_parts, opens_object, part_data, parts_members, with_key, ReadsObject, ReadsParts, TakesFields, TakesPart, TakesParts};
 
 use super::LineCause;
 use super::number::number_part;
+use super::pair::read_pair;
 use super::part::Part;
+use super::skip::{ITEM_DEPTH, skip_members};
 use super::value::has_float;
-use json::{Invalid, Reader, Scratch, Token, Value};
+use json::{Reader, Scratch, Token};
 use simdutf8::basic::from_utf8;
 use std::alloc::{AllocError, Global};
 use std::mem;
 use tracing_tree_text::field::Field;
 use tracing_tree_text::text::Text;
-
-// How deep arrays and objects may nest in an item of an array that stands at a key. A line may nest 127 deep.
-const ITEM_DEPTH: usize = 125;
 
 // What stands at the keys of a call. The last of several members with one key counts.
 #[derive(Drop)]
@@ -189,23 +181,11 @@ fn read_part<'a>(alloc: Global, reader: &mut Reader<'a>) -> Result<Part<'a>, Lin
         Token::Bool(_) => Ok(Part::Other),
         Token::BeginArray => read_fields(alloc, reader),
         Token::BeginObject => {
-            skip_members(reader)?;
+            skip_members(reader, ITEM_DEPTH)?;
             Ok(Part::Other)
         }
         Token::EndObject | Token::EndArray | Token::Key(_) | Token::Bad => Err(LineCause::NotACall),
     }
-}
-
-// Passes over the members of an object whose `{` was read.
-fn skip_members(reader: &mut Reader<'_>) -> Result<(), Invalid>
-    ensures { MatchResult result
-        (λ _. skip_members 125 reader.old ≡ Some reader.new)
-        (λ _. skip_members 125 reader.old ≡ None) }
-{
-    while let Some(_) = reader.next_key()? {
-        reader.skip_value(ITEM_DEPTH)?;
-    }
-    Ok(())
 }
 
 // The fields of an array whose `[` was read.
@@ -216,7 +196,7 @@ fn read_fields<'a>(alloc: Global, reader: &mut Reader<'_>) -> Result<Part<'a>, L
     let mut fields = Vec::new(alloc);
     let mut are_fields = true;
     while !reader.take_end_array() {
-        match read_pair(alloc, reader)? {
+        match read_pair(reader)? {
             Some((name, value)) => fields.push(field_of(alloc, name, value)?)?,
             None => are_fields = false,
         }
@@ -225,45 +205,6 @@ fn read_fields<'a>(alloc: Global, reader: &mut Reader<'_>) -> Result<Part<'a>, L
         return Ok(Part::Other);
     }
     Ok(Part::Fields(fields))
-}
-
-// The texts of the next value, where it is an array of two texts.
-fn read_pair<'a>(
-    alloc: Global,
-    reader: &mut Reader<'a>,
-) -> Result<Option<(&'a str, &'a str)>, LineCause>
-    ensures { MatchResult result
-        (λ pair. IsItemTaken reader.old reader.new
-        (option_map (λ texts. field_of texts.0.now texts.1.now) pair))
-        (λ cause. IsUnlessMemory NotACall (json.value 125 reader.old ≡ None) cause) }
-{
-    let item = Value::read(alloc, reader, ITEM_DEPTH)?;
-    Ok(pair_of(&item))
-}
-
-// The texts of an array of two texts. None where the value is no such array.
-fn pair_of<'a>(value: &Value<'a>) -> Option<(&'a str, &'a str)>
-    ensures { option_map (λ pair. field_of pair.0.now pair.1.now) result
-        ≡ field_value (borrowed_data value.now) }
-{
-    let items = items_of(value)?;
-    if items.len() != 2 {
-        return None;
-    }
-    let name = items[0].as_str()?;
-    let text = items[1].as_str()?;
-    Some((name, text))
-}
-
-// The items of an array. None where the value isn't one.
-fn items_of<'v, 'a>(value: &'v Value<'a>) -> Option<&'v Vec<Value<'a>>>
-    ensures { option_map (λ items. items_data (items_view items.now.items)) result
-        ≡ as_array (borrowed_data value.now) }
-{
-    match value {
-        Value::Array(items) => Some(items),
-        _ => None,
-    }
 }
 
 // The field of a name and a value.

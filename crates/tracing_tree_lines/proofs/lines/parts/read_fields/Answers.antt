@@ -1,10 +1,11 @@
-use Rattle.std.proofs.Common.{◌≡◌, ◌++◌, ◌∷◌, ◌<◌, [], length, true, false, Some, None, Err, option_map, sym, ap, ◌∙◌, subst, arith, rules}
+use Rattle.std.proofs.Common.{◌≡◌, ◌++◌, ◌∷◌, ◌<◌, [], length, true, false, Some, None, Err, option_map, refl, sym, ap, ◌∙◌, subst, arith, rules}
 use Rattle.json.specs.Json.{after_end_array, value}
 use Rattle.json.proofs.Grammar.{left, skip_value-shorter}
 use Rattle.tracing_tree_lines.specs.Lines.Borrowed.{data_of}
-use Rattle.tracing_tree_lines.specs.Lines.Parts.{field_of, TakesFields}
+use Rattle.tracing_tree_lines.specs.Lines.Parts.{field_of}
 use Rattle.tracing_tree_lines.specs.Lines.Spelled.{field_value}
-use Rattle.tracing_tree_lines.proofs.LineTokens.{ReadsItems, no_items_read, field_item_read, other_item_read, fields_failed, fields_part, other_fields_part}
+use Rattle.tracing_tree_lines.specs.declared.lines.LineCause.TheVariants.{NotACall}
+use Rattle.tracing_tree_lines.proofs.LineTokens.{ReadsItems, no_items_read, field_item_read, other_item_read, item_failed, fields_part, other_fields_part}
 use Rattle.tracing_tree_lines.proofs.lines.parts.read_fields.Goals as goal
 
 pub loop-alloc-init : goal.loop-alloc-init
@@ -14,10 +15,9 @@ pub returns-in_err-name : goal.returns-in_err-name
 returns-in_err-name c =
     let l = c.loop-alloc in
     let going : (after_end_array l.reader ≡ None) × (c.take_end_array.new.self ≡ l.reader) = grind arith in
-    let cause = c.in_err-name.field-0.0 in
-    let refused : c.from_residual.result ≡ Err cause = search rules in
-    subst (TakesFields c.args.reader.now c.read_pair.new.reader) (sym refused)
-    (fields_failed c.args.reader.now l.reader c.read_pair.new.reader l.fields.items l.are_fields cause l.invariant going.0 (rw (← going.1) c.in_err-name.ensures))
+    let failed : value 125 l.reader ≡ None = rw (← going.1) c.in_err-name.ensures in
+    let refused : c.from_residual.result ≡ Err NotACall = search rules in
+    rw refused (refl, item_failed c.args.reader.now l.reader l.fields.items l.are_fields l.invariant going.0 failed)
 
 pub loop-alloc-smaller-in_ok-push-in-Some : goal.loop-alloc-smaller-in_ok-push-in-Some
 loop-alloc-smaller-in_ok-push-in-Some c =

@@ -1,7 +1,7 @@
 use Rattle.std.proofs.Common.{◌≡◌, ◌-◌, length, Some, refl, ap, ◌∙◌, arith}
 use Rattle.json.specs.Json.{read_key, value}
 use Rattle.json.proofs.Grammar.{left, left_none, read_key-shorter, members_end, members_no_key, members_fail, skip_member}
-use Rattle.tracing_tree_lines.proofs.lines.parts.skip_members.Goals as goal
+use Rattle.tracing_tree_lines.proofs.lines.skip.skip_members.Goals as goal
 
 pub loop-reader-init : goal.loop-reader-init
 loop-reader-init c = (length c.args.reader.now, omega arith, refl)
@@ -9,7 +9,7 @@ loop-reader-init c = (length c.args.reader.now, omega arith, refl)
 pub returns-in_err-next_key : goal.returns-in_err-next_key
 returns-in_err-next_key c =
     let l = c.loop-reader in
-    let none = l.invariant.2 ∙ ap left (members_no_key (value 125) l.invariant.0 l.reader c.in_err-next_key.ensures.value) in
+    let none = l.invariant.2 ∙ ap left (members_no_key (value c.args.depth) l.invariant.0 l.reader c.in_err-next_key.ensures.value) in
     grind (arith, none)
 
 pub loop-reader-preserved : goal.loop-reader-preserved
@@ -21,7 +21,7 @@ loop-reader-preserved c =
     let key : read_key l.reader ≡ Some (Some k, s) = grind arith in
     let less = read_key-shorter l.reader (Some k) s key in
     let lesser = c.in_ok-skip_value.ensures.shorter in
-    (n - 1, omega (arith, l.invariant.1), l.invariant.2 ∙ skip_member (value 125) n l.reader s _ k (omega (arith, l.invariant.1)) key c.in_ok-skip_value.ensures.value)
+    (n - 1, omega (arith, l.invariant.1), l.invariant.2 ∙ skip_member (value c.args.depth) n l.reader s _ k (omega (arith, l.invariant.1)) key c.in_ok-skip_value.ensures.value)
 
 pub returns-in_err-skip_value : goal.returns-in_err-skip_value
 returns-in_err-skip_value c =
@@ -29,10 +29,10 @@ returns-in_err-skip_value c =
     let k = c.in-Some.field-0.now in
     let s = c.next_key.new.self in
     let key : read_key l.reader ≡ Some (Some k, s) = grind arith in
-    let none = l.invariant.2 ∙ ap left (members_fail (value 125) l.invariant.0 k l.reader s key (left_none _ c.in_err-skip_value.ensures.value)) in
+    let none = l.invariant.2 ∙ ap left (members_fail (value c.args.depth) l.invariant.0 k l.reader s key (left_none _ c.in_err-skip_value.ensures.value)) in
     grind (arith, none)
 
 pub returns : goal.returns
 returns c =
     let l = c.loop-reader in
-    l.invariant.2 ∙ ap left (members_end (value 125) l.invariant.0 l.reader c.next_key.new.self l.invariant.1 (grind arith))
+    l.invariant.2 ∙ ap left (members_end (value c.args.depth) l.invariant.0 l.reader c.next_key.new.self l.invariant.1 (grind arith))
