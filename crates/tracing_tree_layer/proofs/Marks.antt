@@ -52,10 +52,6 @@ mark_all-append first second forest = ap (λ xs. record forest { spans = xs })
     (sym (map-twice (marked first) (marked second) forest.spans
     ∙ map-pointwise (λ s. marked second (marked first s)) (marked (first ++ second)) (marked-twice first second) forest.spans))
 
--- one more span is marked
-pub mark_all-more : (ids : List Id) (i : Id) (forest : Forest) → mark_printed i (mark_all ids forest) ≡ mark_all (ids ++ i ∷ []) forest
-mark_all-more ids i forest = mark_printed-all i (mark_all ids forest) ∙ sym (mark_all-append ids (i ∷ []) forest)
-
 -- one span is marked and then the others
 pub marks_first : (i : Id) (others : List Id) (forest : Forest) → mark_all (i ∷ others) forest ≡ mark_all others (mark_printed i forest)
 marks_first i others forest = mark_all-append (i ∷ []) others forest ∙ ap (mark_all others) (sym (mark_printed-all i forest))

@@ -158,19 +158,12 @@ finite_i64 : (b : Bool) (x : Float) → option_and_then as_i64 (if b then Some (
 finite_i64 true x = refl
 finite_i64 false x = refl
 
-finite_whole : (b : Bool) (x : Float) → is_whole_number (if b then Some (float x) else None) ≡ false
-finite_whole true x = refl
-finite_whole false x = refl
-
 -- a float of a text is no whole number
 pub float_u64 : (sign : Bool) (p : Parts) → option_and_then as_u64 (float_of sign p) ≡ None
 float_u64 sign p = finite_u64 (float_is_finite (nearest binary64 sign p)) (nearest binary64 sign p)
 
 pub float_i64 : (sign : Bool) (p : Parts) → option_and_then as_i64 (float_of sign p) ≡ None
 float_i64 sign p = finite_i64 (float_is_finite (nearest binary64 sign p)) (nearest binary64 sign p)
-
-pub float_whole : (sign : Bool) (p : Parts) → is_whole_number (float_of sign p) ≡ false
-float_whole sign p = finite_whole (float_is_finite (nearest binary64 sign p)) (nearest binary64 sign p)
 
 pub minus_text : (s : List ℕ) → (slice_index s 0 == 45) ≡ true → number_of s ≡ number_from true (scan (drop 1 s))
 unfolding number_of

@@ -96,15 +96,6 @@ pub record IsWithinLine (known left : Option (List ℕ)) (line : List ℕ) : Typ
 pub nothing_read : (known : Option (List ℕ)) (line : List ℕ) → line ≡ [] → IsWithinLine known known line
 nothing_read known line e = rw e (record { clean = λ k d lt. absurd (omega arith); taken = Consumes-nil known })
 
--- a further part of the line
-pub reads_on : (known middle left : Option (List ℕ)) (old new : List ℕ) → IsWithinLine known middle old → TakesPart [] middle left old new → IsWithinLine known left new
-reads_on known middle left old new so_far more =
-    let taken : Consumes middle left more.part = subst (Consumes middle left) (append-nil more.part) more.taken in
-    rw more.added (record {
-      clean = All-append (λ byte. is_end byte ≡ false) old more.part so_far.clean more.within;
-      taken = Consumes-trans known middle left old more.part so_far.taken taken;
-    })
-
 -- an interrupted look reads nothing
 pub reads_nothing : (known middle left : Option (List ℕ)) (old new : List ℕ) → IsWithinLine known middle old → TakesNothing middle left old new → IsWithinLine known left new
 reads_nothing known middle left old new so_far none =

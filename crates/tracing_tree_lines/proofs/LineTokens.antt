@@ -159,9 +159,6 @@ field_item_read first now r fields new are_fields field value read going taken i
   other = λ none rest. read.other none (json.item value rest);
 }
 
-before_none : (fields : List Field) (first others : Option (List Field)) → first ≡ None → behind fields first ≡ None
-before_none fields first others none = rw none
-
 no_fields : (value : Data) (others : Items) → field_value value ≡ None → item_fields (item value others) ≡ None
 no_fields value others none = rw none
 

@@ -4,7 +4,7 @@ use Rattle.std.specs.Option.{option_map_or}
 use Rattle.std.proofs.lemmas.Bool.{cases_lt, leb-true, le-leb, ltb-true, ltb-false, lt-ltb, ne_eqb, or_cases, or_left, or_right, not-true, not_from_false, both_ways}
 use Rattle.std.proofs.lemmas.Bool.Decides.{Decides-and}
 use Rattle.std.proofs.lemmas.List.{at_drop_more}
-use Rattle.std.proofs.lemmas.List.Sums.{sum_by-cons, sum_by-append}
+use Rattle.std.proofs.lemmas.List.Sums.{sum_by-cons}
 use Rattle.std.specs.List.Sorted.{IsPartitionPoint, IsPartitionedBy}
 use Rattle.std.proofs.lemmas.Option.{slice_get_read, slice_get_past, slice_get_within, get_or_from_slice_get}
 use Rattle.tracing_tree_layer.specs.declared.call.Call.{Call}
@@ -375,27 +375,12 @@ parted place slips rising i j d le lt e = by_order (cases_lt i j)
 
 -- ---- steps of the walks
 
-pub walk_more : (history : List Entry) (first greatest : Option ℕ) (slips : Slips) (i : ℕ) (d : Slip) → i < length slips →
-    least (least first (if is_misplaced history greatest (get_or slips i d) then (get_or slips i d).place ∷ [] else []))
-    (misplaced history (greater greatest (get_or slips i d).place) (drop (i + 1) slips))
-    ≡ least first (misplaced history greatest (drop i slips))
-walk_more history first greatest slips i d lt =
-    sym (at_drop_more (λ rest. least first (misplaced history greatest rest)) slips i d lt
-    ∙ least-append first (if is_misplaced history greatest (get_or slips i d) then (get_or slips i d).place ∷ [] else [])
-    (misplaced history (greater greatest (get_or slips i d).place) (drop (i + 1) slips)))
-
 pub passes_more : (history : List Entry) (first : Option ℕ) (passes : List Slips) (i : ℕ) (d : Slips) → i < length passes →
     least (least first (misplaced history None (get_or passes i d))) (flat_map (misplaced history None) (drop (i + 1) passes))
     ≡ least first (flat_map (misplaced history None) (drop i passes))
 passes_more history first passes i d lt =
     sym (at_drop_more (λ rest. least first (flat_map (misplaced history None) rest)) passes i d lt
     ∙ least-append first (misplaced history None (get_or passes i d)) (flat_map (misplaced history None) (drop (i + 1) passes)))
-
-pub count_more : (place : ℕ) (passes : List Slips) (i : ℕ) (d : Slips) → i < length passes →
-    count_by (λ (slip : Slip). slip.place == place) (get_or passes i d) + slips_at (drop (i + 1) passes) place ≡ slips_at (drop i passes) place
-count_more place passes i d lt =
-    sym (at_drop_more (λ rest. slips_at rest place) passes i d lt
-    ∙ sum_by-append (λ (slip : Slip). cond (eqb slip.place place) 1 0) (get_or passes i d) (all_slips (drop (i + 1) passes)))
 
 -- ---- the walk over the places
 

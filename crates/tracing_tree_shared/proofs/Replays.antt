@@ -24,8 +24,7 @@ use Rattle.tracing_tree_layer.proofs.DrawnLaws.{draw-append}
 use Rattle.tracing_tree_layer.proofs.Runs.{run_more}
 use Rattle.tracing_tree_layer.proofs.Reading.Ancestors.{reading-laws}
 use Rattle.tracing_tree_shared.specs.Finish.{IsReplay}
-use Rattle.tracing_tree_shared.specs.Kept.{KeepsReplay, IsAnsweredOrLacks, entries_of, BookView, seen_on_tape, answer_shown, IsApplied, IsAnsweredOnSome}
-use Rattle.tracing_tree_shared.specs.Drafts.{DraftView}
+use Rattle.tracing_tree_shared.specs.Kept.{KeepsReplay, IsAnsweredOrLacks, entries_of, BookView, answer_shown, IsApplied, IsAnsweredOnSome}
 use Rattle.tracing_tree_shared.specs.declared.draft.Refused as Answers
 use Rattle.tracing_tree_output.specs.Outputs.{TapeView}
 use Rattle.tracing_tree_time.specs.declared.timer.FormatTime.{Ghosts as FormatTime}
@@ -153,26 +152,6 @@ keeps_replay first history call answer old new whole (inr lacks) k =
     let Q : Result Reply Refusal → Type 0 = λ r. KeepsReplay first (history ++ entries_of call r) old in
     let R : List Entry → Type 0 = λ entries. KeepsReplay first entries old in
     subst P (sym lacks.same) (subst Q (sym lacks.cause) (subst R (sym (append-nil history)) k))
-
--- A registry without spans, with a layer that is fresh and a writer that holds nothing, keeps the replay of no history.
-pub keeps_nothing : (seen : Seen) → seen.state.forest.spans ≡ [] → seen.state.last ≡ None → seen.writer.bytes ≡ Some [] →
-    KeepsReplay seen.state.forest.next [] seen
-keeps_nothing seen spans last bytes =
-    record { forest = λ i. record { spans = spans i; next = seen.state.forest.next }; last = last; sound = refl; replies = refl; output = bytes }
-
--- A draft is refused as the layer refused its call.
-pub applied_refused : {FT : Type 0} (time : FormatTime FT) (draft : DraftView) (cause : Refusal) (now old new : BookView TapeView FT) →
-    now ≡ old → IsAnsweredOrLacks draft.call (Err cause) (seen_on_tape time old.layered) (seen_on_tape time new.layered) →
-    new.history ≡ old.history → new.first ≡ old.first →
-    IsApplied time draft.call (Err (record { draft = draft; cause = cause })) now new
-applied_refused {FT = FT} time draft cause now old new seen answered history first =
-    let P : BookView TapeView FT → Type 0 = λ book. IsApplied time draft.call (Err (record { draft = draft; cause = cause })) book new in
-    subst P (sym seen) (record {
-      answered = answered;
-      history = history ∙ sym (append-nil old.history);
-      shown = tt;
-      first = first;
-    })
 
 -- What is answered to a draft is answered on some layer.
 pub answered_on_some : {FT : Type 0} {time : FormatTime FT} {call : Call} {result : Result Slip Answers.Refused} {old new : BookView TapeView FT} →

@@ -8,7 +8,7 @@ use Rattle.tracing_tree_layer.specs.Layered.Seen.{Seen}
 use Rattle.tracing_tree_layer.specs.Layer.Layers.{Flushes}
 use Rattle.tracing_tree_layer.specs.declared.call.Call.{Call}
 use Rattle.tracing_tree_lines.specs.Lines.Spelled.{input_lines, is_skipped}
-use Rattle.tracing_tree_lines.specs.Lines.Reads.{TakesLine, HasNoLine}
+use Rattle.tracing_tree_lines.specs.Lines.Reads.{TakesLine}
 use Rattle.tracing_tree_lines.specs.Lines.Runs.{is_from_outside}
 use Rattle.tracing_tree_lines.specs.declared.lines.LineCause.{LineCause}
 use Rattle.tracing_tree_lines.specs.declared.lines.LineFault.{LineFault}
@@ -48,18 +48,10 @@ module _ {S : Type 0} (takes : S → List ℕ → Option Json → Option (Step S
       Makes heard.calls old new × (after ≡ heard.source) × (heard.unknown ≡ (if known then 0 else 1))
   heard_as heard after (Err cause) old new = StopsIn heard.calls cause old new
 
-  -- a blank line
-  pub hears_blank : (line : List ℕ) (source : S) (s : Seen) → is_skipped line ≡ true → HearsLine takes line source source (Ok true) s s
-  hears_blank line source s blank = rw blank (makes_none s, refl, refl)
-
   -- a line that isn't UTF-8
   pub hears_no_text : (line : List ℕ) (source : S) (s : Seen) → is_skipped line ≡ false → ¬ (IsUtf8 line) → HearsLine takes line source source (Ok false) s s
   hears_no_text line source s judged bad =
       rw (judged, no_text line bad) (makes_none s, refl, refl)
-
-  tells_none : (told : Option (Step S)) (before after : S) (s : Seen) → Tells told before after None → heard_as (heard_step before told) after (Ok false) s s
-  tells_none None before after s h = (makes_none s, h, refl)
-  tells_none (Some step) before after s h = absurd h
 
   tells_calls : (told : Option (Step S)) (before after : S) (calls : List Call) (result : Result ⊤ LineCause) (old new : Seen) →
       Tells told before after (Some calls) → MakesAll calls result old new →
@@ -71,12 +63,6 @@ module _ {S : Type 0} (takes : S → List ℕ → Option Json → Option (Step S
   tells_calls (Some step) before after calls (Err cause) old new h k =
       let P : List Call → Type 0 = λ c. StopsIn c cause old new in
       subst P h.0 k
-
-  -- a text that tells nothing that is known
-  pub hears_unknown : (line : List ℕ) (before after : S) (s : Seen) → is_skipped line ≡ false → IsUtf8 line →
-      Tells (takes before line (document line)) before after None → HearsLine takes line before after (Ok false) s s
-  hears_unknown line before after s judged text h =
-      rw (judged, is_utf8-from_IsUtf8 line text) (tells_none (takes before line (document line)) before after s h)
 
   pub hears_calls : (line : List ℕ) (before after : S) (calls : List Call) (old new : Seen) → is_skipped line ≡ false → IsUtf8 line →
       Tells (takes before line (document line)) before after (Some calls) → Makes calls old new → HearsLine takes line before after (Ok true) old new
@@ -103,18 +89,6 @@ module _ {S : Type 0} (takes : S → List ℕ → Option Json → Option (Step S
     next_stops (Some input) (Some rest) line before after cause old new first h =
         let Q : List (List ℕ) → Type 0 = λ lines. StopsIn (next_calls takes ends before lines) cause old new in
         subst Q (sym first) h
-
-    pub next_ends : (known left : Option (List ℕ)) (before after : S) (old new : Seen) → HasNoLine known → Makes (ends before) old new →
-        HearsNext takes ends known left before after (Ok End) old new
-    next_ends None left before after old new none h = tt
-    next_ends (Some input) left before after old new none h = (none, h)
-
-    pub end_stops : (known left : Option (List ℕ)) (before after : S) (cause : LineCause) (old new : Seen) → HasNoLine known → StopsIn (ends before) cause old new →
-        HearsNext takes ends known left before after (Err cause) old new
-    end_stops None left before after cause old new none h = tt
-    end_stops (Some input) left before after cause old new none h =
-        let Q : List (List ℕ) → Type 0 = λ lines. StopsIn (next_calls takes ends before lines) cause old new in
-        subst Q (sym none) h
 
   -- ---- lines after lines
 

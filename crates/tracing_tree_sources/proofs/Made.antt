@@ -1,9 +1,8 @@
 -- Calls that were accepted one after another, and a source's calls so far.
-use Rattle.std.proofs.Common.{◌≡◌, List, [], ◌∷◌, ◌++◌, length, Ok, Err, refl, sym, ap, subst, ◌∙◌, arith, append_assoc, append-nil, length-append}
+use Rattle.std.proofs.Common.{◌≡◌, List, [], ◌∷◌, ◌++◌, length, Ok, refl, sym, ap, subst, ◌∙◌, arith, append_assoc, append-nil, length-append}
 use Rattle.std.specs.Io.KnownBytes.{Appends}
 use Rattle.std.proofs.KnownBytes.{Appends-nil, Appends-trans, Appends-kept}
 use Rattle.tracing_tree_drawing.specs.Format.Picture.{Row, draw}
-use Rattle.tracing_tree_context.specs.declared.context.Refusal.{Refusal}
 use Rattle.tracing_tree_layer.specs.Layered.Seen.{Seen, seen_later}
 use Rattle.tracing_tree_layer.specs.Layered.Step.{turn_of}
 use Rattle.tracing_tree_layer.specs.Layered.Run.{Run, run, run_by_cause, then_run}
@@ -76,18 +75,6 @@ breaks_more Read rest more old new h = h
 breaks_more Memory rest more old new h = h
 breaks_more (Refused refusal) [] more old new h = absurd h
 breaks_more (Refused refusal) (call ∷ rest) more old new h = h
-
--- a call is refused
-pub stops_at : (done rest : List Call) (call : Call) (refusal : Refusal) (old mid new : Seen) →
-    Makes done old mid → IsAnswered call (Err refusal) mid new → StopsIn (done ++ call ∷ rest) (Refused refusal) old new
-stops_at done rest call refusal old mid new h k = record {
-  made = done;
-  rest = call ∷ rest;
-  split = refl;
-  between = mid;
-  makes = h;
-  breaks = k;
-}
 
 -- something from outside ends the run before a call is made
 pub stops_before : (calls : List Call) (cause : LineCause) (s : Seen) → Breaks cause calls s s → StopsIn calls cause s s

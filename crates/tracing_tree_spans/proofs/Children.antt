@@ -1,18 +1,14 @@
 -- The children of a span are newer than it, so that only the newer spans have to be looked at.
-use Rattle.std.proofs.Common.{◌≡◌, ℕ, ◌+◌, ◌-◌, Bool, true, false, ◌&&◌, ◌||◌, not, List, [], ◌∷◌, ◌++◌, length, get_or, take, drop, reverse, filter, slice_get, Option, Some, None, refl, sym, ap, ◌∙◌, subst}
+use Rattle.std.proofs.Common.{◌≡◌, Bool, true, false, ◌&&◌, not, List, [], ◌∷◌, ◌++◌, filter, Option, Some, None, refl, sym, ◌∙◌, subst}
 use Rattle.std.specs.Option.{option_map_or}
 use Rattle.std.specs.List.{list_all, list_any}
 use Rattle.std.proofs.lemmas.Bool.{not-true, or_parts}
-use Rattle.std.proofs.lemmas.Option.{slice_get_within, slice_get-get_or, same_Some}
-use Rattle.std.proofs.lemmas.List.{reverse-append, take-append-drop, take_more, take_rest}
-use Rattle.std.proofs.lemmas.List.Folds.{list_any-append}
 use Rattle.tracing_tree_spans.specs.Registry.Ids.{same_id}
 use Rattle.tracing_tree_spans.specs.Registry.Spans.{Span}
-use Rattle.tracing_tree_spans.specs.Registry.Forest.{has_id, is_child_of, IsGrown, IsForest}
-use Rattle.tracing_tree_spans.specs.Registry.Registered.{alone, is_other_child, lacks_others}
+use Rattle.tracing_tree_spans.specs.Registry.Forest.{has_id, is_child_of, IsGrown}
+use Rattle.tracing_tree_spans.specs.Registry.Registered.{is_other_child}
 use Rattle.tracing_tree_context.specs.declared.context.Id.{Id}
 use Rattle.tracing_tree_spans.proofs.ForestLaws.{same_id-eq}
-use Rattle.tracing_tree_spans.proofs.RegistryLaws.{any-reverse}
 
 -- a test of what a filter leaves
 pub all-filter : {X : Type 0} (p q : X → Bool) (xs : List X) → list_all q (filter p xs) ≡ not (list_any (λ x. p x && not (q x)) xs)
@@ -62,37 +58,3 @@ no-other i before [] h = refl
 no-other i before (x ∷ spans) h =
     let parts = or_parts (is_child_of i x) (list_any (is_child_of i) spans) h in
     rw parts.0 (no-other i before spans parts.1)
-
--- up to its place a span has no child
-childless-upto : (spans : List Span) (at : ℕ) (s : Span) → IsGrown (reverse spans) → slice_get spans at ≡ Some s →
-    list_any (is_child_of s.id) (take (at + 1) spans) ≡ false
-childless-upto spans at s grown read =
-    let within = slice_get_within spans at s read in
-    let here : get_or spans at s ≡ s = same_Some (get_or spans at s) s (sym (slice_get-get_or spans at s within) ∙ read) in
-    let upto : take (at + 1) spans ≡ take at spans ++ s ∷ [] = take_more spans at s within ∙ ap (λ x. take at spans ++ x ∷ []) here in
-    let split : reverse spans ≡ reverse (drop (at + 1) spans) ++ reverse (take (at + 1) spans) =
-    ap (λ (xs : List Span). reverse xs) (sym (take-append-drop (at + 1) spans)) ∙ reverse-append (take (at + 1) spans) (drop (at + 1) spans) in
-    let turned : reverse (take (at + 1) spans) ≡ s ∷ reverse (take at spans) =
-    ap (λ (xs : List Span). reverse xs) upto ∙ reverse-append (take at spans) (s ∷ []) in
-    let older : IsGrown (s ∷ reverse (take at spans)) =
-    subst IsGrown turned (grown-older (reverse (drop (at + 1) spans)) (reverse (take (at + 1) spans)) (subst IsGrown split grown)) in
-    sym (any-reverse (is_child_of s.id) (take (at + 1) spans))
-    ∙ ap (λ xs. list_any (is_child_of s.id) xs) turned ∙ newest-childless s (reverse (take at spans)) older
-
--- a look at the newer spans finds another child where there is one
-pub other-newer : (spans : List Span) (at : ℕ) (s : Span) (before : Option Id) → IsForest (alone spans) → slice_get spans at ≡ Some s →
-    list_any (is_other_child s.id before) (take (length spans - (at + 1)) (drop (at + 1) spans)) ≡ not (lacks_others spans before s.id)
-other-newer spans at s before formed read =
-    let none = no-other s.id before (take (at + 1) spans) (childless-upto spans at s formed.grown read) in
-    let all : lacks_others spans before s.id ≡ not (list_any (is_other_child s.id before) spans) =
-    all-filter (is_child_of s.id) (λ child. option_map_or (same_id child.id) before false) spans in
-    ap (λ xs. list_any (is_other_child s.id before) xs) (take_rest spans (at + 1))
-    ∙ sym (ap (λ b. b || list_any (is_other_child s.id before) (drop (at + 1) spans)) none)
-    ∙ sym (list_any-append (is_other_child s.id before) (take (at + 1) spans) (drop (at + 1) spans))
-    ∙ ap (λ xs. list_any (is_other_child s.id before) xs) (take-append-drop (at + 1) spans)
-    ∙ twice (list_any (is_other_child s.id before) spans)
-    ∙ ap (λ b. not b) (sym all)
-  where
-    twice : (b : Bool) → b ≡ not (not b)
-    twice true = refl
-    twice false = refl

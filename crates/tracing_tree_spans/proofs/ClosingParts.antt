@@ -1,5 +1,5 @@
 -- What closes with a span, read off the counts that a registry keeps.
-use Rattle.std.proofs.Common.{◌≡◌, ◌≢◌, ℕ, suc, ◌+◌, ◌-◌, ◌<◌, ◌≤◌, nat_lt, ◌==◌, Bool, true, false, ◌&&◌, List, [], ◌∷◌, ◌++◌, length, reverse, take, drop, find, filter, Option, Some, None, if◌then◌else◌, arith, refl, sym, ap, ◌∙◌, subst, length-append, append_assoc}
+use Rattle.std.proofs.Common.{◌≡◌, ◌≢◌, ℕ, suc, ◌+◌, ◌-◌, ◌<◌, nat_lt, ◌==◌, Bool, true, false, ◌&&◌, List, [], ◌∷◌, ◌++◌, length, reverse, take, drop, find, filter, Option, Some, None, if◌then◌else◌, arith, refl, sym, ap, ◌∙◌, subst, length-append, append_assoc}
 use Rattle.std.specs.List.{list_all, list_any}
 use Rattle.std.specs.Option.{option_map, option_map_or, option_and_then}
 use Rattle.std.proofs.lemmas.Bool.{eqb-true, and_parts, or_parts}
@@ -218,15 +218,6 @@ part-more nodes i a node whole count o kept h e zero-left one closed =
           let sum = length-append (path_of_any (alone spans) node.span.parent) (a ∷ []) in
           let b = closed.bounded in omega (arith, n, sum, b);
     }
-
--- the path is as long as what closes at least, so that the next count fits
-pub part-fits : (nodes : List KeptSpan) (i a : Id) (node : KeptSpan) (whole count : ℕ) (o : Option Id) → IsKept (spans_of nodes) None → IsKeptAt nodes a node →
-    o ≡ Some a → HasClosed (spans_of nodes) i whole count o → count + 1 ≤ whole
-part-fits nodes i a node whole count o kept h e closed =
-    let spans : List Span = spans_of nodes in
-    let n = ap (λ p. length (path_of_any (alone spans) p)) e ∙ ap (λ (ids : List Id). length ids) (path_of-step (alone spans) kept.0 a node.span h.found) in
-    let sum = length-append (path_of_any (alone spans) node.span.parent) (a ∷ []) in
-    let b = closed.bounded in omega (arith, n, sum, b)
 
 -- what closes is the end of the path
 part-end : (nodes : List KeptSpan) (i : Id) (node : KeptSpan) (going : List Id) → IsKept (spans_of nodes) None → IsKeptAt nodes i node →

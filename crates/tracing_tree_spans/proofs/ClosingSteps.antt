@@ -1,13 +1,11 @@
 -- What closes with a span, span by span: read off a registry that stays, and as one span after the other is removed.
-use Rattle.std.proofs.Common.{◌≡◌, ℕ, suc, nat_lt, ◌-◌, ◌<◌, ◌==◌, Bool, true, false, ◌&&◌, ◌||◌, not, List, [], ◌∷◌, ◌++◌, length, map, reverse, find, filter, get_or, slice_get, Option, Some, None, IfSome, is_some, if◌then◌else◌, arith, refl, sym, ap, ◌∙◌, subst}
+use Rattle.std.proofs.Common.{◌≡◌, ℕ, suc, nat_lt, ◌-◌, ◌<◌, ◌==◌, Bool, true, false, ◌&&◌, ◌||◌, not, List, [], ◌∷◌, ◌++◌, length, map, reverse, find, filter, get_or, slice_get, Option, Some, None, IfSome, if◌then◌else◌, arith, refl, sym, ap, ◌∙◌, subst}
 use Rattle.std.specs.Option.{option_map_or}
 use Rattle.std.specs.List.{list_all, list_any, remove}
 use Rattle.std.specs.Bool.{⊤, then_some}
-use Rattle.std.proofs.lemmas.List.Edits.{length-remove}
-use Rattle.std.proofs.lemmas.List.{append-nil, append_assoc}
-use Rattle.std.proofs.lemmas.Bool.{eqb-true, and_parts, or_parts}
+use Rattle.std.proofs.lemmas.Bool.{and_parts, or_parts}
 use Rattle.std.proofs.lemmas.Bool.Decides.{nat_tests}
-use Rattle.std.proofs.lemmas.Option.{same_Some, slice_get_within, MatchOption-at_some}
+use Rattle.std.proofs.lemmas.Option.{same_Some, MatchOption-at_some}
 use Rattle.tracing_tree_spans.specs.Registry.Ids.{same_id}
 use Rattle.tracing_tree_spans.specs.Registry.Spans.{Span}
 use Rattle.tracing_tree_spans.specs.Registry.Forest.{Forest, has_id, is_child_of, span_at, handles_of, update_span, take_handle, path_of, is_live, path_among, IsForest, IsClosing, IsLongestGoing, goes_after, going_up, closing_of, after_close, unless_handle, without_spans}
@@ -16,8 +14,8 @@ use Rattle.tracing_tree_context.specs.declared.context.Id.{Id}
 use Rattle.tracing_tree_spans.proofs.ForestLaws.{same_id-eq, path_of-is_path}
 use Rattle.tracing_tree_spans.proofs.PathLaws.{path_above}
 use Rattle.tracing_tree_spans.proofs.ClosingLaws.{going-cons, closing_of-longest}
-use Rattle.tracing_tree_spans.proofs.SpanLists.{all_above, higher_not, find-id, remove_is_filter}
-use Rattle.tracing_tree_spans.proofs.RegistryLaws.{forest_of, place, IsPlace, kept-without, IsSame, changed, changed-same, reverse-map, without, other-id, reverse-filter, any-reverse}
+use Rattle.tracing_tree_spans.proofs.SpanLists.{all_above, higher_not, find-id}
+use Rattle.tracing_tree_spans.proofs.RegistryLaws.{forest_of, place, IsPlace, IsSame, changed, changed-same, reverse-map, without, other-id, reverse-filter, any-reverse}
 use Rattle.tracing_tree_spans.proofs.Children.{all-filter}
 use Rattle.tracing_tree_spans.proofs.ClosingWalk.{way_up, way-step, way-none, way-fresh}
 
@@ -399,19 +397,6 @@ tested slice spans at s before answer same read test =
     subst (λ xs. IfSome (slice_get xs at) (λ span. answer ≡ ((span.handles == 0) && lacks_others xs before span.id))) same test in
     MatchOption-at_some ⊤ (λ span. answer ≡ ((span.handles == 0) && lacks_others spans before span.id)) s read here
 
--- it ends where nothing is left to close
-pub ends-spans : (now whole : List Span) (o : Option Id) → left (rest_of now o) now ≡ whole → rest_of now o ≡ [] → now ≡ whole
-ends-spans now whole o h none = sym (left-none now) ∙ ap (λ ids. left ids now) (sym none) ∙ h
-
--- and the answer is whether any went
-pub ends-went : (now : List Span) (o : Option Id) (went whole : Bool) → (went || not (length (rest_of now o) == 0)) ≡ whole → rest_of now o ≡ [] →
-    went ≡ whole
-ends-went now o went whole h none = sym (or-false went) ∙ ap (λ (ids : List Id). went || not (length ids == 0)) (sym none) ∙ h
-  where
-    or-false : (b : Bool) → (b || false) ≡ b
-    or-false true = refl
-    or-false false = refl
-
 -- it stops at a span that stays
 pub stops : (slice again spans : List Span) → IsKept spans None → (i : Id) (at : ℕ) (o : Option Id) (answer : Bool) → slice ≡ spans → again ≡ spans →
     (at < length slice) × (find (has_id i) slice ≡ slice_get slice at) → o ≡ Some i →
@@ -442,36 +427,9 @@ pub record Goes (spans : List Span) (i : Id) (at : ℕ) (s : Span) : Type 0 wher
   pub closes : rest_of spans (Some i) ≡ i ∷ rest_of (remove spans at) s.parent
   pub leaves : left (rest_of spans (Some i)) spans ≡ left (rest_of (remove spans at) s.parent) (remove spans at)
 
--- a span that has neither handle nor child goes
-pub goes-on : (spans : List Span) → IsKept spans None → (i : Id) (at : ℕ) (s : Span) (answer : Bool) → IsPlace spans i at s →
-    answer ≡ ((s.handles == 0) && lacks_others spans None s.id) → answer ≡ true → Goes spans i at s
-goes-on spans kept i at s answer here test yes' =
-    let both : ((s.handles == 0) && lacks_others spans None i) ≡ true =
-    ap (λ j. (s.handles == 0) && lacks_others spans None j) (sym here.same) ∙ sym test ∙ yes' in
-    let parts = and_parts (s.handles == 0) (lacks_others spans None i) both in
-    let children = childless i spans parts.1 in
-    let gone : remove spans at ≡ without i spans =
-    remove_is_filter spans at s kept.1 here.read ∙ ap (λ j. without j spans) here.same in
-    let closes = rest-goes spans kept i s here.found (eqb-true s.handles 0 parts.0) parts.1 in
-    record {
-      kept = λ next k. subst (λ xs. IsKept xs next) (sym gone) (kept-without i spans next k children);
-      fewer = let n = length-remove spans at (slice_get_within spans at s here.read) in omega arith;
-      closes = closes ∙ ap (λ xs. i ∷ rest_of xs s.parent) (sym gone);
-      leaves = ap (λ ids. left ids spans) closes ∙ left-cons i (rest_of (without i spans) s.parent) spans
-          ∙ ap (λ xs. left (rest_of xs s.parent) xs) (sym gone);
-    }
-
 -- a list with a first id is not empty
 pub not-empty : (i : Id) (rest : List Id) → not (length (i ∷ rest) == 0) ≡ true
 not-empty i rest = let first : (suc (length rest) == 0) ≡ false = grind (arith, nat_tests) in ap (λ b. not b) first
-
--- and then a span went
-pub went-on : (ids rest : List Id) (i : Id) (went whole : Bool) → ids ≡ i ∷ rest → (went || not (length ids == 0)) ≡ whole → true ≡ whole
-went-on ids rest i went whole e h = sym (or-true went) ∙ ap (λ b. went || b) (sym (not-empty i rest)) ∙ ap (λ (js : List Id). went || not (length js == 0)) (sym e) ∙ h
-  where
-    or-true : (b : Bool) → (b || true) ≡ true
-    or-true true = refl
-    or-true false = refl
 
 -- ---- a close
 
@@ -510,43 +468,6 @@ listed spans formed before i at s answer here test =
     going-step (alone spans) formed before i s here.found
     ∙ ap (λ b. if b then i ∷ going_after (alone spans) (Some i) (way_up (alone spans) s.parent) else []) goes
 
--- the list grows by a span that closes
-pub list-more : (spans : List Span) → IsForest (alone spans) → (before o : Option Id) (i : Id) (at : ℕ) (s : Span) (answer : Bool) (ids whole : List Id) →
-    IsPlace spans i at s → o ≡ Some i → answer ≡ ((s.handles == 0) && lacks_others spans before s.id) → answer ≡ true →
-    ids ++ going_after (alone spans) before (way_up (alone spans) o) ≡ whole →
-    (ids ++ i ∷ []) ++ going_after (alone spans) (Some i) (way_up (alone spans) s.parent) ≡ whole
-list-more spans formed before o i at s answer ids whole here e test closes way =
-    let rest : List Id = going_after (alone spans) (Some i) (way_up (alone spans) s.parent) in
-    let step : going_after (alone spans) before (way_up (alone spans) (Some i)) ≡ i ∷ rest =
-    listed spans formed before i at s answer here test ∙ ap (λ b. if b then i ∷ rest else []) closes in
-    append_assoc ids (i ∷ []) rest
-    ∙ ap (λ xs. ids ++ xs) (sym step ∙ ap (λ p. going_after (alone spans) before (way_up (alone spans) p)) (sym e)) ∙ way
-
--- it ends where nothing more closes
-pub list-ends : (ids rest whole : List Id) → ids ++ rest ≡ whole → rest ≡ [] → ids ≡ whole
-list-ends ids rest whole way none = sym (append-nil ids) ∙ ap (λ xs. ids ++ xs) (sym none) ∙ way
-
--- at an id that isn't live
-pub list-lost : (spans : List Span) → IsForest (alone spans) → (before o : Option Id) (i : Id) → find (has_id i) spans ≡ None → o ≡ Some i →
-    going_after (alone spans) before (way_up (alone spans) o) ≡ []
-list-lost spans formed before o i none e =
-    ap (λ p. going_after (alone spans) before (way_up (alone spans) p)) e ∙ ap (λ ids. going_after (alone spans) before ids) (way-none (alone spans) formed i none)
-
--- and at a span that stays
-pub list-stops : (spans : List Span) → IsForest (alone spans) → (before o : Option Id) (i : Id) (at : ℕ) (answer : Bool) →
-    (at < length spans) × (find (has_id i) spans ≡ slice_get spans at) → o ≡ Some i →
-    IfSome (slice_get spans at) (λ span. answer ≡ ((span.handles == 0) && lacks_others spans before span.id)) → answer ≡ false →
-    going_after (alone spans) before (way_up (alone spans) o) ≡ []
-list-stops spans formed before o i at answer h e test stays = by (slice_get spans at) refl
-  where
-    by : (p : Option Span) → slice_get spans at ≡ p → going_after (alone spans) before (way_up (alone spans) o) ≡ []
-    by None read = list-lost spans formed before o i (h.1 ∙ read) e
-    by (Some s) read =
-        let here : IsPlace spans i at s = record { read = read; found = h.1 ∙ read; same = find-id spans i s (h.1 ∙ read) } in
-        ap (λ p. going_after (alone spans) before (way_up (alone spans) p)) e
-        ∙ listed spans formed before i at s answer here (tested spans spans at s before answer refl read test)
-        ∙ ap (λ b. if b then i ∷ going_after (alone spans) (Some i) (way_up (alone spans) s.parent) else []) stays
-
 -- ---- the list of what closes
 
 -- a look for another child, of the span at a place
@@ -555,42 +476,6 @@ pub looked : (spans : List Span) (i : Id) (at : ℕ) (s : Span) (answer : Bool) 
 looked spans i at s answer here test =
     subst (λ j. answer ≡ not (lacks_others spans None j)) here.same
     (MatchOption-at_some ⊤ (λ span. answer ≡ not (lacks_others spans None span.id)) s here.read test)
-
--- a span with one handle and no child closes, and then what closes above it
-pub closing-some : (old : Forest) (spans : List Span) (next : Option Id) (i : Id) (at : ℕ) (s : Span) (other : Bool) →
-    forest_of spans next ≡ old → IsKept spans next → IsPlace spans i at s → s.handles ≡ 1 →
-    other ≡ not (lacks_others spans None i) → other ≡ false →
-    closing_of old i ≡ i ∷ going_after (alone spans) (Some i) (way_up (alone spans) s.parent)
-closing-some old spans next i at s other view kept here one test none =
-    let lacks : lacks_others spans None i ≡ true = turned (lacks_others spans None i) (sym test ∙ none) in
-    let zero-left : (s.handles - 1 == 0) ≡ true = rw one refl in
-    let goes : ((s.handles - 1 == 0) && lacks_others spans None i) ≡ true = rw (zero-left, lacks) refl in
-    ap (λ (forest : Forest). closing_of forest i) (sym view)
-    ∙ closing-first (forest_of spans next) kept.0 i s here.found
-    ∙ ap (λ b. if b then i ∷ going_after (alone spans) (Some i) (way_up (alone spans) s.parent) else []) goes
-  where
-    turned : (b : Bool) → not b ≡ false → b ≡ true
-    turned true e = refl
-    turned false e = absurd (let both : true ≡ false = e in cc)
-
--- a span with a handle or a child left keeps all
-pub closing-none : (old : Forest) (spans : List Span) (next : Option Id) (i : Id) (at : ℕ) (s : Span) →
-    forest_of spans next ≡ old → IsKept spans next → IsPlace spans i at s →
-    ((s.handles - 1 == 0) && lacks_others spans None i) ≡ false → closing_of old i ≡ []
-closing-none old spans next i at s view kept here stays =
-    ap (λ (forest : Forest). closing_of forest i) (sym view)
-    ∙ closing-first (forest_of spans next) kept.0 i s here.found
-    ∙ ap (λ b. if b then i ∷ going_after (alone spans) (Some i) (way_up (alone spans) s.parent) else []) stays
-
--- of more than one handle one is left
-pub more-handles : (s : Span) (b : Bool) → (s.handles ≡ 0 → ⊥) → (s.handles ≡ 1 → ⊥) → ((s.handles - 1 == 0) && b) ≡ false
-more-handles s b some two = let stays : (s.handles - 1 == 0) ≡ false = grind (arith, nat_tests) in rw stays refl
-
--- with another child a span stays
-pub other-child : (a b other : Bool) → other ≡ not b → other ≡ true → (a && b) ≡ false
-other-child a true other test e = absurd (let both : false ≡ true = sym test ∙ e in cc)
-other-child true false other test e = refl
-other-child false false other test e = refl
 
 -- memory is wanted only where something closes
 pub wanted : (i : Id) (closing rest : List Id) → closing ≡ i ∷ rest → closing ≡ [] → ⊥
@@ -614,17 +499,3 @@ held old slice spans next i at s count view kept same h e handles some = record 
   here = place slice i at s h e;
   some = λ none. some (handles ∙ none);
 }
-
--- the list of what closes with it is what a closing is
-pub closing-is : (old : Forest) (slice : List Span) (next : Option Id) (i : Id) (at : ℕ) (s : Span) (ids : List Id) → IsHeld old slice next i at s →
-    ids ≡ closing_of old i → IsClosing old i ids
-closing-is old slice next i at s ids h e =
-    let live : is_live old i ≡ true =
-    ap (λ (forest : Forest). is_some (span_at forest i)) (sym h.view) ∙ ap (λ (o : Option Span). is_some o) h.here.found in
-    closing_of-is old (subst IsForest h.view h.kept.0) i live ids e
-
--- it has one handle, where something closes with it
-pub one-handle : (old : Forest) (slice : List Span) (next : Option Id) (i : Id) (at : ℕ) (s : Span) → IsHeld old slice next i at s →
-    s.handles ≡ 1 → handles_of old i ≡ 1
-one-handle old slice next i at s h one =
-    ap (λ (forest : Forest). handles_of forest i) (sym h.view) ∙ ap (λ o. option_map_or (λ (span : Span). span.handles) o 0) h.here.found ∙ one

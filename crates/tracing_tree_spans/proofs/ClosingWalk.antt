@@ -1,17 +1,16 @@
 -- The way from a span up to its root, and what closes on it.
-use Rattle.std.proofs.Common.{◌≡◌, ◌<◌, Bool, true, false, ◌&&◌, ◌||◌, List, [], ◌∷◌, ◌++◌, length, reverse, find, Option, Some, None, arith, refl, sym, ap, ◌∙◌, subst, append_assoc, length-append}
+use Rattle.std.proofs.Common.{◌≡◌, ◌<◌, Bool, true, false, ◌&&◌, ◌||◌, List, [], ◌∷◌, ◌++◌, length, reverse, Option, Some, None, arith, refl, sym, ap, ◌∙◌, subst, append_assoc, length-append}
 use Rattle.std.specs.List.{list_all, list_any}
 use Rattle.std.proofs.lemmas.Bool.{not-true, and_parts, or_parts}
 use Rattle.std.proofs.lemmas.Option.{same_Some}
 use Rattle.std.proofs.lemmas.List.Folds.{list_any-append, list_all-append}
-use Rattle.std.proofs.lemmas.List.{reverse-append, reverse-reverse, append-nil}
+use Rattle.std.proofs.lemmas.List.{reverse-append, reverse-reverse}
 use Rattle.tracing_tree_spans.specs.Registry.Ids.{same_id}
 use Rattle.tracing_tree_spans.specs.Registry.Spans.{Span}
 use Rattle.tracing_tree_spans.specs.Registry.Forest.{Forest, has_id, span_at, path_among, path_of, path_of_any, IsGrown, IsForest}
 use Rattle.tracing_tree_context.specs.declared.context.Id.{Id}
 use Rattle.tracing_tree_spans.proofs.PathLaws.{path_above, look-by, parent-among, above-older, path_of-step, path_of-none}
 use Rattle.tracing_tree_spans.proofs.ForestLaws.{look, look-reverse, look-newest, path-newest, path-older, same_id-eq}
-use Rattle.tracing_tree_spans.proofs.RegistryLaws.{forest_of}
 
 -- ---- the way up
 
@@ -52,17 +51,6 @@ pub way-live : (forest : Forest) → IsForest forest → (i first : Id) (s : Spa
     ids ++ way_up forest (Some i) ≡ way_up forest (Some first) → ¬ (span_at forest first ≡ None)
 way-live forest formed i first s ids h way gone =
     holds_one ids (way_up forest s.parent) i (ap (λ xs. ids ++ xs) (sym (way-step forest formed i s h)) ∙ way ∙ way-none forest formed first gone)
-
--- from an id that a search of a slice of the spans did not find there is no way
-pub way-lost : (slice spans : List Span) (next : Option Id) (o : Option Id) (i : Id) → IsForest (forest_of spans next) →
-    slice ≡ spans → find (has_id i) slice ≡ None → o ≡ Some i → way_up (forest_of spans next) o ≡ []
-way-lost slice spans next o i formed same none e =
-    ap (way_up (forest_of spans next)) e ∙ way-none (forest_of spans next) formed i (ap (λ xs. find (has_id i) xs) (sym same) ∙ none)
-
--- the ids are the whole way, turned round
-pub whole-way : (ids rest path : List Id) → ids ++ rest ≡ reverse path → rest ≡ [] → reverse ids ≡ path
-whole-way ids rest path way none =
-    ap (λ (xs : List Id). reverse xs) (sym (append-nil ids) ∙ ap (λ xs. ids ++ xs) (sym none) ∙ way) ∙ reverse-reverse path
 
 -- ---- an id stands once on its way up
 

@@ -1,5 +1,5 @@
 -- Two paths part once, so that their common beginning is found from its end.
-use Rattle.std.proofs.Common.{◌≡◌, ℕ, zero, suc, ◌+◌, ◌-◌, ◌<◌, ◌≤◌, ◌==◌, Bool, true, false, List, [], ◌∷◌, ◌++◌, length, get_or, take, drop, append_assoc, slice_get, min, Option, Some, None, arith, refl, sym, ap, ◌∙◌, subst}
+use Rattle.std.proofs.Common.{◌≡◌, ℕ, zero, suc, ◌+◌, ◌-◌, ◌<◌, ◌≤◌, Bool, true, false, List, [], ◌∷◌, ◌++◌, length, get_or, take, drop, append_assoc, slice_get, min, Option, Some, None, arith, refl, sym, ap, ◌∙◌, subst}
 use Rattle.std.specs.List.{common_prefix_len}
 use Rattle.std.specs.Option.{option_map_or}
 use Rattle.std.proofs.lemmas.Bool.Decides.{nat_tests}
@@ -7,7 +7,7 @@ use Rattle.std.proofs.lemmas.Option.{slice_get-get_or, slice_get_within, same_So
 use Rattle.std.proofs.lemmas.List.{take-append-drop, take_more}
 use Rattle.tracing_tree_spans.specs.Registry.Ids.{same_id}
 use Rattle.tracing_tree_spans.specs.Registry.Forest.{Forest, is_live, path_of, Descends, IsPath, IsForest}
-use Rattle.tracing_tree_spans.specs.Registry.Paths.{agree_at, PartOnce, looks_back}
+use Rattle.tracing_tree_spans.specs.Registry.Paths.{agree_at, PartOnce}
 use Rattle.tracing_tree_context.specs.declared.context.Id.{Id}
 use Rattle.tracing_tree_spans.proofs.ForestLaws.{same_id-eq, last_or-push, path_of-is_path}
 use Rattle.tracing_tree_spans.proofs.PathLaws.{path_of-only, path_of-none}
@@ -51,26 +51,6 @@ pub prefix-some : (old new : List Id) (n : ℕ) (i j : Id) → PartOnce old new 
 prefix-some old new n i j once apart some within within' same =
     let here : agree_at old new (n - 1) ≡ true = agree-read old new (n - 1) i j (omega arith) (omega arith) ∙ same in
     sym (prefix-is old new n (λ k h. once (n - 1) here k (omega arith)) (apart n (omega arith)))
-
--- the places looked at, where none agrees
-pub looks-none : (old new : List Id) (n compared : ℕ) → compared + n ≡ min (length old) (length new) → n ≡ 0 → compared ≡ looks_back old new n
-looks-none old new n compared counted none = rw none (omega arith)
-
--- and where one agrees
-pub looks-some : (old new : List Id) (n compared : ℕ) → compared + n ≡ min (length old) (length new) → 0 < n → compared + 1 ≡ looks_back old new n
-looks-some old new n compared counted some =
-    let more : (n == 0) ≡ false = grind (arith, nat_tests) in rw more (omega arith)
-
--- one place less is left, where this one doesn't agree
-pub apart-more : (old new : List Id) (n : ℕ) (i j : Id) → ((k : ℕ) → n ≤ k → agree_at old new k ≡ false) → 0 < n → n ≤ length old → n ≤ length new →
-    same_id (get_or old (n - 1) i) (get_or new (n - 1) j) ≡ false → (k : ℕ) → n - 1 ≤ k → agree_at old new k ≡ false
-apart-more old new n i j apart some within within' other k above = by (k == n - 1) refl
-  where
-    by : (b : Bool) → (k == n - 1) ≡ b → agree_at old new k ≡ false
-    by true e =
-        let here : k ≡ n - 1 = grind (arith, nat_tests) in
-        rw here (agree-read old new (n - 1) i j (omega arith) (omega arith) ∙ other)
-    by false e = let past : n ≤ k = grind (arith, nat_tests) in apart k past
 
 -- ---- paths of one forest
 

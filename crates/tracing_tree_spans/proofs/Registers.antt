@@ -11,7 +11,7 @@ use Rattle.std.proofs.lemmas.Bool.Decides.{nat_tests}
 use Rattle.std.proofs.lemmas.List.{map-append, length-reverse, reverse-reverse}
 use Rattle.std.proofs.lemmas.List.Folds.{find-append}
 use Rattle.tracing_tree_spans.specs.Registry.Spans.{Span, KeptSpan, handle_less}
-use Rattle.tracing_tree_spans.specs.Registry.Forest.{Forest, has_id, is_child_of, span_at, handles_of, unless_live, unless_handle, has_all_handles, any_unless_live, update_span, closing_of, going_up, children_of, path_of, IsPathIfLive, IsClosing, IsForest}
+use Rattle.tracing_tree_spans.specs.Registry.Forest.{Forest, has_id, is_child_of, span_at, handles_of, unless_live, unless_handle, has_all_handles, any_unless_live, update_span, closing_of, children_of, path_of, IsPathIfLive, IsClosing, IsForest}
 use Rattle.tracing_tree_spans.specs.Registry.Registered.{IsKept, IsNewest, alone, going_after, lacks_others}
 use Rattle.tracing_tree_spans.specs.Registry.Kept.{keeps_id, kept_at, spans_of, change_kept, with_child, kept_path, AreBelow, IsTied}
 use Rattle.tracing_tree_context.specs.declared.context.Id.{Id}
@@ -269,11 +269,6 @@ error-live (Ok x) now i s h = tt
 error-live (Err e) now i s h = λ none. (let found : Some s ≡ None = sym h ∙ none in cc)
 
 -- ---- paths
-
--- the kept path is the path
-pub path-whole : (nodes : List KeptSpan) (next : Option Id) (now : Forest) (i : Id) (node : KeptSpan) → forest_of (spans_of nodes) next ≡ now → IsTied nodes →
-    kept_at nodes i ≡ Some node → node.path ≡ path_of now i
-path-whole nodes next now i node view tied h = tied.paths i node h ∙ ap (λ (forest : Forest). path_of forest i) view
 
 -- and an id that isn't live has none
 pub path-gone : (now : Forest) → IsForest now → (i : Id) → span_at now i ≡ None → path_of now i ≡ []

@@ -1,5 +1,5 @@
 -- A registry stays well-formed when a span of it changes in all but its id and its parent, comes or goes.
-use Rattle.std.proofs.Common.{◌≡◌, ◌⊎◌, inl, inr, ℕ, ◌+◌, ◌<◌, ◌≤◌, nat_lt, ◌==◌, Bool, true, false, ◌&&◌, ◌||◌, not, List, [], ◌∷◌, ◌++◌, length, get_or, set, map, reverse, find, filter, slice_get, Option, Some, None, Result, Ok, Err, is_some, if◌then◌else◌, arith, rules, refl, sym, ap, ◌∙◌, subst}
+use Rattle.std.proofs.Common.{◌≡◌, ℕ, ◌+◌, ◌<◌, ◌≤◌, nat_lt, ◌==◌, Bool, true, false, ◌&&◌, ◌||◌, not, List, [], ◌∷◌, ◌++◌, length, get_or, set, map, reverse, find, filter, slice_get, Option, Some, None, Result, Ok, Err, is_some, if◌then◌else◌, arith, rules, refl, sym, ap, ◌∙◌, subst}
 use Rattle.std.specs.Option.{option_map_or, option_to_list}
 use Rattle.std.specs.Result.{OnOk, OnErr}
 use Rattle.std.specs.Bool.{then_some}
@@ -8,7 +8,7 @@ use Rattle.std.proofs.lemmas.Bool.{eqb-true, not-true, and_parts, or_parts}
 use Rattle.std.proofs.lemmas.List.Folds.{list_any-append, list_all-append}
 use Rattle.std.proofs.lemmas.List.Elements.{filter-append}
 use Rattle.std.proofs.lemmas.Bool.Decides.{nat_tests}
-use Rattle.std.proofs.lemmas.Option.{slice_get_read, slice_get_cases}
+use Rattle.std.proofs.lemmas.Option.{slice_get_read}
 use Rattle.std.proofs.lemmas.List.{reverse-append, map-append, append-nil}
 use Rattle.tracing_tree_spans.specs.Registry.Ids.{id_of, same_id}
 use Rattle.tracing_tree_spans.specs.Registry.Spans.{Span}
@@ -158,27 +158,10 @@ forest-unchanged change i forest h =
 
 -- ---- a write at the place of a span
 
--- a span that is read at the place that a search of a slice of the spans gave
-pub place-in : (slice spans : List Span) (i : Id) (at : ℕ) (s : Span) → slice ≡ spans →
-    (at < length slice) × (find (has_id i) slice ≡ slice_get slice at) → s ≡ get_or spans at s → IsPlace spans i at s
-place-in slice spans i at s same h e =
-    place spans i at s (subst (λ xs. (at < length xs) × (find (has_id i) xs ≡ slice_get xs at)) same h) e
-
 -- what holds anyway holds after an error
 pub on_error : {A E P : Type 0} (result : Result A E) → P → OnErr result P
 on_error (Ok answer) p = tt
 on_error (Err error) p = p
-
--- a search of a slice of the spans that gave a place found a span
-pub found-in : (slice spans : List Span) (i : Id) (at : ℕ) → slice ≡ spans →
-    (at < length slice) × (find (has_id i) slice ≡ slice_get slice at) → (s : Span) × (find (has_id i) spans ≡ Some s)
-found-in slice spans i at same h =
-    subst (λ xs. (s : Span) × (find (has_id i) xs ≡ Some s)) same (read (slice_get_cases slice at).1)
-  where
-    read : ((s : Span) × (at < length slice) × (slice_get slice at ≡ Some s) × (get_or slice at s ≡ s)) ⊎ ((length slice ≤ at) × (slice_get slice at ≡ None)) →
-        (s : Span) × (find (has_id i) slice ≡ Some s)
-    read (inl (s, within, is, same)) = (s, h.1 ∙ is)
-    read (inr (past, none)) = absurd (omega (arith, past, h.0))
 
 -- the registry keeps what it keeps, where a span is written over by its changed self
 pub kept-write : (change : Span → Span) → IsSame change → (spans : List Span) (next : Option Id) (i : Id) (at : ℕ) (s new : Span) →
@@ -192,12 +175,6 @@ pub forest-write : (change : Span → Span) (spans : List Span) (next : Option I
 forest-write change spans next old i at s new view rising h e =
     subst (λ forest. record { spans = set spans at new; next = next } ≡ update_span change i forest) view
     (rw e (forest-set change (record { spans = spans; next = next }) at i s rising h))
-
--- a change of an id that a search did not find
-pub forest-none : (change : Span → Span) (slice spans : List Span) (next : Option Id) (old : Forest) (i : Id) →
-    record { spans = spans; next = next } ≡ old → slice ≡ spans → find (has_id i) slice ≡ None → old ≡ update_span change i old
-forest-none change slice spans next old i view same h =
-    forest-unchanged change i old (ap (λ (forest : Forest). span_at forest i) (sym view) ∙ ap (λ xs. find (has_id i) xs) (sym same) ∙ h)
 
 -- the same of a change that may fail and leave the span
 pub kept-attempt : {X E : Type 0} (change : Span → Span) → IsSame change → (r : Result X E) (spans : List Span) (next : Option Id)

@@ -1,13 +1,9 @@
 -- Lists of spans in the order of their ids: where a span lies, and what an edit at its place does.
-use Rattle.std.proofs.Common.{◌≡◌, ℕ, zero, suc, ◌<◌, ◌≤◌, nat_lt, Bool, true, false, not, List, [], ◌∷◌, length, get_or, set, map, find, filter, slice_get, Option, Some, None, MatchOption, Result, Ok, Err, if◌then◌else◌, arith, refl, sym, ap, ◌∙◌, subst}
+use Rattle.std.proofs.Common.{◌≡◌, ℕ, zero, suc, ◌<◌, ◌≤◌, nat_lt, Bool, true, false, not, List, [], ◌∷◌, length, get_or, set, map, find, filter, slice_get, Option, Some, None, MatchOption, if◌then◌else◌, arith, refl, sym, ap, ◌∙◌, subst}
 use Rattle.std.specs.List.{list_all, remove}
 use Rattle.std.specs.Option.{option_map_or}
-use Rattle.std.specs.Result.{result_ok}
-use Rattle.std.specs.List.Sorted.{IsSearchInRange, IsBinarySearchResult, IsNonDecreasingBy}
-use Rattle.std.specs.Ordering.{nat_cmp, ordering_index}
 use Rattle.std.proofs.lemmas.Bool.{eqb-true, and_parts}
 use Rattle.std.proofs.lemmas.Bool.Decides.{nat_tests}
-use Rattle.std.proofs.lemmas.Cmp.{ranked}
 use Rattle.std.proofs.lemmas.Option.{slice_get-get_or, slice_get_within, same_Some}
 use Rattle.tracing_tree_spans.specs.Registry.Ids.{id_of}
 use Rattle.tracing_tree_spans.specs.Registry.Spans.{Span}
@@ -80,31 +76,6 @@ rise (x ∷ spans) d rising (suc j) (suc k) h within = rise spans d rising.1 j k
 abbrev pub IsFound : List Span → Id → Option ℕ → Type 0
 IsFound spans i place =
     MatchOption place (find (has_id i) spans ≡ None) (λ at. (at < length spans) × (find (has_id i) spans ≡ slice_get spans at))
-
--- the comparisons with an id rise along rising spans, as a binary search asks
-comparisons_rise : (spans : List Span) (i : Id) → IsRising spans → IsNonDecreasingBy (λ span. ordering_index (nat_cmp span.id.0 i.0)) spans
-comparisons_rise spans i rising j k d le within =
-    let keys : (get_or spans j d).id.0 ≤ (get_or spans k d).id.0 = rise spans d rising j k le within in
-    grind (arith, nat_tests)
-
--- a binary search by the id finds the span of this id
-pub searched_id : (spans : List Span) (i : Id) (r : Result ℕ ℕ) → IsRising spans → IsSearchInRange r (length spans) →
-    IsBinarySearchResult (λ span. nat_cmp span.id.0 i.0) spans r → IsFound spans i (result_ok r)
-searched_id spans i (Ok at) rising within equal = (within, found spans refl)
-  where
-    found : (xs : List Span) → xs ≡ spans → find (has_id i) spans ≡ slice_get spans at
-    found [] e = absurd (omega (arith, ap length e, within))
-    found (d ∷ xs) e =
-        let here : (get_or spans at d).id ≡ i = ap id_of (ranked (get_or spans at d).id.0 i.0 _ (sym (equal d))) in
-        let read : slice_get spans at ≡ Some (get_or spans at d) = slice_get-get_or spans at d within in
-        subst (λ j. find (has_id j) spans ≡ slice_get spans at) here (find-at spans at (get_or spans at d) rising read ∙ sym read)
-searched_id spans i (Err at) rising within parted = find-nowhere spans i none
-  where
-    none : (k : ℕ) (d : Span) → k < length spans → has_id i (get_or spans k d) ≡ false
-    none k d h = elim (nat_lt k at) as (λ b. nat_lt k at ≡ b → has_id i (get_or spans k d) ≡ false) [
-      | true ↦ (λ e. lower_not (get_or spans k d) i (ranked (get_or spans k d).id.0 i.0 _ (sym ((parted (comparisons_rise spans i rising)).0 k d (omega arith) (grind (arith, nat_tests))))))
-      | false ↦ (λ e. higher_not (get_or spans k d) i (ranked (get_or spans k d).id.0 i.0 _ (sym ((parted (comparisons_rise spans i rising)).1 k d (grind (arith, nat_tests)) h))))
-    ] refl
 
 -- the span at a place has the id, so that is where it lies
 pub found_at : (spans : List Span) (i : Id) (at : ℕ) → IsRising spans → option_map_or (has_id i) (slice_get spans at) false ≡ true → IsFound spans i (Some at)

@@ -1,18 +1,14 @@
 -- A text that grew, and is cut back to what it was.
-use Rattle.std.proofs.Common.{◌≡◌, ℕ, ◌≤◌, List, [], ◌∷◌, ◌++◌, length, take, arith, refl, sym, ap, ◌∙◌, subst, lit<}
+use Rattle.std.proofs.Common.{◌≡◌, ℕ, ◌≤◌, List, [], ◌∷◌, ◌++◌, length, arith, refl, sym, ap, ◌∙◌, subst, lit<}
 use Rattle.std.proofs.lemmas.List.{append-nil, append_assoc, length-append}
 use Rattle.std.proofs.lemmas.Str.{IsUtf8-append, IsUtf8-past_char, IsUtf8-string_bytes, lead_after_ascii}
-use Rattle.std.proofs.Math.Seq.{take-append_seam, get_or-append_seam}
+use Rattle.std.proofs.Math.Seq.{get_or-append_seam}
 use Rattle.std.specs.Str.{IsUtf8}
 use Rattle.std.specs.Prelude.{Result, Ok, Err, String, string_bytes, is_ok, if◌then◌else◌}
 use Rattle.std.specs.String.{string_len}
 use Rattle.std.specs.String.Boundary.{IsSplitPoint}
 use Rattle.tracing_tree_text.specs.Extended.{IsExtended}
 use lib.Utf8.{encode, encodes}
-
--- nothing was appended
-pub extended_none : (old : List ℕ) → IsExtended old old
-extended_none old = record { front = []; appended = sym (append-nil old) }
 
 -- a text was appended, and then another
 pub extended_twice : (old mid new : List ℕ) → IsExtended old mid → IsExtended mid new → IsExtended old new
@@ -25,10 +21,6 @@ extended_twice old mid new h k = record {
 pub extended_push : {T E : Type 0} (r : Result T E) (old new text : List ℕ) → new ≡ (if is_ok r then old ++ text else old) → IsExtended old new
 extended_push (Ok done) old new text e = record { front = text; appended = e }
 extended_push (Err fault) old new text e = record { front = []; appended = e ∙ sym (append-nil old) }
-
--- what was there can be cut out again
-pub extended_keeps : (old new : List ℕ) → IsExtended old new → take (length old) new ≡ old
-extended_keeps old new h = ap (take (length old)) h.appended ∙ take-append_seam old h.front
 
 -- ---- the place where it ends is between characters
 

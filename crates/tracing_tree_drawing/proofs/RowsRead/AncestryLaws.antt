@@ -1,6 +1,6 @@
 -- The last places of the rows that open each level, row by row.
-use Rattle.std.proofs.Common.{◌≡◌, ◌≢◌, eqb-true, eq-eqb, ℕ, zero, suc, ◌+◌, ◌<◌, ◌≤◌, ◌==◌, ◌&&◌, Bool, true, false, List, [], ◌∷◌, ◌++◌, length, map, take, filter, set, Option, Some, None, option_map, option_to_list, append_assoc, replicate, min, ◌⊎◌, inl, inr, ◌-◌, if◌then◌else◌, refl, sym, ap, ◌∙◌, arith, length-append}
-use Rattle.std.proofs.lemmas.Bool.{cases_lt, false≢true}
+use Rattle.std.proofs.Common.{◌≡◌, ◌≢◌, ℕ, zero, suc, ◌+◌, ◌<◌, ◌≤◌, ◌==◌, ◌&&◌, Bool, true, false, List, [], ◌∷◌, ◌++◌, length, map, take, filter, set, Option, Some, None, option_map, option_to_list, append_assoc, replicate, min, ◌⊎◌, inl, inr, ◌-◌, if◌then◌else◌, refl, sym, ap, ◌∙◌, arith, length-append}
+use Rattle.std.proofs.lemmas.Bool.{cases_lt}
 use Rattle.std.specs.List.{enumerate_from, last_or, range_with_len, filter_map}
 use Rattle.std.proofs.lemmas.List.{take_all, take-append-le}
 use Rattle.tracing_tree_drawing.specs.Rows.RowText.{TextRow, above, event_path, event_path_at, event_paths, is_event, is_opening, last_place, opens_level}
@@ -156,9 +156,6 @@ paths-more rows row old new count more paths found path h f n e = record {
   found = e ∙ ap (λ ps. ps ++ option_to_list path) h.found ∙ ap (λ o. event_paths rows ++ option_to_list o) f.found ∙ sym (event_paths-push rows row);
 }
 
-pub paths_none : ArePathsOf [] [] 0 []
-paths_none = record { last = last_none; counted = refl; found = refl }
-
 -- ---- places
 
 -- no place more
@@ -180,13 +177,6 @@ place_at-other (first ∷ places) zero place zero ne = absurd (ne refl)
 place_at-other (first ∷ places) zero place (suc k) ne = refl
 place_at-other (first ∷ places) (suc level) place zero ne = refl
 place_at-other (first ∷ places) (suc level) place (suc k) ne = place_at-other places level place k (λ e. ne (ap suc e))
-
-pub place_at-set : (places : List (Option ℕ)) (level place k : ℕ) → level < length places → place_at (set places level (Some place)) k ≡ (if level == k then Some place else place_at places k)
-place_at-set places level place k lt = by (level == k) refl
-  where
-    by : (b : Bool) → (level == k) ≡ b → place_at (set places level (Some place)) k ≡ (if b then Some place else place_at places k)
-    by true e = ap (place_at (set places level (Some place))) (sym (eqb-true level k e)) ∙ place_at-same places level place lt
-    by false e = place_at-other places level place k (λ h. false≢true (sym e ∙ eq-eqb level k h))
 
 -- the places of the first levels: those that are kept, and none for the others
 take-none : (level : ℕ) → take {A = Option ℕ} level [] ≡ []

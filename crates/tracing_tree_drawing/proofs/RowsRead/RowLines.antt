@@ -3,7 +3,7 @@ use Rattle.std.proofs.Common.{◌≡◌, ℕ, suc, ◌+◌, ◌<◌, ◌≤◌, 
 use Rattle.std.specs.List.{enumerate_from, list_all}
 use Rattle.std.proofs.lemmas.Bool.{and_parts, and_from, or_cases, or_left, or_right, leb-true, le-leb}
 use Rattle.tracing_tree_drawing.specs.Format.Picture.{has_line_end, drawn_line, frame_text, lined_frame, shift_of}
-use Rattle.tracing_tree_drawing.specs.Rows.RowText.{ended, is_unbroken, TextRow, mode_of, fits_shape, is_bare_text, is_one_line, is_text_row, row_text, rows_text}
+use Rattle.tracing_tree_drawing.specs.Rows.RowText.{ended, TextRow, mode_of, fits_shape, is_bare_text, is_one_line, is_text_row, row_text, rows_text}
 use Rattle.tracing_tree_drawing.specs.declared.rows.row.Shape.{Shape}
 use Rattle.tracing_tree_drawing.specs.declared.rows.row.Shape.TheVariants.{PreOpen, OpenRoot, Open, CloseRoot, Close, PostClose, Event}
 
@@ -103,9 +103,6 @@ fits-more CloseRoot level texts more used e = absurd (let h : level ≡ 0 = eqb-
 fits-more (Close verbose) level texts more used e = e
 fits-more PostClose level texts more used e = refl
 fits-more Event level texts more used e = or_left (nat_le 1 level) (is_one_line more && list_all is_bare_text more) (le-leb 1 level (omega arith))
-
-abbrev pub AreUnbroken : List (List ℕ) → Type 0
-AreUnbroken lines = list_all is_unbroken lines ≡ true
 
 -- the parts of a row that may be
 pub record IsProper (row : TextRow) : Type 0 where

@@ -1,8 +1,8 @@
 -- What a line does to a reader, and to a text that is being read.
-use Rattle.std.proofs.Common.{◌≡◌, ◌≢◌, ℕ, ◌+◌, ◌<◌, ◌≤◌, ◌==◌, List, [], ◌∷◌, ◌++◌, length, get_or, Option, Some, None, Ok, option_map, true, false, refl, sym, ap, ◌∙◌, subst, arith, eqb-true, length-append}
+use Rattle.std.proofs.Common.{◌≡◌, ◌≢◌, ℕ, ◌+◌, ◌<◌, ◌≤◌, ◌==◌, List, ◌∷◌, ◌++◌, length, get_or, Option, Some, Ok, option_map, true, false, refl, sym, ap, subst, arith}
 use Rattle.std.specs.Option.{option_map_or}
 use Rattle.tracing_tree_drawing.specs.Rows.RowText.{TextRow, is_text_row, is_unbroken}
-use Rattle.tracing_tree_drawing.specs.Rows.Line.{LineRead.FirstLine, LineRead.LaterLine, with_line, with_last, read_below, read_first, read_later, read_line}
+use Rattle.tracing_tree_drawing.specs.Rows.Line.{LineRead.FirstLine, LineRead.LaterLine, with_line, with_last, read_first, read_later}
 use Rattle.tracing_tree_drawing.specs.Rows.Texts.{ReaderView, TakesTextLine, TakesLater, TextLeft, IsReadTo, TakesNext, TellsFault}
 use Rattle.tracing_tree_drawing.specs.declared.rows.read.ReadFault.TheVariants.{Line}
 use Rattle.tracing_tree_drawing.specs.declared.rows.read.Taken.{Taken}
@@ -23,21 +23,6 @@ later-by amount last row line text is e =
       read = ap (λ o. option_map_or (λ text. Some (LaterLine text)) o (option_map FirstLine (read_first amount line))) e;
       after = refl;
     })
-
--- a first line, where the last row doesn't go on
-pub first-by : (amount : ℕ) (last : Option TextRow) (line : List ℕ) (row : TextRow) → read_below amount last line ≡ None → read_first amount line ≡ Some row →
-    TakesTextLine (record { amount = amount; last = last }) line (Ok (First last)) (record { amount = amount; last = Some row })
-first-by amount last line row none e = record {
-  row = row;
-  read = ap (λ o. option_map_or (λ text. Some (LaterLine text)) o (option_map FirstLine (read_first amount line))) none ∙ ap (option_map FirstLine) e;
-  complete = refl;
-  after = refl;
-}
-
--- neither
-pub neither-by : (amount : ℕ) (last : Option TextRow) (line : List ℕ) → read_below amount last line ≡ None → read_first amount line ≡ None → read_line amount last line ≡ None
-neither-by amount last line none e =
-    ap (λ o. option_map_or (λ text. Some (LaterLine text)) o (option_map FirstLine (read_first amount line))) none ∙ ap (option_map FirstLine) e
 
 -- such rows may be
 pub later-row : (amount : ℕ) → 2 ≤ amount → (row : TextRow) (line text : List ℕ) → is_text_row row ≡ true → is_unbroken line ≡ true →
@@ -76,10 +61,3 @@ taken-bad text rows old line after reader lines two split unbroken t n h =
 pub taken-rest : (text : List ℕ) (rows : List TextRow) (old : TextLeft) → 2 ≤ old.reader.amount → (length old.rest == 0) ≡ false →
     ((i : ℕ) → i < length old.rest → get_or old.rest i 0 ≢ 10) → IsReadTo text rows old → TellsFault old.reader.amount text (Line (old.lines + 1))
 taken-rest text rows old two some unbroken h = read_rest text rows old old.rest two h refl some (unbroken-from old.rest unbroken)
-
-pub nothing-left : (rest : List ℕ) → (length rest == 0) ≡ true → rest ≡ []
-nothing-left [] e = refl
-nothing-left (first ∷ rest) e = absurd (let z : length (first ∷ rest) ≡ 0 = eqb-true (length (first ∷ rest)) 0 e in omega arith)
-
-pub fewer-left : (rest line after : List ℕ) → rest ≡ line ++ (10 ∷ after) → length after + 1 ≤ length rest
-fewer-left rest line after e = let n : length rest ≡ length line + length (10 ∷ after) = ap (λ (t : List ℕ). length t) e ∙ length-append line (10 ∷ after) in omega arith

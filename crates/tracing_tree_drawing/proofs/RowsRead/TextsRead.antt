@@ -6,7 +6,7 @@ use Rattle.std.proofs.lemmas.List.{append-nil, same_from_push}
 use Rattle.std.proofs.lemmas.List.Folds.{list_all-append}
 use Rattle.tracing_tree_drawing.specs.Format.Picture.{parts_of}
 use Rattle.tracing_tree_drawing.proofs.PartsLaws.{parts_of-only}
-use Rattle.tracing_tree_drawing.specs.Rows.RowText.{ended, is_unbroken, TextRow, AreTextRows, rows_text, IsReading, IsOnlyReading, IsUnreadable, IsFirstBadLine, first_lines}
+use Rattle.tracing_tree_drawing.specs.Rows.RowText.{ended, is_unbroken, TextRow, IsReading, IsOnlyReading, IsUnreadable, IsFirstBadLine, first_lines}
 use Rattle.tracing_tree_drawing.specs.Rows.Line.{read_lines}
 use Rattle.tracing_tree_drawing.proofs.RowsRead.RowLines.{all_lines, rows_text-lines}
 use Rattle.tracing_tree_drawing.proofs.RowsRead.CleanFrames.{all-unbroken}
@@ -63,13 +63,6 @@ read-only amount two lines rows h e =
   where
     some-same : (x y : List TextRow) → Some x ≡ Some y → x ≡ y
     some-same x y e = cc
-
--- No two lists of proper rows have the same text.
-pub rows_text-injective : (amount : ℕ) → 2 ≤ amount → (rows others : List TextRow) → AreTextRows rows → AreTextRows others →
-    rows_text amount rows ≡ rows_text amount others → rows ≡ others
-rows_text-injective amount two rows others h k e =
-    (read-only amount two (all_lines amount others) others (all-unbroken amount others k) (lines-read amount two others k)).only rows
-    (record { proper = h; drawn = e ∙ rows_text-lines amount others })
 
 -- a text whose lines aren't read has no reading
 pub unread-unreadable : (amount : ℕ) → 2 ≤ amount → (lines : List (List ℕ)) → list_all is_unbroken lines ≡ true → read_lines amount lines ≡ None →

@@ -96,12 +96,6 @@ taken-none piece whole text count taken lt h e =
     let n : count - taken ≡ suc (count - (taken + 1)) = omega arith in
     h ∙ ap (λ m. after_front (repeat m piece) text) n ∙ after-no_one piece text (count - (taken + 1)) e
 
-pub taken-all : (piece whole text : List ℕ) (count taken : ℕ) → taken ≡ count →
-    after_front (repeat count piece) whole ≡ after_front (repeat (count - taken) piece) text → after_front (repeat count piece) whole ≡ Some text
-taken-all piece whole text count taken e h =
-    let n : count - taken ≡ 0 = omega arith in
-    h ∙ ap (λ m. after_front (repeat m piece) text) n
-
 -- ---- one beginning behind another
 
 pub after-both : (front more text rest : List ℕ) → after_front front text ≡ Some rest → after_front (front ++ more) text ≡ after_front more rest
