@@ -1,7 +1,7 @@
 //! The fields of spans and events, as they stand in a row.
 
 ghost use Rattle.std.specs.Prelude.{◌≡◌, ◌++◌, OnOk, OnErr, string_bytes};
-ghost use Rattle.tracing_tree_text.specs.declared.field.Field.{Field};
+ghost use Rattle.tracing_tree_text.specs.Field.{rendered_field};
 ghost use Rattle.tracing_tree_drawing.specs.Format.Texts.{comma_after, event_field, named_value, shown_field};
 
 use std::alloc::AllocError;
@@ -26,10 +26,10 @@ pub fn push_event_texts(
     name: &str,
     value: &str,
 ) -> Result<(), AllocError>
-    ensures text { (field : Field) → field.name ≡ name.now → field.value ≡ value.now
-        → OnOk result (string_bytes out.new ≡ string_bytes out.old ++ event_field comma.old field) }
-    ensures comma { (field : Field) → field.name ≡ name.now → field.value ≡ value.now
-        → OnOk result (comma.new ≡ comma_after comma.old field) }
+    ensures text { OnOk result (string_bytes out.new ≡ string_bytes out.old
+        ++ event_field comma.old (rendered_field name.now value.now)) }
+    ensures comma { OnOk result
+        (comma.new ≡ comma_after comma.old (rendered_field name.now value.now)) }
     ensures err { OnErr result (string_bytes out.new ≡ string_bytes out.old) }
     ensures kept { OnErr result (comma.new ≡ comma.old) }
 {

@@ -1,8 +1,9 @@
-use Rattle.std.proofs.Common.{◌≡◌, ◌++◌, [], arith, drop, sym, ap, ◌∙◌, append-nil, string_bytes}
-use Rattle.std.specs.Prelude.{slice_index_or}
+use Rattle.std.proofs.Common.{◌≡◌, ◌++◌, [], arith, drop, sym, ap, ap₂, ◌∙◌, append-nil, string_bytes}
 use Rattle.std.proofs.lemmas.Grind.{common_steps}
+use Rattle.tracing_tree_text.specs.Field.{rendered_field}
+use Rattle.tracing_tree_drawing.specs.Format.Texts.{comma_after, event_field}
 use Rattle.tracing_tree_layer.proofs.FieldTexts.{added_fields-false}
-use Rattle.tracing_tree_c.specs.Foreign.{field_of, fields_of}
+use Rattle.tracing_tree_c.specs.Foreign.{fields_of}
 use Rattle.tracing_tree_c.proofs.Fields.{no_field, pushed, tail_of}
 use Rattle.tracing_tree_c.proofs.Makes.{head_of}
 use Rattle.tracing_tree_c.proofs.foreign.push_fields.Goals as goal
@@ -13,12 +14,11 @@ texts-requires c = head_of c.args.fields.now c.loop-field.field-index no_field c
 pub loop-field-preserved : goal.loop-field-preserved
 loop-field-preserved c =
     let given = c.args.fields.now in
-    let field = field_of (slice_index_or given c.loop-field.field-index no_field) in
-    let name = sym c.texts.ensures.name in
-    let value = sym c.texts.ensures.value in (
+    let same = ap₂ rendered_field c.texts.ensures.name c.texts.ensures.value in (
       pushed (string_bytes c.loop-field.out) (string_bytes c.push_event_texts.new.out) _ c.loop-field.comma c.push_event_texts.new.comma
           given c.loop-field.field-index no_field c.loop-field-test.true c.loop-field.invariant.0
-          (c.in_ok-push_event_texts.ensures.text field name value) (c.in_ok-push_event_texts.ensures.comma field name value),
+          (c.in_ok-push_event_texts.ensures.text ∙ ap (λ field. string_bytes c.loop-field.out ++ event_field c.loop-field.comma field) same)
+          (c.in_ok-push_event_texts.ensures.comma ∙ ap (comma_after c.loop-field.comma) same),
       tail_of given c.loop-field.field-index no_field c.loop-field-test.true c.loop-field.invariant.1,
     )
 
