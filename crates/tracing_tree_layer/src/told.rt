@@ -1,11 +1,14 @@
 //! Events as they are told.
 
+mod texts;
+
 ghost use Rattle.std.specs.Prelude.{◌≡◌, ◌++◌, OnOk, string_bytes};
 ghost use Rattle.tracing_tree_layer.specs.Layer.Block.{event_tail};
 ghost use Rattle.tracing_tree_spans.specs.declared.registry.Event.{Event};
 
 use crate::layer::push_event_tail;
 use std::alloc::AllocError;
+pub use texts::{EventTexts, FieldTexts};
 use tracing_tree_drawing::format::Config;
 use tracing_tree_spans::registry::{Event, Parent};
 

@@ -12,6 +12,8 @@ mod difference;
 #[cfg(test)]
 mod examples;
 #[cfg(test)]
+mod lent;
+#[cfg(test)]
 mod levels;
 #[cfg(test)]
 mod lone;

@@ -1,0 +1,96 @@
+//! Events whose texts are lent.
+
+ghost use Rattle.std.specs.Prelude.{◌≡◌, ◌++◌, IfOk, OnOk, string_bytes};
+ghost use Rattle.tracing_tree_drawing.specs.Format.Texts.{event_fields};
+
+use super::ToldEvent;
+use crate::layer::push_event_head;
+use std::alloc::{AllocError, Global};
+use std::marker::Model;
+use tracing_tree_drawing::format::{Config, push_event_texts};
+use tracing_tree_spans::registry::Parent;
+use tracing_tree_text::field::Field;
+use tracing_tree_text::style::Level;
+
+/// A field whose texts the caller lends. Contracts see the field.
+#[derive(Drop)]
+pub struct FieldTexts<'a> {
+    pub name: &'a str,
+    pub value: &'a str,
+}
+
+impl<'a> Model for FieldTexts<'a> {
+    ghost use Rattle.tracing_tree_text.specs.declared.field.Field.{Field};
+
+    ghost Value = { Field };
+
+    ghost view = { λ f. record { name = f.name.now; value = f.value.now } };
+}
+
+impl FieldTexts<'_> {
+    /// The field, with texts of its own. `AllocError` where memory is refused.
+    pub fn to_field(&self, alloc: Global) -> Result<Field, AllocError>
+        ensures { IfOk result (λ field. field ≡ self.now) }
+    {
+        Field::rendered(alloc, self.name, self.value)
+    }
+}
+
+/// An event whose texts the caller lends, since nothing of it is kept. Contracts see the event.
+///
+/// ```rust
+/// let event = EventTexts {
+///     level: Level::Info,
+///     target: "web",
+///     parent: Parent::Current,
+///     fields: &[FieldTexts {
+///         name: "message",
+///         value: "listening",
+///     }],
+/// };
+/// layered.call_told(&event, here)?;
+/// ```
+#[derive(Drop)]
+pub struct EventTexts<'a> {
+    pub level: Level,
+    pub target: &'a str,
+    pub parent: Parent,
+    pub fields: &'a [FieldTexts<'a>],
+}
+
+impl<'a> Model for EventTexts<'a> {
+    ghost use Rattle.tracing_tree_spans.specs.declared.registry.Event.{Event};
+
+    ghost Value = { Event };
+
+    ghost view = { λ e. record {
+      level = e.level;
+      target = e.target.now;
+      parent = e.parent;
+      fields = e.fields.now;
+    } };
+}
+
+impl ToldEvent for EventTexts<'_> {
+    ghost told = { λ event. event };
+
+    fn parent(&self) -> Parent {
+        self.parent
+    }
+
+    fn push_tail(&self, out: &mut String, config: &Config) -> Result<(), AllocError> {
+        push_event_head(out, config, self.level, self.target)?;
+        push_fields(out, self.fields)
+    }
+}
+
+// Appends the fields of an event, a space before the first.
+fn push_fields(out: &mut String, fields: &[FieldTexts<'_>]) -> Result<(), AllocError>
+    ensures { OnOk result (string_bytes out.new ≡ string_bytes out.old ++ event_fields fields.now) }
+{
+    let mut comma = false;
+    for field in fields {
+        push_event_texts(out, &mut comma, field.name, field.value)?;
+    }
+    Ok(())
+}

@@ -1,0 +1,58 @@
+//! Calls whose parts are lent or moved alone.
+
+use std::alloc::Global;
+use std::test::*;
+use tracing_tree::call::Reply;
+use tracing_tree::field::Field;
+use tracing_tree::format::{Context, Id, Refusal, Tape};
+use tracing_tree::layered::Layered;
+use tracing_tree::registry::Parent;
+use tracing_tree::style::Level;
+use tracing_tree::told::{EventTexts, FieldTexts};
+use tracing_tree_for_tests::{at, attributes, lined};
+
+// An event whose texts the caller lends.
+fn told(layered: &mut Layered<Tape, ()>, here: &Context) -> Result<(), Refusal> {
+    let event = EventTexts {
+        level: Level::Info,
+        target: "web",
+        parent: Parent::Current,
+        fields: &[FieldTexts {
+            name: "message",
+            value: "listening",
+        }],
+    };
+    layered.call_told(&event, here)?;
+    Ok(())
+}
+
+// A root span, an event in it, and its close.
+fn root(alloc: Global, layered: &mut Layered<Tape, ()>) -> Result<Reply, Refusal> {
+    let attributes = attributes(alloc, "a", Parent::Root)?;
+    let made = layered.call_new_span(attributes, &at(None))?;
+    told(layered, &at(Some(1)))?;
+    layered.call_close(Id(1), &at(None))?;
+    Ok(made)
+}
+
+#[test]
+fn draws_what_is_lent(rt: HostRuntime) -> Result<(), Fail> {
+    let alloc = rt.alloc();
+    let mut layered = lined(alloc);
+    assert_eq!(rt; root(alloc, &mut layered), Ok(Reply::Span(Id(1))));
+    let text = "┐a \n├─ INFO listening\n┘\n";
+    assert_eq!(rt; layered.writer().bytes(), text.as_bytes());
+    Ok(())
+}
+
+#[test]
+fn copies_a_field(rt: HostRuntime) -> Result<(), Fail> {
+    let alloc = rt.alloc();
+    let lent = FieldTexts {
+        name: "key",
+        value: "1",
+    };
+    let field = Field::rendered(alloc, "key", "1")?;
+    assert_eq!(rt; lent.to_field(alloc)?, field);
+    Ok(())
+}
