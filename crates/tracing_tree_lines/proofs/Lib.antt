@@ -1,5 +1,6 @@
 pub mod Choices
 pub mod Pairs
+pub mod MadeCalls
 pub mod Moments
 pub mod BorrowedTrees
 pub mod NumberParts

@@ -1,5 +1,5 @@
 -- What is read of an object at the keys of calls spells what the object spells.
-use Rattle.std.specs.Prelude.{◌≡◌, ℕ, pos, Bool, true, false, List, [], ◌∷◌, Option, Some, None, codes, bytes_eq, if◌then◌else◌, option_map, option_and_then, refl, Result, Ok, Err}
+use Rattle.std.specs.Prelude.{◌≡◌, ℕ, pos, Bool, true, false, List, [], ◌∷◌, Option, Some, None, codes, bytes_eq, if◌then◌else◌, option_map, option_and_then, refl, Result}
 use Rattle.std.specs.Option.{option_map_or}
 use Rattle.std.proofs.Common.{sym, ap, ap₂, ◌∙◌, subst, true≢false}
 use Rattle.std.proofs.lemmas.Slice.Eq.{bytes_eq-Decides}
@@ -16,12 +16,15 @@ use Rattle.tracing_tree_spans.specs.declared.registry.Parent.TheVariants.{Curren
 use Rattle.tracing_tree_layer.specs.declared.call.Call.{Call}
 use Rattle.tracing_tree_lines.proofs.BorrowedTrees.{neither}
 use Rattle.tracing_tree_lines.proofs.Choices.{apart}
-use Rattle.tracing_tree_lines.proofs.SpelledLines.{line_spells, value_spells, not_settings}
+use Rattle.tracing_tree_lines.proofs.SpelledLines.{line_spells, value_spells}
 use Rattle.tracing_tree_lines.specs.Lines.Parts.{fields_data, readable_number, readable_fields, readable, part_data, parts_members, parts_data, with_key, readable_at, readable_members, call_members, HasParts}
-use Rattle.tracing_tree_lines.specs.Lines.Spelled.{◌>>=◌, unless_null, value_at, required, whole_value, signed_value, id_value, level_value, parent_value, item_fields, fields_value, IsMomentIn, context_in, current_in, thread_in, thread_name_in, mono_in, wall_in, target_in, parent_in, fields_in, id_in, new_in, record_in, event_in, call_named, object_call}
-use Rattle.tracing_tree_lines.specs.Lines.Values.{ReadsCall, ReadsLine, ValueSpells}
+use Rattle.tracing_tree_lines.specs.Lines.Spelled.{◌>>=◌, unless_null, value_at, required, whole_value, signed_value, id_value, level_value, parent_value, item_fields, fields_value, IsMomentIn, SpellsCall, context_in, current_in, thread_in, thread_name_in, mono_in, wall_in, target_in, parent_in, fields_in, id_in, attributes_in, record_in, event_in, call_named, object_call}
+use Rattle.tracing_tree_lines.specs.Lines.Values.{ValueSpells}
+use Rattle.tracing_tree_lines.specs.Lines.Steps.{MakesSpelled}
+use Rattle.tracing_tree_lines.proofs.MadeCalls.{spelled_as}
+use Rattle.tracing_tree_layer.specs.Layered.Seen.{Seen}
+use Rattle.tracing_tree_layer.specs.declared.call.Reply.{Reply}
 use Rattle.tracing_tree_lines.specs.declared.lines.LineCause.{LineCause}
-use Rattle.tracing_tree_lines.specs.declared.lines.LineCause.TheVariants.{Settings as NoSettings, NotACall, Read, Memory, Refused}
 use Rattle.tracing_tree_lines.specs.declared.lines.part.Part.{Part}
 use Rattle.tracing_tree_lines.specs.declared.lines.part.Part.TheVariants.{Absent, Text, Whole, Negative, Fields, Other}
 use Rattle.tracing_tree_lines.specs.declared.lines.parts.Parts.{Parts}
@@ -286,17 +289,17 @@ same_word value = same_at as_str (codes "call") value None readable_str
 same_context : (value : Data) (moment : Moment) → context_in (kept value) moment ≡ context_in value moment
 same_context value moment = rw (same_current value, same_thread value, same_thread_name value)
 
-same_new : (value : Data) (context : Context) → new_in (kept value) context ≡ new_in value context
-same_new value context = rw (same_name value, same_target value, same_parent value, same_fields value)
+same_attributes : (value : Data) → attributes_in (kept value) ≡ attributes_in value
+same_attributes value = rw (same_name value, same_target value, same_parent value, same_fields value)
 
 same_record : (value : Data) → record_in (kept value) ≡ record_in value
 same_record value = rw (same_id_in value, same_fields value)
 
-same_event : (value : Data) (context : Context) → event_in (kept value) context ≡ event_in value context
-same_event value context = rw (same_level value, same_target value, same_parent value, same_fields value)
+same_event : (value : Data) → event_in (kept value) ≡ event_in value
+same_event value = rw (same_level value, same_target value, same_parent value, same_fields value)
 
 same_named : (word : List ℕ) (value : Data) (context : Context) → call_named word (kept value) context ≡ call_named word value context
-same_named word value context = rw (same_new value context, same_record value, same_event value context, same_id_in value)
+same_named word value context = rw (same_attributes value, same_record value, same_event value, same_id_in value)
 
 then_same : (first : Option Context) (word : Option (List ℕ)) (f g : Context → List ℕ → Option Call) → ((context : Context) (name : List ℕ) → f context name ≡ g context name)
     → (first >>= (λ context. word >>= (λ name. f context name))) ≡ (first >>= (λ context. word >>= (λ name. g context name)))
@@ -337,10 +340,9 @@ parts_spelled p value call same s =
     }
 
 -- the call of a line is that of its parts
-pub reads_parts : (line : List ℕ) (p : Parts) (result : Result Call LineCause) → HasParts line p → ReadsCall (parts_data p) result → ReadsLine line result
-reads_parts line p (Ok call) h reads = line_spells line h.value call h.text h.reads (value_spelled p h.value call h.no_float h.kept reads)
-reads_parts line p (Err NoSettings) h reads = absurd (not_settings reads.0)
-reads_parts line p (Err NotACall) h reads = (refl, λ call s. reads.1 call (parts_spelled p h.value call h.kept (value_spells line h.value call h.reads s)))
-reads_parts line p (Err Read) h reads = reads
-reads_parts line p (Err Memory) h reads = tt
-reads_parts line p (Err (Refused refusal)) h reads = reads
+pub made_of_parts : (line : List ℕ) (p : Parts) (result : Result Reply LineCause) (old new : Seen) → HasParts line p → MakesSpelled (ValueSpells (parts_data p)) result old new
+    → MakesSpelled (SpellsCall line) result old new
+made_of_parts line p result old new h made =
+    spelled_as (ValueSpells (parts_data p)) (SpellsCall line) result old new
+    (λ call s. line_spells line h.value call h.text h.reads (value_spelled p h.value call h.no_float h.kept s))
+    (λ call s. parts_spelled p h.value call h.kept (value_spells line h.value call h.reads s)) made

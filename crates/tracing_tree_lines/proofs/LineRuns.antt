@@ -16,11 +16,10 @@ use Rattle.tracing_tree_layer.specs.Layered.Run.{Run, run_by_cause, no_call, the
 use Rattle.tracing_tree_layer.specs.Layered.Answered.{IsAnswered, Writes}
 use Rattle.tracing_tree_layer.specs.Layered.Headline.{run_from}
 use Rattle.tracing_tree_lines.specs.Lines.Spelled.{input_lines, is_skipped, SpellsCall, SpellCalls}
-use Rattle.tracing_tree_lines.specs.Lines.Values.{IsUnlessMemory}
 use Rattle.tracing_tree_lines.specs.Lines.Runs.{EndsRun, IsLeftAfter, IsLeftByFault, is_from_outside, last_number, CountsCause}
 use Rattle.tracing_tree_lines.specs.Lines.Reads.{TakesLine, HasNoLine}
 use Rattle.tracing_tree_layer.specs.Layer.Layers.{Flushes}
-use Rattle.tracing_tree_lines.specs.Lines.Steps.{MakesCall, SkipsLine, FailsLine, JudgesLine, ShowsAndJudges, RunsOver, EndsLines}
+use Rattle.tracing_tree_lines.specs.Lines.Steps.{MakesCall, MakesSpelled, SkipsLine, FailsLine, JudgesLine, ShowsAndJudges, RunsOver, EndsLines}
 use Rattle.tracing_tree_layer.specs.declared.call.Call.{Call}
 use Rattle.tracing_tree_layer.specs.declared.call.Reply.{Reply}
 use Rattle.tracing_tree_lines.specs.declared.lines.Judged.{Judged}
@@ -33,26 +32,26 @@ use Rattle.tracing_tree_layer.proofs.RunLaws.{run-append}
 
 -- ---- one line
 
--- the two causes differ
-not_settings : NotACall ≡ NoSettings → ⊥
-not_settings e = cc
+-- a line whose call was made
+pub made_line : (old new : Seen) (known left : Option (List ℕ)) (line : List ℕ) (reply : Reply) → TakesLine known left line → is_skipped line ≡ false →
+    MakesSpelled (SpellsCall line) (Ok reply) old new → JudgesLine known left (Ok Accepted) old new
+made_line old new known left line reply first judged made = (reply, record { line = line; first = first; judged = judged; made = made })
 
--- a line that no call was read of
-pub fails_line : (seen : Seen) (known left : Option (List ℕ)) (line : List ℕ) (cause : LineCause) →
-    TakesLine known left line → is_skipped line ≡ false → IsUnlessMemory NotACall ((call : Call) → ¬ (SpellsCall line call)) cause →
-    JudgesLine known left (Err cause) seen seen
-fails_line seen known left line NoSettings first judged reads = absurd (not_settings reads.0)
-fails_line seen known left line NotACall first judged reads = (record { line = line; first = first; nothing = (ap not judged, reads.1) }, refl)
-fails_line seen known left line Read first judged reads = absurd reads
-fails_line seen known left line Memory first judged reads = refl
-fails_line seen known left line (Refused refusal) first judged reads = absurd reads
+-- a line whose call was not made
+pub unmade_line : (old new : Seen) (known left : Option (List ℕ)) (line : List ℕ) (cause : LineCause) → TakesLine known left line → is_skipped line ≡ false →
+    MakesSpelled (SpellsCall line) (Err cause) old new → JudgesLine known left (Err cause) old new
+unmade_line old new known left line NoSettings first judged made = absurd made
+unmade_line old new known left line NotACall first judged made = (record { line = line; first = first; nothing = (ap not judged, made.0) }, made.1)
+unmade_line old new known left line Read first judged made = absurd made
+unmade_line old new known left line Memory first judged made = made
+unmade_line old new known left line (Refused refusal) first judged made = record { line = line; first = first; judged = judged; made = made }
 
 -- the count of the writer's faults after a line that ends no run
 pub calm_line : (known left : Option (List ℕ)) (judged : Judged) (old new : Seen) → JudgesLine known left (Ok judged) old new →
     new.writer.faults ≡ old.writer.faults
 calm_line known left End old new h = ap (λ (s : Seen). s.writer.faults) h.1
 calm_line known left Skipped old new h = ap (λ (s : Seen). s.writer.faults) h.1
-calm_line known left Accepted old new h = h.1.answered.written.1
+calm_line known left Accepted old new h = h.1.made.answered.written.1
 
 -- the same after one that ends the run
 pub counts_line : (known left : Option (List ℕ)) (cause : LineCause) (old new : Seen) → JudgesLine known left (Err cause) old new →
@@ -61,13 +60,13 @@ counts_line known left NoSettings old new h = absurd h
 counts_line known left NotACall old new h = ap (λ (s : Seen). s.writer.faults) h.1
 counts_line known left Read old new h = ap (λ (s : Seen). s.writer.faults) h
 counts_line known left Memory old new h = ap (λ (s : Seen). s.writer.faults) h
-counts_line known left (Refused Refusals.Writer) old new h = h.answered.written.rose
-counts_line known left (Refused (Refusals.NotHeld j)) old new h = h.answered.written.1
-counts_line known left (Refused Refusals.TooWide) old new h = h.answered.written.1
-counts_line known left (Refused Refusals.TooMany) old new h = h.answered.written.1
-counts_line known left (Refused Refusals.Memory) old new h = h.answered.written.1
-counts_line known left (Refused Refusals.Timer) old new h = h.answered.written.1
-counts_line known left (Refused Refusals.Failed) old new h = h.answered.written.1
+counts_line known left (Refused Refusals.Writer) old new h = h.made.answered.written.rose
+counts_line known left (Refused (Refusals.NotHeld j)) old new h = h.made.answered.written.1
+counts_line known left (Refused Refusals.TooWide) old new h = h.made.answered.written.1
+counts_line known left (Refused Refusals.TooMany) old new h = h.made.answered.written.1
+counts_line known left (Refused Refusals.Memory) old new h = h.made.answered.written.1
+counts_line known left (Refused Refusals.Timer) old new h = h.made.answered.written.1
+counts_line known left (Refused Refusals.Failed) old new h = h.made.answered.written.1
 
 -- ---- spelled calls
 
@@ -210,21 +209,21 @@ module _ (first : Seen) where
   accepts (Some x) (Some y) (Some z) accepted number now next so_far h =
       let m = h.1 in
       let r : Run = run_from first so_far.calls in
-      let from : IsAnswered m.call (Ok h.0) (seen_later first r.state now.writer) next =
-      subst (λ s. IsAnswered m.call (Ok h.0) s next) so_far.left m.answered in
-      let longer : run_from first (so_far.calls ++ m.call ∷ []) ≡ with_call r m.call = run_one_more so_far.calls m.call from.allowed.0 in
+      let from : IsAnswered m.made.call (Ok h.0) (seen_later first r.state now.writer) next =
+      subst (λ s. IsAnswered m.made.call (Ok h.0) s next) so_far.left m.made.answered in
+      let longer : run_from first (so_far.calls ++ m.made.call ∷ []) ≡ with_call r m.made.call = run_one_more so_far.calls m.made.call from.allowed.0 in
       record {
         done = so_far.done ++ m.line ∷ [];
         apart = one_done _ so_far.done _ _ m.line so_far.apart m.first;
         number_is = omega (arith, so_far.number_is, length-append so_far.done (m.line ∷ []));
-        calls = so_far.calls ++ m.call ∷ [];
-        spelled = spells_call so_far.done so_far.calls m.line m.call so_far.spelled m.judged m.spelled;
-        count = omega (arith, so_far.count, length-append so_far.calls (m.call ∷ []));
+        calls = so_far.calls ++ m.made.call ∷ [];
+        spelled = spells_call so_far.done so_far.calls m.line m.made.call so_far.spelled m.judged m.made.spelled;
+        count = omega (arith, so_far.count, length-append so_far.calls (m.made.call ∷ []));
         left = from.left ∙ ap (λ (r : Run). seen_later first r.state next.writer) (sym longer);
         taken = ap (λ (r : Run). length r.replies) longer
-            ∙ omega (arith, so_far.taken, length-append so_far.calls (m.call ∷ []), length-append r.replies (reply_of r.state.forest m.call ∷ []));
+            ∙ omega (arith, so_far.taken, length-append so_far.calls (m.made.call ∷ []), length-append r.replies (reply_of r.state.forest m.made.call ∷ []));
         appends = subst (λ (r : Run). Appends first.writer.bytes next.writer.bytes (draw first.settings r.rows)) (sym longer)
-            (adds_call r m.call first.writer.bytes now.writer.bytes next.writer.bytes so_far.appends from.written.0);
+            (adds_call r m.made.call first.writer.bytes now.writer.bytes next.writer.bytes so_far.appends from.written.0);
       }
 
   -- ---- the end of a run
@@ -367,11 +366,11 @@ module _ (first : Seen) where
   refuses (Some x) (Some y) None accepted number now next refusal below so_far m = absurd m.first
   refuses (Some x) (Some y) (Some z) accepted number now next refusal below so_far m =
       let r : Run = run_from first so_far.calls in
-      let from : IsAnswered m.call (Err refusal) (seen_later first r.state now.writer) next =
-      subst (λ s. IsAnswered m.call (Err refusal) s next) so_far.left m.answered in
-      let (front, left, appends) = leaves r.state m.line m.call refusal (seen_later first r.state now.writer).writer next.writer m.spelled from.written in
+      let from : IsAnswered m.made.call (Err refusal) (seen_later first r.state now.writer) next =
+      subst (λ s. IsAnswered m.made.call (Err refusal) s next) so_far.left m.made.answered in
+      let (front, left, appends) = leaves r.state m.line m.made.call refusal (seen_later first r.state now.writer).writer next.writer m.made.spelled from.written in
       blames (input_lines x) (input_lines y) (input_lines z) m.line accepted number now next (Refused refusal) front below so_far m.first
-      (m.call, m.spelled, from.allowed) left appends
+      (m.made.call, m.made.spelled, from.allowed) left appends
 
   -- a line that ends the run
   pub stops : (known middle left : Option (List ℕ)) (accepted number : ℕ) (now next : Seen) (cause : LineCause) → number < last_number →

@@ -1,5 +1,5 @@
 -- The moment that a value spells is one, and what calls it spells.
-use Rattle.std.specs.Prelude.{◌≡◌, ℕ, false, List, Option, Some, None, codes, refl, Result, Ok, Err}
+use Rattle.std.specs.Prelude.{◌≡◌, ℕ, false, List, Option, Some, None, codes, refl, Result}
 use Rattle.std.proofs.Common.{sym, ap, ◌∙◌}
 use Rattle.std.proofs.lemmas.Option.{same_Some, none-some}
 use Rattle.std.proofs.Props.{props}
@@ -11,15 +11,15 @@ use Rattle.jiff_core.specs.Timestamp.{IsTimestampNanos}
 use Rattle.jiff_core.specs.declared.timestamp.Timestamp.{Timestamp}
 use Rattle.tracing_tree_context.specs.declared.context.Context.{Context}
 use Rattle.tracing_tree_context.specs.declared.context.Moment.{Moment}
-use Rattle.tracing_tree_lines.specs.Lines.Values.{IsReadAs, ReadsCall, ValueSpells}
+use Rattle.tracing_tree_lines.specs.Lines.Values.{ValueSpells}
+use Rattle.tracing_tree_lines.specs.Lines.Steps.{MakesNamed, MakesSpelled}
+use Rattle.tracing_tree_lines.proofs.MadeCalls.{spelled_as}
+use Rattle.tracing_tree_layer.specs.Layered.Seen.{Seen}
+use Rattle.tracing_tree_layer.specs.declared.call.Reply.{Reply}
 use Rattle.tracing_tree_lines.specs.Lines.CallKinds.{IsKindIn}
 use Rattle.tracing_tree_lines.specs.Lines.Spelled.{◌>>=◌, IsMomentIn, context_in, required, call_named, object_call}
 use Rattle.tracing_tree_layer.specs.declared.call.Call.{Call}
 use Rattle.tracing_tree_lines.specs.declared.lines.LineCause.{LineCause}
-use Rattle.tracing_tree_lines.specs.declared.lines.LineCause.TheVariants.{Settings as NoSettings, NotACall, Read, Memory, Refused}
-
-not_settings : NotACall ≡ NoSettings → ⊥
-not_settings e = cc
 
 same_instant : (a b : Timestamp) → a.nanosecond ≡ b.nanosecond → a ≡ b
 same_instant a b e = λ i. record {
@@ -56,17 +56,12 @@ no_call value absent call is other = none-some call (sym is ∙ other)
 pub reads_none : (value : Data) → ((moment : Moment) → IsMomentIn value moment → object_call value moment ≡ None) → (call : Call) → ¬ ValueSpells value call
 reads_none value nothing call s = none-some call (sym (nothing s.moment s.timed) ∙ s.spelled)
 
-pub reads_named : (value : Data) (context : Context) (word : List ℕ) (result : Result Call LineCause) → has_float value ≡ false
+-- the call of a value is that with its word
+pub made_named : (value : Data) (context : Context) (word : List ℕ) (result : Result Reply LineCause) (old new : Seen) → has_float value ≡ false
     → IsMomentIn value context.moment → context_in value context.moment ≡ Some context → required as_str (codes "call") value ≡ Some word
-    → IsReadAs (call_named word value context) result → ReadsCall value result
-reads_named value context word (Ok call) whole timed spelled named reads =
-    record { no_float = whole; moment = context.moment; timed = timed; spelled = object_call_at value context word spelled named ∙ reads }
-reads_named value context word (Err NoSettings) whole timed spelled named reads = absurd (not_settings reads.0)
-reads_named value context word (Err NotACall) whole timed spelled named reads = (
-  refl,
-  reads_none value (λ moment other.
-      ap (object_call value) (same_moment value moment context.moment other timed) ∙ object_call_at value context word spelled named ∙ reads.1),
-)
-reads_named value context word (Err Read) whole timed spelled named reads = reads
-reads_named value context word (Err Memory) whole timed spelled named reads = tt
-reads_named value context word (Err (Refused refusal)) whole timed spelled named reads = reads
+    → MakesNamed word value context result old new → MakesSpelled (ValueSpells value) result old new
+made_named value context word result old new whole timed spelled named made =
+    let at = object_call_at value context word spelled named in
+    spelled_as (λ call. call_named word value context ≡ Some call) (ValueSpells value) result old new
+    (λ call is. record { no_float = whole; moment = context.moment; timed = timed; spelled = at ∙ is })
+    (λ call s. sym at ∙ ap (object_call value) (same_moment value context.moment s.moment timed s.timed) ∙ s.spelled) made

@@ -19,7 +19,7 @@ use Rattle.tracing_tree_lines.specs.Lines.Parts.{opens_object, ArePartsTaken, Is
 use Rattle.serde_json.specs.Find.{as_str}
 use Rattle.tracing_tree_context.specs.declared.context.Moment.{Moment}
 use Rattle.tracing_tree_lines.proofs.Moments.{reads_none}
-use Rattle.tracing_tree_lines.specs.Lines.Values.{IsUnlessMemory, ReadsCall}
+use Rattle.tracing_tree_lines.specs.Lines.Values.{IsUnlessMemory, ValueSpells}
 use Rattle.tracing_tree_lines.specs.declared.lines.LineCause.TheVariants.{NotACall}
 use Rattle.tracing_tree_lines.specs.Lines.Spelled.{◌>>=◌, only_object, required, context_in, call_named, IsMomentIn, SpellsCall}
 use Rattle.tracing_tree_lines.specs.declared.lines.LineCause.{LineCause}
@@ -147,7 +147,8 @@ object_alone line ts left None new parts text is after none taken = record {
 -- ---- the context
 
 -- where no context can be read, there is no call
-pub no_context : (value : Data) (cause : LineCause) → IsUnlessMemory NotACall ((moment : Moment) → IsMomentIn value moment → context_in value moment ≡ None) cause → ReadsCall value (Err cause)
+pub no_context : (value : Data) (cause : LineCause) → IsUnlessMemory NotACall ((moment : Moment) → IsMomentIn value moment → context_in value moment ≡ None) cause
+    → IsUnlessMemory NotACall ((call : Call) → ¬ ValueSpells value call) cause
 no_context value cause failed =
     unless_memory _ _ cause
     (λ none. reads_none value (λ moment timed. ap (λ context. context >>= (λ c. required as_str (codes "call") value >>= (λ name. call_named name value c))) (none moment timed))) failed

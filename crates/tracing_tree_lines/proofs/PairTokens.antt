@@ -1,5 +1,5 @@
 -- Reading a pair of texts, a token at a time.
-use Rattle.std.specs.Prelude.{◌≡◌, ℕ, ◌≤◌, ◌-◌, List, ◌∷◌, length, Option, Some, None, option_and_then, option_map, MatchResult, Result, Ok, Err, refl}
+use Rattle.std.specs.Prelude.{◌≡◌, ℕ, ◌≤◌, ◌-◌, List, ◌∷◌, length, Option, Some, None, option_and_then, MatchResult, Result, Ok, Err, refl}
 use Rattle.std.specs.Borrow.{Bor}
 use Rattle.std.proofs.Common.{sym, ap, ◌∙◌, arith}
 use Rattle.json.specs.Token.{Token}
@@ -12,7 +12,7 @@ use Rattle.json.proofs.Grammar.{left, left_some, left_none, value_is, value-begi
 use Rattle.serde_json.specs.Data.{Items, item, no_items}
 use Rattle.serde_json.specs.Find.{as_str}
 use Rattle.tracing_tree_lines.specs.Lines.Borrowed.{data_of, items_data}
-use Rattle.tracing_tree_lines.specs.Lines.Parts.{field_of, pair_with, IsItemTaken, IsPairTaken, IsTextTaken}
+use Rattle.tracing_tree_lines.specs.Lines.Parts.{pair_with, IsItemTaken, IsPairTaken, IsTextTaken}
 use Rattle.tracing_tree_lines.specs.Lines.Spelled.{field_value, pair_field}
 use Rattle.tracing_tree_lines.specs.declared.lines.pair.Texts.{Texts}
 use Rattle.tracing_tree_lines.specs.declared.lines.pair.Texts.TheVariants.{None as NoText}
@@ -126,10 +126,9 @@ pair_read old ts new field is pair = record {
 pair_failed : (old ts : List Token) → old ≡ Token.begin_array ∷ ts → skip_items 124 ts ≡ None → json.value 125 old ≡ None
 pair_failed old ts is failed = ap (json.value 125) is ∙ value-begin_array 125 ts (omega arith) ∙ ap (parse_map json.array) (left_none _ failed)
 
-pub pair_taken : {E : Type 0} → (old ts new : List Token) (result : Result (Option (Bor (List ℕ) × Bor (List ℕ))) E) → old ≡ Token.begin_array ∷ ts
-    → MatchResult result (λ pair. IsPairTaken ts new (option_map (λ texts. field_of texts.0.now texts.1.now) pair)) (λ x. skip_items 124 ts ≡ None)
-    → MatchResult result (λ pair. IsItemTaken old new (option_map (λ texts. field_of texts.0.now texts.1.now) pair)) (λ x. json.value 125 old ≡ None)
-pair_taken old ts new (Ok pair) is taken = pair_read old ts new _ is taken
+pub pair_taken : {E : Type 0} → (old ts new : List Token) (result : Result (Option Field) E) → old ≡ Token.begin_array ∷ ts
+    → MatchResult result (IsPairTaken ts new) (λ x. skip_items 124 ts ≡ None) → MatchResult result (IsItemTaken old new) (λ x. json.value 125 old ≡ None)
+pair_taken old ts new (Ok pair) is taken = pair_read old ts new pair is taken
 pair_taken old ts new (Err invalid) is failed = pair_failed old ts is failed
 
 -- a value that is no array

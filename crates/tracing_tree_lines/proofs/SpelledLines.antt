@@ -1,18 +1,13 @@
 -- From the value of a line to the line.
-use Rattle.std.specs.Prelude.{◌≡◌, ℕ, List, Some, IsUtf8, refl, Result, Ok, Err}
+use Rattle.std.specs.Prelude.{◌≡◌, ℕ, List, Some, IsUtf8, refl}
 use Rattle.std.proofs.Common.{sym, ◌∙◌, subst}
 use Rattle.std.proofs.lemmas.Option.{same_Some, none-some}
 use Rattle.serde_json.specs.Data.{Data, null, boolean, number, string, array, object}
 use Rattle.serde_json.specs.Read.{read}
 use Rattle.tracing_tree_context.specs.declared.context.Moment.{Moment}
-use Rattle.tracing_tree_lines.specs.Lines.Values.{ReadsCall, ReadsLine, ValueSpells}
+use Rattle.tracing_tree_lines.specs.Lines.Values.{ValueSpells}
 use Rattle.tracing_tree_lines.specs.Lines.Spelled.{only_object, line_object, object_call, SpellsCall}
 use Rattle.tracing_tree_layer.specs.declared.call.Call.{Call}
-use Rattle.tracing_tree_lines.specs.declared.lines.LineCause.{LineCause}
-use Rattle.tracing_tree_lines.specs.declared.lines.LineCause.TheVariants.{Settings as NoSettings, NotACall, Read, Memory, Refused}
-
-pub not_settings : NotACall ≡ NoSettings → ⊥
-not_settings e = cc
 
 -- what spells a call is an object
 spelled_object : (value : Data) (moment : Moment) (call : Call) → object_call value moment ≡ Some call → only_object value ≡ Some value
@@ -50,12 +45,3 @@ pub value_spells : (line : List ℕ) (value : Data) (call : Call) → read line 
 value_spells line value call is s =
     subst (λ (v : Data). ValueSpells v call) (sym (object_value value s.value (sym (object_of_read line value is) ∙ s.object)))
     (record { no_float = s.no_float; moment = s.moment; timed = s.timed; spelled = s.spelled })
-
-pub reads_line : (line : List ℕ) (value : Data) (result : Result Call LineCause) → IsUtf8 line → read line ≡ Some value → ReadsCall value result
-    → ReadsLine line result
-reads_line line value (Ok call) text is reads = line_spells line value call text is reads
-reads_line line value (Err NoSettings) text is reads = absurd (not_settings reads.0)
-reads_line line value (Err NotACall) text is reads = (refl, λ call s. reads.1 call (value_spells line value call is s))
-reads_line line value (Err Read) text is reads = reads
-reads_line line value (Err Memory) text is reads = tt
-reads_line line value (Err (Refused refusal)) text is reads = reads

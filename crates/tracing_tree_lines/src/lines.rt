@@ -19,7 +19,7 @@ ghost use Rattle.tracing_tree_lines.specs.Lines.Runs.{CountsEnd, EndsAtFirst, Le
 ghost use Rattle.tracing_tree_lines.specs.Lines.Steps.{EndsLines, JudgesLine, ShowsAndJudges};
 ghost use Rattle.tracing_tree_output.specs.Writers.{seen_writer};
 
-use call::call_of_line;
+use call::make_call;
 use json::{Invalid, Scratch};
 use read::line_end;
 pub use read::{BLOCK, holds_line, is_skipped, read_line};
@@ -293,8 +293,7 @@ fn judge<W: Output, FT: FormatTime>(
     if is_skipped(line) {
         return Ok(Judged::Skipped);
     }
-    let call = call_of_line(alloc, line, scratch)?;
-    layered.call(call)?;
+    make_call(alloc, line, scratch, layered)?;
     Ok(Judged::Accepted)
 }
 

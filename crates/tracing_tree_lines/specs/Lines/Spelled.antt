@@ -21,6 +21,8 @@ use Rattle.tracing_tree_text.specs.declared.style.Level.{Level}
 use Rattle.tracing_tree_context.specs.declared.context.Moment.{Moment}
 use Rattle.tracing_tree_layer.specs.declared.call.Call.{Call}
 use Rattle.tracing_tree_layer.specs.declared.call.Call.TheVariants.{New, Clone, Record, Event, Close}
+use Rattle.tracing_tree_spans.specs.declared.registry.Attributes.{Attributes}
+use Rattle.tracing_tree_spans.specs.declared.registry.Event.{Event as MadeEvent}
 
 -- what comes of a value, if there is one
 infixl 20 ◌>>=◌
@@ -317,13 +319,13 @@ fields_in value = read_or (Some []) fields_value (codes "fields") value
 abbrev pub id_in : Data → Option Id
 id_in value = required id_value (codes "id") value
 
-abbrev pub new_in : Data → Context → Option Call
-new_in value context = do
+abbrev pub attributes_in : Data → Option Attributes
+attributes_in value = do
   name ← required as_str (codes "name") value
   target ← target_in value
   parent ← parent_in value
   fields ← fields_in value
-  Some (New (record { name = name; target = target; parent = parent; fields = fields }) context)
+  Some (record { name = name; target = target; parent = parent; fields = fields })
 
 abbrev pub record_in : Data → Option Call
 record_in value = do
@@ -331,21 +333,21 @@ record_in value = do
   fields ← fields_in value
   Some (Record i (record { fields = fields }))
 
-abbrev pub event_in : Data → Context → Option Call
-event_in value context = do
+abbrev pub event_in : Data → Option MadeEvent
+event_in value = do
   level ← required level_value (codes "level") value
   target ← target_in value
   parent ← parent_in value
   fields ← fields_in value
-  Some (Event (record { level = level; target = target; parent = parent; fields = fields }) context)
+  Some (record { level = level; target = target; parent = parent; fields = fields })
 
 -- the call of this name
 abbrev pub call_named : List ℕ → Data → Context → Option Call
 call_named name value context =
-    if bytes_eq name (codes "new") then new_in value context
+    if bytes_eq name (codes "new") then option_map (λ a. New a context) (attributes_in value)
     else (if bytes_eq name (codes "clone") then option_map Clone (id_in value)
     else (if bytes_eq name (codes "record") then record_in value
-    else (if bytes_eq name (codes "event") then event_in value context
+    else (if bytes_eq name (codes "event") then option_map (λ e. Event e context) (event_in value)
     else (if bytes_eq name (codes "close") then option_map (λ i. Close i context) (id_in value)
     else None))))
 

@@ -1,13 +1,15 @@
 -- What one line does to a layer, and what lines do to it one after another.
-use Rattle.std.specs.Prelude.{◌≡◌, ℕ, ◌≤◌, true, false, List, ◌++◌, length, take, slice_get, Option, None, IfSome, Result, Ok, Err}
+use Rattle.std.specs.Prelude.{◌≡◌, ℕ, ◌≤◌, true, false, List, ◌++◌, length, take, slice_get, Option, Some, None, IfSome, Result, Ok, Err}
 use Rattle.std.specs.Io.KnownBytes.{Appends}
+use Rattle.serde_json.specs.Data.{Data}
 use Rattle.tracing_tree_drawing.specs.Format.Picture.{draw}
+use Rattle.tracing_tree_context.specs.declared.context.Context.{Context}
 use Rattle.tracing_tree_context.specs.declared.context.Refusal.{Refusal}
 use Rattle.tracing_tree_layer.specs.Layered.Seen.{Seen}
 use Rattle.tracing_tree_layer.specs.Layer.Layers.{Flushes}
 use Rattle.tracing_tree_layer.specs.Layered.Headline.{run_from}
 use Rattle.tracing_tree_layer.specs.Layered.Answered.{IsAnswered}
-use Rattle.tracing_tree_lines.specs.Lines.Spelled.{input_lines, is_skipped, SpellsCall, SpellCalls, SpellsNothing}
+use Rattle.tracing_tree_lines.specs.Lines.Spelled.{input_lines, is_skipped, call_named, SpellsCall, SpellCalls, SpellsNothing}
 use Rattle.tracing_tree_lines.specs.Lines.Runs.{IsCounted, IsFaultAfter, IsLeftByFault, CountsEnd}
 use Rattle.tracing_tree_lines.specs.Lines.Reads.{TakesLine, HasNoLine}
 use Rattle.tracing_tree_layer.specs.declared.call.Call.{Call}
@@ -18,15 +20,34 @@ use Rattle.tracing_tree_lines.specs.declared.lines.LineCause.{LineCause}
 use Rattle.tracing_tree_lines.specs.declared.lines.LineCause.TheVariants.{Settings as NoSettings, NotACall, Read, Memory, Refused}
 use Rattle.tracing_tree_lines.specs.declared.lines.LineFault.{LineFault}
 
+-- a call that is spelled so got this answer
+pub record Answers (Spells : Call → Type 0) (answer : Result Reply Refusal) (old new : Seen)
+    : Type 0 where
+  pub call : Call
+  pub spelled : Spells call
+  pub answered : IsAnswered call answer old new
+
+-- the call that is spelled so was made; where none is, or memory was refused before, nothing has
+-- changed
+abbrev pub MakesSpelled : (Call → Type 0) → Result Reply LineCause → Seen → Seen → Type 0
+MakesSpelled Spells (Ok reply) old new = Answers Spells (Ok reply) old new
+MakesSpelled Spells (Err NoSettings) old new = ⊥
+MakesSpelled Spells (Err NotACall) old new = ((call : Call) → ¬ Spells call) × (new ≡ old)
+MakesSpelled Spells (Err Read) old new = ⊥
+MakesSpelled Spells (Err Memory) old new = new ≡ old
+MakesSpelled Spells (Err (Refused refusal)) old new = Answers Spells (Err refusal) old new
+
+-- the same of the call with this word
+abbrev pub MakesNamed : List ℕ → Data → Context → Result Reply LineCause → Seen → Seen → Type 0
+MakesNamed word value context = MakesSpelled (λ call. call_named word value context ≡ Some call)
+
 -- the first line of the input spells a call, and the call got this answer
 pub record MakesCall (known left : Option (List ℕ)) (answer : Result Reply Refusal)
     (old new : Seen) : Type 0 where
   pub line : List ℕ
   pub first : TakesLine known left line
   pub judged : is_skipped line ≡ false
-  pub call : Call
-  pub spelled : SpellsCall line call
-  pub answered : IsAnswered call answer old new
+  pub made : Answers (SpellsCall line) answer old new
 
 -- the first line of the input is skipped
 pub record SkipsLine (known left : Option (List ℕ)) : Type 0 where

@@ -5,7 +5,7 @@ use Rattle.serde_json.specs.Written.{has_float}
 use Rattle.tracing_tree_drawing.specs.Format.Settings.{Settings}
 use Rattle.tracing_tree_context.specs.declared.context.Context.{Context}
 use Rattle.tracing_tree_context.specs.declared.context.Moment.{Moment}
-use Rattle.tracing_tree_lines.specs.Lines.Spelled.{TimerChoice, no_clock, utc_clock, local_clock, uptime_clock, SpellsSettings, IsMomentIn, context_in, object_call, SpellsCall}
+use Rattle.tracing_tree_lines.specs.Lines.Spelled.{TimerChoice, no_clock, utc_clock, local_clock, uptime_clock, SpellsSettings, IsMomentIn, context_in, object_call}
 use Rattle.tracing_tree_layer.specs.declared.call.Call.{Call}
 use Rattle.tracing_tree_lines.specs.declared.lines.settings.timer.Timer.{Timer as Asked}
 use Rattle.tracing_tree_lines.specs.declared.lines.settings.timer.Timer.TheVariants as Ask
@@ -58,14 +58,3 @@ pub record ValueSpells (value : Data) (call : Call) : Type 0 where
   pub moment : Moment
   pub timed : IsMomentIn value moment
   pub spelled : object_call value moment ≡ Some call
-
--- the call that a value spells
-abbrev pub ReadsCall : Data → Result Call LineCause → Type 0
-ReadsCall value (Ok call) = ValueSpells value call
-ReadsCall value (Err cause) =
-    IsUnlessMemory NotACall ((call : Call) → ¬ ValueSpells value call) cause
-
--- the call that a line spells
-abbrev pub ReadsLine : List ℕ → Result Call LineCause → Type 0
-ReadsLine line (Ok call) = SpellsCall line call
-ReadsLine line (Err cause) = IsUnlessMemory NotACall ((call : Call) → ¬ SpellsCall line call) cause

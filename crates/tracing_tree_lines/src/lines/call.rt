@@ -1,45 +1,58 @@
 //! The call that a line spells.
 
-ghost use Rattle.std.specs.Prelude.{◌≡◌, codes};
+ghost use Rattle.std.specs.Prelude.{◌≡◌, codes, option_map, IfOk};
 ghost use Rattle.serde_json.specs.Find.{as_str};
 ghost use Rattle.tracing_tree_lines.specs.Lines.Parts.{part_data, parts_data};
-ghost use Rattle.tracing_tree_lines.specs.Lines.Values.{IsReadAs, ReadsCall, ReadsLine};
+ghost use Rattle.tracing_tree_layer.specs.Layer.Layers.{seen, Changes};
+ghost use Rattle.tracing_tree_lines.specs.Lines.Values.{IsReadAs, ValueSpells};
 ghost use Rattle.tracing_tree_lines.specs.Lines.CallKinds.{word_of, IsKindIn};
-ghost use Rattle.tracing_tree_lines.specs.Lines.Spelled.{call_named, new_in, record_in, event_in, id_in, target_in, parent_in, fields_in, level_value, parent_value, required};
+ghost use Rattle.tracing_tree_lines.specs.Lines.Spelled.{attributes_in, event_in, id_in, target_in, parent_in, fields_in, level_value, parent_value, required, SpellsCall};
+ghost use Rattle.tracing_tree_lines.specs.Lines.Steps.{MakesNamed, MakesSpelled};
 
 use super::LineCause;
-use super::context::{context_in, id_value, text_value};
+use super::context::{context_in, id_value};
 use super::part::Part;
 use super::parts::{Parts, read_line_parts};
 use json::Scratch;
-use std::alloc::Global;
+use std::alloc::{AllocError, Global};
 use tracing_tree_context::{Context, Id};
-use tracing_tree_layer::call::Call;
-use tracing_tree_spans::registry::{Attributes, Event, Parent, Record};
+use tracing_tree_layer::call::{Call, Reply};
+use tracing_tree_layer::layered::Layered;
+use tracing_tree_layer::told::{EventTexts, FieldTexts};
+use tracing_tree_output::Output;
+use tracing_tree_spans::registry::{Attributes, Parent, Record};
 use tracing_tree_text::field::Fields;
 use tracing_tree_text::style::Level;
 use tracing_tree_text::text::Text;
+use tracing_tree_time::FormatTime;
 
-// The call that a line spells. `NotACall` where it spells none, `Memory` where memory is refused.
-pub(super) fn call_of_line(
+// Makes the call that a line spells. `NotACall` where it spells none, `Memory` where memory is refused before.
+pub(super) fn make_call<W: Output, FT: FormatTime>(
     alloc: Global,
     line: &[u8],
     scratch: &mut Scratch,
-) -> Result<Call, LineCause>
-    ensures { ReadsLine line.now result }
+    layered: &mut Layered<W, FT>,
+) -> Result<Reply, LineCause>
+    ensures { Changes (seen FT.FormatTime W.Output) (MakesSpelled (SpellsCall line.now) result)
+        layered.old layered.new }
 {
     let mut parts = Parts::new();
     read_line_parts(alloc, line, scratch, &mut parts)?;
-    call_of(alloc, &mut parts)
+    make_call_of(alloc, &parts, layered)
 }
 
-// The call that the parts of a line spell. `NotACall` where they spell none.
-fn call_of(alloc: Global, parts: &mut Parts<'_>) -> Result<Call, LineCause>
-    ensures { ReadsCall (parts_data parts.old) result }
+// Makes the call that the parts of a line spell.
+fn make_call_of<W: Output, FT: FormatTime>(
+    alloc: Global,
+    parts: &Parts<'_>,
+    layered: &mut Layered<W, FT>,
+) -> Result<Reply, LineCause>
+    ensures { Changes (seen FT.FormatTime W.Output)
+        (MakesSpelled (ValueSpells (parts_data parts.now)) result) layered.old layered.new }
 {
     let context = context_in(alloc, parts)?;
     let kind = kind_in(parts).ok_or(LineCause::NotACall)?;
-    call_of_kind(alloc, kind, parts, context)
+    make_call_of_kind(alloc, kind, parts, &context, layered)
 }
 
 // The calls by their words.
@@ -66,60 +79,69 @@ fn kind_in(parts: &Parts<'_>) -> Option<Kind>
     }
 }
 
-// The call of this kind.
-fn call_of_kind(
+// Makes the call of this kind.
+fn make_call_of_kind<W: Output, FT: FormatTime>(
     alloc: Global,
     kind: Kind,
-    parts: &mut Parts<'_>,
-    context: Context,
-) -> Result<Call, LineCause>
-    ensures { IsReadAs (call_named (word_of kind) (parts_data parts.old) context) result }
+    parts: &Parts<'_>,
+    context: &Context,
+    layered: &mut Layered<W, FT>,
+) -> Result<Reply, LineCause>
+    ensures { Changes (seen FT.FormatTime W.Output)
+        (MakesNamed (word_of kind) (parts_data parts.now) context.now result)
+        layered.old layered.new }
 {
     match kind {
-        Kind::New => new_in(alloc, parts, context),
-        Kind::Clone => Ok(Call::Clone(id_in(parts).ok_or(LineCause::NotACall)?)),
-        Kind::Record => record_in(alloc, parts),
-        Kind::Event => event_in(alloc, parts, context),
+        Kind::New => {
+            let attributes = attributes_in(alloc, parts)?;
+            Ok(layered.call_new_span(attributes, context)?)
+        }
+        Kind::Clone => {
+            let id = id_in(parts).ok_or(LineCause::NotACall)?;
+            Ok(layered.call(Call::Clone(id))?)
+        }
+        Kind::Record => {
+            let id = id_in(parts).ok_or(LineCause::NotACall)?;
+            let fields = copied(alloc, fields_in(parts).ok_or(LineCause::NotACall)?)?;
+            Ok(layered.call(Call::Record(id, Record { fields }))?)
+        }
+        Kind::Event => {
+            let event = event_in(parts).ok_or(LineCause::NotACall)?;
+            Ok(layered.call_told(&event, context)?)
+        }
         Kind::Close => {
             let id = id_in(parts).ok_or(LineCause::NotACall)?;
-            Ok(Call::Close(id, context))
+            Ok(layered.call_close(id, context)?)
         }
     }
 }
 
-// A new span.
-fn new_in(alloc: Global, parts: &mut Parts<'_>, context: Context) -> Result<Call, LineCause>
-    ensures { IsReadAs (new_in (parts_data parts.old) context) result }
+// What a new span is made of. `NotACall` where it can't be read, `Memory` where memory is refused.
+fn attributes_in(alloc: Global, parts: &Parts<'_>) -> Result<Attributes, LineCause>
+    ensures { IsReadAs (attributes_in (parts_data parts.now)) result }
 {
-    let attributes = Attributes {
-        name: name_in(alloc, parts)?,
-        target: target_in(alloc, parts)?,
-        parent: parent_in(parts).ok_or(LineCause::NotACall)?,
-        fields: fields_in(alloc, parts)?,
-    };
-    Ok(Call::New(attributes, context))
+    let name = name_in(parts).ok_or(LineCause::NotACall)?;
+    let target = target_in(parts).ok_or(LineCause::NotACall)?;
+    let parent = parent_in(parts).ok_or(LineCause::NotACall)?;
+    let fields = fields_in(parts).ok_or(LineCause::NotACall)?;
+    Ok(Attributes {
+        name: Text::from_str(alloc, name)?,
+        target: Text::from_str(alloc, target)?,
+        parent,
+        fields: copied(alloc, fields)?,
+    })
 }
 
-// Fields for a span.
-fn record_in(alloc: Global, parts: &mut Parts<'_>) -> Result<Call, LineCause>
-    ensures { IsReadAs (record_in (parts_data parts.old)) result }
+// An event, whose texts stay where they are. None where it can't be read.
+fn event_in<'a>(parts: &'a Parts<'a>) -> Option<EventTexts<'a>>
+    ensures { result ≡ event_in (parts_data parts.now) }
 {
-    let id = id_in(parts).ok_or(LineCause::NotACall)?;
-    let fields = fields_in(alloc, parts)?;
-    Ok(Call::Record(id, Record { fields }))
-}
-
-// An event.
-fn event_in(alloc: Global, parts: &mut Parts<'_>, context: Context) -> Result<Call, LineCause>
-    ensures { IsReadAs (event_in (parts_data parts.old) context) result }
-{
-    let event = Event {
-        level: level_in(parts).ok_or(LineCause::NotACall)?,
-        target: target_in(alloc, parts)?,
-        parent: parent_in(parts).ok_or(LineCause::NotACall)?,
-        fields: fields_in(alloc, parts)?,
-    };
-    Ok(Call::Event(event, context))
+    Some(EventTexts {
+        level: level_in(parts)?,
+        target: target_in(parts)?,
+        parent: parent_in(parts)?,
+        fields: fields_in(parts)?,
+    })
 }
 
 // The span that a call is about. None where it isn't there or can't be read.
@@ -130,13 +152,13 @@ fn id_in(parts: &Parts<'_>) -> Option<Id>
     id_value(parts.id.unless_null()?)
 }
 
-// The name of a span. `NotACall` where it isn't there or can't be read.
+// The name of a span. None where it isn't there or can't be read.
 #[tactic(auto, using(crate::proofs::LineParts::at_name))]
-fn name_in(alloc: Global, parts: &Parts<'_>) -> Result<Text, LineCause>
-    ensures { IsReadAs (required as_str (codes "name") (parts_data parts.now)) result }
+fn name_in<'a>(parts: &Parts<'a>) -> Option<&'a str>
+    ensures { option_map (λ name. name.now) result
+        ≡ required as_str (codes "name") (parts_data parts.now) }
 {
-    let name = parts.name.unless_null().ok_or(LineCause::NotACall)?;
-    text_value(alloc, name)
+    parts.name.unless_null()?.as_str()
 }
 
 // The level of an event. None where it isn't there or can't be read.
@@ -147,14 +169,14 @@ fn level_in(parts: &Parts<'_>) -> Option<Level>
     level_value(parts.level.unless_null()?)
 }
 
-// A target, empty where it isn't there.
+// A target, empty where it isn't there. None where it can't be read.
 #[tactic(auto, using(crate::proofs::LineParts::at_target))]
-fn target_in(alloc: Global, parts: &Parts<'_>) -> Result<Text, LineCause>
-    ensures { IsReadAs (target_in (parts_data parts.now)) result }
+fn target_in<'a>(parts: &Parts<'a>) -> Option<&'a str>
+    ensures { option_map (λ target. target.now) result ≡ target_in (parts_data parts.now) }
 {
     match parts.target.unless_null() {
-        Some(target) => text_value(alloc, target),
-        None => Ok(Text::from_str(alloc, "")?),
+        Some(target) => target.as_str(),
+        None => Some(""),
     }
 }
 
@@ -169,16 +191,30 @@ fn parent_in(parts: &Parts<'_>) -> Option<Parent>
     }
 }
 
-// The fields; none where they aren't there.
-#[tactic(auto, using(crate::proofs::LineParts::at_fields, crate::proofs::LineParts::fields_read))]
-fn fields_in(alloc: Global, parts: &mut Parts<'_>) -> Result<Fields, LineCause>
-    ensures { IsReadAs (fields_in (parts_data parts.old)) result }
+// The fields; none where they aren't there. None where they can't be read.
+#[tactic(auto, using(crate::proofs::LineParts::at_fields))]
+fn fields_in<'a>(parts: &'a Parts<'a>) -> Option<&'a [FieldTexts<'a>]>
+    ensures { option_map (λ fields. fields.now) result ≡ fields_in (parts_data parts.now) }
 {
-    match parts.take_fields() {
-        Part::Absent => Ok(Fields::new(alloc)),
-        Part::Fields(fields) => Ok(Fields::from(fields)),
-        _ => Err(LineCause::NotACall),
+    match parts.fields.unless_null() {
+        Some(fields) => fields.as_fields(),
+        None => Some(&[]),
     }
+}
+
+// A copy of fields.
+fn copied(alloc: Global, fields: &[FieldTexts<'_>]) -> Result<Fields, AllocError>
+    ensures { IfOk result (λ made. made ≡ fields.now) }
+{
+    if let [field] = fields {
+        return Ok(Fields::one(alloc, field.to_field(alloc)?));
+    }
+    // Not of the exact size: so the list has room for the first fields that are recorded later.
+    let mut list = Vec::new(alloc);
+    for field in fields {
+        list.push(field.to_field(alloc)?)?;
+    }
+    Ok(Fields::from(list))
 }
 
 // A level by its name. None where the part names none.

@@ -1,10 +1,9 @@
 //! What goes with each call.
 
-ghost use Rattle.std.specs.Prelude.{◌≡◌, Some};
+ghost use Rattle.std.specs.Prelude.{◌≡◌, Some, option_map};
 ghost use Rattle.std.specs.Option.{option_map_or};
-ghost use Rattle.serde_json.specs.Find.{as_str};
 ghost use Rattle.tracing_tree_lines.specs.Lines.Parts.{part_data, parts_data};
-ghost use Rattle.tracing_tree_lines.specs.Lines.Values.{IsReadAs, ReadsMoment, ReadsContext};
+ghost use Rattle.tracing_tree_lines.specs.Lines.Values.{ReadsMoment, ReadsContext};
 ghost use Rattle.tracing_tree_lines.specs.Lines.Spelled.{id_value, current_in, mono_in, thread_in, thread_name_in, unless_null, wall_in, whole_value};
 
 use super::LineCause;
@@ -23,7 +22,10 @@ pub(super) fn context_in(alloc: Global, parts: &Parts<'_>) -> Result<Context, Li
     let moment = moment_in(parts).ok_or(LineCause::NotACall)?;
     let current = current_in(parts).ok_or(LineCause::NotACall)?;
     let thread_id = thread_in(parts).ok_or(LineCause::NotACall)?;
-    let thread_name = thread_name_in(alloc, parts)?;
+    let thread_name = match thread_name_in(parts).ok_or(LineCause::NotACall)? {
+        Some(name) => Some(Text::from_str(alloc, name)?),
+        None => None,
+    };
     Ok(Context {
         current,
         thread_id,
@@ -51,14 +53,15 @@ fn thread_in(parts: &Parts<'_>) -> Option<u64>
     whole_or(1, &parts.thread)
 }
 
-// The name of the thread, if it has one.
+// The name of the thread, if it has one. None where it can't be read.
 #[tactic(auto, using(crate::proofs::LineParts::at_thread_name))]
-fn thread_name_in(alloc: Global, parts: &Parts<'_>) -> Result<Option<Text>, LineCause>
-    ensures { IsReadAs (thread_name_in (parts_data parts.now)) result }
+fn thread_name_in<'a>(parts: &Parts<'a>) -> Option<Option<&'a str>>
+    ensures { option_map (option_map (λ name. name.now)) result
+        ≡ thread_name_in (parts_data parts.now) }
 {
     match parts.thread_name.unless_null() {
-        Some(name) => Ok(Some(text_value(alloc, name)?)),
-        None => Ok(None),
+        Some(name) => Some(Some(name.as_str()?)),
+        None => Some(None),
     }
 }
 
@@ -106,12 +109,4 @@ pub(super) fn id_value(part: &Part<'_>) -> Option<Id>
     ensures { result ≡ id_value (part_data part.now) }
 {
     Some(Id(part.as_whole()?))
-}
-
-// A copy of a text. `NotACall` where the part isn't one, `Memory` where memory is refused.
-pub(super) fn text_value(alloc: Global, part: &Part<'_>) -> Result<Text, LineCause>
-    ensures { IsReadAs (as_str (part_data part.now)) result }
-{
-    let text = part.as_str().ok_or(LineCause::NotACall)?;
-    Ok(Text::from_str(alloc, text)?)
 }

@@ -5,10 +5,11 @@ ghost use Rattle.json.specs.Json as json;
 ghost use Rattle.json.specs.Reads.{skip_items};
 ghost use Rattle.serde_json.specs.Data.{Data, Items, item, no_items};
 ghost use Rattle.serde_json.specs.Find.{as_str};
-ghost use Rattle.tracing_tree_lines.specs.Lines.Parts.{field_of, pair_with, IsItemTaken, IsPairTaken, IsTextTaken};
+ghost use Rattle.tracing_tree_lines.specs.Lines.Parts.{pair_with, IsItemTaken, IsPairTaken, IsTextTaken};
 
 use super::skip::{ITEM_DEPTH, skip_rest};
 use json::{Invalid, Reader, Token};
+use tracing_tree_layer::told::FieldTexts;
 
 // The items of an array so far, as far as it may be a pair of texts.
 #[derive(Clone, Copy)]
@@ -34,22 +35,19 @@ impl<'a> Texts<'a> {
     }
 
     // The pair, where these are all items.
-    fn pair(self) -> Option<(&'a str, &'a str)>
-        ensures { option_map (λ pair. field_of pair.0.now pair.1.now) result
-            ≡ pair_with self.entry no_items }
+    fn pair(self) -> Option<FieldTexts<'a>>
+        ensures { result ≡ pair_with self.entry no_items }
     {
         match self {
-            Texts::Two(name, value) => Some((name, value)),
+            Texts::Two(name, value) => Some(FieldTexts { name, value }),
             _ => None,
         }
     }
 }
 
 // The texts of the next value, where it is an array of two texts.
-pub(super) fn read_pair<'a>(reader: &mut Reader<'a>) -> Result<Option<(&'a str, &'a str)>, Invalid>
-    ensures { MatchResult result
-        (λ pair. IsItemTaken reader.old reader.new
-        (option_map (λ texts. field_of texts.0.now texts.1.now) pair))
+pub(super) fn read_pair<'a>(reader: &mut Reader<'a>) -> Result<Option<FieldTexts<'a>>, Invalid>
+    ensures { MatchResult result (IsItemTaken reader.old reader.new)
         (λ _. json.value 125 reader.old ≡ None) }
 {
     match reader.next().ok_or(Invalid)? {
@@ -62,10 +60,8 @@ pub(super) fn read_pair<'a>(reader: &mut Reader<'a>) -> Result<Option<(&'a str, 
 }
 
 // The texts of an array of two texts whose `[` was read. None where it is another array.
-fn read_texts<'a>(reader: &mut Reader<'a>) -> Result<Option<(&'a str, &'a str)>, Invalid>
-    ensures { MatchResult result
-        (λ pair. IsPairTaken reader.old reader.new
-        (option_map (λ texts. field_of texts.0.now texts.1.now) pair))
+fn read_texts<'a>(reader: &mut Reader<'a>) -> Result<Option<FieldTexts<'a>>, Invalid>
+    ensures { MatchResult result (IsPairTaken reader.old reader.new)
         (λ _. skip_items 124 reader.old ≡ None) }
 {
     let mut texts = Texts::None;

@@ -3,9 +3,9 @@
 ghost use Rattle.std.specs.Prelude.{◌≡◌, option_map};
 ghost use Rattle.serde_json.specs.Find.{as_str};
 ghost use Rattle.tracing_tree_lines.specs.Lines.Parts.{is_other, part_data};
-ghost use Rattle.tracing_tree_lines.specs.Lines.Spelled.{signed_value, unless_null, whole_value};
+ghost use Rattle.tracing_tree_lines.specs.Lines.Spelled.{fields_value, signed_value, unless_null, whole_value};
 
-use tracing_tree_text::field::Field;
+use tracing_tree_layer::told::FieldTexts;
 
 // What a call is read from.
 #[derive(Drop)]
@@ -17,8 +17,8 @@ pub(super) enum Part<'a> {
     Whole(u64),
     // A whole number of 64 bits below zero.
     Negative(i64),
-    // An array of pairs of texts. A list takes less room in a part than `Fields` do.
-    Fields(Vec<Field>),
+    // An array of pairs of texts.
+    Fields(Vec<FieldTexts<'a>>),
     // Another value. No part of a call is read from it.
     Other,
 }
@@ -46,6 +46,17 @@ impl<'a> Part<'a> {
     {
         match self {
             Part::Text(text) => Some(text),
+            _ => None,
+        }
+    }
+
+    // The fields. None where it is none.
+    #[tactic(auto, using(crate::proofs::LineParts::fields_read))]
+    pub(super) fn as_fields(&self) -> Option<&[FieldTexts<'a>]>
+        ensures { option_map (λ fields. fields.now) result ≡ fields_value (part_data self.now) }
+    {
+        match self {
+            Part::Fields(fields) => Some(fields.as_slice()),
             _ => None,
         }
     }

@@ -1,8 +1,8 @@
 //! What a line's object has at the keys of a call, read in one pass.
 
-ghost use Rattle.std.specs.Prelude.{◌≡◌, ◌||◌, false, IfOk};
+ghost use Rattle.std.specs.Prelude.{◌≡◌, ◌||◌, false};
 ghost use Rattle.tracing_tree_lines.specs.Lines.Borrowed.{RefusesFloat};
-ghost use Rattle.tracing_tree_lines.specs.Lines.Parts.{field_of, is_other, no_parts, opens_object, part_data, parts_members, with_key, ReadsObject, ReadsParts, TakesFields, TakesPart, TakesParts};
+ghost use Rattle.tracing_tree_lines.specs.Lines.Parts.{is_other, no_parts, opens_object, part_data, parts_members, with_key, ReadsObject, ReadsParts, TakesFields, TakesPart, TakesParts};
 
 use super::LineCause;
 use super::number::number_part;
@@ -12,10 +12,7 @@ use super::skip::{ITEM_DEPTH, skip_members};
 use super::value::has_float;
 use json::{Reader, Scratch, Token};
 use simdutf8::basic::from_utf8;
-use std::alloc::{AllocError, Global};
-use std::mem;
-use tracing_tree_text::field::Field;
-use tracing_tree_text::text::Text;
+use std::alloc::Global;
 
 // What stands at the keys of a call. The last of several members with one key counts.
 #[derive(Drop)]
@@ -56,13 +53,6 @@ impl<'a> Parts<'a> {
             wall: Part::Absent,
             has_other: false,
         }
-    }
-
-    // The fields. Afterwards there are none.
-    pub(super) fn take_fields(&mut self) -> Part<'a>
-        ensures { part_data result ≡ part_data self.old.fields }
-    {
-        mem::replace(&mut self.fields, Part::Absent)
     }
 
     // Puts a part at its key. A key of no call is passed over.
@@ -189,30 +179,20 @@ fn read_part<'a>(alloc: Global, reader: &mut Reader<'a>) -> Result<Part<'a>, Lin
 }
 
 // The fields of an array whose `[` was read.
-fn read_fields<'a>(alloc: Global, reader: &mut Reader<'_>) -> Result<Part<'a>, LineCause>
+fn read_fields<'a>(alloc: Global, reader: &mut Reader<'a>) -> Result<Part<'a>, LineCause>
     ensures { TakesFields reader.old reader.new result }
 {
-    // Not of the exact size: so a span's list has room for the first fields that are recorded later.
     let mut fields = Vec::new(alloc);
     let mut are_fields = true;
     while !reader.take_end_array() {
-        match read_pair(reader)? {
-            Some((name, value)) => fields.push(field_of(alloc, name, value)?)?,
-            None => are_fields = false,
-        }
+        let Some(field) = read_pair(reader)? else {
+            are_fields = false;
+            continue;
+        };
+        fields.push(field)?;
     }
     if !are_fields {
         return Ok(Part::Other);
     }
     Ok(Part::Fields(fields))
-}
-
-// The field of a name and a value.
-fn field_of(alloc: Global, name: &str, value: &str) -> Result<Field, AllocError>
-    ensures { IfOk result (λ field. field ≡ field_of name.now value.now) }
-{
-    Ok(Field {
-        name: Text::from_str(alloc, name)?,
-        value: Text::from_str(alloc, value)?,
-    })
 }
