@@ -28,6 +28,7 @@ impl<W: Output, FT: FormatTime> Layered<W, FT> {
     }
 
     /// Makes the call of a new span, whose context stays the caller's, as `call` does.
+    #[inline(always)]
     pub fn call_new_span(
         &mut self,
         attributes: Attributes,
