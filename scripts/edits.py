@@ -5,7 +5,8 @@ The proof of a function rests on the contracts of what it calls, and not on thei
 copy of the crate, a round, with at most one edit a function. An edit is refused where its own function fails at a goal of its own; that
 it calls a function that is refused shows nothing. What such a round doesn't settle is tried alone, by the code of `rt must-fail`: an edit
 outside a function, and one that doesn't compile among the others. An edit that is refused only by a type error, or only since a proof file
-names what it took away, has failed, and so has one that is proved or doesn't apply.
+names what it took away, has failed, and so has one that is proved or doesn't apply. harmless.edit changes no meaning: it is tried as the
+others are, and must be let through, else no refusal shows anything.
 
 It prints a line for each edit, and last 'edits: N passed, M failed'. --plan prints the rounds alone. --sample N tries N of the edits that
 a round refused alone too, and an edit of which `rt must-fail` says otherwise has failed."""
@@ -26,6 +27,10 @@ COMPILES = re.compile(r"(?m)^(src/\S+?\.rt):(\d+):\d+: error")
 # What antt says of a proof that names what an edit took away. It is no answer about a contract.
 NAMES = re.compile(r"has no field|is not in scope|has no `|was not admitted|cannot continue|expected the end")
 ONLY_NAMES = "only because a proof file names what the edit took away"
+# What `rt must-fail` says of an edit with which the crate is still proved.
+LET_THROUGH = "NOT REFUSED"
+# The edit that must be let through, and its crate.
+HARMLESS, ITS_CRATE = f"{TOP}/scripts/harmless.edit", "tracing_tree_text"
 
 
 @dataclass(frozen=True)
@@ -80,7 +85,7 @@ def kit():
     made = importlib.util.module_from_spec(importlib.util.spec_from_loader("kit_rt", loader))
     sys.modules["kit_rt"] = made
     loader.exec_module(made)
-    wanted = ("checked", "must_fail", "read_edit", "rtlib")
+    wanted = ("checked", "must_fail", "read_edit", "rtlib", "REFUSED")
     if not all(hasattr(made, it) for it in wanted):
         sys.exit(f"edits: this kit's rt lacks one of {', '.join(wanted)}: edits.py was written for the kit that README names")
     return made
@@ -187,16 +192,18 @@ def body_of(pair, texts, bodies):
     return None if len(around) != 1 or around[0].is_const or is_macro else around[0]
 
 
+def edit_at(path, crate, bodies):
+    """Returns the edit in a file, of a crate with these bodies."""
+    texts = {file: read(f"{crate.folder}/{file}") for file in bodies}
+    pairs = pairs_of(path)
+    places = {body_of(it, texts, bodies) for it in pairs}
+    return Edit(crate.name, path, pairs, places.pop() if len(places) == 1 else None)
+
+
 def edits_of(crate, folder, bodies):
     """Returns the edits in a folder, of a crate with these bodies."""
-    texts = {file: read(f"{crate.folder}/{file}") for file in bodies}
-    found = []
-    for name in sorted(os.listdir(folder)):
-        if name.endswith(".edit"):
-            pairs = pairs_of(f"{folder}/{name}")
-            places = {body_of(it, texts, bodies) for it in pairs}
-            found.append(Edit(crate.name, f"{folder}/{name}", pairs, places.pop() if len(places) == 1 else None))
-    return found
+    names = [it for it in sorted(os.listdir(folder)) if it.endswith(".edit")]
+    return [edit_at(f"{folder}/{it}", crate, bodies) for it in names]
 
 
 def rounds_of(edits):
@@ -284,9 +291,9 @@ class Trial:
 
     def try_alone(self, edit):
         """Returns the verdict of `rt must-fail`, by which an edit that only a proof file's names refuse has failed."""
-        is_refused, said = self.over_kept(lambda kept: self.rt.must_fail(self.crate, edit.path, ["--jobs", "1"], kept))
+        kind, said = self.over_kept(lambda kept: self.rt.must_fail(self.crate, edit.path, ["--jobs", "1"], kept))
         why = said.partition(": ")[2]
-        return Verdict(edit, is_refused and ONLY_NAMES not in said, f"alone: {why}")
+        return Verdict(edit, kind == self.rt.REFUSED and ONLY_NAMES not in said, f"alone: {why}")
 
     def try_round(self, edits):
         """Checks the crate with all of these edits, and returns a verdict of each that the check refused, and the edits of which it says
@@ -350,6 +357,8 @@ class Edits:
         if not trial.check_unchanged():
             self.bad.append(f"{trial.crate.name} is not proved without an edit")
             return
+        if trial.crate.name == ITS_CRATE:
+            self.start(self.try_harmless, trial)
         for n, it in enumerate(trial.rounds):
             self.start(self.round, trial, n, it)
         for it in trial.alone:
@@ -366,6 +375,16 @@ class Edits:
 
     def alone(self, trial, edit):
         self.add(trial.try_alone(edit))
+
+    def try_harmless(self, trial):
+        """Tries the edit that changes no meaning as the others are tried. It fails all where it isn't let through."""
+        edit = edit_at(HARMLESS, trial.crate, trial.bodies)
+        refused, left = trial.try_round([edit]) if edit.body else ([], [edit])
+        told = refused + [trial.try_alone(it) for it in left]
+        is_well = not told[0].is_refused and LET_THROUGH in told[0].why
+        self.say(f"harmless edit of {trial.crate.name}: {'let through, as it must be' if is_well else f'FAILED: {told[0].why[:240]}'}")
+        if not is_well:
+            self.bad.append("harmless.edit is not let through")
 
     def add(self, verdict):
         with self.lock:
