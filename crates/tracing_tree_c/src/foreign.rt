@@ -1,7 +1,6 @@
 //! What C hands over, and how it is read.
 
-ghost use Rattle.std.specs.Prelude.{◌≡◌, ◌++◌, ◌∷◌, [], ◌↔◌, ⊤, IsTrue, IsUtf8, OnOk, string_bytes};
-ghost use Rattle.tracing_tree_drawing.specs.Format.Texts.{event_fields};
+ghost use Rattle.std.specs.Prelude.{◌≡◌, ◌∷◌, [], ◌↔◌, ⊤, IsTrue, IsUtf8};
 ghost use Rattle.tracing_tree_c.specs.Trees.{call_of, new_call, written_of};
 ghost use Rattle.tracing_tree_c.specs.Foreign.{Reads, IsUtf8Field, IsUtf8Fields, IsUtf8Context, IsUtf8New, IsUtf8Event, IsUtf8Time, IsSmallTime, IsSmallText, IsSmallField, IsSmallContext, IsSmallNew, IsKnownNew, IsKnownEvent, HasNoFields, IsContextOf, IsNewOf, IsEventOf, IsRecordOf, IsCloseOf, field_of, fields_of, level_of, parent_of, current_of, thread_name_of};
 
@@ -10,9 +9,8 @@ use jiff::Timestamp;
 use std::alloc::{AllocError, AllocFailed, Global};
 use std::marker::Model;
 use tracing_tree_context::{Context, Id};
-use tracing_tree_drawing::format::{Config, push_event_texts};
+use tracing_tree_drawing::format::push_event_texts;
 use tracing_tree_layer::call::Call;
-use tracing_tree_layer::layer::push_event_head;
 use tracing_tree_layer::told::ToldEvent;
 use tracing_tree_spans::registry::{Attributes, Parent, Record};
 use tracing_tree_text::field::{Field, Fields};
@@ -336,13 +334,25 @@ impl<'a> Model for EventTexts<'a> {
 impl ToldEvent for EventTexts<'_> {
     ghost told = { λ event. event };
 
+    fn level(&self) -> Level {
+        self.level
+    }
+
+    fn target(&self) -> &str {
+        self.target
+    }
+
     fn parent(&self) -> Parent {
         self.parent
     }
 
-    fn push_tail(&self, out: &mut String, config: &Config) -> Result<(), AllocError> {
-        push_event_head(out, config, self.level, self.target)?;
-        push_fields(out, self.fields)
+    fn push_fields(&self, out: &mut String) -> Result<(), AllocError> {
+        let mut comma = false;
+        for field in self.fields {
+            let (name, value) = field.texts();
+            push_event_texts(out, &mut comma, name, value)?;
+        }
+        Ok(())
     }
 }
 
@@ -387,20 +397,6 @@ fn are_texts(fields: &[FieldRef]) -> bool
         }
     }
     true
-}
-
-// Appends the fields of an event, a space before the first. The caller must ensure that they are UTF-8.
-fn push_fields(out: &mut String, fields: &[FieldRef]) -> Result<(), AllocError>
-    requires { IsUtf8Fields fields.now }
-    ensures { OnOk result
-        (string_bytes out.new ≡ string_bytes out.old ++ event_fields (fields_of fields.now)) }
-{
-    let mut comma = false;
-    for field in fields {
-        let (name, value) = field.texts();
-        push_event_texts(out, &mut comma, name, value)?;
-    }
-    Ok(())
 }
 
 // An event. The caller must ensure that trusted texts are UTF-8.

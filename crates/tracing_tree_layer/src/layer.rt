@@ -19,7 +19,7 @@ ghost use Rattle.tracing_tree_output.specs.Writers.{seen_writer};
 ghost use Rattle.tracing_tree_layer.specs.Layer.Drawn.{failed_by, has_no_id, DoesTurn, IsReady, Sends};
 
 use crate::told::ToldEvent;
-pub use block::{push_event_head, push_event_tail};
+pub use block::push_event_tail;
 use drawing::CallDrawing;
 use page::Page;
 use plan::Plan;

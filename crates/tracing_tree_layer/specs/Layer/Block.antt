@@ -5,7 +5,6 @@ use Rattle.tracing_tree_text.specs.Style.{styled, shown_level}
 use Rattle.tracing_tree_drawing.specs.Format.Texts.{label, span_fields, event_fields}
 use Rattle.tracing_tree_time.specs.Clock.{Timer}
 use Rattle.tracing_tree_spans.specs.Registry.Spans.{ShownSpan}
-use Rattle.tracing_tree_text.specs.declared.style.Level.{Level}
 use Rattle.tracing_tree_text.specs.declared.style.Style.TheVariants.{Dimmed, BoldGreen}
 use Rattle.tracing_tree_drawing.specs.declared.format.SpanMode.{SpanMode}
 use Rattle.tracing_tree_drawing.specs.declared.format.SpanMode.TheVariants.{Close}
@@ -43,12 +42,6 @@ span_block settings (Close false) span = shown_label settings (Close false)
 span_block settings mode span = shown_label settings mode ++ span_text settings span
 
 -- ---- events
-
--- level and target
-abbrev pub event_head : Settings → Level → List ℕ → List ℕ
-event_head settings level target =
-    shown_level settings.ansi level
-    ++ (if settings.targets then 32 ∷ styled settings.ansi Dimmed target else [])
 
 -- level, target and fields
 abbrev pub event_tail : Settings → Event → List ℕ

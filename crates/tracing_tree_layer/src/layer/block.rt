@@ -2,17 +2,16 @@
 
 ghost use Rattle.std.specs.Prelude.{◌≡◌, ◌++◌, true, OnOk, OnErr, string_bytes};
 ghost use Rattle.tracing_tree_text.specs.declared.style.Style.TheVariants.{BoldGreen};
-ghost use Rattle.tracing_tree_drawing.specs.Format.Texts.{label, named_value, shown_field, span_fields, event_field, comma_after, event_fields};
+ghost use Rattle.tracing_tree_drawing.specs.Format.Texts.{label, named_value, shown_field, span_fields};
 ghost use Rattle.tracing_tree_text.specs.Style.{styled};
-ghost use Rattle.tracing_tree_layer.specs.Layer.Block.{shown_target, span_text, span_block, event_head, event_tail};
+ghost use Rattle.tracing_tree_layer.specs.Layer.Block.{shown_target, span_text, span_block, event_tail};
 
+use crate::told::ToldEvent;
 use std::alloc::AllocError;
-use tracing_tree_drawing::format::{
-    Config, SpanMode, push_event_field, push_named, push_shown, write_span_mode,
-};
-use tracing_tree_spans::registry::{Event, SpanRef};
+use tracing_tree_drawing::format::{Config, SpanMode, push_named, push_shown, write_span_mode};
+use tracing_tree_spans::registry::SpanRef;
 use tracing_tree_text::field::Field;
-use tracing_tree_text::style::{Level, Style, push_level, push_styled};
+use tracing_tree_text::style::{Style, push_level, push_styled};
 
 // The fields of a span. Only in the first place is a message shown alone.
 fn push_span_fields(out: &mut String, fields: &[Field]) -> Result<(), AllocError>
@@ -98,40 +97,18 @@ pub(super) fn push_span_block(
 
 /// Appends level, target and fields of an event, as they stand after the timer's texts. After an
 /// error a beginning may stand in `out`.
-pub fn push_event_tail(out: &mut String, config: &Config, event: &Event) -> Result<(), AllocError>
-    ensures { OnOk result
-        (string_bytes out.new ≡ string_bytes out.old ++ event_tail config.now event.now) }
-{
-    push_event_head(out, config, event.level, event.target.as_str())?;
-    push_event_fields(out, event.fields.as_slice())
-}
-
-/// Appends level and target of an event, as they stand before its fields. After an error a beginning
-/// may stand in `out`.
-pub fn push_event_head(
+pub fn push_event_tail<E: ToldEvent>(
     out: &mut String,
     config: &Config,
-    level: Level,
-    target: &str,
+    event: &E,
 ) -> Result<(), AllocError>
     ensures { OnOk result
-        (string_bytes out.new ≡ string_bytes out.old ++ event_head config.now level target.now) }
+        (string_bytes out.new ≡ string_bytes out.old ++ event_tail config.now (E.told event.now)) }
 {
-    push_level(out, config.ansi(), level)?;
-    if !config.targets() {
-        return Ok(());
+    push_level(out, config.ansi(), event.level())?;
+    if config.targets() {
+        out.push_str(" ")?;
+        push_styled(out, config.ansi(), Style::Dimmed, event.target())?;
     }
-    out.push_str(" ")?;
-    push_styled(out, config.ansi(), Style::Dimmed, target)
-}
-
-// The fields of an event, a space before the first.
-fn push_event_fields(out: &mut String, fields: &[Field]) -> Result<(), AllocError>
-    ensures { OnOk result (string_bytes out.new ≡ string_bytes out.old ++ event_fields fields.now) }
-{
-    let mut comma = false;
-    for field in fields {
-        push_event_field(out, &mut comma, field)?;
-    }
-    Ok(())
+    event.push_fields(out)
 }

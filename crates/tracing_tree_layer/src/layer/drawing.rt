@@ -8,7 +8,7 @@ ghost use Rattle.tracing_tree_layer.specs.Layer.Plan.{row_of_planned, rows_of_pl
 ghost use Rattle.tracing_tree_layer.specs.Layered.Refused.{is_event_too_wide, timer_faults_at, lacks_elapsed};
 ghost use Rattle.tracing_tree_layer.specs.Layer.Drawn.{DrawsRows, Drafts, IsBlank, IsUntimed, has_no_id};
 
-use super::block::push_span_block;
+use super::block::{push_event_tail, push_span_block};
 use super::page::Page;
 use super::plan::{Plan, PlannedRow, Planner};
 use crate::told::ToldEvent;
@@ -224,7 +224,7 @@ impl<'a, S: LookupSpan> CallDrawing<'a, S> {
         self.elapsed(out, timer)?;
         match tail {
             Some(tail) => out.push_str(tail)?,
-            None => event.push_tail(out, self.config)?,
+            None => push_event_tail(out, self.config, event)?,
         }
         Ok(())
     }

@@ -1,13 +1,11 @@
 //! Events whose texts are lent.
 
-ghost use Rattle.std.specs.Prelude.{◌≡◌, ◌++◌, IfOk, OnOk, string_bytes};
-ghost use Rattle.tracing_tree_drawing.specs.Format.Texts.{event_fields};
+ghost use Rattle.std.specs.Prelude.{◌≡◌, IfOk};
 
 use super::ToldEvent;
-use crate::layer::push_event_head;
 use std::alloc::{AllocError, Global};
 use std::marker::Model;
-use tracing_tree_drawing::format::{Config, push_event_texts};
+use tracing_tree_drawing::format::push_event_texts;
 use tracing_tree_spans::registry::Parent;
 use tracing_tree_text::field::Field;
 use tracing_tree_text::style::Level;
@@ -74,23 +72,23 @@ impl<'a> Model for EventTexts<'a> {
 impl ToldEvent for EventTexts<'_> {
     ghost told = { λ event. event };
 
+    fn level(&self) -> Level {
+        self.level
+    }
+
+    fn target(&self) -> &str {
+        self.target
+    }
+
     fn parent(&self) -> Parent {
         self.parent
     }
 
-    fn push_tail(&self, out: &mut String, config: &Config) -> Result<(), AllocError> {
-        push_event_head(out, config, self.level, self.target)?;
-        push_fields(out, self.fields)
+    fn push_fields(&self, out: &mut String) -> Result<(), AllocError> {
+        let mut comma = false;
+        for field in self.fields {
+            push_event_texts(out, &mut comma, field.name, field.value)?;
+        }
+        Ok(())
     }
-}
-
-// Appends the fields of an event, a space before the first.
-fn push_fields(out: &mut String, fields: &[FieldTexts<'_>]) -> Result<(), AllocError>
-    ensures { OnOk result (string_bytes out.new ≡ string_bytes out.old ++ event_fields fields.now) }
-{
-    let mut comma = false;
-    for field in fields {
-        push_event_texts(out, &mut comma, field.name, field.value)?;
-    }
-    Ok(())
 }

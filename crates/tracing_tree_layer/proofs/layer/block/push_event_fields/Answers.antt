@@ -1,9 +1,0 @@
-use Rattle.std.proofs.Common.{◌≡◌, ◌++◌, [], arith, drop, sym, ap, ◌∙◌, append-nil, string_bytes}
-use Rattle.std.proofs.lemmas.Grind.{common_steps}
-use Rattle.tracing_tree_layer.proofs.FieldTexts.{added_fields-false}
-use Rattle.tracing_tree_layer.proofs.layer.block.push_event_fields.Goals as goal
-
-pub returns : goal.returns
-returns c =
-    let none : drop c.loop-field.field-index c.args.fields.now ≡ [] = grind (arith, common_steps) in
-    sym (append-nil _) ∙ (rw none at c.loop-field.invariant) ∙ ap (λ text. string_bytes c.args.out.now ++ text) (added_fields-false c.args.fields.now)
