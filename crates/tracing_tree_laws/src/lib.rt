@@ -9,4 +9,5 @@ pub mod dates;
 pub mod difference;
 pub mod equal;
 pub mod lines;
+pub mod runs;
 pub mod tracers;

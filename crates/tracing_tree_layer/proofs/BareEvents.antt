@@ -11,7 +11,8 @@ use Rattle.tracing_tree_spans.specs.Registry.Forest.{Forest}
 use Rattle.tracing_tree_time.specs.Clock.{Timer as Clock}
 use Rattle.tracing_tree_drawing.specs.Format.Picture.{draw}
 use Rattle.tracing_tree_layer.specs.Layered.State.{State, Turn}
-use Rattle.tracing_tree_layer.specs.Layered.Refused.{first_cause, draws_too_wide, timer_faults_at}
+use Rattle.tracing_tree_layer.specs.Layered.Refused.{draws_too_wide, timer_faults_at}
+use Rattle.tracing_tree_layer.proofs.Causes.{first_cause}
 use Rattle.tracing_tree_layer.specs.Layered.Run.{IsRefusedFor, after_refusal}
 use Rattle.tracing_tree_layer.specs.Layered.Seen.{Seen, seen_later}
 use Rattle.tracing_tree_layer.specs.Layer.Turns.{turn_of_event}

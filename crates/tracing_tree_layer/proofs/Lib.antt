@@ -1,4 +1,5 @@
 pub mod Calls
+pub mod Causes
 pub mod Equality
 pub mod FieldTexts
 pub mod RunLaws

@@ -1,5 +1,5 @@
 -- Calls that are answered one after another are a run.
-use Rattle.std.proofs.Common.{◌≡◌, false, List, [], ◌∷◌, ◌++◌, Result, Ok, Err, IfOk, refl, sym, ap, subst, ◌∙◌, append-nil}
+use Rattle.std.proofs.Common.{◌≡◌, false, List, [], ◌∷◌, ◌++◌, Result, Ok, Err, refl, sym, ap, subst, ◌∙◌, append-nil}
 use Rattle.std.specs.Io.KnownBytes.{Appends, Keeps}
 use Rattle.std.proofs.KnownBytes.{Appends-nil, Appends-trans, Appends-kept}
 use Rattle.tracing_tree_drawing.specs.Format.Settings.{Settings}
@@ -72,7 +72,7 @@ run_more settings timer begun calls call reply may =
     })
 
 -- so it makes any such run longer
-continues : (call : Call) (reply : Reply) (old new : Seen) → IsAnswered call (Ok reply) old new → Continues call reply old new
+pub continues : (call : Call) (reply : Reply) (old new : Seen) → IsAnswered call (Ok reply) old new → Continues call reply old new
 continues call reply old new h = record { joined = joined; text = h.written.0 }
   where
     joined : (begun : State) (earlier : List Call) → old.state ≡ (run old.settings old.timer begun earlier).state →
@@ -91,11 +91,6 @@ continues call reply old new h = record { joined = joined; text = h.written.0 }
         run_more old.settings old.timer begun earlier call reply (subst May led h.allowed)
         ∙ ap from (sym led)
         ∙ ap to (sym (ap (λ (s : Seen). s.state) h.left))
-
-pub continued : (call : Call) (answer : Result Reply Refusal) (old new : Seen) → IsAnswered call answer old new →
-    IfOk answer (λ reply. Continues call reply old new)
-continued call (Ok reply) old new h = continues call reply old new h
-continued call (Err refusal) old new h = tt
 
 -- a refused call that leaves state and bytes isn't in the run
 runs_refused : (calls : List Call) (replies : List Reply) (old new : Seen) (writer : SeenWriter) → Keeps old.writer.bytes writer.bytes →

@@ -23,7 +23,8 @@ use Rattle.tracing_tree_time.specs.declared.timer.FormatTime.{Ghosts as FormatTi
 use Rattle.tracing_tree_layer.specs.Layer.Layers.{LayerView, LayeredView, Changes, seen}
 use Rattle.tracing_tree_layer.specs.Layered.Seen.{Seen, seen_later}
 use Rattle.tracing_tree_layer.specs.Layered.Step.{turn_of, new_id, with_new_span}
-use Rattle.tracing_tree_layer.specs.Layered.Refused.{first_cause, cause_of, id_not_held, is_too_many, draws_too_wide, timer_faults, takes_no_memory}
+use Rattle.tracing_tree_layer.specs.Layered.Refused.{cause_of, id_not_held, is_too_many, draws_too_wide, timer_faults, takes_no_memory}
+use Rattle.tracing_tree_layer.proofs.Causes.{first_cause}
 use Rattle.tracing_tree_layer.specs.Layered.Run.{call_text}
 use Rattle.tracing_tree_layer.specs.Layered.Answered.{IsAnswered}
 use Rattle.tracing_tree_layer.specs.declared.call.Call.{Call}

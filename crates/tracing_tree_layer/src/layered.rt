@@ -7,7 +7,7 @@ ghost use Rattle.tracing_tree_spans.specs.Registry.Ids.{id_of};
 ghost use Rattle.tracing_tree_spans.specs.Registry.Forest.{empty_forest, if_live, path_of_any};
 ghost use Rattle.tracing_tree_layer.specs.Layer.Layers.{seen, Changes, Flushes};
 ghost use Rattle.tracing_tree_layer.specs.Layered.Answered.{IsAnswered};
-ghost use Rattle.tracing_tree_layer.specs.Layered.Headline.{Continues, IsRunOf};
+ghost use Rattle.tracing_tree_layer.specs.Layered.Headline.{IsRunOf};
 ghost use Rattle.tracing_tree_layer.specs.Layer.Block.{event_tail};
 
 use crate::call::{Call, Reply};
@@ -150,14 +150,6 @@ impl<W: Output, FT: FormatTime> Layered<W, FT> {
     pub fn call(&mut self, call: Call) -> Result<Reply, Refusal>
         ensures answered { Changes (seen FT.FormatTime W.Output) (IsAnswered call result)
             self.old self.new }
-        ensures run { IfOk result (λ reply. Continues call reply
-            (seen FT.FormatTime W.Output self.old) (seen FT.FormatTime W.Output self.new)) }
-    {
-        self.answer(call)
-    }
-
-    fn answer(&mut self, call: Call) -> Result<Reply, Refusal>
-        ensures { Changes (seen FT.FormatTime W.Output) (IsAnswered call result) self.old self.new }
     {
         if self.layer.failed() {
             // As one value, so that the proof needn't follow each of its parts.

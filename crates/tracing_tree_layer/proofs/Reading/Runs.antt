@@ -17,7 +17,8 @@ use Rattle.tracing_tree_spans.specs.declared.registry.Attributes.{Attributes}
 use Rattle.tracing_tree_spans.proofs.RegistryLaws.{changed}
 use Rattle.tracing_tree_layer.specs.Layered.State.{State, opening_state}
 use Rattle.tracing_tree_layer.specs.Layer.Turns.{turn_of_new}
-use Rattle.tracing_tree_layer.specs.Layered.Refused.{cause_of, first_cause, draws_too_wide}
+use Rattle.tracing_tree_layer.specs.Layered.Refused.{cause_of, draws_too_wide}
+use Rattle.tracing_tree_layer.proofs.Causes.{first_cause}
 use Rattle.tracing_tree_layer.specs.Layered.Step.{new_id, turn_of, state_after}
 use Rattle.tracing_tree_layer.specs.Layered.Run.{Run, run, run_one, run_by_cause, after_refusal}
 use Rattle.tracing_tree_layer.specs.Laws.Reading.{call_is_on_path, run_is_on_path}

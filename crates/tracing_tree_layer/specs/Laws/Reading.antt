@@ -10,8 +10,7 @@ use Rattle.tracing_tree_drawing.specs.Format.Picture.{Row}
 use Rattle.tracing_tree_context.specs.declared.context.Id.{Id}
 use Rattle.tracing_tree_context.specs.declared.context.Context.{Context}
 use Rattle.tracing_tree_drawing.specs.declared.format.SpanMode.{SpanMode}
-use Rattle.tracing_tree_drawing.specs.declared.format.SpanMode.TheVariants.{PreOpen, Open, Close, Retrace, PostClose}
-use Rattle.tracing_tree_drawing.specs.declared.format.SpanMode.TheVariants.{Event as EventMode}
+use Rattle.tracing_tree_drawing.specs.declared.format.SpanMode.TheVariants.{Open, Retrace}
 use Rattle.tracing_tree_spans.specs.declared.registry.Event.{Event}
 use Rattle.tracing_tree_layer.specs.Layered.State.{State, opening_state}
 use Rattle.tracing_tree_layer.specs.Layer.Turns.{current_of, event_parent, turn_of_close}
@@ -25,12 +24,9 @@ use Rattle.tracing_tree_layer.specs.declared.call.Call.TheVariants as A
 -- ---- rows that open a span
 
 abbrev pub is_opening_mode : SpanMode → Bool
-is_opening_mode PreOpen = false
 is_opening_mode (Open verbose) = true
-is_opening_mode (Close verbose) = false
 is_opening_mode (Retrace verbose) = true
-is_opening_mode PostClose = false
-is_opening_mode EventMode = false
+is_opening_mode mode = false
 
 -- an open or retrace row of this level
 abbrev pub opens_at : ℕ → Row → Bool
@@ -65,12 +61,9 @@ closes_are_on_path settings context (i ∷ others) forest last =
 
 -- the same of a call that is accepted
 abbrev pub call_is_on_path : Settings → State → Call → Bool
-call_is_on_path settings state (A.New attributes context) = true
-call_is_on_path settings state (A.Clone i) = true
-call_is_on_path settings state (A.Record i record') = true
-call_is_on_path settings state (A.Event event context) = true
 call_is_on_path settings state (A.Close i context) =
     closes_are_on_path settings context (closing_of state.forest i) state.forest state.last
+call_is_on_path settings state call = true
 
 -- the same of each accepted call of a run
 abbrev pub run_is_on_path : Settings → Timer → State → List Call → Bool

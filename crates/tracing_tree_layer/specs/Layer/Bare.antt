@@ -1,5 +1,6 @@
 -- Bare calls on a layer, over any live spans.
-use Rattle.std.specs.Prelude.{◌≡◌, ℕ, Bool, false, true, not, ◌||◌, List, Option, None, Some, Result, Ok, Err}
+use Rattle.std.specs.Prelude.{◌≡◌, ℕ, Bool, false, true, not, ◌||◌, List, [], ◌∷◌, Option, option_map, None, Some, Result, Ok, Err}
+use Rattle.std.specs.Bool.{then_some}
 use Rattle.tracing_tree_drawing.specs.Format.Settings.{Settings}
 use Rattle.tracing_tree_time.specs.Clock.{Timer}
 use Rattle.tracing_tree_spans.specs.Registry.Forest.{Forest, is_live, unless_live, add_fields}
@@ -7,13 +8,13 @@ use Rattle.tracing_tree_drawing.specs.Format.Picture.{draw}
 use Rattle.tracing_tree_context.specs.declared.context.Id.{Id}
 use Rattle.tracing_tree_context.specs.declared.context.Context.{Context}
 use Rattle.tracing_tree_context.specs.declared.context.Refusal.{Refusal}
-use Rattle.tracing_tree_context.specs.declared.context.Refusal.TheVariants.{NotHeld, Failed}
+use Rattle.tracing_tree_context.specs.declared.context.Refusal.TheVariants.{NotHeld, TooWide, Timer as TimerFault, Failed}
 use Rattle.tracing_tree_spans.specs.declared.registry.Event.{Event}
 use Rattle.tracing_tree_spans.specs.declared.registry.Record.{Record}
 use Rattle.tracing_tree_layer.specs.Layered.State.{State, Turn, quiet_turn}
 use Rattle.tracing_tree_layer.specs.Layered.Seen.{Seen, seen_later}
 use Rattle.tracing_tree_layer.specs.Layer.Turns.{turn_of_new, turn_of_event, turn_of_close}
-use Rattle.tracing_tree_layer.specs.Layered.Refused.{first_cause, draws_too_wide, timer_faults_at}
+use Rattle.tracing_tree_layer.specs.Layered.Refused.{first_of_all, draws_too_wide, timer_faults_at}
 use Rattle.tracing_tree_layer.specs.Layered.Run.{IsRefusedFor, after_refusal}
 use Rattle.tracing_tree_layer.specs.Layered.Answered.{Writes}
 
@@ -38,10 +39,8 @@ bare_turn_of settings timer forest last (on_close i context) =
 -- what else an accepted call changes in the forest: a record of an id that isn't live changes
 -- nothing
 abbrev pub bare_changed_forest : BareCall → Forest → Forest
-bare_changed_forest (on_new_span i context) forest = forest
 bare_changed_forest (on_record i record') forest = add_fields record'.fields i forest
-bare_changed_forest (on_event event context) forest = forest
-bare_changed_forest (on_close i context) forest = forest
+bare_changed_forest call forest = forest
 
 -- the state after an accepted call
 abbrev pub bare_state_after : Settings → Timer → State → BareCall → State
@@ -63,29 +62,25 @@ bare_text settings timer state call =
 -- the id that a call needs and that isn't live
 abbrev pub bare_not_held : Forest → BareCall → Option Id
 bare_not_held forest (on_new_span i context) = unless_live forest i
-bare_not_held forest (on_record i record') = None
-bare_not_held forest (on_event event context) = None
 bare_not_held forest (on_close i context) = unless_live forest i
+bare_not_held forest call = None
 
 -- the timer has no text for an event
 abbrev pub bare_timer_faults : Settings → Timer → Forest → BareCall → Bool
-bare_timer_faults settings timer forest (on_new_span i context) = false
-bare_timer_faults settings timer forest (on_record i record') = false
 bare_timer_faults settings timer forest (on_event event context) =
     timer_faults_at settings timer forest context
-bare_timer_faults settings timer forest (on_close i context) = false
+bare_timer_faults settings timer forest call = false
 
 -- why a call is refused, want of memory and faults of the writer aside; no id and no handle is
 -- counted here
 abbrev pub bare_cause_of : Settings → Timer → State → BareCall → Option Refusal
-bare_cause_of settings timer state call = first_cause (record {
-  failed = state.failed;
-  not_held = bare_not_held state.forest call;
-  too_many = false;
-  too_wide =
-      draws_too_wide settings (bare_turn_of settings timer state.forest state.last call).rows;
-  timer_faults = bare_timer_faults settings timer state.forest call;
-})
+bare_cause_of settings timer state call = first_of_all (
+    then_some state.failed Failed
+    ∷ option_map NotHeld (bare_not_held state.forest call)
+    ∷ then_some
+    (draws_too_wide settings (bare_turn_of settings timer state.forest state.last call).rows) TooWide
+    ∷ then_some (bare_timer_faults settings timer state.forest call) TimerFault
+    ∷ [])
 
 -- ---- answers
 

@@ -24,17 +24,14 @@ abbrev pub id_not_held : Forest → Call → Option Id
 id_not_held forest (New attributes context) =
     any_unless_live forest (named_parent attributes.parent context.current)
 id_not_held forest (Clone i) = unless_live forest i
-id_not_held forest (Record i record') = None
-id_not_held forest (Event event context) = None
 id_not_held forest (Close i context) = unless_handle forest i
+id_not_held forest call = None
 
 -- no id is left for a new span, or no further handle can be counted
 abbrev pub is_too_many : Forest → Call → Bool
 is_too_many forest (New attributes context) = lacks_next forest
 is_too_many forest (Clone i) = has_all_handles forest i
-is_too_many forest (Record i record') = false
-is_too_many forest (Event event context) = false
-is_too_many forest (Close i context) = false
+is_too_many forest call = false
 
 -- one of these rows would be too wide
 abbrev pub draws_too_wide : Settings → List Row → Bool
@@ -53,45 +50,25 @@ timer_faults_at settings timer forest context =
 
 -- the timer has no text for an event
 abbrev pub timer_faults : Settings → Timer → Forest → Call → Bool
-timer_faults settings timer forest (New attributes context) = false
-timer_faults settings timer forest (Clone i) = false
-timer_faults settings timer forest (Record i record') = false
 timer_faults settings timer forest (Event event context) =
     timer_faults_at settings timer forest context
-timer_faults settings timer forest (Close i context) = false
+timer_faults settings timer forest call = false
 
 -- the first of several
 abbrev pub first_of_all : List (Option Refusal) → Option Refusal
 first_of_all [] = None
 first_of_all (o ∷ others) = option_or o (first_of_all others)
 
--- which causes stand against a call
-pub record Causes : Type 0 where
-  pub failed : Bool
-  pub not_held : Option Id
-  pub too_many : Bool
-  pub too_wide : Bool
-  pub timer_faults : Bool
-
--- of several causes the first of these
-abbrev pub first_cause : Causes → Option Refusal
-first_cause causes = first_of_all (
-    then_some causes.failed Failed
-    ∷ option_map NotHeld causes.not_held
-    ∷ then_some causes.too_many TooMany
-    ∷ then_some causes.too_wide TooWide
-    ∷ then_some causes.timer_faults TimerFault
-    ∷ [])
-
 -- why a call is refused, want of memory and faults of the writer aside
 abbrev pub cause_of : Settings → Timer → State → Call → Option Refusal
-cause_of settings timer state call = first_cause (record {
-  failed = state.failed;
-  not_held = id_not_held state.forest call;
-  too_many = is_too_many state.forest call;
-  too_wide = draws_too_wide settings (turn_of settings timer state.forest state.last call).rows;
-  timer_faults = timer_faults settings timer state.forest call;
-})
+cause_of settings timer state call = first_of_all (
+    then_some state.failed Failed
+    ∷ option_map NotHeld (id_not_held state.forest call)
+    ∷ then_some (is_too_many state.forest call) TooMany
+    ∷ then_some (draws_too_wide settings (turn_of settings timer state.forest state.last call).rows)
+    TooWide
+    ∷ then_some (timer_faults settings timer state.forest call) TimerFault
+    ∷ [])
 
 -- the row of an event itself would be too wide
 abbrev pub is_event_too_wide : Settings → Timer → Forest → Told → Context → Bool

@@ -28,30 +28,27 @@ with_new_span attributes context forest =
 abbrev pub reply_of : Forest → Call → Reply
 reply_of forest (New attributes context) = Span (new_id forest)
 reply_of forest (Clone i) = Cloned i
-reply_of forest (Record i record') = Done
-reply_of forest (Event event context) = Done
 reply_of forest (Close i context) = Closed (not (length (closing_of forest i) == 0))
+reply_of forest call = Done
 
 -- the rows of an accepted call, and the printed marks and the last span after it
 abbrev pub turn_of : Settings → Timer → Forest → Option Id → Call → Turn
 turn_of settings timer forest last (New attributes context) =
     turn_of_new settings context (with_new_span attributes context forest) last (new_id forest)
-turn_of settings timer forest last (Clone i) = quiet_turn forest last
-turn_of settings timer forest last (Record i record') = quiet_turn forest last
 turn_of settings timer forest last (Event event context) =
     turn_of_event settings timer context forest last event
 turn_of settings timer forest last (Close i context) =
     turn_of_closes settings context (closing_of forest i) forest last
+turn_of settings timer forest last call = quiet_turn forest last
 
 -- what else an accepted call changes in the forest, once its marks are made; the first forest is
 -- the one before the call
 abbrev pub changed_forest : Forest → Call → Forest → Forest
-changed_forest before (New attributes context) forest = forest
 changed_forest before (Clone i) forest = add_handle i forest
 changed_forest before (Record i record') forest = add_fields record'.fields i forest
-changed_forest before (Event event context) forest = forest
 changed_forest before (Close i context) forest =
     without_spans (closing_of before i) (take_handle i forest)
+changed_forest before call forest = forest
 
 -- the state after an accepted call
 abbrev pub state_after : Settings → Timer → State → Call → State

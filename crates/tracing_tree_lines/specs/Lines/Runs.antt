@@ -40,11 +40,9 @@ EndsRun settings timer state line (Refused refusal) =
 
 -- a fault that comes from outside may be of a line that was not read whole
 abbrev pub is_from_outside : LineCause → Bool
-is_from_outside NoSettings = false
-is_from_outside NotACall = false
 is_from_outside Read = true
 is_from_outside Memory = true
-is_from_outside (Refused refusal) = false
+is_from_outside cause = false
 
 -- the fault is of the line after these, and ends the run
 abbrev pub IsFaultAfter : Settings → Timer → State → List (List ℕ) → ℕ → LineFault → Type 0
@@ -58,10 +56,9 @@ IsFaultAfter settings timer state others judged fault =
 -- stands there, so none is to blame.
 abbrev pub EndsAtFirst : List ℕ → LineCause → Type 0
 EndsAtFirst input NoSettings = LacksSettings input
-EndsAtFirst input NotACall = ⊥
 EndsAtFirst input Read = ⊤
 EndsAtFirst input Memory = ⊤
-EndsAtFirst input (Refused refusal) = ⊥
+EndsAtFirst input cause = ⊥
 
 -- a run over lines that ended at line 1, with no call accepted
 pub record StopsAtFirst (input : List ℕ) (accepted : ℕ) (fault : Option LineFault) : Type 0 where

@@ -3,7 +3,7 @@ use Rattle.std.specs.Prelude.{◌≡◌, ℕ, ◌==◌, ◌&&◌, ◌||◌, Bool
 use Rattle.std.specs.Option.{option_map_or}
 use Rattle.std.specs.Bool.{then_some}
 use Rattle.std.specs.List.{list_any, list_all}
-use Rattle.serde_json.specs.Data.{Data, null, boolean, number, string, array, object, Items, no_items, item, Members, no_members, member}
+use Rattle.serde_json.specs.Data.{Data, null, number, string, object, Items, no_items, item, Members, no_members, member}
 use Rattle.serde_json.specs.Find.{get, as_bool, as_str, as_number, as_u64, as_i64, as_array, as_object}
 use Rattle.serde_json.specs.Read.{read}
 use Rattle.serde_json.specs.Written.{has_float}
@@ -57,11 +57,7 @@ line_object line = read line >>= only_object
 -- a null counts as absent
 abbrev pub unless_null : Data → Option Data
 unless_null null = None
-unless_null (boolean b) = Some (boolean b)
-unless_null (number n) = Some (number n)
-unless_null (string s) = Some (string s)
-unless_null (array ds) = Some (array ds)
-unless_null (object ms) = Some (object ms)
+unless_null value = Some value
 
 -- the value of a key, if it is there
 abbrev pub value_at : List ℕ → Data → Option Data
@@ -251,10 +247,7 @@ level_value value = option_and_then level_named (as_str value)
 abbrev pub parent_value : Data → Option Parent
 parent_value (string text) = chosen ((codes "root", Root) ∷ (codes "current", Current) ∷ []) text
 parent_value (number n) = option_map (λ i. Of (id_of i)) (as_u64 n)
-parent_value null = None
-parent_value (boolean b) = None
-parent_value (array ds) = None
-parent_value (object ms) = None
+parent_value value = None
 
 -- a name and its text
 abbrev pub pair_field : Items → Option Field

@@ -5,7 +5,7 @@ use Rattle.tracing_tree_spans.specs.Registry.Spans.{Span, shown_span}
 use Rattle.tracing_tree_spans.specs.Registry.Forest.{span_at}
 use Rattle.tracing_tree_spans.proofs.RegistryLaws.{forest-unchanged}
 use Rattle.tracing_tree_layer.specs.Layer.Layers.{seen}
-use Rattle.tracing_tree_layer.specs.Layered.Refused.{first_cause}
+use Rattle.tracing_tree_layer.proofs.Causes.{first_cause}
 use Rattle.tracing_tree_layer.proofs.layer.HierarchicalLayer.on_record.Goals as goal
 
 -- what shows nothing isn't live
