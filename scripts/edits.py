@@ -17,6 +17,8 @@ from dataclasses import dataclass
 TOP = os.path.dirname(os.path.dirname(os.path.abspath(__file__)))
 # A check of an edit takes up to so much memory, in KiB. None is begun while less is free.
 ROOM = 3_000_000
+# The most edits of a round.
+LONG = 24
 
 FUNCTION = re.compile(rb"(?m)^[ \t]*(?P<words>(?:[a-z]+(?:\([a-z]+\))? +)*)fn (?P<name>\w+)")
 CLAUSE = re.compile(rb"[ \t]*(requires|ensures|decreases|ghost|where)\b")
@@ -207,13 +209,18 @@ def edits_of(crate, folder, bodies):
 
 
 def rounds_of(edits):
-    """Returns rounds with at most one edit a body, the largest first, and the edits that go alone."""
+    """Returns rounds with at most one edit a body, the largest first, and the edits that go alone. A long round goes in parts of much the
+    same length, since one processor tries a round."""
     nth, rounds = Counter(), defaultdict(list)
     for it in edits:
         if it.body:
             rounds[nth[it.body]].append(it)
             nth[it.body] += 1
-    return [rounds[n] for n in sorted(rounds)], [it for it in edits if not it.body]
+    parts = []
+    for n in sorted(rounds):
+        count = -(-len(rounds[n]) // LONG)
+        parts += [rounds[n][at::count] for at in range(count)]
+    return parts, [it for it in edits if not it.body]
 
 
 def edited(crate, edits):
