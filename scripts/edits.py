@@ -4,9 +4,9 @@
 The proof of a function rests on the contracts of what it calls, and not on their bodies. So edits of several bodies go into one check of a
 copy of the crate, a round, with at most one edit a function. An edit is refused where its own function fails at a goal of its own; that
 it calls a function that is refused shows nothing. What such a round doesn't settle is tried alone, by the code of `rt must-fail`: an edit
-outside a function, and one that doesn't compile among the others. An edit that is refused only by a type error, or only since a proof file
-names what it took away, has failed, and so has one that is proved or doesn't apply. harmless.edit changes no meaning: it is tried as the
-others are, and must be let through, else no refusal shows anything.
+outside a function, and one that doesn't compile among the others. An edit that is refused only by a type error, only by a limit of the
+prover, or only since a proof file names what it took away, has failed, and so has one that is proved or doesn't apply. harmless.edit
+changes no meaning: it is tried as the others are, and must be let through, else no refusal shows anything.
 
 It prints a line for each edit, and last 'edits: N passed, M failed'. --plan prints the rounds alone. --sample N tries N of the edits that
 a round refused alone too, and an edit of which `rt must-fail` says otherwise has failed."""
@@ -297,7 +297,7 @@ class Trial:
             return call(f"{copy}/kept")
 
     def try_alone(self, edit):
-        """Returns the verdict of `rt must-fail`, by which an edit that only a proof file's names refuse has failed."""
+        """Returns the verdict of `rt must-fail`. An edit that only a proof file's names or a limit of the prover refuse has failed."""
         kind, said = self.over_kept(lambda kept: self.rt.must_fail(self.crate, edit.path, ["--jobs", "1"], kept))
         why = said.partition(": ")[2]
         return Verdict(edit, kind == self.rt.REFUSED and ONLY_NAMES not in said, f"alone: {why}")
