@@ -26,6 +26,9 @@ CLAUSE = re.compile(rb"[ \t]*(requires|ensures|decreases|ghost|where)\b")
 GOAL = re.compile(r"note: (?P<file>src/\S+?\.rt):(?P<line>\d+):\d+: (?P<goal>it is not proved that.*|.*`search` gave up.*)")
 ANSWER = re.compile(r"(?:\./)?proofs/(?P<folder>\S+)/(?:Answers|Invariants|Proof)\.antt:\d+:\d+: error: (?P<goal>.*)")
 COMPILES = re.compile(r"(?m)^(src/\S+?\.rt):(\d+):\d+: error")
+# A function that a check names, and the last line of a check that came to a verdict of some functions or of all.
+PROVED = re.compile(r"(?m)^fn \w+::(\S+): proved\b")
+ENDED = re.compile(r"(?m)^(logic=not-proved|only=\d+ proved=)")
 # What antt says of a proof that names what an edit took away. It is no answer about a contract.
 NAMES = re.compile(r"has no field|is not in scope|has no `|was not admitted|cannot continue|expected the end")
 ONLY_NAMES = "only because a proof file names what the edit took away"
@@ -87,7 +90,7 @@ def kit():
     made = importlib.util.module_from_spec(importlib.util.spec_from_loader("kit_rt", loader))
     sys.modules["kit_rt"] = made
     loader.exec_module(made)
-    wanted = ("checked", "must_fail", "read_edit", "rtlib", "REFUSED")
+    wanted = ("checked", "linked", "must_fail", "read_edit", "rtlib", "REFUSED")
     if not all(hasattr(made, it) for it in wanted):
         sys.exit(f"edits: this kit's rt lacks one of {', '.join(wanted)}: edits.py was written for the kit that README names")
     return made
@@ -275,6 +278,8 @@ class Trial:
         self.edits = edits_of(crate, folder, self.bodies)
         self.rounds, self.alone = rounds_of(self.edits)
         self.kept = f"{room}/{crate.name}"
+        # The names of the crate's functions, once they are proved.
+        self.functions = []
 
     def plan(self):
         return f"{self.crate.name}: {len(self.edits)} edits, in rounds of {[len(it) for it in self.rounds]}, and {len(self.alone)} alone"
@@ -287,14 +292,31 @@ class Trial:
         self.say(f"{self.crate.name} without an edit: {'proved' if not ran.returncode else 'NOT PROVED'}", start)
         if ran.returncode:
             self.say("\n".join(ran.stdout.split("\n")[-30:]))
+        self.functions = PROVED.findall(ran.stdout)
         return not ran.returncode
 
     def over_kept(self, call):
         """Calls with a copy of what the check without an edit kept, since checks side by side can't share one."""
         wait_for_memory()
         with tempfile.TemporaryDirectory(dir=self.room) as copy:
-            shutil.copytree(self.kept, f"{copy}/kept")
+            self.rt.linked(self.kept, f"{copy}/kept")
             return call(f"{copy}/kept")
+
+    def name_of(self, body):
+        """Returns the name that the check gives a body's function, or None where it can't be told."""
+        whole = body.folder.replace("/", "::")
+        # An impl may stand in another module than its type, and its name may go on with the type's own.
+        end = "::".join(whole.split("::")[-2:])
+        plain = {it: re.sub(r"\+[^:]+", "", it) for it in self.functions}
+        near = [it for it in plain if plain[it] == whole] or [it for it in plain if plain[it].endswith(f"::{end}")]
+        return near[0] if len(near) == 1 else None
+
+    def check_edited(self, edits):
+        """Checks the crate with these edits: the functions that have them and what these call, since who calls an edited function is checked
+        again for nothing; or all functions where one of these can't be named."""
+        texts, names = edited(self.crate, edits), [self.name_of(it.body) for it in edits]
+        only = [word for it in names for word in ("--only", it)] if all(names) else []
+        return self.over_kept(lambda kept: self.rt.checked(self.crate, texts, ["--jobs", "1", *only], kept))
 
     def try_alone(self, edit):
         """Returns the verdict of `rt must-fail`. An edit that only a proof file's names or a limit of the prover refuse has failed."""
@@ -305,10 +327,8 @@ class Trial:
     def try_round(self, edits):
         """Checks the crate with all of these edits, and returns a verdict of each that the check refused, and the edits of which it says
         nothing."""
-        texts = edited(self.crate, edits)
-        ran = self.over_kept(lambda kept: self.rt.checked(self.crate, texts, ["--jobs", "1"], kept))
-        output = ran.stdout
-        if "logic=not-proved" in output:
+        output = self.check_edited(edits).stdout
+        if ENDED.search(output):
             own, strange = goals_in(output, self.bodies)
             beyond = set(own) - {it.body for it in edits}
             if not strange and not beyond:

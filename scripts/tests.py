@@ -15,7 +15,7 @@ PROGRAMS = {"tracing_tree_cli": "bin/unproved_tree", "tracing_tree_read": "bin/u
 # The scripts that run them, with their words.
 RUNS = (
     ("scripts/program.sh", "--checked", "tracing_tree_cli", "tracing_tree_read"),
-    ("scripts/ttree.sh", "tracing_tree_ttree", "tracing_tree_cli"),
+    ("scripts/ttree.sh", "--checked", "tracing_tree_ttree", "tracing_tree_cli"),
     ("scripts/model.py", "crates/tracing_tree_cases/data"),
     ("scripts/fuzz.py", "--checked", "--lines", "3000", "--calls", "2000", "--drawings", "2000", "--sizes", "-1",
      "tracing_tree_cli", "tracing_tree_read"),

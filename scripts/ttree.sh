@@ -3,8 +3,15 @@
 # calls that scripts/go_lines.py tells of the same input. It prints how many runs ended as they must, names each other run, and ends with
 # status 1 if there is one.
 #
-# usage: ttree.sh TTREE DRAWING_PROGRAM
+# usage: ttree.sh [--checked] TTREE DRAWING_PROGRAM
+#
+# --checked says that the programs were compiled with checks of memory. They are a hundred times as slow, so long inputs are shorter.
 set -u
+long_spans=100000
+if [ "$1" = --checked ]; then
+    long_spans=10000
+    shift
+fi
 ttree=$(realpath "$1")
 tree=$(realpath "$2")
 top=$(cd "$(dirname "$0")/.." && pwd)

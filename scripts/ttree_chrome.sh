@@ -265,14 +265,19 @@ END
     : > "$room/want"
     run "$room/bytes"
     count 'on a trace that is not UTF-8' want 'ttree: expected UTF-8' 1
-    python3 -c 'print("[" + ",".join("{\"ph\":\"X\",\"ts\":%d,\"dur\":1,\"name\":\"s\"}" % (n * 2) for n in range(99999, -1, -1)) + "]")' > "$room/wide"
-    python3 -c 'print("┐s time=1.000μs\n┘\n" * 100000, end="")' > "$room/want"
+    many_spans "$long_spans"
+}
+
+# So many spans side by side, the last of them first, and in one another.
+many_spans() {
+    python3 -c 'print("[" + ",".join("{\"ph\":\"X\",\"ts\":%d,\"dur\":1,\"name\":\"s\"}" % (n * 2) for n in reversed(range('"$1"'))) + "]")' > "$room/wide"
+    python3 -c 'print("┐s time=1.000μs\n┘\n" * '"$1"', end="")' > "$room/want"
     run "$room/wide"
-    count 'on 100,000 spans side by side' want '' 0
-    python3 -c 'print("[" + ",".join("{\"ph\":\"B\",\"ts\":%d,\"name\":\"s\"}" % n for n in range(100000)) + "]")' > "$room/deep"
-    printf '┐s \n└─┐s \n  ├─ INFO left out, spans=99998, time=0.000μs\n┌─┘\n┘\n' > "$room/want"
+    count 'on many spans side by side' want '' 0
+    python3 -c 'print("[" + ",".join("{\"ph\":\"B\",\"ts\":%d,\"name\":\"s\"}" % n for n in range('"$1"')) + "]")' > "$room/deep"
+    printf '┐s \n└─┐s \n  ├─ INFO left out, spans=%d, time=0.000μs\n┌─┘\n┘\n' "$(($1 - 2))" > "$room/want"
     run --depth 2 "$room/deep"
-    count 'on 100,000 spans in one another' want '' 0
+    count 'on many spans in one another' want '' 0
 }
 
 # What two tools wrote.
