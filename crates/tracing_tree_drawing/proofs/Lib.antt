@@ -2,5 +2,4 @@ pub mod PartsLaws
 pub mod FrameTexts
 pub mod LineLaws
 pub mod Spaces
-pub mod MarkLaws
 pub mod RowsRead

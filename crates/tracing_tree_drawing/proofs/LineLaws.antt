@@ -11,7 +11,7 @@ use Rattle.std.proofs.lemmas.List.Elements.{All-from_get_or}
 use Rattle.std.proofs.lemmas.List.Splits.{slice_split_at, slice_split_none, length-slice_split}
 use Rattle.std.proofs.Math.Seq.{take-append_seam}
 use Rattle.tracing_tree_drawing.specs.Format.Settings.{Settings}
-use Rattle.tracing_tree_drawing.specs.Format.Picture.{Row, drawn_line, frame_text, row_frame, row_lines}
+use Rattle.tracing_tree_drawing.specs.Format.Picture.{Row, drawn_line, row_frame, row_lines}
 use Rattle.tracing_tree_drawing.specs.declared.format.SpanMode.{SpanMode}
 
 -- ---- carriage returns
@@ -98,7 +98,7 @@ drawn_from settings row place texts =
 -- What a loop over the lines has drawn: with the lines of the rest, from this place on, the text is whole.
 pub record IsDrawing (settings : Settings) (row : Row) (whole text rest frame : List ℕ) : Type 0 where
   pub place : ℕ
-  pub frame_is : frame ≡ frame_text (row_frame settings row.mode row.level place)
+  pub frame_is : frame ≡ row_frame settings row.mode row.level place
   pub text_is : text ++ drawn_from settings row place (row_lines settings.indent_lines rest) ≡ whole
 
 -- each later line has the frame of the second
@@ -112,14 +112,14 @@ row_frame-later settings mode level place =
 pub drawing-step : (settings : Settings) (row : Row) (whole text more rest frame next line others : List ℕ) →
     IsDrawing settings row whole text rest frame → rest ≡ line ++ 10 ∷ others → IsUnbroken line →
     more ≡ text ++ (row.prefix ++ frame ++ strip_carriage_return line ++ 10 ∷ []) →
-    next ≡ frame_text (row_frame settings row.mode row.level 1) →
+    next ≡ row_frame settings row.mode row.level 1 →
     IsDrawing settings row whole more others next
 drawing-step settings row whole text more rest frame next line others h cut unbroken e n =
     let here = strip_carriage_return line in
     let later = drawn_from settings row (h.place + 1) (row_lines settings.indent_lines others) in
     record {
       place = h.place + 1;
-      frame_is = n ∙ ap frame_text (sym (row_frame-later settings row.mode row.level h.place));
+      frame_is = n ∙ sym (row_frame-later settings row.mode row.level h.place);
       text_is =
           ap (λ t. t ++ later) (e ∙ ap (λ f. text ++ (row.prefix ++ f ++ here ++ 10 ∷ [])) h.frame_is)
           ∙ append_assoc text (drawn_line row.prefix (row_frame settings row.mode row.level h.place) here) later

@@ -1,1 +1,2 @@
+mod FrameColumns
 mod Nearest

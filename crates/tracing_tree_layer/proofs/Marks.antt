@@ -1,11 +1,11 @@
 -- What marks leave of a forest.
-use Rattle.std.proofs.Common.{◌≡◌, ◌-◌, ◌||◌, ◌&&◌, Bool, true, false, not, List, [], ◌∷◌, ◌++◌, map, drop, length, Option, Some, None, is_some, option_map, option_and_then, if◌then◌else◌, refl, sym, ap, ◌∙◌}
+use Rattle.std.proofs.Common.{◌≡◌, ℕ, ◌-◌, ◌||◌, ◌&&◌, Bool, true, false, not, List, [], ◌∷◌, ◌++◌, map, drop, length, Option, Some, None, is_some, option_map, option_and_then, if◌then◌else◌, refl, sym, ap, ◌∙◌}
 use Rattle.std.specs.Option.{option_map_or}
 use Rattle.std.specs.List.{list_any, common_prefix_len}
 use Rattle.std.proofs.lemmas.List.Folds.{list_any-append}
 use Rattle.tracing_tree_drawing.specs.Format.Settings.{Settings, retraces}
 use Rattle.tracing_tree_spans.specs.Registry.Ids.{same_id}
-use Rattle.tracing_tree_spans.specs.Registry.Spans.{Span, shown_span, printed_span}
+use Rattle.tracing_tree_spans.specs.Registry.Spans.{Span, printed_span}
 use Rattle.tracing_tree_spans.specs.Registry.Forest.{Forest, span_at, is_printed, parent_of, path_of, path_of_any, fresh_ids, mark_all, mark_printed}
 use Rattle.tracing_tree_spans.specs.Registry.Lookup.{data_at}
 use Rattle.tracing_tree_drawing.specs.Format.Picture.{Row}
@@ -81,27 +81,16 @@ fresh_ids-marked ids forest last i =
     (λ k. drop (common_prefix_len same_id (old k) (new k)) (new k))
 
 -- a mark is not drawn
-block-marked : (settings : Settings) (mode : SpanMode) (s : Span) → span_block settings mode (shown_span (printed_span s)) ≡ span_block settings mode (shown_span s)
-block-marked settings PreOpen s = refl
-block-marked settings (Open verbose) s = refl
-block-marked settings (Close true) s = refl
-block-marked settings (Close false) s = refl
-block-marked settings (Retrace verbose) s = refl
-block-marked settings PostClose s = refl
-block-marked settings Event s = refl
-
 pub block_of-marked : (settings : Settings) (ids : List Id) (forest : Forest) (mode : SpanMode) (i : Id) →
     block_of settings (mark_all ids forest) mode i ≡ block_of settings forest mode i
-block_of-marked settings ids forest mode i =
-    ap (λ (o : Option Span). option_map_or (λ span. span_block settings mode (shown_span span)) o []) (span_at-marked ids forest i) ∙ by (span_at forest i)
+block_of-marked settings ids forest mode i = ap (λ o. option_map_or block o []) (span_at-marked ids forest i) ∙ by (span_at forest i)
   where
-    by : (o : Option Span) → option_map_or (λ (span : Span). span_block settings mode (shown_span span)) (option_map (marked ids) o) []
-        ≡ option_map_or (λ (span : Span). span_block settings mode (shown_span span)) o []
+    block : Span → List ℕ
+    block span = span_block settings mode span.target span.name span.kept.fields
+
+    by : (o : Option Span) → option_map_or block (option_map (marked ids) o) [] ≡ option_map_or block o []
     by None = refl
-    by (Some s) = elim (list_any (same_id s.id) ids) as (λ b. span_block settings mode (shown_span (if b then printed_span s else s)) ≡ span_block settings mode (shown_span s)) [
-      | true ↦ block-marked settings mode s
-      | false ↦ refl
-    ]
+    by (Some s) = elim (list_any (same_id s.id) ids) as (λ b. block (if b then printed_span s else s) ≡ block s) [ true ↦ refl | false ↦ refl ]
 
 pub span_row-marked : (settings : Settings) (context : Context) (ids : List Id) (forest : Forest) (mode : SpanMode) (i : Id) →
     span_row settings context (mark_all ids forest) mode i ≡ span_row settings context forest mode i

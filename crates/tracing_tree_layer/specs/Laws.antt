@@ -1,2 +1,3 @@
 -- What a reader may conclude from the rows of a run.
 pub mod Reading
+pub mod Ancestors

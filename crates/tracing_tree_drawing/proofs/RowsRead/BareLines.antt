@@ -1,9 +1,9 @@
 -- Lines that begin with no mark.
 use Rattle.std.proofs.Common.{◌≡◌, ℕ, ◌+◌, ◌-◌, ◌%◌, ◌/◌, ◌==◌, List, [], ◌∷◌, Option, Some, None, is_some, MatchOption, Bor, encode_utf8_all, refl, ap, ◌∙◌}
 use Rattle.std.specs.Char.{encode_utf8}
-use Rattle.std.specs.List.{repeat, starts_with}
+use Rattle.std.specs.List.{starts_with}
 use Rattle.std.proofs.lemmas.List.{append-nil}
-use Rattle.tracing_tree_drawing.specs.Format.Picture.{horizontal}
+use Rattle.tracing_tree_drawing.specs.Format.Picture.{columns, horizontal}
 use Rattle.tracing_tree_drawing.specs.declared.rows.row.Shape.TheVariants.{Event}
 use Rattle.tracing_tree_drawing.specs.Rows.Line.{after_front, one_line_row, read_event}
 use Rattle.tracing_tree_drawing.proofs.RowsRead.Bytes.{begins-after}
@@ -14,10 +14,10 @@ begins-is mark text =
 
 -- ---- events
 
-pub event-none : (amount spaces : ℕ) (text : List ℕ) → spaces % amount ≡ 0 → after_front (repeat (amount - 1) (encode_utf8 horizontal)) text ≡ None → read_event amount spaces text ≡ None
+pub event-none : (amount spaces : ℕ) (text : List ℕ) → spaces % amount ≡ 0 → after_front (columns (amount - 1) horizontal) text ≡ None → read_event amount spaces text ≡ None
 event-none amount spaces text e k = rw (e, k) refl
 
-pub event-some : (amount spaces : ℕ) (text rest : List ℕ) → spaces % amount ≡ 0 → after_front (repeat (amount - 1) (encode_utf8 horizontal)) text ≡ Some rest →
+pub event-some : (amount spaces : ℕ) (text rest : List ℕ) → spaces % amount ≡ 0 → after_front (columns (amount - 1) horizontal) text ≡ Some rest →
     read_event amount spaces text ≡ Some (one_line_row Event (spaces / amount + 1) rest)
 event-some amount spaces text rest e k = rw (e, k) refl
 

@@ -3,7 +3,7 @@ use Rattle.std.proofs.Common.{◌≡◌, ℕ, ◌<◌, ◌==◌, ◌&&◌, Bool,
 use Rattle.std.specs.List.{list_all, list_any}
 use Rattle.std.proofs.lemmas.Bool.{le-leb, and_from, false≢true}
 use Rattle.std.proofs.lemmas.List.Folds.{list_all-append, list_any_at}
-use Rattle.tracing_tree_drawing.specs.Format.Picture.{frame_text, lined_frame}
+use Rattle.tracing_tree_drawing.specs.Format.Picture.{lined_frame}
 use Rattle.tracing_tree_drawing.specs.Rows.RowText.{TextRow, AreTextRows, ended, is_row_too_wide, is_text_row, mode_of, row_text, rows_text}
 use Rattle.tracing_tree_drawing.specs.declared.rows.row.Shape.{Shape}
 use Rattle.tracing_tree_drawing.proofs.RowsRead.RowLines.{framed_lines, later_line, ended-append, rows_text-append}
@@ -11,10 +11,10 @@ use Rattle.tracing_tree_drawing.proofs.RowsRead.LinesDrawn.{framed-more}
 
 -- a line more of a row
 pub line-pushed : (amount : ℕ) (shape : Shape) (level : ℕ) (before : List (List ℕ)) (text start whole : List ℕ) (first : Bool) → first ≡ (length before == 0) →
-    whole ≡ (((start ++ ended (framed_lines amount shape level before)) ++ frame_text (lined_frame (mode_of shape) amount level (if first then 0 else 1))) ++ text) ++ 10 ∷ [] →
+    whole ≡ (((start ++ ended (framed_lines amount shape level before)) ++ lined_frame (mode_of shape) amount level (if first then 0 else 1)) ++ text) ++ 10 ∷ [] →
     whole ≡ start ++ ended (framed_lines amount shape level (before ++ text ∷ []))
 line-pushed amount shape level [] text start whole true f e =
-    let frame : List ℕ = frame_text (lined_frame (mode_of shape) amount level 0) in
+    let frame : List ℕ = lined_frame (mode_of shape) amount level 0 in
     e ∙ ap (λ t. ((t ++ frame) ++ text) ++ 10 ∷ []) (append-nil start) ∙ regroup start frame text ∙ ap (λ t. start ++ t) (sym (append-nil ((frame ++ text) ++ 10 ∷ [])))
   where
     regroup : (a c d : List ℕ) → ((a ++ c) ++ d) ++ 10 ∷ [] ≡ a ++ ((c ++ d) ++ 10 ∷ [])
@@ -26,7 +26,7 @@ line-pushed amount shape level (line ∷ before) text start whole false f e =
     let later : List ℕ = later_line amount shape level text in
     let more : ended (framed_lines amount shape level (line ∷ before ++ text ∷ [])) ≡ ended lines ++ (later ++ 10 ∷ []) =
     ap ended (framed-more amount shape level (line ∷ before) text (le-leb 1 (length (line ∷ before)) (omega arith))) ∙ ended-append lines (later ∷ []) ∙ ap (λ t. ended lines ++ t) (append-nil (later ++ 10 ∷ [])) in
-    e ∙ regroup start (ended lines) (frame_text (lined_frame (mode_of shape) amount level 1)) text ∙ ap (λ t. start ++ t) (sym more)
+    e ∙ regroup start (ended lines) (lined_frame (mode_of shape) amount level 1) text ∙ ap (λ t. start ++ t) (sym more)
   where
     regroup : (a b c d : List ℕ) → (((a ++ b) ++ c) ++ d) ++ 10 ∷ [] ≡ a ++ (b ++ ((c ++ d) ++ 10 ∷ []))
     regroup a b c d = simp append_assoc

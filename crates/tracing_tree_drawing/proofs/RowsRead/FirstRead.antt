@@ -1,21 +1,19 @@
 -- The first line of a row is read as that row's.
-use Rattle.std.proofs.Common.{◌≡◌, ℕ, zero, suc, ◌+◌, ◌-◌, ◌*◌, ◌/◌, ◌%◌, ◌<◌, ◌≤◌, max, ◌==◌, ◌&&◌, ◌||◌, Bool, true, false, not, List, [], ◌∷◌, ◌++◌, length, Option, Some, None, is_some, encode_utf8_all, if◌then◌else◌, refl, sym, ap, ◌∙◌, subst, arith, append_assoc, nat_le, eqb-true, ne_eqb}
+use Rattle.std.proofs.Common.{◌≡◌, ℕ, zero, suc, ◌+◌, ◌-◌, ◌*◌, ◌/◌, ◌%◌, ◌<◌, ◌≤◌, max, ◌==◌, ◌&&◌, ◌||◌, Bool, true, false, not, List, [], ◌∷◌, ◌++◌, length, Option, Some, None, is_some, encode_utf8_all, refl, sym, ap, ◌∙◌, subst, arith, append_assoc, eqb-true, ne_eqb}
 use Rattle.std.proofs.lemmas.Bool.{le-leb, and_parts, or_parts}
 use Rattle.std.specs.Char.{encode_utf8}
-use Rattle.std.specs.List.{repeat, starts_with}
+use Rattle.std.specs.List.{starts_with}
 use Rattle.std.proofs.lemmas.List.{append-nil}
 use Rattle.std.proofs.Math.Nat.{suc-mul}
 use Rattle.std.proofs.lemmas.Nat.{div-mul-add, mod-mul-add}
-use Rattle.tracing_tree_drawing.specs.Format.Picture.{space, horizontal, vertical, branch, corner_down_left, corner_up_left, corner_up_right, corner_down_right, frame_text, lined_frame, first_frame, corners, branched, shift_of, blank}
-use Rattle.tracing_tree_drawing.specs.Format.Frames.{frame_pieces}
+use Rattle.tracing_tree_drawing.specs.Format.Picture.{space, horizontal, vertical, branch, corner_down_left, corner_up_left, corner_up_right, corner_down_right, columns, lined_frame, first_frame, corners, span_corners, shift_of}
 use Rattle.tracing_tree_drawing.specs.declared.format.SpanMode.{SpanMode}
 use Rattle.tracing_tree_drawing.specs.declared.format.SpanMode.TheVariants as Mode
-use Rattle.tracing_tree_drawing.proofs.FrameTexts.{corners-pieces, branched-pieces}
 use Rattle.tracing_tree_drawing.specs.Rows.RowText.{TextRow, mode_of, fits_shape, is_bare_text, begins_with_any, drawing_marks, without_start_spaces}
 use Rattle.tracing_tree_drawing.specs.declared.rows.row.Shape.{Shape}
 use Rattle.tracing_tree_drawing.specs.declared.rows.row.Shape.TheVariants.{PreOpen, OpenRoot, Open, CloseRoot, Close, PostClose, Event}
 use Rattle.tracing_tree_drawing.specs.Rows.Line.{after_front, start_spaces, one_line_row, read_corners, read_event, read_first_at, read_first}
-use Rattle.tracing_tree_drawing.proofs.RowsRead.Bytes.{same, begins-after, after_front-gives, after_run-other, after_run-gives, rest-after, spaces-count}
+use Rattle.tracing_tree_drawing.proofs.RowsRead.Bytes.{three-parts, same, begins-after, after_front-gives, after_run-other, after_run-gives, rest-after, spaces-count}
 
 -- ---- frames
 
@@ -30,38 +28,37 @@ columns-before used k amount e =
     let n : used ≡ suc k = omega arith in
     let m : used * amount ≡ k * amount + amount = ap (λ u. u * amount) n ∙ suc-mul k amount in omega arith
 
-pieces-line : (spaces filled : ℕ) (left right text : List ℕ) →
-    frame_pieces spaces left (encode_utf8 horizontal) filled right ++ text
-    ≡ repeat spaces (space ∷ []) ++ (left ++ (repeat filled (encode_utf8 horizontal) ++ (right ++ text)))
-pieces-line spaces filled left right text = simp append_assoc
+-- an amount of 2 or more leaves room for the corners of a verbose row
+pub verbose-corners : (left right amount before : ℕ) → 2 ≤ amount → span_corners left right true amount before ≡ corners left right (before + amount / 2) (before + amount)
+verbose-corners left right amount before two = rw (le-leb 2 amount two) refl
 
-pub corners-line : (left right from to filled : ℕ) (text : List ℕ) → from < to → to - from - 1 ≡ filled →
-    frame_text (corners left right from to) ++ text
-    ≡ repeat from (space ∷ []) ++ (encode_utf8 left ++ (repeat filled (encode_utf8 horizontal) ++ (encode_utf8 right ++ text)))
-corners-line left right from to filled text lt e =
-    ap (λ frame. frame ++ text) (sym (corners-pieces left right from to lt))
-    ∙ pieces-line from (to - from - 1) (encode_utf8 left) (encode_utf8 right) text
-    ∙ ap (λ n. repeat from (space ∷ []) ++ (encode_utf8 left ++ (repeat n (encode_utf8 horizontal) ++ (encode_utf8 right ++ text)))) e
+pub corners-line : (left right from to filled : ℕ) (text : List ℕ) → to - from - 1 ≡ filled →
+    corners left right from to ++ text
+    ≡ columns from space ++ (encode_utf8 left ++ (columns filled horizontal ++ (encode_utf8 right ++ text)))
+corners-line left right from to filled text e =
+    ap (λ n. columns from space ++ encode_utf8 left ++ columns n horizontal ++ encode_utf8 right ++ text) e
+    ∙ append_assoc (columns from space ++ encode_utf8 left ++ columns filled horizontal) (encode_utf8 right) text
+    ∙ three-parts (columns from space) (encode_utf8 left) (columns filled horizontal) (encode_utf8 right ++ text)
 
 -- ---- marks
 
 pub read_spaced : (amount spaces : ℕ) (rest : List ℕ) → start_spaces rest ≡ 0 →
-    read_first amount (repeat spaces (space ∷ []) ++ rest) ≡ read_first_at amount (repeat spaces (space ∷ []) ++ rest) spaces rest
+    read_first amount (columns spaces space ++ rest) ≡ read_first_at amount (columns spaces space ++ rest) spaces rest
 read_spaced amount spaces rest e =
-    ap (λ n. read_first_at amount (repeat spaces (space ∷ []) ++ rest) n (without_start_spaces (repeat spaces (space ∷ []) ++ rest))) (spaces-count spaces rest e)
-    ∙ ap (read_first_at amount (repeat spaces (space ∷ []) ++ rest) spaces) (rest-after spaces rest e)
+    ap (λ n. read_first_at amount (columns spaces space ++ rest) n (without_start_spaces (columns spaces space ++ rest))) (spaces-count spaces rest e)
+    ∙ ap (read_first_at amount (columns spaces space ++ rest) spaces) (rest-after spaces rest e)
 
-at-up_right : (amount spaces : ℕ) (text : List ℕ) → read_first amount (repeat spaces (space ∷ []) ++ (encode_utf8 corner_up_right ++ text))
+at-up_right : (amount spaces : ℕ) (text : List ℕ) → read_first amount (columns spaces space ++ (encode_utf8 corner_up_right ++ text))
     ≡ read_corners corner_down_left (Open false) PreOpen (Open true) amount spaces text
 unfolding encode_utf8
 at-up_right amount spaces text = read_spaced amount spaces (encode_utf8 corner_up_right ++ text) refl
 
-at-down_right : (amount spaces : ℕ) (text : List ℕ) → read_first amount (repeat spaces (space ∷ []) ++ (encode_utf8 corner_down_right ++ text))
+at-down_right : (amount spaces : ℕ) (text : List ℕ) → read_first amount (columns spaces space ++ (encode_utf8 corner_down_right ++ text))
     ≡ read_corners corner_up_left (Close false) PostClose (Close true) amount spaces text
 unfolding encode_utf8
 at-down_right amount spaces text = read_spaced amount spaces (encode_utf8 corner_down_right ++ text) refl
 
-at-branch : (amount spaces : ℕ) (text : List ℕ) → read_first amount (repeat spaces (space ∷ []) ++ (encode_utf8 branch ++ text)) ≡ read_event amount spaces text
+at-branch : (amount spaces : ℕ) (text : List ℕ) → read_first amount (columns spaces space ++ (encode_utf8 branch ++ text)) ≡ read_event amount spaces text
 unfolding encode_utf8
 at-branch amount spaces text = read_spaced amount spaces (encode_utf8 branch ++ text) refl
 
@@ -95,21 +92,21 @@ even amount k two =
 
 module _ (corner : ℕ) (plain parent verbose : Shape) (amount : ℕ) where
   plain-read : (k : ℕ) (text : List ℕ) → 2 ≤ amount →
-      read_corners corner plain parent verbose amount (k * amount) (repeat (amount - 1) (encode_utf8 horizontal) ++ (encode_utf8 corner ++ text))
+      read_corners corner plain parent verbose amount (k * amount) (columns (amount - 1) horizontal ++ (encode_utf8 corner ++ text))
       ≡ Some (one_line_row plain (k + 1) text)
   plain-read k text two =
       let at = even amount k two in
       rw (at.0, at.1, after_run-gives (amount - 1) corner text) refl
 
   parent-read : (k : ℕ) (text : List ℕ) → EndsRun corner → 2 ≤ amount →
-      read_corners corner plain parent verbose amount (k * amount) (repeat (amount / 2 - 1) (encode_utf8 horizontal) ++ (encode_utf8 corner ++ text))
+      read_corners corner plain parent verbose amount (k * amount) (columns (amount / 2 - 1) horizontal ++ (encode_utf8 corner ++ text))
       ≡ Some (one_line_row parent k text)
   parent-read k text ends two =
       let at = even amount k two in
       rw (at.0, at.1, after_run-other corner ends.longer ends.shorter (amount - 1) (amount / 2 - 1) text (λ e. omega arith), after_run-gives (amount / 2 - 1) corner text) refl
 
   verbose-read : (k : ℕ) (text : List ℕ) → 2 ≤ amount →
-      read_corners corner plain parent verbose amount (k * amount + amount / 2) (repeat (amount - 1 - amount / 2) (encode_utf8 horizontal) ++ (encode_utf8 corner ++ text))
+      read_corners corner plain parent verbose amount (k * amount + amount / 2) (columns (amount - 1 - amount / 2) horizontal ++ (encode_utf8 corner ++ text))
       ≡ Some (one_line_row verbose (k + 1) text)
   verbose-read k text two =
       let rest : (k * amount + amount / 2) % amount ≡ amount / 2 = mod-mul-add k amount (amount / 2) (omega arith) in
@@ -119,17 +116,15 @@ module _ (corner : ℕ) (plain parent verbose : Shape) (amount : ℕ) where
 -- ---- events
 
 event-read : (amount k : ℕ) (text : List ℕ) → 2 ≤ amount →
-    read_event amount (k * amount) (repeat (amount - 1) (encode_utf8 horizontal) ++ text) ≡ Some (one_line_row Event (k + 1) text)
+    read_event amount (k * amount) (columns (amount - 1) horizontal ++ text) ≡ Some (one_line_row Event (k + 1) text)
 event-read amount k text two =
     let at = even amount k two in
-    rw (at.0, at.1, after_front-gives (repeat (amount - 1) (encode_utf8 horizontal)) text) refl
+    rw (at.0, at.1, after_front-gives (columns (amount - 1) horizontal) text) refl
 
-pub branch-line : (from amount : ℕ) (text : List ℕ) → 0 < amount →
-    frame_text (branched from (from + amount)) ++ text
-    ≡ repeat from (space ∷ []) ++ (encode_utf8 branch ++ (repeat (amount - 1) (encode_utf8 horizontal) ++ text))
-branch-line from amount text some =
-    ap (λ frame. frame ++ text) (sym (branched-pieces from amount some))
-    ∙ pieces-line from (amount - 1) (encode_utf8 branch) [] text
+pub branch-line : (from amount : ℕ) (text : List ℕ) →
+    first_frame Mode.Event amount from ++ text
+    ≡ columns from space ++ (encode_utf8 branch ++ (columns (amount - 1) horizontal ++ text))
+branch-line from amount text = three-parts (columns from space) (encode_utf8 branch) (columns (amount - 1) horizontal) text
 
 -- ---- bare texts
 
@@ -186,47 +181,47 @@ pub record IsFirstRead (amount : ℕ) (line : List ℕ) (row : TextRow) : Type 0
   pub read : read_first amount line ≡ Some row
   pub unbarred : after_front (encode_utf8 vertical) (without_start_spaces line) ≡ None
 
-first_spaced : (amount spaces : ℕ) (line rest : List ℕ) (row : TextRow) → line ≡ repeat spaces (space ∷ []) ++ rest → start_spaces rest ≡ 0 →
-    after_front (encode_utf8 vertical) rest ≡ None → read_first amount (repeat spaces (space ∷ []) ++ rest) ≡ Some row → IsFirstRead amount line row
+first_spaced : (amount spaces : ℕ) (line rest : List ℕ) (row : TextRow) → line ≡ columns spaces space ++ rest → start_spaces rest ≡ 0 →
+    after_front (encode_utf8 vertical) rest ≡ None → read_first amount (columns spaces space ++ rest) ≡ Some row → IsFirstRead amount line row
 first_spaced amount spaces line rest row e none unbarred read = record {
   read = ap (read_first amount) e ∙ read;
   unbarred = ap (λ text. after_front (encode_utf8 vertical) (without_start_spaces text)) e ∙ ap (after_front (encode_utf8 vertical)) (rest-after spaces rest none) ∙ unbarred;
 }
 
 first_framed : (amount : ℕ) (mode : SpanMode) (level : ℕ) (text : List ℕ) (row : TextRow) → 0 < level + shift_of mode → 0 < amount →
-    IsFirstRead amount (frame_text (first_frame mode amount ((level + shift_of mode) * amount - amount)) ++ text) row →
-    IsFirstRead amount (frame_text (lined_frame mode amount level 0) ++ text) row
+    IsFirstRead amount (first_frame mode amount ((level + shift_of mode) * amount - amount) ++ text) row →
+    IsFirstRead amount (lined_frame mode amount level 0 ++ text) row
 first_framed amount mode level text row used some h =
-    subst (λ frame. IsFirstRead amount (frame_text frame ++ text) row) (sym (lined-first mode amount level used some)) h
+    subst (λ frame. IsFirstRead amount (frame ++ text) row) (sym (lined-first mode amount level used some)) h
 
-up_right-first : (amount spaces from to filled : ℕ) (text : List ℕ) (row : TextRow) → from ≡ spaces → from < to → to - from - 1 ≡ filled →
-    read_corners corner_down_left (Open false) PreOpen (Open true) amount spaces (repeat filled (encode_utf8 horizontal) ++ (encode_utf8 corner_down_left ++ text)) ≡ Some row →
-    IsFirstRead amount (frame_text (corners corner_up_right corner_down_left from to) ++ text) row
+up_right-first : (amount spaces from to filled : ℕ) (text : List ℕ) (row : TextRow) → from ≡ spaces → to - from - 1 ≡ filled →
+    read_corners corner_down_left (Open false) PreOpen (Open true) amount spaces (columns filled horizontal ++ (encode_utf8 corner_down_left ++ text)) ≡ Some row →
+    IsFirstRead amount (corners corner_up_right corner_down_left from to ++ text) row
 unfolding encode_utf8
-up_right-first amount spaces from to filled text row e lt n read =
-    let rest : List ℕ = repeat filled (encode_utf8 horizontal) ++ (encode_utf8 corner_down_left ++ text) in
-    first_spaced amount spaces (frame_text (corners corner_up_right corner_down_left from to) ++ text) (encode_utf8 corner_up_right ++ rest) row
-    (corners-line corner_up_right corner_down_left from to filled text lt n ∙ ap (λ k. repeat k (space ∷ []) ++ (encode_utf8 corner_up_right ++ rest)) e)
+up_right-first amount spaces from to filled text row e n read =
+    let rest : List ℕ = columns filled horizontal ++ (encode_utf8 corner_down_left ++ text) in
+    first_spaced amount spaces (corners corner_up_right corner_down_left from to ++ text) (encode_utf8 corner_up_right ++ rest) row
+    (corners-line corner_up_right corner_down_left from to filled text n ∙ ap (λ k. columns k space ++ (encode_utf8 corner_up_right ++ rest)) e)
     refl refl (at-up_right amount spaces rest ∙ read)
 
-down_right-first : (amount spaces from to filled : ℕ) (text : List ℕ) (row : TextRow) → from ≡ spaces → from < to → to - from - 1 ≡ filled →
-    read_corners corner_up_left (Close false) PostClose (Close true) amount spaces (repeat filled (encode_utf8 horizontal) ++ (encode_utf8 corner_up_left ++ text)) ≡ Some row →
-    IsFirstRead amount (frame_text (corners corner_down_right corner_up_left from to) ++ text) row
+down_right-first : (amount spaces from to filled : ℕ) (text : List ℕ) (row : TextRow) → from ≡ spaces → to - from - 1 ≡ filled →
+    read_corners corner_up_left (Close false) PostClose (Close true) amount spaces (columns filled horizontal ++ (encode_utf8 corner_up_left ++ text)) ≡ Some row →
+    IsFirstRead amount (corners corner_down_right corner_up_left from to ++ text) row
 unfolding encode_utf8
-down_right-first amount spaces from to filled text row e lt n read =
-    let rest : List ℕ = repeat filled (encode_utf8 horizontal) ++ (encode_utf8 corner_up_left ++ text) in
-    first_spaced amount spaces (frame_text (corners corner_down_right corner_up_left from to) ++ text) (encode_utf8 corner_down_right ++ rest) row
-    (corners-line corner_down_right corner_up_left from to filled text lt n ∙ ap (λ k. repeat k (space ∷ []) ++ (encode_utf8 corner_down_right ++ rest)) e)
+down_right-first amount spaces from to filled text row e n read =
+    let rest : List ℕ = columns filled horizontal ++ (encode_utf8 corner_up_left ++ text) in
+    first_spaced amount spaces (corners corner_down_right corner_up_left from to ++ text) (encode_utf8 corner_down_right ++ rest) row
+    (corners-line corner_down_right corner_up_left from to filled text n ∙ ap (λ k. columns k space ++ (encode_utf8 corner_down_right ++ rest)) e)
     refl refl (at-down_right amount spaces rest ∙ read)
 
-branch-first : (amount spaces from : ℕ) (text : List ℕ) (row : TextRow) → from ≡ spaces → 0 < amount →
-    read_event amount spaces (repeat (amount - 1) (encode_utf8 horizontal) ++ text) ≡ Some row →
-    IsFirstRead amount (frame_text (branched from (from + amount)) ++ text) row
+branch-first : (amount spaces from : ℕ) (text : List ℕ) (row : TextRow) → from ≡ spaces →
+    read_event amount spaces (columns (amount - 1) horizontal ++ text) ≡ Some row →
+    IsFirstRead amount (first_frame Mode.Event amount from ++ text) row
 unfolding encode_utf8
-branch-first amount spaces from text row e some read =
-    let rest : List ℕ = repeat (amount - 1) (encode_utf8 horizontal) ++ text in
-    first_spaced amount spaces (frame_text (branched from (from + amount)) ++ text) (encode_utf8 branch ++ rest) row
-    (branch-line from amount text some ∙ ap (λ k. repeat k (space ∷ []) ++ (encode_utf8 branch ++ rest)) e)
+branch-first amount spaces from text row e read =
+    let rest : List ℕ = columns (amount - 1) horizontal ++ text in
+    first_spaced amount spaces (first_frame Mode.Event amount from ++ text) (encode_utf8 branch ++ rest) row
+    (branch-line from amount text ∙ ap (λ k. columns k space ++ (encode_utf8 branch ++ rest)) e)
     refl refl (at-branch amount spaces rest ∙ read)
 
 no_level : {A : Type 0} → false ≡ true → A
@@ -238,28 +233,28 @@ above_root k e = absurd (let z : suc k ≡ 0 = eqb-true (suc k) 0 (and_parts (su
 one_more : (shape : Shape) (k : ℕ) (text : List ℕ) → Some (one_line_row shape (k + 1) text) ≡ Some (one_line_row shape (suc k) text)
 one_more shape k text = ap (λ n. Some (one_line_row shape n text)) (let e : k + 1 ≡ suc k = omega arith in e)
 
-root-open : (amount : ℕ) (text : List ℕ) → IsFirstRead amount (frame_text (lined_frame (Mode.Open false) amount 0 0) ++ text) (one_line_row OpenRoot 0 text)
+root-open : (amount : ℕ) (text : List ℕ) → IsFirstRead amount (lined_frame (Mode.Open false) amount 0 0 ++ text) (one_line_row OpenRoot 0 text)
 unfolding encode_utf8
 root-open amount text = record { read = at-down_left amount text; unbarred = refl }
 
-root-close : (amount : ℕ) (text : List ℕ) → IsFirstRead amount (frame_text (lined_frame (Mode.Close false) amount 0 0) ++ text) (one_line_row CloseRoot 0 text)
+root-close : (amount : ℕ) (text : List ℕ) → IsFirstRead amount (lined_frame (Mode.Close false) amount 0 0 ++ text) (one_line_row CloseRoot 0 text)
 unfolding encode_utf8
 root-close amount text = record { read = at-up_left amount text; unbarred = refl }
 
 -- (a) the first line of a row is read as its shape, level and text
 pub first-drawn : (amount : ℕ) → 2 ≤ amount → (shape : Shape) (level : ℕ) (text : List ℕ) → fits_shape shape level (text ∷ []) ≡ true →
-    IsFirstRead amount (frame_text (lined_frame (mode_of shape) amount level 0) ++ text) (one_line_row shape level text)
+    IsFirstRead amount (lined_frame (mode_of shape) amount level 0 ++ text) (one_line_row shape level text)
 first-drawn amount two PreOpen level text e =
     let before = columns-before (level + 1) level amount refl in
     first_framed amount Mode.PreOpen level text (one_line_row PreOpen level text) (omega arith) (omega arith)
     (up_right-first amount (level * amount) ((level + 1) * amount - amount) ((level + 1) * amount - amount + max (amount / 2) 1) (amount / 2 - 1) text
-    (one_line_row PreOpen level text) before (omega arith) (omega arith)
+    (one_line_row PreOpen level text) before (omega arith)
     (parent-read corner_down_left (Open false) PreOpen (Open true) amount level text ends-down_left two))
 first-drawn amount two PostClose level text e =
     let before = columns-before (level + 1) level amount refl in
     first_framed amount Mode.PostClose level text (one_line_row PostClose level text) (omega arith) (omega arith)
     (down_right-first amount (level * amount) ((level + 1) * amount - amount) ((level + 1) * amount - amount + max (amount / 2) 1) (amount / 2 - 1) text
-    (one_line_row PostClose level text) before (omega arith) (omega arith)
+    (one_line_row PostClose level text) before (omega arith)
     (parent-read corner_up_left (Close false) PostClose (Close true) amount level text ends-up_left two))
 first-drawn amount two OpenRoot zero text e = root-open amount text
 first-drawn amount two OpenRoot (suc k) text e = above_root k e
@@ -270,32 +265,30 @@ first-drawn amount two (Open false) (suc k) text e =
     let before = columns-before (suc k + 0) k amount (omega arith) in
     first_framed amount (Mode.Open false) (suc k) text (one_line_row (Open false) (suc k) text) (omega arith) (omega arith)
     (up_right-first amount (k * amount) ((suc k + 0) * amount - amount) ((suc k + 0) * amount - amount + amount) (amount - 1) text
-    (one_line_row (Open false) (suc k) text) before (omega arith) (omega arith)
+    (one_line_row (Open false) (suc k) text) before (omega arith)
     (plain-read corner_down_left (Open false) PreOpen (Open true) amount k text two ∙ one_more (Open false) k text))
 first-drawn amount two (Open true) (suc k) text e =
     let before = columns-before (suc k + 0) k amount (omega arith) in
     let from : ℕ = (suc k + 0) * amount - amount in
-    let least : nat_le 2 amount ≡ true = le-leb 2 amount two in
     first_framed amount (Mode.Open true) (suc k) text (one_line_row (Open true) (suc k) text) (omega arith) (omega arith)
-    (subst (λ b. IsFirstRead amount (frame_text (if b then corners corner_up_right corner_down_left (from + amount / 2) (from + amount) else blank (from + amount + 1)) ++ text) (one_line_row (Open true) (suc k) text)) (sym least)
+    (subst (λ frame. IsFirstRead amount (frame ++ text) (one_line_row (Open true) (suc k) text)) (sym (verbose-corners corner_up_right corner_down_left amount from two))
     (up_right-first amount (k * amount + amount / 2) (from + amount / 2) (from + amount) (amount - 1 - amount / 2) text
-    (one_line_row (Open true) (suc k) text) (ap (λ n. n + amount / 2) before) (omega arith) (omega arith)
+    (one_line_row (Open true) (suc k) text) (ap (λ n. n + amount / 2) before) (omega arith)
     (verbose-read corner_down_left (Open false) PreOpen (Open true) amount k text two ∙ one_more (Open true) k text)))
 first-drawn amount two (Close verbose) zero text e = no_level e
 first-drawn amount two (Close false) (suc k) text e =
     let before = columns-before (suc k + 0) k amount (omega arith) in
     first_framed amount (Mode.Close false) (suc k) text (one_line_row (Close false) (suc k) text) (omega arith) (omega arith)
     (down_right-first amount (k * amount) ((suc k + 0) * amount - amount) ((suc k + 0) * amount - amount + amount) (amount - 1) text
-    (one_line_row (Close false) (suc k) text) before (omega arith) (omega arith)
+    (one_line_row (Close false) (suc k) text) before (omega arith)
     (plain-read corner_up_left (Close false) PostClose (Close true) amount k text two ∙ one_more (Close false) k text))
 first-drawn amount two (Close true) (suc k) text e =
     let before = columns-before (suc k + 0) k amount (omega arith) in
     let from : ℕ = (suc k + 0) * amount - amount in
-    let least : nat_le 2 amount ≡ true = le-leb 2 amount two in
     first_framed amount (Mode.Close true) (suc k) text (one_line_row (Close true) (suc k) text) (omega arith) (omega arith)
-    (subst (λ b. IsFirstRead amount (frame_text (if b then corners corner_down_right corner_up_left (from + amount / 2) (from + amount) else blank (from + amount + 1)) ++ text) (one_line_row (Close true) (suc k) text)) (sym least)
+    (subst (λ frame. IsFirstRead amount (frame ++ text) (one_line_row (Close true) (suc k) text)) (sym (verbose-corners corner_down_right corner_up_left amount from two))
     (down_right-first amount (k * amount + amount / 2) (from + amount / 2) (from + amount) (amount - 1 - amount / 2) text
-    (one_line_row (Close true) (suc k) text) (ap (λ n. n + amount / 2) before) (omega arith) (omega arith)
+    (one_line_row (Close true) (suc k) text) (ap (λ n. n + amount / 2) before) (omega arith)
     (verbose-read corner_up_left (Close false) PostClose (Close true) amount k text two ∙ one_more (Close true) k text)))
 first-drawn amount two Event zero text e =
     let bare : is_bare_text text ≡ true = (and_parts (is_bare_text text) true e).0 in
@@ -303,5 +296,5 @@ first-drawn amount two Event zero text e =
 first-drawn amount two Event (suc k) text e =
     let before = columns-before (suc k + 0) k amount (omega arith) in
     first_framed amount Mode.Event (suc k) text (one_line_row Event (suc k) text) (omega arith) (omega arith)
-    (branch-first amount (k * amount) ((suc k + 0) * amount - amount) text (one_line_row Event (suc k) text) before (omega arith)
+    (branch-first amount (k * amount) ((suc k + 0) * amount - amount) text (one_line_row Event (suc k) text) before
     (event-read amount k text two ∙ one_more Event k text))

@@ -5,7 +5,7 @@ use Rattle.std.specs.List.{list_all}
 use Rattle.std.proofs.lemmas.Bool.{and_parts, and_from, or_parts, le-leb}
 use Rattle.std.proofs.lemmas.List.{append-nil}
 use Rattle.std.proofs.lemmas.List.Folds.{list_all-append, list_any-append}
-use Rattle.tracing_tree_drawing.specs.Format.Picture.{has_line_end, frame_text, lined_frame, shift_of}
+use Rattle.tracing_tree_drawing.specs.Format.Picture.{has_line_end, lined_frame, shift_of}
 use Rattle.tracing_tree_drawing.specs.Rows.RowText.{ended, is_unbroken, TextRow, mode_of, is_text_row, row_text, rows_text}
 use Rattle.tracing_tree_drawing.specs.declared.rows.row.Shape.{Shape}
 use Rattle.tracing_tree_drawing.specs.Rows.Line.{LineRead, LineRead.FirstLine, LineRead.LaterLine, one_line_row, read_first, read_later, read_below, read_line, with_line, with_last, rows_after, last_after, read_from, read_lines}
@@ -71,7 +71,7 @@ pub record AreRowsOf (amount : ℕ) (rows : List TextRow) (text : List ℕ) : Ty
 pub first-proper : (amount : ℕ) (line : List ℕ) (row : TextRow) → IsFirstOf amount line row → is_unbroken line ≡ true → is_text_row row ≡ true
 first-proper amount line row first unbroken =
     let clean : is_unbroken first.text ≡ true =
-    unbroken-end (frame_text (lined_frame (mode_of first.shape) amount first.level 0)) first.text (ap is_unbroken first.drawn ∙ unbroken) in
+    unbroken-end (lined_frame (mode_of first.shape) amount first.level 0) first.text (ap is_unbroken first.drawn ∙ unbroken) in
     ap is_text_row first.is
     ∙ proper-whole (one_line_row first.shape first.level first.text) (record { some = refl; unbroken = and_from (is_unbroken first.text) true clean refl; fits = first.fits })
 
@@ -104,7 +104,7 @@ pub later-proper : (amount : ℕ) (row : TextRow) (line here : List ℕ) → is_
     (0 < row.level + shift_of (mode_of row.shape)) × (later_line amount row.shape row.level here ≡ line) → is_text_row (with_line row here) ≡ true
 later-proper amount row line here whole unbroken later =
     let clean : is_unbroken here ≡ true =
-    unbroken-end (frame_text (lined_frame (mode_of row.shape) amount row.level 1)) here (ap is_unbroken later.1 ∙ unbroken) in
+    unbroken-end (lined_frame (mode_of row.shape) amount row.level 1) here (ap is_unbroken later.1 ∙ unbroken) in
     let old : IsProper row = proper-parts row whole in
     proper-whole (with_line row here) (record {
       some = le-leb 1 (length (row.lines ++ here ∷ [])) (let n = length-append row.lines (here ∷ []) in omega arith);

@@ -7,7 +7,7 @@ use Rattle.std.proofs.lemmas.List.{append-nil}
 use Rattle.std.proofs.lemmas.List.Folds.{list_all-append}
 use Rattle.std.proofs.Math.Nat.{mod-eq_of_lt}
 use Rattle.tracing_tree_drawing.specs.Format.Settings.{Settings}
-use Rattle.tracing_tree_drawing.specs.Format.Picture.{Row, AreParts, has_line_end, parts_of, row_lines, row_frame, unlined_frame, drawn_line, lined_frame, wrapped_level, is_last_before_wrap, mark_line, mark_before_corner, mark_after_corner, picture, drawn_row, draw}
+use Rattle.tracing_tree_drawing.specs.Format.Picture.{Row, AreParts, has_line_end, parts_of, row_lines, row_frame, drawn_line, lined_frame, wrapped_level, is_last_before_wrap, mark_line, mark_before_corner, mark_after_corner, picture, drawn_row, draw}
 use Rattle.tracing_tree_drawing.specs.declared.format.SpanMode.{SpanMode}
 use Rattle.tracing_tree_drawing.specs.declared.format.SpanMode.TheVariants as Mode
 use Rattle.tracing_tree_drawing.proofs.PartsLaws.{parts_of-only, parts_of-are_parts}
@@ -21,27 +21,21 @@ use Rattle.tracing_tree_drawing.proofs.RowsRead.TextsRead.{joined-lines, read-on
 
 -- ---- frames
 
--- open and retraced rows have the same frames; at the left edge verbose rows have those of plain ones
-same-frames : (mode : SpanMode) (amount level place : ℕ) → lined_frame mode amount level place ≡ lined_frame (mode_of (shape_of mode level)) amount level place
-same-frames Mode.PreOpen amount level place = refl
-same-frames (Mode.Open verbose) amount level place = by (level == 0) refl
+-- at the left edge verbose rows have the frames of plain ones
+open-frames : (verbose : Bool) (amount level place : ℕ) → lined_frame (Mode.Open verbose) amount level place ≡ lined_frame (mode_of (open_shape verbose level)) amount level place
+open-frames verbose amount level place = by (level == 0) refl
   where
     by : (b : Bool) → (level == 0) ≡ b → lined_frame (Mode.Open verbose) amount level place ≡ lined_frame (mode_of (open_shape verbose level)) amount level place
     by true e =
         ap (λ n. lined_frame (Mode.Open verbose) amount n place) (eqb-true level 0 e) ∙ ap (λ n. lined_frame (Mode.Open false) amount n place) (sym (eqb-true level 0 e))
         ∙ ap (λ b. lined_frame (mode_of (if b then Shape.OpenRoot else Shape.Open verbose)) amount level place) (sym e)
     by false e = ap (λ b. lined_frame (mode_of (if b then Shape.OpenRoot else Shape.Open verbose)) amount level place) (sym e)
-same-frames (Mode.Retrace verbose) amount level place = by (level == 0) refl
-  where
-    retraced : (verbose : Bool) → lined_frame (Mode.Retrace verbose) amount level place ≡ lined_frame (Mode.Open verbose) amount level place
-    retraced true = refl
-    retraced false = refl
 
-    by : (b : Bool) → (level == 0) ≡ b → lined_frame (Mode.Retrace verbose) amount level place ≡ lined_frame (mode_of (open_shape verbose level)) amount level place
-    by true e =
-        ap (λ n. lined_frame (Mode.Retrace verbose) amount n place) (eqb-true level 0 e) ∙ ap (λ n. lined_frame (Mode.Open false) amount n place) (sym (eqb-true level 0 e))
-        ∙ ap (λ b. lined_frame (mode_of (if b then Shape.OpenRoot else Shape.Open verbose)) amount level place) (sym e)
-    by false e = retraced verbose ∙ ap (λ b. lined_frame (mode_of (if b then Shape.OpenRoot else Shape.Open verbose)) amount level place) (sym e)
+-- the frames of a mode are those of its shape
+same-frames : (mode : SpanMode) (amount level place : ℕ) → lined_frame mode amount level place ≡ lined_frame (mode_of (shape_of mode level)) amount level place
+same-frames Mode.PreOpen amount level place = refl
+same-frames (Mode.Open verbose) amount level place = open-frames verbose amount level place
+same-frames (Mode.Retrace verbose) amount level place = open-frames verbose amount level place
 same-frames (Mode.Close verbose) amount level place = by (level == 0) refl
   where
     by : (b : Bool) → (level == 0) ≡ b → lined_frame (Mode.Close verbose) amount level place ≡ lined_frame (mode_of (close_shape verbose level)) amount level place
@@ -92,8 +86,7 @@ row-drawn settings row lined h =
     let amount : ℕ = settings.indent_amount in
     let wrapped : wrapped_level settings row.level ≡ row.level = mod-eq_of_lt (let lt : row.level < settings.wraparound = let l = h.low in omega arith in lt) in
     let frames : (place : ℕ) → row_frame settings row.mode row.level place ≡ lined_frame (mode_of (shape_of row.mode row.level)) amount row.level place =
-    λ place. ap (λ b. if b then lined_frame row.mode amount (wrapped_level settings row.level) place else unlined_frame amount (wrapped_level settings row.level) place) lined
-    ∙ ap (λ n. lined_frame row.mode amount n place) wrapped ∙ same-frames row.mode amount row.level place in
+    λ place. rw lined (ap (λ n. lined_frame row.mode amount n place) wrapped ∙ same-frames row.mode amount row.level place) in
     let pictures : picture settings row ≡ row_text amount (text_row row) =
     ap (λ b. flat_map (λ line. drawn_line row.prefix (row_frame settings row.mode row.level line.0) line.1) (enumerate_from 0 (row_lines b row.block))) lined
     ∙ (λ i. flat_map (λ line. drawn_line (h.prefix i) (frames line.0 i) line.1) (enumerate_from 0 (row_lines true row.block))) in

@@ -2,7 +2,7 @@
 use Rattle.std.proofs.Common.{◌≡◌, ℕ, suc, ◌+◌, ◌<◌, ◌≤◌, ◌==◌, ◌&&◌, true, not, List, [], ◌∷◌, ◌++◌, length, map, flat_map, ⊎_elim, nat_le, refl, sym, ap, ◌∙◌, arith, append_assoc, eqb-true, ne_eqb}
 use Rattle.std.specs.List.{enumerate_from, list_all}
 use Rattle.std.proofs.lemmas.Bool.{and_parts, and_from, or_cases, or_left, or_right, leb-true, le-leb}
-use Rattle.tracing_tree_drawing.specs.Format.Picture.{has_line_end, drawn_line, frame_text, lined_frame, shift_of}
+use Rattle.tracing_tree_drawing.specs.Format.Picture.{has_line_end, drawn_line, lined_frame, shift_of}
 use Rattle.tracing_tree_drawing.specs.Rows.RowText.{ended, TextRow, mode_of, fits_shape, is_bare_text, is_one_line, is_text_row, row_text, rows_text}
 use Rattle.tracing_tree_drawing.specs.declared.rows.row.Shape.{Shape}
 use Rattle.tracing_tree_drawing.specs.declared.rows.row.Shape.TheVariants.{PreOpen, OpenRoot, Open, CloseRoot, Close, PostClose, Event}
@@ -10,10 +10,10 @@ use Rattle.tracing_tree_drawing.specs.declared.rows.row.Shape.TheVariants.{PreOp
 -- ---- lines
 
 abbrev pub first_line : ℕ → Shape → ℕ → List ℕ → List ℕ
-first_line amount shape level text = frame_text (lined_frame (mode_of shape) amount level 0) ++ text
+first_line amount shape level text = lined_frame (mode_of shape) amount level 0 ++ text
 
 abbrev pub later_line : ℕ → Shape → ℕ → List ℕ → List ℕ
-later_line amount shape level text = frame_text (lined_frame (mode_of shape) amount level 1) ++ text
+later_line amount shape level text = lined_frame (mode_of shape) amount level 1 ++ text
 
 -- the lines of a row of these texts
 abbrev pub framed_lines : ℕ → Shape → ℕ → List (List ℕ) → List (List ℕ)
@@ -34,7 +34,7 @@ later-texts : (amount : ℕ) (shape : Shape) (level n : ℕ) (texts : List (List
 later-texts amount shape level n [] = refl
 later-texts amount shape level n (text ∷ texts) =
     let rest : List ℕ = flat_map (λ line. drawn_line [] (lined_frame (mode_of shape) amount level line.0) line.1) (enumerate_from (suc n + 1) texts) in
-    ap (λ frame. ((frame_text frame ++ text) ++ 10 ∷ []) ++ rest) (same-frame n)
+    ap (λ frame. ((frame ++ text) ++ 10 ∷ []) ++ rest) (same-frame n)
     ∙ ap (λ t. (later_line amount shape level text ++ 10 ∷ []) ++ t)
     (ap (λ m. flat_map (λ line. drawn_line [] (lined_frame (mode_of shape) amount level line.0) line.1) (enumerate_from m texts)) (let e : suc n + 1 ≡ suc (suc n) = omega arith in e)
     ∙ later-texts amount shape level (suc n) texts)

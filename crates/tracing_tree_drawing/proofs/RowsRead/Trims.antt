@@ -3,7 +3,7 @@ use Rattle.std.proofs.Common.{◌≡◌, ◌≢◌, ℕ, zero, suc, ◌+◌, ◌
 use Rattle.std.specs.Char.{encode_utf8}
 use Rattle.std.specs.List.{repeat}
 use Rattle.std.specs.Str.Pattern.{FindsTextPrefix, FindsCharPrefix, CutsPrefixes, IsFullyTrimmed, IsTrimStartMatches}
-use Rattle.tracing_tree_drawing.specs.Format.Picture.{space, horizontal}
+use Rattle.tracing_tree_drawing.specs.Format.Picture.{columns, space, horizontal}
 use Rattle.tracing_tree_drawing.specs.Rows.RowText.{without_start_spaces}
 use Rattle.tracing_tree_drawing.specs.Rows.Line.{after_front, after_run, start_spaces}
 use Rattle.tracing_tree_drawing.proofs.RowsRead.Bytes.{after_front-more, after_front-gives, after_front-is, rest-after, spaces-count}
@@ -53,6 +53,7 @@ pub record AreSpacesOff (line rest : List ℕ) : Type 0 where
   pub counted : length line ≡ start_spaces line + length rest
 
 pub trimmed-spaces : (line rest : List ℕ) → IsTrimStartMatches (FindsTextPrefix (space ∷ [])) line rest → AreSpacesOff line rest
+unfolding encode_utf8
 trimmed-spaces line rest h =
     let n : ℕ = length (h.0.0) in
     let whole : line ≡ repeat n (space ∷ []) ++ rest = cut-spaces line h.0.0 rest h.0.1 in
@@ -118,8 +119,8 @@ stripped-character character text (Some x) h =
     ap (after_front (encode_utf8 character)) whole ∙ after_front-gives (encode_utf8 character) x.now
 
 -- behind a run
-pub stripped-run : (count character : ℕ) (text rest : List ℕ) (r : Option (Bor (List ℕ))) → after_front (repeat count (encode_utf8 horizontal)) text ≡ Some rest →
+pub stripped-run : (count character : ℕ) (text rest : List ℕ) (r : Option (Bor (List ℕ))) → after_front (columns count horizontal) text ≡ Some rest →
     MatchOption r (after_front (encode_utf8 character) rest ≡ None) (λ x. after_front (encode_utf8 character) rest ≡ Some x.now) →
     MatchOption r (after_run count character text ≡ None) (λ x. after_run count character text ≡ Some x.now)
-stripped-run count character text rest None e h = after-both (repeat count (encode_utf8 horizontal)) (encode_utf8 character) text rest e ∙ h
-stripped-run count character text rest (Some x) e h = after-both (repeat count (encode_utf8 horizontal)) (encode_utf8 character) text rest e ∙ h
+stripped-run count character text rest None e h = after-both (columns count horizontal) (encode_utf8 character) text rest e ∙ h
+stripped-run count character text rest (Some x) e h = after-both (columns count horizontal) (encode_utf8 character) text rest e ∙ h

@@ -1,7 +1,7 @@
 -- What the code's frames append, and which row a drawing draws.
-use Rattle.std.specs.Prelude.{ℕ, ◌+◌, ◌-◌, ◌*◌, ◌/◌, ◌<◌, nat_le, Bool, true, false, if◌then◌else◌, List, [], ◌∷◌, ◌++◌, encode_utf8, ◌^◌}
+use Rattle.std.specs.Prelude.{ℕ, ◌+◌, ◌-◌, ◌*◌, ◌/◌, ◌<◌, nat_le, Bool, true, false, if◌then◌else◌, List, ◌++◌, encode_utf8, ◌^◌}
 use Rattle.std.specs.List.{repeat}
-use Rattle.tracing_tree_drawing.specs.Format.Picture.{Row, space, horizontal, level_used, unnamed_row}
+use Rattle.tracing_tree_drawing.specs.Format.Picture.{Row, columns, space, horizontal, level_used, unnamed_row}
 use Rattle.tracing_tree_drawing.specs.Format.Texts.{prefix_text}
 use Rattle.tracing_tree_drawing.specs.declared.format.draw.RowDrawing.{RowDrawing}
 use Rattle.tracing_tree_drawing.specs.declared.format.draw.FramePieces.{FramePieces}
@@ -9,7 +9,7 @@ use Rattle.tracing_tree_drawing.specs.declared.format.draw.FramePieces.{FramePie
 -- spaces, a branch, `filled` fillers, and a corner
 abbrev pub frame_pieces : ℕ → List ℕ → List ℕ → ℕ → List ℕ → List ℕ
 frame_pieces spaces branch filler filled corner =
-    repeat spaces (space ∷ []) ++ branch ++ repeat filled filler ++ corner
+    columns spaces space ++ branch ++ repeat filled filler ++ corner
 
 abbrev pub pushed_text : FramePieces → List ℕ
 pushed_text frame =
@@ -20,13 +20,12 @@ abbrev pub corner_pieces : List ℕ → List ℕ → ℕ → ℕ → List ℕ
 corner_pieces left right from to =
     frame_pieces from left (encode_utf8 horizontal) (to - from - 1) right
 
--- the corners of a span's row, which stand half an amount further right if it is verbose; an amount
--- of 1 leaves two spaces then
+-- the corners of a span's row, as `span_corners` says of characters
 abbrev pub span_pieces : List ℕ → List ℕ → Bool → ℕ → ℕ → List ℕ
 span_pieces left right false amount before = corner_pieces left right before (before + amount)
 span_pieces left right true amount before =
     if nat_le 2 amount then corner_pieces left right (before + amount / 2) (before + amount)
-    else frame_pieces before (space ∷ space ∷ []) [] 0 []
+    else columns (before + amount + 1) space
 
 -- the row that a drawing draws, with this block
 abbrev pub row_of : RowDrawing → List ℕ → Row

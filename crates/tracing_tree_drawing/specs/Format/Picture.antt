@@ -1,6 +1,6 @@
 -- The drawing of rows.
-use Rattle.std.specs.Prelude.{◌≡◌, ℕ, ◌+◌, ◌-◌, ◌*◌, ◌/◌, ◌%◌, ◌<◌, max, nat_lt, nat_le, ◌==◌, ◌&&◌, Bool, true, false, not, if◌then◌else◌, List, [], ◌∷◌, ◌++◌, map, flat_map, replicate, length, Option, Some, None, IsTrue, encode_utf8_all, ◌^◌}
-use Rattle.std.specs.List.{range_with_len, enumerate_from, list_any, list_all, join_with_byte, slice_split}
+use Rattle.std.specs.Prelude.{◌≡◌, ℕ, ◌+◌, ◌-◌, ◌*◌, ◌/◌, ◌%◌, ◌<◌, max, nat_lt, nat_le, ◌==◌, ◌&&◌, Bool, true, false, not, if◌then◌else◌, List, [], ◌∷◌, ◌++◌, flat_map, length, Option, Some, None, IsTrue, encode_utf8, ◌^◌}
+use Rattle.std.specs.List.{enumerate_from, repeat, list_any, list_all, join_with_byte, slice_split}
 use Rattle.std.specs.Str.Lines.{lines}
 use Rattle.tracing_tree_drawing.specs.Format.Settings.{Settings}
 use Rattle.tracing_tree_context.specs.declared.context.Id.{Id}
@@ -77,81 +77,45 @@ corner_up_left = 0x2518
 abbrev pub branch : ℕ
 branch = 0x251C
 
--- what stands between the prefix and the text of a line: how many columns, and which character
--- stands in each
-pub record Frame : Type 0 where
-  pub width : ℕ
-  pub glyph : ℕ → ℕ
+-- so many columns of one character
+abbrev pub columns : ℕ → ℕ → List ℕ
+columns many character = repeat many (encode_utf8 character)
 
-abbrev pub frame_text : Frame → List ℕ
-frame_text frame = encode_utf8_all (map frame.glyph (range_with_len 0 frame.width))
+-- two corners in these columns, with spaces before them and `─` between them
+abbrev pub corners : ℕ → ℕ → ℕ → ℕ → List ℕ
+corners left right from to =
+    columns from space ++ encode_utf8 left ++ columns (to - from - 1) horizontal
+    ++ encode_utf8 right
 
--- spaces alone
-abbrev pub blank : ℕ → Frame
-blank width = record { width = width; glyph = λ column. space }
+-- the corners of a span's row; in a verbose row the first stands half an amount further right, and
+-- an amount of 1 leaves no room for them
+abbrev pub span_corners : ℕ → ℕ → Bool → ℕ → ℕ → List ℕ
+span_corners left right false amount before = corners left right before (before + amount)
+span_corners left right true amount before =
+    if nat_le 2 amount then corners left right (before + amount / 2) (before + amount)
+    else columns (before + amount + 1) space
 
--- one character
-abbrev pub single : ℕ → Frame
-single character = record { width = 1; glyph = λ column. character }
-
--- two corners, with `─` between them, and nothing after the second
-abbrev pub corners : ℕ → ℕ → ℕ → ℕ → Frame
-corners left right from to = record {
-  width = to + 1;
-  glyph = λ column. if column == from then left
-      else (if column == to then right
-      else (if nat_lt from column && nat_lt column to then horizontal else space));
-}
-
--- `├` and then `─` up to the width
-abbrev pub branched : ℕ → ℕ → Frame
-branched from width = record {
-  width = width;
-  glyph =
-      λ column. if column == from then branch else (if nat_lt from
-      column then horizontal else space);
-}
-
--- `│` in the column `from`, and `amount` spaces after it
-abbrev pub continued : ℕ → ℕ → Frame
-continued from amount = record {
-  width = from + 1 + amount;
-  glyph = λ column. if column == from then vertical else space;
-}
-
--- a verbose row's corners stand half an amount further right; an amount of 1 leaves no room for
--- them
-abbrev pub verbose_corners : ℕ → ℕ → ℕ → ℕ → Frame
-verbose_corners left right amount before =
-    if nat_le 2 amount then corners left right (before + amount / 2) (before + amount) else blank
-    (before + amount + 1)
-
--- at the left edge
-abbrev pub edge_frame : SpanMode → Frame
-edge_frame (Open verbose) = single corner_down_left
-edge_frame (Retrace verbose) = single corner_down_left
-edge_frame (Close verbose) = single corner_up_left
-edge_frame mode = blank 0
+-- the frame of a line, which stands between its prefix and its text: at the left edge
+abbrev pub edge_frame : SpanMode → List ℕ
+edge_frame (Open verbose) = encode_utf8 corner_down_left
+edge_frame (Retrace verbose) = encode_utf8 corner_down_left
+edge_frame (Close verbose) = encode_utf8 corner_up_left
+edge_frame mode = []
 
 -- the first line of a row, further right: `before` columns stand before the branch
-abbrev pub first_frame : SpanMode → ℕ → ℕ → Frame
+abbrev pub first_frame : SpanMode → ℕ → ℕ → List ℕ
 first_frame PreOpen amount before =
     corners corner_up_right corner_down_left before (before + max (amount / 2) 1)
-first_frame (Open false) amount before =
-    corners corner_up_right corner_down_left before (before + amount)
-first_frame (Open true) amount before =
-    verbose_corners corner_up_right corner_down_left amount before
-first_frame (Retrace false) amount before =
-    corners corner_up_right corner_down_left before (before + amount)
-first_frame (Retrace true) amount before =
-    verbose_corners corner_up_right corner_down_left amount before
-first_frame (Close false) amount before =
-    corners corner_down_right corner_up_left before (before + amount)
-first_frame (Close true) amount before =
-    verbose_corners corner_down_right corner_up_left amount before
+first_frame (Open verbose) amount before =
+    span_corners corner_up_right corner_down_left verbose amount before
+first_frame (Retrace verbose) amount before =
+    span_corners corner_up_right corner_down_left verbose amount before
+first_frame (Close verbose) amount before =
+    span_corners corner_down_right corner_up_left verbose amount before
 first_frame PostClose amount before =
     corners corner_down_right corner_up_left before (before + max (amount / 2) 1)
-first_frame Event amount before = branched before (before + amount)
+first_frame Event amount before =
+    columns before space ++ encode_utf8 branch ++ columns (amount - 1) horizontal
 
 -- how far `│` stands right of the branch
 abbrev pub continuation_shift : SpanMode → ℕ
@@ -161,8 +125,10 @@ continuation_shift (Close verbose) = 1
 continuation_shift mode = 0
 
 -- a later line
-abbrev pub later_frame : SpanMode → ℕ → ℕ → Frame
-later_frame mode amount before = continued (before + continuation_shift mode) amount
+abbrev pub later_frame : SpanMode → ℕ → ℕ → List ℕ
+later_frame mode amount before =
+    columns (before + continuation_shift mode) space ++ encode_utf8 vertical
+    ++ columns amount space
 
 -- the rows of a parent round its child stand one level further right
 abbrev pub shift_of : SpanMode → ℕ
@@ -171,32 +137,29 @@ shift_of PostClose = 1
 shift_of mode = 0
 
 -- with lines, at a wrapped level, in line `place` of the row
-abbrev pub lined_frame : SpanMode → ℕ → ℕ → ℕ → Frame
+abbrev pub lined_frame : SpanMode → ℕ → ℕ → ℕ → List ℕ
 lined_frame mode amount wrapped place =
     let used = wrapped + shift_of mode in
     if used == 0 then edge_frame mode
-    else (if amount == 0 then blank 0
+    else (if amount == 0 then []
     else (if place == 0 then first_frame mode amount (used * amount - amount)
     else later_frame mode amount (used * amount - amount)))
-
--- without lines
-abbrev pub unlined_frame : ℕ → ℕ → ℕ → Frame
-unlined_frame amount wrapped place = blank ((if place == 0 then 1 else 3) + wrapped * amount)
 
 abbrev pub wrapped_level : Settings → ℕ → ℕ
 wrapped_level settings level = level % settings.wraparound
 
-abbrev pub row_frame : Settings → SpanMode → ℕ → ℕ → Frame
+-- the frame of line `place` of a row
+abbrev pub row_frame : Settings → SpanMode → ℕ → ℕ → List ℕ
 row_frame settings mode level place =
-    if settings.indent_lines then lined_frame mode settings.indent_amount
-    (wrapped_level settings level) place
-    else unlined_frame settings.indent_amount (wrapped_level settings level) place
+    let wrapped = wrapped_level settings level in
+    if settings.indent_lines then lined_frame mode settings.indent_amount wrapped place
+    else columns (wrapped * settings.indent_amount + (if place == 0 then 1 else 3)) space
 
 -- ---- pictures
 
 -- one line: prefix, frame, text and line end
-abbrev pub drawn_line : List ℕ → Frame → List ℕ → List ℕ
-drawn_line prefix frame text = prefix ++ frame_text frame ++ text ++ 10 ∷ []
+abbrev pub drawn_line : List ℕ → List ℕ → List ℕ → List ℕ
+drawn_line prefix frame text = prefix ++ frame ++ text ++ 10 ∷ []
 
 -- the lines of a row, in order
 abbrev pub picture : Settings → Row → List ℕ
@@ -217,10 +180,8 @@ mark_line settings row None = []
 mark_line settings row (Some corner) =
     if is_last_before_wrap settings row.level
     then row.prefix
-    ++ encode_utf8_all
-    (replicate (wrapped_level settings row.level * settings.indent_amount) horizontal ++ corner
-    ∷ [])
-    ++ 10 ∷ []
+    ++ columns (wrapped_level settings row.level * settings.indent_amount) horizontal
+    ++ encode_utf8 corner ++ 10 ∷ []
     else []
 
 -- a row that closes has its mark before it

@@ -1,8 +1,8 @@
 -- A drawing as it is read back, line by line.
 use Rattle.std.specs.Prelude.{true, false, ℕ, ◌+◌, ◌-◌, ◌*◌, ◌/◌, ◌%◌, ◌==◌, true, false, not, ◌&&◌, if◌then◌else◌, List, [], ◌∷◌, ◌++◌, Option, Some, None, option_map, option_and_then, encode_utf8}
 use Rattle.std.specs.Option.{option_map_or}
-use Rattle.std.specs.List.{prefix_len, repeat}
-use Rattle.tracing_tree_drawing.specs.Format.Picture.{space, horizontal, vertical, branch, corner_down_left, corner_up_left, corner_up_right, corner_down_right, shift_of, continuation_shift}
+use Rattle.std.specs.List.{prefix_len}
+use Rattle.tracing_tree_drawing.specs.Format.Picture.{columns, space, horizontal, vertical, branch, corner_down_left, corner_up_left, corner_up_right, corner_down_right, shift_of, continuation_shift}
 use Rattle.tracing_tree_drawing.specs.Rows.RowText.{TextRow, mode_of, is_bare_text, without_start_spaces}
 use Rattle.tracing_tree_drawing.specs.declared.rows.row.Shape.{Shape}
 use Rattle.tracing_tree_drawing.specs.declared.rows.row.Shape.TheVariants.{PreOpen, OpenRoot, Open, CloseRoot, Close, PostClose, Event}
@@ -22,7 +22,7 @@ start_spaces line = prefix_len (λ byte. byte == space) line
 -- what follows `count` `─` and the character
 abbrev pub after_run : ℕ → ℕ → List ℕ → Option (List ℕ)
 after_run count character text =
-    after_front (repeat count (encode_utf8 horizontal) ++ encode_utf8 character) text
+    after_front (columns count horizontal ++ encode_utf8 character) text
 
 -- ---- first lines
 
@@ -51,7 +51,7 @@ abbrev pub read_event : ℕ → ℕ → List ℕ → Option TextRow
 read_event amount spaces text =
     if spaces % amount == 0
     then option_map (one_line_row Event (spaces / amount + 1))
-    (after_front (repeat (amount - 1) (encode_utf8 horizontal)) text)
+    (after_front (columns (amount - 1) horizontal) text)
     else None
 
 -- a line, the number of spaces at its start, and what follows these
@@ -76,7 +76,7 @@ read_first amount line = read_first_at amount line (start_spaces line) (without_
 abbrev pub read_later_at : ℕ → Shape → ℕ → ℕ → List ℕ → Option (List ℕ)
 read_later_at amount shape used spaces text =
     if not (used == 0) && (spaces == used * amount - amount + continuation_shift (mode_of shape))
-    then after_front (repeat amount (space ∷ [])) text
+    then after_front (columns amount space) text
     else None
 
 -- the text of a later line of a row of this shape and level

@@ -4,7 +4,7 @@ ghost use Rattle.std.specs.List.{repeat};
 ghost use Rattle.std.specs.Prelude.{◌≡◌, ◌+◌, ◌*◌, ◌^◌, ◌<◌, ◌++◌, ◌∷◌, [], true, false, Err, OnOk, OnErr, IfErr, string_bytes, encode_utf8, if◌then◌else◌};
 ghost use Rattle.std.specs.Str.Lines.{strip_carriage_return};
 ghost use Rattle.tracing_tree_drawing.specs.Format.Frames.{HasRoom, corner_pieces, frame_pieces, pushed_text, row_of, span_pieces};
-ghost use Rattle.tracing_tree_drawing.specs.Format.Picture.{drawn_row, edge_frame, first_frame, frame_text, horizontal, is_last_before_wrap, is_too_wide, later_frame, lined_frame, mark_after_corner, mark_before_corner, mark_line, picture, row_frame, shift_of, space, unnamed_row, wrapped_level};
+ghost use Rattle.tracing_tree_drawing.specs.Format.Picture.{columns, drawn_row, edge_frame, first_frame, horizontal, is_last_before_wrap, is_too_wide, later_frame, lined_frame, mark_after_corner, mark_before_corner, mark_line, picture, row_frame, shift_of, space, unnamed_row, wrapped_level};
 ghost use Rattle.tracing_tree_text.specs.Extended.{IsExtended};
 ghost use Rattle.tracing_tree_drawing.specs.Format.Texts.{prefix_text};
 
@@ -116,7 +116,7 @@ impl FramePieces {
 
 // At the left edge only the corner of a span's row is drawn.
 fn edge_frame(mode: SpanMode) -> FramePieces
-    ensures { pushed_text result ≡ frame_text (edge_frame mode) }
+    ensures { pushed_text result ≡ edge_frame mode }
 {
     match mode {
         SpanMode::Open { .. } | SpanMode::Retrace { .. } => FramePieces::plain(0, "┐"),
@@ -129,7 +129,7 @@ fn edge_frame(mode: SpanMode) -> FramePieces
 fn first_frame(mode: SpanMode, amount: usize, before: usize) -> FramePieces
     requires amount { 0 < amount }
     requires fits { before + amount < 2 ^ 64 }
-    ensures { pushed_text result ≡ frame_text (first_frame mode amount before) }
+    ensures { pushed_text result ≡ first_frame mode amount before }
 {
     let parent = before + (amount / 2).max(1);
     match mode {
@@ -152,7 +152,7 @@ fn first_frame(mode: SpanMode, amount: usize, before: usize) -> FramePieces
 
 // A later line of a row further right.
 fn later_frame(mode: SpanMode, amount: usize, before: usize) -> FramePieces
-    ensures { pushed_text result ≡ frame_text (later_frame mode amount before) }
+    ensures { pushed_text result ≡ later_frame mode amount before }
 {
     let branch = match mode {
         SpanMode::Open { .. } | SpanMode::Retrace { .. } => "  │",
@@ -173,7 +173,7 @@ fn lined_frame(mode: SpanMode, amount: usize, wrapped: usize, first: bool) -> Fr
     requires level { wrapped + shift_of mode < 2 ^ 64 }
     requires width { (wrapped + shift_of mode) * amount < 2 ^ 64 }
     ensures { pushed_text result
-        ≡ frame_text (lined_frame mode amount wrapped (if first then 0 else 1)) }
+        ≡ lined_frame mode amount wrapped (if first then 0 else 1) }
 {
     let used = match mode {
         SpanMode::PreOpen | SpanMode::PostClose => wrapped + 1,
@@ -208,7 +208,7 @@ pub fn push_frame(
     requires width { (level + shift_of mode) * amount < 2 ^ 64 }
     ensures ok { OnOk result (string_bytes out.new
         ≡ string_bytes out.old
-        ++ frame_text (lined_frame mode amount level (if first then 0 else 1))) }
+        ++ lined_frame mode amount level (if first then 0 else 1)) }
     ensures err { OnErr result (string_bytes out.new ≡ string_bytes out.old) }
 {
     let length = out.len();
@@ -258,7 +258,7 @@ fn push_repeated(out: &mut String, text: &str, times: usize) -> Result<(), Alloc
 // Appends `count` spaces, or fewer.
 fn push_spaces(out: &mut String, count: usize) -> Result<(), AllocError>
     ensures ok { OnOk result
-        (string_bytes out.new ≡ string_bytes out.old ++ repeat count (space ∷ [])) }
+        (string_bytes out.new ≡ string_bytes out.old ++ columns count space) }
     ensures extended { IsExtended (string_bytes out.old) (string_bytes out.new) }
 {
     if count > SPACES.len() {
@@ -379,9 +379,8 @@ impl RowDrawing<'_> {
     fn frame(&self, first: bool) -> FramePieces
         requires { HasRoom self.now }
         ensures { pushed_text result
-            ≡ frame_text
-            (row_frame self.now.config.now self.now.mode self.now.level
-            (if first then 0 else 1)) }
+            ≡ row_frame self.now.config.now self.now.mode self.now.level
+            (if first then 0 else 1) }
     {
         let wrapped = self.wrapped_level();
         let amount = self.config.indent_amount();

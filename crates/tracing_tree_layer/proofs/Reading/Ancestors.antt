@@ -1,8 +1,8 @@
 -- The places at which a drawing shows the rows that open an event's ancestors.
-use Rattle.std.proofs.Common.{◌≡◌, ℕ, zero, suc, ◌+◌, ◌<◌, Bool, true, false, ◌&&◌, ◌==◌, List, [], ◌∷◌, length, map, take, filter, slice_get, Option, Some, None, option_map, IsSomeAnd, IsTrue, if◌then◌else◌, refl, sym, ap, ◌∙◌, subst, arith}
+use Rattle.std.proofs.Common.{◌≡◌, ℕ, zero, suc, ◌+◌, ◌<◌, Bool, true, false, ◌&&◌, ◌||◌, ◌==◌, List, [], ◌∷◌, length, map, take, filter, slice_get, Option, Some, None, option_map, IsSomeAnd, IsTrue, if◌then◌else◌, refl, sym, ap, ◌∙◌, subst, arith}
 use Rattle.std.specs.List.{enumerate_from, last_or}
 use Rattle.std.proofs.lemmas.List.{take-map}
-use Rattle.tracing_tree_drawing.specs.Format.Settings.{Settings}
+use Rattle.tracing_tree_drawing.specs.Format.Settings.{Settings, retraces}
 use Rattle.tracing_tree_time.specs.Clock.{Timer}
 use Rattle.tracing_tree_spans.specs.Registry.Forest.{path_of}
 use Rattle.tracing_tree_drawing.specs.Format.Picture.{Row}
@@ -11,7 +11,9 @@ use Rattle.tracing_tree_drawing.specs.declared.format.SpanMode.{SpanMode}
 use Rattle.tracing_tree_drawing.specs.declared.format.SpanMode.TheVariants as Kind
 use Rattle.tracing_tree_drawing.specs.Rows.RowText.{TextRow, shape_of, is_opening, opens_level, above}
 use Rattle.tracing_tree_drawing.specs.Rows.Readable.{text_row, text_rows}
-use Rattle.tracing_tree_layer.specs.Laws.Reading.{ReadingLaw, AncestorsLaw, ReadingLaws, is_opening_mode, opens_at, forest_at, place_of, rows_of, latest}
+use Rattle.tracing_tree_layer.specs.Laws.Ancestors.{AncestorsLaw}
+use Rattle.tracing_tree_layer.specs.Laws.Reading.{ReadingLaw, ReadingLaws, run_is_on_path, is_opening_mode, opens_at, forest_at, place_of, rows_of, latest}
+use Rattle.tracing_tree_layer.specs.Layered.State.{opening_state}
 use Rattle.tracing_tree_layer.specs.declared.call.Call.{Call}
 use Rattle.tracing_tree_drawing.specs.declared.rows.row.Shape.TheVariants as Shape
 use Rattle.tracing_tree_layer.proofs.Reading.Seen.{seen, latest-seen}
@@ -88,15 +90,19 @@ within-some [] level lt e = omega arith
 within-some (i ∷ ids) zero lt e = cc
 within-some (i ∷ ids) (suc level) lt e = within-some ids level (omega arith) e
 
-pub ancestors-law : (settings : Settings) (timer : Timer) (first : Option Id) (calls : List Call) → ReadingLaw settings timer first calls → AncestorsLaw settings timer first calls
+ancestors-law : (settings : Settings) (timer : Timer) (first : Option Id) (calls : List Call) → ReadingLaw settings timer first calls → AncestorsLaw settings timer first calls
 ancestors-law settings timer first calls reading e i within level lt =
     shown-above (rows_of settings timer first calls) (place_of e) level (slice_get (path_of (forest_at e) i) level) (reading e i within level lt)
     (within-some (path_of (forest_at e) i) level lt)
 
--- the three laws, for all settings, timers, first ids and calls
+-- under the premises of the reading law
+pub ancestors-shown : (settings : Settings) (timer : Timer) (first : Option Id) (calls : List Call) → IsTrue (retraces settings) →
+    IsTrue (settings.close_retrace || run_is_on_path settings timer (opening_state first) calls) → AncestorsLaw settings timer first calls
+ancestors-shown settings timer first calls on premise = ancestors-law settings timer first calls (reading-law settings timer first calls on premise)
+
+-- the laws, for all settings, timers, first ids and calls
 pub reading-laws : (settings : Settings) (timer : Timer) (first : Option Id) (calls : List Call) → ReadingLaws settings timer first calls
 reading-laws settings timer first calls = record {
   reading = reading-law settings timer first calls;
   opened = opened-before settings timer first calls;
-  ancestors = λ on premise readable. ancestors-law settings timer first calls (reading-law settings timer first calls on premise);
 }

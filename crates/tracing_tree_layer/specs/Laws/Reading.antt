@@ -1,5 +1,5 @@
 -- What the rows of a run tell about the spans that an event lies in.
-use Rattle.std.specs.Prelude.{◌≡◌, ℕ, ◌-◌, ◌<◌, ◌==◌, ◌&&◌, ◌||◌, Bool, true, false, not, IsTrue, List, [], ◌∷◌, ◌++◌, length, take, filter, slice_get, Option, Some, None, is_some, option_and_then, Contains, IsSomeAnd}
+use Rattle.std.specs.Prelude.{◌≡◌, ℕ, ◌-◌, ◌<◌, ◌==◌, ◌&&◌, ◌||◌, Bool, true, false, not, IsTrue, List, [], ◌∷◌, ◌++◌, length, take, filter, slice_get, Option, Some, None, is_some, option_and_then, Contains}
 use Rattle.std.specs.Option.{option_map_or}
 use Rattle.std.specs.List.{list_any, last_or}
 use Rattle.tracing_tree_drawing.specs.Format.Settings.{Settings, retraces}
@@ -16,8 +16,6 @@ use Rattle.tracing_tree_layer.specs.Layered.State.{State, opening_state}
 use Rattle.tracing_tree_layer.specs.Layer.Turns.{current_of, event_parent, turn_of_close}
 use Rattle.tracing_tree_layer.specs.Layered.Refused.{cause_of}
 use Rattle.tracing_tree_layer.specs.Layered.Run.{run, run_one}
-use Rattle.tracing_tree_drawing.specs.Rows.RowText.{above}
-use Rattle.tracing_tree_drawing.specs.Rows.Readable.{IsReadable, text_rows}
 use Rattle.tracing_tree_layer.specs.declared.call.Call.{Call}
 use Rattle.tracing_tree_layer.specs.declared.call.Call.TheVariants as A
 
@@ -123,24 +121,10 @@ OpenedBefore settings timer first calls =
     current_of (forest_at e) e.context ≡ Some current → Contains (path_of (forest_at e) current) i →
     IsTrue (list_any (opens_span i) (take (place_of e) (rows_of settings timer first calls)))
 
--- For an event in its current span the drawing shows, at each level, the place of a row that opens
--- the span which the path has at that level.
-abbrev pub AncestorsLaw : Settings → Timer → Option Id → List Call → Type 0
-AncestorsLaw settings timer first calls =
-    (e : EventInRun settings timer first calls) (i : Id) → IsInCurrent e i → (level : ℕ) →
-    level < length (path_of (forest_at e) i) →
-    IsSomeAnd (above (text_rows (rows_of settings timer first calls)) (place_of e) level)
-    (λ place. IsSomeAnd (slice_get (rows_of settings timer first calls) place)
-    (λ row. IsTrue (opens_at level row) × (row.span ≡ slice_get (path_of (forest_at e) i) level)))
-
--- the three laws of every run that began empty, each under its premises
+-- the laws of every run that began empty; the first has premises
 pub record ReadingLaws (settings : Settings) (timer : Timer) (first : Option Id)
     (calls : List Call) : Type 0 where
   pub reading : IsTrue (retraces settings) →
       IsTrue (settings.close_retrace || run_is_on_path settings timer (opening_state first) calls) →
       ReadingLaw settings timer first calls
   pub opened : OpenedBefore settings timer first calls
-  pub ancestors : IsTrue (retraces settings) →
-      IsTrue (settings.close_retrace || run_is_on_path settings timer (opening_state first) calls) →
-      IsReadable settings (rows_of settings timer first calls) →
-      AncestorsLaw settings timer first calls

@@ -4,11 +4,11 @@ use Rattle.tracing_tree_drawing.specs.Format.Settings.{Settings}
 use Rattle.tracing_tree_text.specs.Style.{styled, shown_level}
 use Rattle.tracing_tree_drawing.specs.Format.Texts.{label, span_fields, event_fields}
 use Rattle.tracing_tree_time.specs.Clock.{Timer}
-use Rattle.tracing_tree_spans.specs.Registry.Spans.{ShownSpan}
 use Rattle.tracing_tree_text.specs.declared.style.Style.TheVariants.{Dimmed, BoldGreen}
 use Rattle.tracing_tree_drawing.specs.declared.format.SpanMode.{SpanMode}
 use Rattle.tracing_tree_drawing.specs.declared.format.SpanMode.TheVariants.{Close}
 use Rattle.tracing_tree_spans.specs.declared.registry.Event.{Event}
+use Rattle.tracing_tree_text.specs.declared.field.Field.{Field}
 use Rattle.tracing_tree_context.specs.declared.context.Moment.{Moment}
 
 -- ---- spans
@@ -18,28 +18,29 @@ abbrev pub shown_label : Settings → SpanMode → List ℕ
 shown_label settings mode = if settings.span_modes then label mode else []
 
 -- the target and two colons, if targets are on
-abbrev pub shown_target : Settings → ShownSpan → List ℕ
-shown_target settings span =
-    if settings.targets then styled settings.ansi Dimmed span.target ++ codes "::" else []
+abbrev pub shown_target : Settings → List ℕ → List ℕ
+shown_target settings target =
+    if settings.targets then styled settings.ansi Dimmed target ++ codes "::" else []
 
 -- a brace round the fields, or what stands in its place without braces
 abbrev pub shown_brace : Settings → List ℕ → List ℕ → List ℕ
 shown_brace settings brace plain =
     if settings.bracketed_fields then styled settings.ansi BoldGreen brace else plain
 
--- target, name and fields
-abbrev pub span_text : Settings → ShownSpan → List ℕ
-span_text settings span =
-    shown_target settings span
-    ++ styled settings.ansi BoldGreen span.name
+-- target, name and fields of a span
+abbrev pub span_text : Settings → List ℕ → List ℕ → List Field → List ℕ
+span_text settings target name fields =
+    shown_target settings target
+    ++ styled settings.ansi BoldGreen name
     ++ shown_brace settings (codes "{") (codes " ")
-    ++ span_fields span.kept.fields
+    ++ span_fields fields
     ++ shown_brace settings (codes "}") []
 
--- a plain close has its label alone
-abbrev pub span_block : Settings → SpanMode → ShownSpan → List ℕ
-span_block settings (Close false) span = shown_label settings (Close false)
-span_block settings mode span = shown_label settings mode ++ span_text settings span
+-- a label, and target, name and fields of a span; a plain close has its label alone
+abbrev pub span_block : Settings → SpanMode → List ℕ → List ℕ → List Field → List ℕ
+span_block settings (Close false) target name fields = shown_label settings (Close false)
+span_block settings mode target name fields =
+    shown_label settings mode ++ span_text settings target name fields
 
 -- ---- events
 

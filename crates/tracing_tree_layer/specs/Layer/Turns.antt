@@ -5,7 +5,6 @@ use Rattle.tracing_tree_drawing.specs.Format.Settings.{Settings, retraces}
 use Rattle.tracing_tree_drawing.specs.Format.Texts.{prefix_text}
 use Rattle.tracing_tree_time.specs.Clock.{Timer, elapsed}
 use Rattle.tracing_tree_spans.specs.Registry.Forest.{Forest, span_at, if_live, is_printed, parent_of, path_of_any, level_of, fresh_ids, mark_printed, mark_all, named_parent}
-use Rattle.tracing_tree_spans.specs.Registry.Spans.{shown_span}
 use Rattle.tracing_tree_layer.specs.Layer.Block.{span_block, event_block}
 use Rattle.tracing_tree_drawing.specs.Format.Picture.{Row}
 use Rattle.tracing_tree_context.specs.declared.context.Id.{Id}
@@ -22,7 +21,8 @@ use Rattle.tracing_tree_layer.specs.Layer.CloseRetrace.{retraces_before_close}
 -- the block of a row about a live span
 abbrev pub block_of : Settings → Forest → SpanMode → Id → List ℕ
 block_of settings forest mode i =
-    option_map_or (λ span. span_block settings mode (shown_span span)) (span_at forest i) []
+    option_map_or (λ span. span_block settings mode span.target span.name span.kept.fields)
+    (span_at forest i) []
 
 -- a row about a live span
 abbrev pub span_row : Settings → Context → Forest → SpanMode → Id → Row

@@ -31,7 +31,8 @@ fn push_span_fields(out: &mut String, fields: &[Field]) -> Result<(), AllocError
 // Target, name and fields of a span.
 fn push_span_text(out: &mut String, config: &Config, span: &SpanRef) -> Result<(), AllocError>
     ensures { OnOk result
-        (string_bytes out.new ≡ string_bytes out.old ++ span_text config.now span.now) }
+        (string_bytes out.new ≡ string_bytes out.old
+        ++ span_text config.now span.now.target span.now.name span.now.kept.fields) }
 {
     push_span_target(out, config, span)?;
     push_styled(out, config.ansi(), Style::BoldGreen, span.name())?;
@@ -48,7 +49,7 @@ fn push_span_text(out: &mut String, config: &Config, span: &SpanRef) -> Result<(
 // The target of a span, if targets are on.
 fn push_span_target(out: &mut String, config: &Config, span: &SpanRef) -> Result<(), AllocError>
     ensures { OnOk result
-        (string_bytes out.new ≡ string_bytes out.old ++ shown_target config.now span.now) }
+        (string_bytes out.new ≡ string_bytes out.old ++ shown_target config.now span.now.target) }
 {
     if !config.targets() {
         return Ok(());
@@ -84,7 +85,8 @@ pub(super) fn push_span_block(
     span: &SpanRef,
 ) -> Result<(), AllocError>
     ensures { OnOk result
-        (string_bytes out.new ≡ string_bytes out.old ++ span_block config.now mode span.now) }
+        (string_bytes out.new ≡ string_bytes out.old
+        ++ span_block config.now mode span.now.target span.now.name span.now.kept.fields) }
 {
     if config.span_modes() {
         write_span_mode(out, mode)?;

@@ -9,10 +9,12 @@ use Rattle.tracing_tree_drawing.specs.Format.Picture.{Row}
 use Rattle.tracing_tree_drawing.specs.Rows.Paths.{AreEventPaths, place_at}
 use Rattle.tracing_tree_lines.specs.Laws.Ancestry.{FindsInRuns}
 use Rattle.tracing_tree_drawing.specs.Rows.Readable.{is_readable_row, text_row, text_rows}
+use Rattle.tracing_tree_layer.specs.Laws.Ancestors.{AncestorsLaw}
 use Rattle.tracing_tree_layer.specs.Laws.Reading.{forest_at, opens_at, place_of, rows_of}
 use Rattle.tracing_tree_layer.specs.Layer.Turns.{event_level, event_parent, event_row}
 use Rattle.tracing_tree_drawing.specs.Rows.RowText.{TextRow, above, event_path, event_path_at, event_paths, is_event}
 use Rattle.tracing_tree_drawing.specs.declared.rows.paths.EventPath.{EventPath}
+use Rattle.tracing_tree_layer.proofs.Reading.Ancestors.{ancestors-shown}
 use Rattle.tracing_tree_layer.proofs.Reading.Laws.{row-at}
 use Rattle.tracing_tree_drawing.proofs.RowsRead.AncestryLaws.{entry}
 use Rattle.tracing_tree_drawing.proofs.RowsRead.ReadBack.{drawn-rows}
@@ -60,7 +62,8 @@ place_at-range f a (suc n) (suc k) lt = place_at-range f (a + 1) n k (omega arit
 -- ---- runs
 
 pub paths-found : (amount : ℕ) (text : List ℕ) (paths : List EventPath) → AreEventPaths amount text paths → FindsInRuns amount text paths
-paths-found amount text paths h settings timer first calls d law e i within =
+paths-found amount text paths h settings timer first calls d on premise e i within =
+    let law : AncestorsLaw settings timer first calls = ancestors-shown settings timer first calls on premise in
     let rows : List Row = rows_of settings timer first calls in
     let texts : List TextRow = text_rows rows in
     let place : ℕ = place_of e in

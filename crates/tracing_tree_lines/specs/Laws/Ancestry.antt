@@ -1,12 +1,13 @@
 -- What is found in the text of a run's drawing.
-use Rattle.std.specs.Prelude.{◌≡◌, ◌<◌, ℕ, List, length, slice_get, Contains, IsSomeAnd, IsTrue, Option}
-use Rattle.tracing_tree_drawing.specs.Format.Settings.{Settings}
+use Rattle.std.specs.Prelude.{◌≡◌, ◌<◌, ◌||◌, ℕ, List, length, slice_get, Contains, IsSomeAnd, IsTrue, Option}
+use Rattle.tracing_tree_drawing.specs.Format.Settings.{Settings, retraces}
 use Rattle.tracing_tree_time.specs.Clock.{Timer}
 use Rattle.tracing_tree_spans.specs.Registry.Forest.{path_of}
 use Rattle.tracing_tree_context.specs.declared.context.Id.{Id}
 use Rattle.tracing_tree_drawing.specs.Rows.Readable.{IsDrawing}
 use Rattle.tracing_tree_drawing.specs.Rows.Paths.{place_at}
-use Rattle.tracing_tree_layer.specs.Laws.Reading.{AncestorsLaw, EventInRun, IsInCurrent, forest_at, opens_at, place_of, rows_of}
+use Rattle.tracing_tree_layer.specs.Laws.Reading.{EventInRun, IsInCurrent, forest_at, opens_at, place_of, rows_of, run_is_on_path}
+use Rattle.tracing_tree_layer.specs.Layered.State.{opening_state}
 use Rattle.tracing_tree_layer.specs.declared.call.Call.{Call}
 use Rattle.tracing_tree_drawing.specs.declared.rows.paths.EventPath.{EventPath}
 
@@ -25,12 +26,14 @@ module _ {settings : Settings} {timer : Timer} {first : Option Id} {calls : List
         (λ row. IsTrue (opens_at level row)
         × (row.span ≡ slice_get (path_of (forest_at e) i) level)))
 
--- Whatever run that began empty the text is the readable drawing of: where the law on ancestors
--- holds of it, the ancestors of each event in its current span are found.
+-- The text is the readable drawing of a run that began empty, with `span_retrace` or
+-- `deferred_spans`, and with `close_retrace` or no close off the last path: the ancestors of each
+-- event in its current span are found.
 abbrev pub FindsInRuns : ℕ → List ℕ → List EventPath → Type 0
 FindsInRuns amount text paths =
     (settings : Settings) (timer : Timer) (first : Option Id) (calls : List Call) →
     IsDrawing amount text settings (rows_of settings timer first calls) →
-    AncestorsLaw settings timer first calls →
+    IsTrue (retraces settings) →
+    IsTrue (settings.close_retrace || run_is_on_path settings timer (opening_state first) calls) →
     (e : EventInRun settings timer first calls) (i : Id) → IsInCurrent e i →
     FindsAncestors e i paths

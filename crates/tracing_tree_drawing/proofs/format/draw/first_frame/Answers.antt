@@ -1,34 +1,36 @@
-use Rattle.std.proofs.Common.{◌≡◌, ◌∙◌, ◌/◌, ◌-◌, ◌++◌, ℕ, [], List, ap, sym, refl, inl, inr, append_assoc}
+use Rattle.std.proofs.Common.{◌≡◌, ◌∙◌, ◌+◌, ◌++◌, ℕ, [], List, ap, sym, refl, inl, inr, append_assoc}
 use Rattle.std.proofs.lemmas.List.{append-nil}
 use Rattle.std.specs.Char.{encode_utf8}
-use Rattle.tracing_tree_drawing.specs.Format.Picture.{branch, corner_up_right, corner_down_left, corner_down_right, corner_up_left, horizontal}
+use Rattle.std.specs.List.{repeat}
+use Rattle.tracing_tree_drawing.specs.declared.format.SpanMode.TheVariants.{Event}
+use Rattle.tracing_tree_drawing.specs.Format.Picture.{columns, corners, first_frame, space, branch, corner_up_right, corner_down_left, corner_down_right, corner_up_left, horizontal}
 use Rattle.tracing_tree_drawing.specs.Format.Frames.{frame_pieces}
-use Rattle.tracing_tree_drawing.proofs.FrameTexts.{parent-pieces, open-pieces, retrace-pieces, close-pieces, branched-pieces}
+use Rattle.tracing_tree_drawing.proofs.FrameTexts.{span-pieces}
 use Rattle.tracing_tree_drawing.proofs.format.draw.first_frame.Goals as goal
 
 pub returns-in-PreOpen : goal.returns-in-PreOpen
 unfolding encode_utf8
 returns-in-PreOpen c =
     rw c.in-PreOpen.is (c.corners.ensures
-    ∙ parent-pieces corner_up_right corner_down_left c.args.before c.max.result (c.args.amount / 2) c.max.ensures)
+    ∙ ap (λ apart. corners corner_up_right corner_down_left c.args.before (c.args.before + apart)) c.max.ensures)
 
 pub returns-in-PostClose : goal.returns-in-PostClose
 unfolding encode_utf8
 returns-in-PostClose c =
     rw c.in-PostClose.is (c.corners-in-PostClose.ensures
-    ∙ parent-pieces corner_down_right corner_up_left c.args.before c.max.result (c.args.amount / 2) c.max.ensures)
+    ∙ ap (λ apart. corners corner_down_right corner_up_left c.args.before (c.args.before + apart)) c.max.ensures)
 
 pub returns-in-Open : goal.returns-in-Open
 unfolding encode_utf8
 returns-in-Open c = elim c.in-Open.is [
-  | inl h ↦ rw h (c.span-in-Open.ensures ∙ open-pieces c.in-Open.verbose c.args.amount c.args.before c.requires.amount)
-  | inr h ↦ rw h (c.span-in-Open.ensures ∙ retrace-pieces c.in-Open.verbose c.args.amount c.args.before c.requires.amount)
+  | inl h ↦ rw h (c.span-in-Open.ensures ∙ span-pieces corner_up_right corner_down_left c.in-Open.verbose c.args.amount c.args.before)
+  | inr h ↦ rw h (c.span-in-Open.ensures ∙ span-pieces corner_up_right corner_down_left c.in-Open.verbose c.args.amount c.args.before)
 ]
 
 pub returns-in-Close : goal.returns-in-Close
 unfolding encode_utf8
 returns-in-Close c =
-    rw c.in-Close.is (c.span.ensures ∙ close-pieces c.in-Close.verbose c.args.amount c.args.before c.requires.amount)
+    rw c.in-Close.is (c.span.ensures ∙ span-pieces corner_down_right corner_up_left c.in-Close.verbose c.args.amount c.args.before)
 
 pub corners-requires-clause-near : goal.corners-requires-clause-near
 unfolding encode_utf8
@@ -47,18 +49,16 @@ unfolding encode_utf8
 span-requires-in-Open-clause-near c = refl
 
 -- a branch and one column of its line
-near-branch : (before : ℕ) (left line : List ℕ) → frame_pieces before (left ++ line) [] 0 [] ≡ frame_pieces before left line 1 []
+near-branch : (before : ℕ) (left line : List ℕ) → frame_pieces before (left ++ line) [] 0 [] ≡ columns before space ++ left ++ repeat 1 line
 near-branch before left line = simp (append-nil, append_assoc)
 
 pub returns-in-Event : goal.returns-in-Event
 unfolding encode_utf8
 returns-in-Event c =
-    let pieces = λ (amount : ℕ). frame_pieces c.args.before (encode_utf8 branch) (encode_utf8 horizontal) (amount - 1) [] in
     rw c.in-Event.is (c.plain.ensures
     ∙ near-branch c.args.before (encode_utf8 branch) (encode_utf8 horizontal)
-    ∙ ap pieces (sym c.if-amount-eq2.true)
-    ∙ branched-pieces c.args.before c.args.amount c.requires.amount)
+    ∙ ap (λ amount. first_frame Event amount c.args.before) (sym c.if-amount-eq2.true))
 
 pub returns-in-Event-2 : goal.returns-in-Event-2
 unfolding encode_utf8
-returns-in-Event-2 c = rw c.in-Event-2.is (branched-pieces c.args.before c.args.amount c.requires.amount)
+returns-in-Event-2 c = rw c.in-Event-2.is (append-nil (first_frame Event c.args.amount c.args.before))

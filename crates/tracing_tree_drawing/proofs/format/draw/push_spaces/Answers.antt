@@ -1,8 +1,7 @@
-use Rattle.std.proofs.Common.{◌≡◌, ◌∷◌, [], ◌∙◌, arith, rules}
-use Rattle.std.specs.List.{repeat}
+use Rattle.std.proofs.Common.{◌≡◌, ◌∙◌, arith, rules}
 use Rattle.std.proofs.lemmas.Str.{IsCharBoundary-from_ascii}
 use Rattle.std.specs.Prelude.{replicate}
-use Rattle.tracing_tree_drawing.specs.Format.Picture.{space}
+use Rattle.tracing_tree_drawing.specs.Format.Picture.{columns, space}
 use Rattle.tracing_tree_drawing.proofs.Spaces.{ready-spaces, ascii-spaces}
 use Rattle.tracing_tree_drawing.proofs.format.draw.push_spaces.Goals as goal
 
@@ -11,6 +10,6 @@ range-requires-clause-end_boundary c = IsCharBoundary-from_ascii (replicate 64 s
 
 pub returns-clause-ok : goal.returns-clause-ok
 returns-clause-ok c =
-    let same : c.range.result.now ≡ repeat c.args.count (space ∷ []) =
+    let same : c.range.result.now ≡ columns c.args.count space =
     c.range.ensures.value ∙ ready-spaces 64 c.args.count c.if-count.false in
     search rules

@@ -1,6 +1,6 @@
 use Rattle.std.proofs.Common.{◌≡◌, ◌==◌, ◌∙◌, ◌+◌, ◌++◌, ◌∷◌, [], ◌<◌, List, ℕ, String, Global, ap, sym, map, length, take, string_bytes, arith, ne_eqb, if◌then◌else◌}
 use Rattle.std.proofs.lemmas.List.{take_more, take_all, map-append, length-map, length-take-le}
-use Rattle.tracing_tree_drawing.specs.Format.Picture.{frame_text, lined_frame}
+use Rattle.tracing_tree_drawing.specs.Format.Picture.{lined_frame}
 use Rattle.tracing_tree_drawing.specs.Rows.RowText.{ended, mode_of}
 use Rattle.tracing_tree_drawing.proofs.RowsRead.RowLines.{framed_lines, row_text-lines}
 use Rattle.tracing_tree_drawing.proofs.RowsRead.DrawnRows.{line-pushed}
@@ -20,13 +20,13 @@ loop-line-preserved c =
     ap (map (λ s. string_bytes s)) (take_more items i c.line-item.result within)
     ∙ map-append (λ s. string_bytes s) (take i items) _
     ∙ ap (λ (s : String Global). before ++ string_bytes s ∷ []) (sym c.line-item.is) in
-    let frame : List ℕ = frame_text (lined_frame (mode_of shape) c.args.amount level (if c.loop-line.first then 0 else 1)) in
+    let frame : List ℕ = lined_frame (mode_of shape) c.args.amount level (if c.loop-line.first then 0 else 1) in
     let place : ℕ = if c.loop-line.first then 0 else 1 in
     let mode : c.mode_of-mode.result ≡ mode_of shape = c.mode_of-mode.ensures ∙ ap mode_of c.shape.ensures.shape in
     let framed : string_bytes c.push_frame.new.out ≡ string_bytes c.loop-line.out ++ frame =
     c.in_ok-push_frame.ensures.ok
-    ∙ ap (λ m. string_bytes c.loop-line.out ++ frame_text (lined_frame m c.args.amount c.level-level.result place)) mode
-    ∙ ap (λ n. string_bytes c.loop-line.out ++ frame_text (lined_frame (mode_of shape) c.args.amount n place)) c.level-level.ensures in
+    ∙ ap (λ m. string_bytes c.loop-line.out ++ lined_frame m c.args.amount c.level-level.result place) mode
+    ∙ ap (λ n. string_bytes c.loop-line.out ++ lined_frame (mode_of shape) c.args.amount n place) c.level-level.ensures in
     let start : List ℕ = string_bytes c.args.out.now in
     let whole : string_bytes c.push_str-in-loop-line.new.self
     ≡ (((start ++ ended (framed_lines c.args.amount shape level before)) ++ frame) ++ text) ++ 10 ∷ [] =

@@ -1,11 +1,13 @@
-use Rattle.std.proofs.Common.{◌≡◌, ◌∙◌, ◌*◌, ℕ, List, [], Bor, refl, sym, ap}
+use Rattle.std.proofs.Common.{◌≡◌, ◌∙◌, ◌+◌, ◌*◌, ℕ, List, [], Bor, refl, sym, ap}
+use Rattle.std.specs.Char.{encode_utf8}
 use Rattle.tracing_tree_drawing.specs.Format.Frames.{frame_pieces}
-use Rattle.tracing_tree_drawing.specs.Format.Picture.{wrapped_level}
-use Rattle.tracing_tree_drawing.proofs.FrameTexts.{unlined-frame}
+use Rattle.tracing_tree_drawing.specs.Format.Picture.{columns, space, wrapped_level}
+use Rattle.tracing_tree_drawing.proofs.FrameTexts.{blank-pieces}
 use Rattle.tracing_tree_drawing.proofs.format.draw.RowDrawing.frame.Goals as goal
 use Rattle.tracing_tree_drawing.proofs.format.draw.RowDrawing.frame.Goals.{then-first, else-first}
 
 pub returns-then-not-indent_lines : goal.returns-then-not-indent_lines
+unfolding encode_utf8
 returns-then-not-indent_lines c =
     let self = c.args.self.now in
     let settings = self.config.now in
@@ -14,9 +16,10 @@ returns-then-not-indent_lines c =
     rw (c.wrapped_level-wrapped.ensures.value, c.indent_amount-amount.ensures) refl in
     let unlined = sym c.indent_lines.ensures ∙ c.if-not-indent_lines.true in
     let pieces = λ (branch : Bor (List ℕ)). frame_pieces spaces branch.now [] 0 [] in
+    let whole = λ (more : ℕ). blank-pieces spaces more ∙ ap (λ width. columns (width + more) space) indent in
     elim c.if-first.branch [
       | then-first w ↦
-          rw w.if-first.true (c.plain.ensures ∙ ap pieces w.plain-is ∙ unlined-frame settings self.mode self.level 0 spaces 1 unlined indent refl)
+          rw (w.if-first.true, unlined) (c.plain.ensures ∙ ap pieces w.plain-is ∙ whole 1)
       | else-first w ↦
-          rw w.if-first.false (c.plain.ensures ∙ ap pieces w.plain-is ∙ unlined-frame settings self.mode self.level 1 spaces 3 unlined indent refl)
+          rw (w.if-first.false, unlined) (c.plain.ensures ∙ ap pieces w.plain-is ∙ whole 3)
     ]

@@ -1,0 +1,14 @@
+//! The frames of lines.
+
+ghost use Rattle.std.specs.Prelude.{ℕ, ◌≡◌};
+ghost use Rattle.tracing_tree_drawing.specs.Format.Picture.{lined_frame};
+ghost use Rattle.tracing_tree_drawing.specs.declared.format.SpanMode.{SpanMode};
+ghost use Rattle.tracing_tree_laws.specs.Columns.{columns_text, lined_columns};
+
+/// Where rows are drawn with lines, the frame of a line is the text of its columns: `lined_columns` says how many there are, and
+/// which character stands in each.
+pub fn frames_are_their_columns()
+    ensures { (mode : SpanMode) (amount wrapped place : ℕ) →
+        lined_frame mode amount wrapped place
+        ≡ columns_text (lined_columns mode amount wrapped place) }
+{}
