@@ -312,8 +312,8 @@ class Trial:
         return near[0] if len(near) == 1 else None
 
     def check_edited(self, edits):
-        """Checks the crate with these edits: the functions that have them and what these call, since who calls an edited function is checked
-        again for nothing; or all functions where one of these can't be named."""
+        """Checks the edited functions and what they call. A check of the whole crate would try each caller of an edited function again, and
+        show nothing by it; it is made only where an edited function can't be named."""
         texts, names = edited(self.crate, edits), [self.name_of(it.body) for it in edits]
         only = [word for it in names for word in ("--only", it)] if all(names) else []
         return self.over_kept(lambda kept: self.rt.checked(self.crate, texts, ["--jobs", "1", *only], kept))

@@ -268,7 +268,7 @@ END
     many_spans "$long_spans"
 }
 
-# So many spans side by side, the last of them first, and in one another.
+# As many spans as the first argument says: side by side, the last of them first, and in one another.
 many_spans() {
     python3 -c 'print("[" + ",".join("{\"ph\":\"X\",\"ts\":%d,\"dur\":1,\"name\":\"s\"}" % (n * 2) for n in reversed(range('"$1"'))) + "]")' > "$room/wide"
     python3 -c 'print("┐s time=1.000μs\n┘\n" * '"$1"', end="")' > "$room/want"

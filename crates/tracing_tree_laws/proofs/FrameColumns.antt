@@ -74,7 +74,7 @@ corner_columns-line left right from to k h e = grind (arith, nat_tests)
 corner_columns-right : (left right from to : ℕ) → from < to → (corner_columns left right from to).glyph to ≡ right
 corner_columns-right left right from to e = grind (arith, nat_tests)
 
--- two corners, so many columns apart
+-- two corners with `filled` columns between them
 filled-text : (left right from filled : ℕ) →
     columns_text (corner_columns left right from (from + 1 + filled))
     ≡ columns from space ++ encode_utf8 left ++ columns filled horizontal ++ encode_utf8 right
@@ -129,7 +129,7 @@ branch_columns-spaces from width k h = grind (arith, nat_tests)
 branch_columns-branch : (from width : ℕ) → (branch_columns from width).glyph from ≡ branch
 branch_columns-branch from width = grind (arith, nat_tests)
 
--- behind a branch stands the line
+-- after a branch stands the line
 branch_columns-line : (from width k : ℕ) → from < k → (branch_columns from width).glyph k ≡ horizontal
 branch_columns-line from width k h = grind (arith, nat_tests)
 
@@ -154,7 +154,7 @@ bar_columns-spaces from amount k h = grind (arith, nat_tests)
 bar_columns-bar : (from amount : ℕ) → (bar_columns from amount).glyph from ≡ vertical
 bar_columns-bar from amount = grind (arith, nat_tests)
 
--- behind a bar stand spaces too
+-- after a bar stand spaces too
 bar_columns-after : (from amount k : ℕ) → from < k → (bar_columns from amount).glyph k ≡ space
 bar_columns-after from amount k h = grind (arith, nat_tests)
 

@@ -5,7 +5,7 @@ use Rattle.tracing_tree_drawing.specs.Format.Picture.{space, horizontal, vertica
 use Rattle.tracing_tree_drawing.specs.declared.format.SpanMode.{SpanMode}
 use Rattle.tracing_tree_drawing.specs.declared.format.SpanMode.TheVariants.{PreOpen, Open, Close, Retrace, PostClose, Event}
 
--- so many columns, and the character in each, counted from 0
+-- how many columns there are, and the character in each, counted from 0
 pub record FrameColumns : Type 0 where
   pub width : ℕ
   pub glyph : ℕ → ℕ

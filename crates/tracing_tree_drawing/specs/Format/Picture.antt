@@ -77,7 +77,7 @@ corner_up_left = 0x2518
 abbrev pub branch : ℕ
 branch = 0x251C
 
--- so many columns of one character
+-- `many` columns of one character
 abbrev pub columns : ℕ → ℕ → List ℕ
 columns many character = repeat many (encode_utf8 character)
 
