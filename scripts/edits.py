@@ -1,5 +1,5 @@
 #!/usr/bin/env python3
-"""Tries the edits that the prover must refuse, many in one check: edits.py [--plan] [--lanes N] [--sample N] [CRATE..]
+"""Tries the edits that the prover must refuse, many in one check: edits.py [--plan] [--lanes N] [--sample N] [--anew] [CRATE..]
 
 The proof of a function rests on the contracts of what it calls, and not on their bodies. So edits of several bodies go into one check of a
 copy of the crate, a round, with at most one edit a function. An edit is refused where its own function fails at a goal of its own; that
@@ -8,9 +8,12 @@ outside a function, and one that doesn't compile among the others. An edit that 
 prover, or only since a proof file names what it took away, has failed, and so has one that is proved or doesn't apply. harmless.edit
 changes no meaning: it is tried as the others are, and must be let through, else no refusal shows anything.
 
+A refusal is kept on this machine, under a sum of all that it rests on: the kit, the crate and those below it, the edit, and this file. An
+edit whose refusal is kept isn't tried again, unless --anew is given.
+
 It prints a line for each edit, and last 'edits: N passed, M failed'. --plan prints the rounds alone. --sample N tries N of the edits that
 a round refused alone too, and an edit of which `rt must-fail` says otherwise has failed."""
-import argparse, concurrent.futures, importlib.machinery, importlib.util, os, re, shutil, subprocess, sys, tempfile, threading, time
+import argparse, concurrent.futures, hashlib, importlib.machinery, importlib.util, os, re, shutil, subprocess, sys, tempfile, threading, time
 from collections import Counter, defaultdict
 from dataclasses import dataclass
 
@@ -32,6 +35,8 @@ ENDED = re.compile(r"(?m)^(logic=not-proved|only=\d+ proved=)")
 # What antt says of a proof that names what an edit took away. It is no answer about a contract.
 NAMES = re.compile(r"has no field|is not in scope|has no `|was not admitted|cannot continue|expected the end")
 ONLY_NAMES = "only because a proof file names what the edit took away"
+# What stands before a refusal that an earlier run kept.
+KEPT = "kept: "
 # What `rt must-fail` says of an edit with which the crate is still proved.
 LET_THROUGH = "NOT REFUSED"
 # The edit that must be let through, and its crate.
@@ -90,7 +95,7 @@ def kit():
     made = importlib.util.module_from_spec(importlib.util.spec_from_loader("kit_rt", loader))
     sys.modules["kit_rt"] = made
     loader.exec_module(made)
-    wanted = ("checked", "linked", "must_fail", "read_edit", "rtlib", "REFUSED")
+    wanted = ("checked", "linked", "must_fail", "read_edit", "rtlib", "stamp_of", "Kept", "REFUSED")
     if not all(hasattr(made, it) for it in wanted):
         sys.exit(f"edits: this kit's rt lacks one of {', '.join(wanted)}: edits.py was written for the kit that README names")
     return made
@@ -269,20 +274,45 @@ def goals_in(output, bodies):
     return own, strange
 
 
+class Refusals:
+    """What earlier runs on this machine refused, in the store in which the kit keeps the results of `rt ci`."""
+
+    def __init__(self, rt, crates, is_anew):
+        self.rt, self.store = rt, rt.Kept(crates, is_anew)
+        self.own = hashlib.sha256(read(os.path.abspath(__file__))).hexdigest()
+
+    def name_of(self, crate, edit):
+        """Returns the name under which an edit's refusal is kept: a sum of all that it rests on."""
+        return self.store.of_edit(edit.path, (self.own, self.rt.stamp_of(crate, {})))
+
+    def known(self, crate, edit):
+        """Returns what was said when the edit was refused, or None if that isn't kept."""
+        kind, why = self.store.tried(self.name_of(crate, edit)) or (None, None)
+        return why if kind == self.rt.REFUSED else None
+
+    def keep(self, crate, verdict):
+        """Keeps a refusal, unless a file that it rests on was touched since this run began."""
+        if verdict.is_refused and all(self.store.is_untouched(it) for it in (crate, *crate.below())):
+            self.store.keep_tried(self.name_of(crate, verdict.edit), self.rt.REFUSED, verdict.why)
+
+
 class Trial:
     """The edits of one crate: the check without an edit, whose work the others are done over, the rounds, and the edits alone."""
 
-    def __init__(self, rt, crate, folder, room, say):
+    def __init__(self, rt, crate, folder, room, say, known=lambda edit: None):
         self.rt, self.crate, self.room, self.say = rt, crate, room, say
         self.bodies = all_bodies(rt, crate)
         self.edits = edits_of(crate, folder, self.bodies)
-        self.rounds, self.alone = rounds_of(self.edits)
+        told = {it: known(it) for it in self.edits}
+        self.refused = [Verdict(it, True, f"{KEPT}{why}") for it, why in told.items() if why]
+        self.rounds, self.alone = rounds_of([it for it in self.edits if not told[it]])
         self.kept = f"{room}/{crate.name}"
         # The names of the crate's functions, once they are proved.
         self.functions = []
 
     def plan(self):
-        return f"{self.crate.name}: {len(self.edits)} edits, in rounds of {[len(it) for it in self.rounds]}, and {len(self.alone)} alone"
+        kept = f", and {len(self.refused)} whose refusal is kept" if self.refused else ""
+        return f"{self.crate.name}: {len(self.edits)} edits, in rounds of {[len(it) for it in self.rounds]}, {len(self.alone)} alone{kept}"
 
     def check_unchanged(self):
         """Returns whether the crate is proved without an edit."""
@@ -362,8 +392,9 @@ def available():
 class Edits:
     """All edits of crates, tried in lanes. A crate's are tried once it is handed in, with all that it stands on built."""
 
-    def __init__(self, rt, lanes, say, sample=0):
+    def __init__(self, rt, crates, lanes, say, sample=0, is_anew=False):
         self.rt, self.say, self.sample = rt, say, sample
+        self.refusals = Refusals(rt, crates, is_anew)
         self.room = tempfile.TemporaryDirectory(prefix="edits-")
         self.pool = concurrent.futures.ThreadPoolExecutor(lanes)
         self.trials, self.tasks, self.verdicts, self.bad = [], [], [], []
@@ -371,10 +402,13 @@ class Edits:
 
     def take(self, crate, folder):
         """Tries a crate's edits, in the background."""
-        trial = Trial(self.rt, crate, folder, self.room.name, self.say)
+        trial = Trial(self.rt, crate, folder, self.room.name, self.say, lambda edit: self.refusals.known(crate, edit))
         self.trials.append(trial)
         self.say(trial.plan())
-        self.start(self.run, trial)
+        self.verdicts += trial.refused
+        # The harmless edit is tried by each run.
+        if trial.rounds or trial.alone or crate.name == ITS_CRATE:
+            self.start(self.run, trial)
 
     def start(self, call, *given):
         with self.lock:
@@ -396,12 +430,12 @@ class Edits:
         refused, left = trial.try_round(edits)
         self.say(f"{trial.crate.name} round {n + 1} of {len(trial.rounds)}: {len(refused)} of {len(edits)} refused", start)
         for it in refused:
-            self.add(it)
+            self.add(trial, it)
         for it in left:
-            self.add(trial.try_alone(it))
+            self.alone(trial, it)
 
     def alone(self, trial, edit):
-        self.add(trial.try_alone(edit))
+        self.add(trial, trial.try_alone(edit))
 
     def try_harmless(self, trial):
         """Tries the edit that changes no meaning as the others are tried. It fails all where it isn't let through."""
@@ -413,7 +447,8 @@ class Edits:
         if not is_well:
             self.bad.append("harmless.edit is not let through")
 
-    def add(self, verdict):
+    def add(self, trial, verdict):
+        self.refusals.keep(trial.crate, verdict)
         with self.lock:
             self.verdicts.append(verdict)
         self.say(f"must-fail {verdict.edit.name}: {'' if verdict.is_refused else 'FAILED: '}{verdict.why[:240]}")
@@ -460,11 +495,13 @@ def main():
     asked.add_argument("--plan", action="store_true")
     asked.add_argument("--lanes", type=int, default=len(os.sched_getaffinity(0)))
     asked.add_argument("--sample", type=int, default=0)
+    asked.add_argument("--anew", action="store_true")
     asked.add_argument("crates", nargs="*")
     asked = asked.parse_args()
     rt = kit()
     rt.rtlib.guarded()
-    crates = [it for it in rt.rtlib.crates_below(TOP) if os.path.isdir(folder_of(it))]
+    every = rt.rtlib.crates_below(TOP)
+    crates = [it for it in every if os.path.isdir(folder_of(it))]
     unknown = set(asked.crates) - {it.name for it in crates}
     if unknown:
         sys.exit(f"edits: no crate with edits is named {', '.join(sorted(unknown))}")
@@ -474,7 +511,7 @@ def main():
             for it in crates:
                 say(Trial(rt, it, folder_of(it), room, say).plan())
         return 0
-    edits = Edits(rt, asked.lanes, say, asked.sample)
+    edits = Edits(rt, every, asked.lanes, say, asked.sample, asked.anew)
     for crate in crates:
         if any(dep.build_rlib(["--jobs", "1"], anew=False) for dep in crate.below()):
             return 1

@@ -6,8 +6,8 @@ proved and built, and the runs of these programs, some on random inputs: gate.py
 libraries that `rt ci` has just proved. Edits take only the processor time that `rt ci` leaves. Everything that is said goes to bin/gate.log
 too. The last line is 'N passed, M failed'.
 
-Some kits' `rt ci` doesn't prove again what an earlier run of it on the machine proved of the same files, unless --anew is given. The others
-prove all from nothing each time."""
+What an earlier run on the machine proved or refused of the same files, over the same kit, isn't tried again, unless --anew is given. Some
+kits' `rt ci` keeps no proofs: they prove all from nothing each time."""
 import argparse, concurrent.futures, os, re, shutil, subprocess, sys, tempfile, threading, time
 
 import edits as edit_trials
@@ -44,9 +44,9 @@ class Gate:
         knows_anew = b"--anew" in edit_trials.read(shutil.which("rt"))
         self.proving = ["rt", "ci", *["--anew"] * (is_anew and knows_anew)]
         self.passed, self.failed, self.proved, self.counting = 0, [], 0, threading.Lock()
-        lanes = len(os.sched_getaffinity(0))
-        self.edits = edit_trials.Edits(rt, lanes, say, sample)
         self.crates = {it.name: it for it in rt.rtlib.crates_below(room)}
+        lanes = len(os.sched_getaffinity(0))
+        self.edits = edit_trials.Edits(rt, self.crates.values(), lanes, say, sample, is_anew)
         self.handed_in = set()
 
     def count(self, step, passed, failed, start):
