@@ -32,20 +32,20 @@ pub const LINED: Settings = Settings {
     close_retrace: false,
 };
 
-/// A layered over memory.
+/// A layered over memory. It is boxed, since each step of a test is proved over all that its own values hold.
 #[derive(Drop)]
 pub struct Tree {
-    layered: Layered<Tape, ()>,
+    layered: Box<Layered<Tape, ()>>,
 }
 
 impl Tree {
     /// No calls yet; the first id is 1.
-    pub fn new(alloc: Global, settings: Settings) -> Tree {
+    pub fn new(alloc: Global, settings: Settings) -> Result<Tree, AllocError> {
         Tree::starting_at(alloc, 1, settings)
     }
 
     /// No calls yet; the first id is this.
-    pub fn starting_at(alloc: Global, first: u64, settings: Settings) -> Tree {
+    pub fn starting_at(alloc: Global, first: u64, settings: Settings) -> Result<Tree, AllocError> {
         let layer = HierarchicalLayer::new(alloc, settings.amount, false, Tape::new(alloc))
             .with_indent_lines(settings.lines)
             .with_span_modes(settings.span_modes)
@@ -54,9 +54,8 @@ impl Tree {
             .with_deferred_spans(settings.deferred_spans)
             .with_span_retrace(settings.span_retrace)
             .with_close_retrace(settings.close_retrace);
-        Tree {
-            layered: Layered::starting_at(alloc, first, layer),
-        }
+        let layered = Box::new(alloc, Layered::starting_at(alloc, first, layer))?;
+        Ok(Tree { layered })
     }
 
     /// Runs the calls of these steps.
@@ -91,7 +90,7 @@ impl Tree {
 
 /// What is drawn of these steps, all of which are to be accepted. Where one is refused, a text that says so.
 pub fn drawn(alloc: Global, settings: Settings, steps: &[Step<'_>]) -> Result<String, AllocError> {
-    let mut tree = Tree::new(alloc, settings);
+    let mut tree = Tree::new(alloc, settings)?;
     let answers = tree.run(alloc, steps)?;
     if answers.iter().any(|answer| answer.is_err()) {
         return String::from_str(alloc, "a call is refused");

@@ -26,7 +26,7 @@ fn drawing(
     settings: Settings,
     steps: &[(Step<'_>, Answer)],
 ) -> Result<Drawing, AllocError> {
-    let mut tree = Tree::new(alloc, settings);
+    let mut tree = Tree::new(alloc, settings)?;
     let unlike = tree.first_unlike(alloc, steps)?;
     Ok((unlike, tree.text().to_vec(alloc)?, tree.failed()))
 }

@@ -76,15 +76,48 @@ fn takes_a_span_back(rt: HostRuntime) -> Result<(), Fail> {
     Ok(())
 }
 
-#[test]
-fn makes_data(rt: HostRuntime) -> Result<(), Fail> {
-    let alloc = rt.alloc();
+// What is kept with a new span that has one field.
+fn data(alloc: Global) -> Result<Data, AllocError> {
     let mut made = attributes(alloc, "a", Parent::Root)?;
     made.fields = recorded(alloc, "k", "1")?;
-    let data = Data::new(&made, 7, true)?;
-    assert_eq!(rt; data.start, 7);
-    assert_eq!(rt; data.written, true);
-    assert_eq!(rt; data.fields == made.fields, true);
+    Data::new(&made, 7, true)
+}
+
+#[test]
+fn makes_data(rt: HostRuntime) -> Result<(), Fail> {
+    let data = data(rt.alloc())?;
+    assert_eq!(rt; (data.start, data.written), (7, true));
+    let fields = recorded(rt.alloc(), "k", "1")?;
+    assert_eq!(rt; data.fields == fields, true);
+    Ok(())
+}
+
+// A run of these steps is answered so, and draws this.
+fn runs(
+    rt: &impl Abort,
+    alloc: Global,
+    settings: Settings,
+    steps: &[Step<'_>],
+    answers: &[Answer],
+    text: &str,
+) -> Result<(), Fail> {
+    let mut tree = Tree::new(alloc, settings)?;
+    let answered = tree.run(alloc, steps)?;
+    assert_eq!(rt; answered.as_slice(), answers);
+    assert_eq!(rt; tree.text(), text.as_bytes());
+    Ok(())
+}
+
+// Each of these steps is answered as it stands beside it, and they draw this.
+fn answers(
+    rt: &impl Abort,
+    alloc: Global,
+    steps: &[(Step<'_>, Answer)],
+    text: &str,
+) -> Result<(), Fail> {
+    let mut tree = Tree::new(alloc, LINED)?;
+    assert_eq!(rt; tree.first_unlike(alloc, steps)?, None);
+    assert_eq!(rt; tree.text(), text.as_bytes());
     Ok(())
 }
 
@@ -109,12 +142,8 @@ const CLONED_ANSWERS: [Answer; 6] = [
 #[test]
 fn a_clone_keeps_a_span(rt: HostRuntime) -> Result<(), Fail> {
     let text = "┐a \n└─┐b \n┌─┘\n┘\n";
-    let alloc = rt.alloc();
-    let mut tree = Tree::new(alloc, LINED);
-    let answers = tree.run(alloc, CLONED.as_slice())?;
-    assert_eq!(rt; answers.as_slice(), CLONED_ANSWERS.as_slice());
-    assert_eq!(rt; tree.text(), text.as_bytes());
-    Ok(())
+    let answers = CLONED_ANSWERS.as_slice();
+    runs(&rt, rt.alloc(), LINED, CLONED.as_slice(), answers, text)
 }
 
 const HELD_BY_A_CHILD: [(Step<'static>, Answer); 5] = [
@@ -127,11 +156,8 @@ const HELD_BY_A_CHILD: [(Step<'static>, Answer); 5] = [
 
 #[test]
 fn a_span_held_by_its_child_is_cloned(rt: HostRuntime) -> Result<(), Fail> {
-    let alloc = rt.alloc();
-    let mut tree = Tree::new(alloc, LINED);
-    assert_eq!(rt; tree.first_unlike(alloc, HELD_BY_A_CHILD.as_slice())?, None);
-    assert_eq!(rt; tree.text(), "┐a \n└─┐b \n┌─┘\n".as_bytes());
-    Ok(())
+    let text = "┐a \n└─┐b \n┌─┘\n";
+    answers(&rt, rt.alloc(), HELD_BY_A_CHILD.as_slice(), text)
 }
 
 const NAMED_PARENTS: [(Step<'static>, Answer); 6] = [
@@ -155,11 +181,7 @@ const NAMED_PARENTS: [(Step<'static>, Answer); 6] = [
 #[test]
 fn parents_are_named(rt: HostRuntime) -> Result<(), Fail> {
     let text = "┐a \n┐b \n└─┐c \n  ├─ INFO x\n INFO x\n";
-    let alloc = rt.alloc();
-    let mut tree = Tree::new(alloc, LINED);
-    assert_eq!(rt; tree.first_unlike(alloc, NAMED_PARENTS.as_slice())?, None);
-    assert_eq!(rt; tree.text(), text.as_bytes());
-    Ok(())
+    answers(&rt, rt.alloc(), NAMED_PARENTS.as_slice(), text)
 }
 
 const RECORDS: [Step<'static>; 5] = [
@@ -181,16 +203,12 @@ const RECORDS_ANSWERS: [Answer; 5] = [
 #[test]
 fn fields_are_recorded(rt: HostRuntime) -> Result<(), Fail> {
     let text = "┐a \n┘a k=1, k=2\n";
-    let alloc = rt.alloc();
     let settings = Settings {
         verbose_exit: true,
         ..LINED
     };
-    let mut tree = Tree::new(alloc, settings);
-    let answers = tree.run(alloc, RECORDS.as_slice())?;
-    assert_eq!(rt; answers.as_slice(), RECORDS_ANSWERS.as_slice());
-    assert_eq!(rt; tree.text(), text.as_bytes());
-    Ok(())
+    let answers = RECORDS_ANSWERS.as_slice();
+    runs(&rt, rt.alloc(), settings, RECORDS.as_slice(), answers, text)
 }
 
 // Each call that needs a live span, here this one, which isn't live.
@@ -220,9 +238,5 @@ fn odd_steps(alloc: Global) -> Result<Vec<(Step<'static>, Answer)>, AllocError> 
 #[test]
 fn odd_ids_are_not_held(rt: HostRuntime) -> Result<(), Fail> {
     let steps = odd_steps(rt.alloc())?;
-    let alloc = rt.alloc();
-    let mut tree = Tree::new(alloc, LINED);
-    assert_eq!(rt; tree.first_unlike(alloc, steps.as_slice())?, None);
-    assert_eq!(rt; tree.text(), "┐a \n┘\n┐b \n".as_bytes());
-    Ok(())
+    answers(&rt, rt.alloc(), steps.as_slice(), "┐a \n┘\n┐b \n")
 }

@@ -29,7 +29,7 @@ const TREE_ANSWERS: [Answer; 5] = [
 #[test]
 fn draws_a_tree(rt: HostRuntime) -> Result<(), Fail> {
     let alloc = rt.alloc();
-    let mut tree = Tree::new(alloc, LINED);
+    let mut tree = Tree::new(alloc, LINED)?;
     let answers = tree.run(alloc, TREE.as_slice())?;
     assert_eq!(rt; answers.as_slice(), TREE_ANSWERS.as_slice());
     let text = "┐a \n└─┐b \n  ├─ WARN x\n┌─┘\n┘\n";
@@ -67,7 +67,7 @@ fn draws_many_spans(rt: HostRuntime) -> Result<(), Fail> {
 #[test]
 fn runs_no_calls(rt: HostRuntime) -> Result<(), Fail> {
     let alloc = rt.alloc();
-    let mut tree = Tree::new(alloc, LINED);
+    let mut tree = Tree::new(alloc, LINED)?;
     assert_eq!(rt; tree.run(alloc, &[])?.is_empty(), true);
     Ok(())
 }
@@ -80,7 +80,7 @@ const PAST_THE_LAST_ID: [(Step<'static>, Answer); 2] = [
 #[test]
 fn gives_out_the_greatest_id(rt: HostRuntime) -> Result<(), Fail> {
     let alloc = rt.alloc();
-    let mut tree = Tree::starting_at(alloc, u64::MAX, LINED);
+    let mut tree = Tree::starting_at(alloc, u64::MAX, LINED)?;
     answers(&rt, alloc, &mut tree, PAST_THE_LAST_ID.as_slice(), "┐a \n")
 }
 
@@ -93,7 +93,7 @@ const NOT_HELD: [(Step<'static>, Answer); 3] = [
 #[test]
 fn refuses_what_is_not_held(rt: HostRuntime) -> Result<(), Fail> {
     let alloc = rt.alloc();
-    let mut tree = Tree::new(alloc, LINED);
+    let mut tree = Tree::new(alloc, LINED)?;
     answers(&rt, alloc, &mut tree, NOT_HELD.as_slice(), "INFO x\n")
 }
 
@@ -108,7 +108,7 @@ const CLOSED_TOGETHER: [(Step<'static>, Answer); 5] = [
 #[test]
 fn closes_a_parent_with_its_child(rt: HostRuntime) -> Result<(), Fail> {
     let alloc = rt.alloc();
-    let mut tree = Tree::new(alloc, LINED);
+    let mut tree = Tree::new(alloc, LINED)?;
     let text = "┐a \n└─┐b \n┌─┘\n┘\n";
     answers(&rt, alloc, &mut tree, CLOSED_TOGETHER.as_slice(), text)?;
     assert_eq!(rt; tree.last_span(), Some(Id(1)));

@@ -1,6 +1,7 @@
 //! A registry of one's own: a single root.
 
 use std::alloc::{AllocError, Global};
+use std::process::Abort;
 use std::test::*;
 use tracing_tree::field::Fields;
 use tracing_tree::format::Id;
@@ -106,13 +107,17 @@ fn marks_and_records(rt: HostRuntime) -> Result<(), Fail> {
     Ok(())
 }
 
-#[test]
-fn shows_its_root(rt: HostRuntime) -> Result<(), Fail> {
-    let alloc = rt.alloc();
-    let lone = Lone::new(alloc, "a")?;
+// It shows its root, and no other span.
+fn shows_one(rt: &impl Abort, alloc: Global, lone: &Lone) -> Result<(), Fail> {
     assert_eq!(rt; lone.path(alloc, Id(1))?.as_slice(), [Id(1)].as_slice());
     assert_eq!(rt; lone.path(alloc, Id(2))?.len(), 0);
     assert_eq!(rt; lone.parent(Id(1)), None);
     assert_eq!(rt; lone.span(Id(1)).ok_or("no span")?.name(), "a");
     Ok(())
+}
+
+#[test]
+fn shows_its_root(rt: HostRuntime) -> Result<(), Fail> {
+    let lone = Lone::new(rt.alloc(), "a")?;
+    shows_one(&rt, rt.alloc(), &lone)
 }

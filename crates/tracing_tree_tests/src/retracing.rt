@@ -166,7 +166,7 @@ fn leaves_the_last_span_after_the_close_of_a_root(rt: HostRuntime) -> Result<(),
         span_retrace: true,
         ..LINED
     };
-    let mut tree = Tree::new(alloc, settings);
+    let mut tree = Tree::new(alloc, settings)?;
     answers(&rt, alloc, &mut tree, CLOSED_ROOT.as_slice(), "┐a \n┘\n")?;
     assert_eq!(rt; tree.last_span(), Some(Id(1)));
     let text = "┐a \n┘\n┐b \n├─ INFO x\n";
@@ -198,7 +198,7 @@ fn refuses_a_row_that_is_too_wide(rt: HostRuntime) -> Result<(), Fail> {
         deferred_spans: true,
         ..LINED
     };
-    let mut tree = Tree::new(alloc, settings);
+    let mut tree = Tree::new(alloc, settings)?;
     answers(&rt, alloc, &mut tree, TOO_WIDE.as_slice(), "")?;
     assert_eq!(rt; tree.last_span(), None);
     assert_eq!(rt; tree.failed(), false);
@@ -233,7 +233,7 @@ const TWO_ROOTS: [Step<'static>; 3] = [
 #[test]
 fn retraces_nothing_unless_it_is_set(rt: HostRuntime) -> Result<(), Fail> {
     let alloc = rt.alloc();
-    let mut tree = Tree::new(alloc, LINED);
+    let mut tree = Tree::new(alloc, LINED)?;
     assert_eq!(rt; tree.run(alloc, TWO_ROOTS.as_slice())?.len(), 3);
     assert_eq!(rt; tree.text(), "┐a \n┐b \n├─ INFO x\n".as_bytes());
     Ok(())

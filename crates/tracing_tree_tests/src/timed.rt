@@ -150,6 +150,17 @@ fn asking(alloc: Global, asked: &Asked) -> Layered<Tape, &Asked> {
     Layered::new(alloc, layer)
 }
 
+// Makes this call.
+fn make(
+    alloc: Global,
+    layered: &mut Layered<Tape, &Asked>,
+    step: Step<'_>,
+) -> Result<(), AllocError> {
+    let calls = vec![in alloc; step.call(alloc)?]?;
+    run(alloc, layered, calls)?;
+    Ok(())
+}
+
 #[test]
 fn asks_the_timer_once_an_event(rt: HostRuntime) -> Result<(), Fail> {
     let alloc = rt.alloc();
@@ -158,7 +169,7 @@ fn asks_the_timer_once_an_event(rt: HostRuntime) -> Result<(), Fail> {
     };
     let mut layered = asking(alloc, &asked);
     for (step, times) in ASKING {
-        run(alloc, &mut layered, vec![in alloc; step.call(alloc)?]?)?;
+        make(alloc, &mut layered, step)?;
         assert_eq!(rt; asked.times.get(), times);
     }
     Ok(())
