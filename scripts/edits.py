@@ -13,7 +13,7 @@ edit whose refusal is kept isn't tried again, unless --anew is given.
 
 It prints a line for each edit, and last 'edits: N passed, M failed'. --plan prints the rounds alone. --sample N tries N of the edits that
 a round refused alone too, and an edit of which `rt must-fail` says otherwise has failed."""
-import argparse, concurrent.futures, hashlib, importlib.machinery, importlib.util, os, re, shutil, subprocess, sys, tempfile, threading, time
+import argparse, concurrent.futures, functools, hashlib, importlib.machinery, importlib.util, os, re, shutil, subprocess, sys, tempfile, threading, time
 from collections import Counter, defaultdict
 from dataclasses import dataclass
 
@@ -280,10 +280,11 @@ class Refusals:
     def __init__(self, rt, crates, is_anew):
         self.rt, self.store = rt, rt.Kept(crates, is_anew)
         self.own = hashlib.sha256(read(os.path.abspath(__file__))).hexdigest()
+        self.sum_of = functools.lru_cache(maxsize=None)(lambda crate: rt.stamp_of(crate, {}))
 
     def name_of(self, crate, edit):
-        """Returns the name under which an edit's refusal is kept: a sum of all that it rests on."""
-        return self.store.of_edit(edit.path, (self.own, self.rt.stamp_of(crate, {})))
+        """Returns the name under which an edit's refusal is kept: a sum of all that it rests on, as it was when this run came to the crate."""
+        return self.store.of_edit(edit.path, (self.own, self.sum_of(crate)))
 
     def known(self, crate, edit):
         """Returns what was said when the edit was refused, or None if that isn't kept."""
