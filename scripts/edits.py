@@ -281,20 +281,25 @@ class Refusals:
         self.rt, self.store = rt, rt.Kept(crates, is_anew)
         self.own = hashlib.sha256(read(os.path.abspath(__file__))).hexdigest()
         self.sum_of = functools.lru_cache(maxsize=None)(lambda crate: rt.stamp_of(crate, {}))
+        # The names that the edits had when this run came to them.
+        self.names = {}
 
     def name_of(self, crate, edit):
-        """Returns the name under which an edit's refusal is kept: a sum of all that it rests on, as it was when this run came to the crate."""
+        """Returns the name under which an edit's refusal is kept: a sum of all that it rests on."""
         return self.store.of_edit(edit.path, (self.own, self.sum_of(crate)))
 
     def known(self, crate, edit):
         """Returns what was said when the edit was refused, or None if that isn't kept."""
-        kind, why = self.store.tried(self.name_of(crate, edit)) or (None, None)
+        name = self.names[edit] = self.name_of(crate, edit)
+        kind, why = self.store.tried(name) or (None, None)
         return why if kind == self.rt.REFUSED else None
 
     def keep(self, crate, verdict):
-        """Keeps a refusal, unless a file that it rests on was touched since this run began."""
-        if verdict.is_refused and all(self.store.is_untouched(it) for it in (crate, *crate.below())):
-            self.store.keep_tried(self.name_of(crate, verdict.edit), self.rt.REFUSED, verdict.why)
+        """Keeps a refusal, unless the edit changed since this run came to it, or a file of a crate was touched since this run began."""
+        name = self.name_of(crate, verdict.edit)
+        is_same = name == self.names[verdict.edit] and all(self.store.is_untouched(it) for it in (crate, *crate.below()))
+        if verdict.is_refused and is_same:
+            self.store.keep_tried(name, self.rt.REFUSED, verdict.why)
 
 
 class Trial:
