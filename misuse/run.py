@@ -5,7 +5,7 @@ import glob, os, re, shutil, subprocess, sys, tempfile
 
 TOP = os.path.dirname(os.path.dirname(os.path.abspath(__file__)))
 sys.path.insert(0, f"{TOP}/scripts")
-import edits
+import kit
 
 ERROR = re.compile(r"(?m)^\S+: error\[[^]]*\]")
 # No function has this name, so that the check ends once the sources are read.
@@ -39,7 +39,7 @@ def said_of(rtlib, crate):
 
 
 def main():
-    rtlib = edits.kit().rtlib
+    rtlib = kit.load().rtlib
     cases = {os.path.basename(path).removesuffix(".txt"): read(path) for path in sorted(glob.glob(f"{TOP}/misuse/*.txt"))}
     failed = 0
     with tempfile.TemporaryDirectory(prefix="misuse-") as room:

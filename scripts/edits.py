@@ -8,14 +8,16 @@ outside a function, and one that doesn't compile among the others. An edit that 
 prover, or only since a proof file names what it took away, has failed, and so has one that is proved or doesn't apply. harmless.edit
 changes no meaning: it is tried as the others are, and must be let through, else no refusal shows anything.
 
-A refusal is kept on this machine, under a sum of all that it rests on: the kit, the crate and those below it, the edit, and this file. An
-edit whose refusal is kept isn't tried again, unless --anew is given.
+Where the kit keeps what it proved, a refusal is kept too, under a sum of all that it rests on: the kit, the crate and those below it, the
+edit, and this file. An edit whose refusal is kept isn't tried again, unless --anew is given.
 
 It prints a line for each edit, and last 'edits: N passed, M failed'. --plan prints the rounds alone. --sample N tries N of the edits that
 a round refused alone too, and an edit of which `rt must-fail` says otherwise has failed."""
-import argparse, concurrent.futures, functools, hashlib, importlib.machinery, importlib.util, os, re, shutil, subprocess, sys, tempfile, threading, time
+import argparse, concurrent.futures, functools, hashlib, os, re, sys, tempfile, threading, time
 from collections import Counter, defaultdict
 from dataclasses import dataclass
+
+import kit as kits
 
 TOP = os.path.dirname(os.path.dirname(os.path.abspath(__file__)))
 # A check of an edit takes up to so much memory, in KiB. None is begun while less is free.
@@ -86,21 +88,6 @@ class Verdict:
     why: str
 
 
-def kit():
-    """Returns the kit's own `rt` as a module: the edits' format, and the check of an edited copy, are its."""
-    path = shutil.which("rt")
-    if not path:
-        sys.exit("edits: the kit's command rt is not on the PATH")
-    loader = importlib.machinery.SourceFileLoader("kit_rt", os.path.realpath(path))
-    made = importlib.util.module_from_spec(importlib.util.spec_from_loader("kit_rt", loader))
-    sys.modules["kit_rt"] = made
-    loader.exec_module(made)
-    wanted = ("checked", "linked", "must_fail", "read_edit", "rtlib", "stamp_of", "Kept", "REFUSED")
-    if not all(hasattr(made, it) for it in wanted):
-        sys.exit(f"edits: this kit's rt lacks one of {', '.join(wanted)}: edits.py was written for the kit that README names")
-    return made
-
-
 def read(path):
     with open(path, "rb") as file:
         return file.read()
@@ -167,10 +154,10 @@ def bodies_of(file, text):
     return found
 
 
-def all_bodies(rt, crate):
+def all_bodies(kit, crate):
     """Returns the bodies of a crate, by source file."""
     found = {}
-    for path, text in rt.rtlib.blanked(crate.folder).items():
+    for path, text in kit.rtlib.blanked(crate.folder).items():
         if path.endswith(".rt"):
             file = os.path.relpath(path, crate.folder)
             found[file] = bodies_of(file, text.encode())
@@ -275,12 +262,12 @@ def goals_in(output, bodies):
 
 
 class Refusals:
-    """What earlier runs on this machine refused, in the store in which the kit keeps the results of `rt ci`."""
+    """What earlier runs on this machine refused, in the store in which the kit keeps the results of `rt ci`, if it has one."""
 
-    def __init__(self, rt, crates, is_anew):
-        self.rt, self.store = rt, rt.Kept(crates, is_anew)
+    def __init__(self, kit, crates, is_anew):
+        self.kit, self.store = kit, kit.store(crates, is_anew)
         self.own = hashlib.sha256(read(os.path.abspath(__file__))).hexdigest()
-        self.sum_of = functools.lru_cache(maxsize=None)(lambda crate: rt.stamp_of(crate, {}))
+        self.sum_of = functools.lru_cache(maxsize=None)(kit.sum_of)
         # The names that the edits had when this run came to them.
         self.names = {}
 
@@ -290,24 +277,28 @@ class Refusals:
 
     def known(self, crate, edit):
         """Returns what was said when the edit was refused, or None if that isn't kept."""
+        if not self.store:
+            return None
         name = self.names[edit] = self.name_of(crate, edit)
         kind, why = self.store.tried(name) or (None, None)
-        return why if kind == self.rt.REFUSED else None
+        return why if kind == self.kit.refused else None
 
     def keep(self, crate, verdict):
         """Keeps a refusal, unless the edit changed since this run came to it, or a file of a crate was touched since this run began."""
+        if not self.store:
+            return
         name = self.name_of(crate, verdict.edit)
         is_same = name == self.names[verdict.edit] and all(self.store.is_untouched(it) for it in (crate, *crate.below()))
         if verdict.is_refused and is_same:
-            self.store.keep_tried(name, self.rt.REFUSED, verdict.why)
+            self.store.keep_tried(name, self.kit.refused, verdict.why)
 
 
 class Trial:
     """The edits of one crate: the check without an edit, whose work the others are done over, the rounds, and the edits alone."""
 
-    def __init__(self, rt, crate, folder, room, say, known=lambda edit: None):
-        self.rt, self.crate, self.room, self.say = rt, crate, room, say
-        self.bodies = all_bodies(rt, crate)
+    def __init__(self, kit, crate, folder, room, say, known=lambda edit: None):
+        self.kit, self.crate, self.room, self.say = kit, crate, room, say
+        self.bodies = all_bodies(kit, crate)
         self.edits = edits_of(crate, folder, self.bodies)
         told = {it: known(it) for it in self.edits}
         self.refused = [Verdict(it, True, f"{KEPT}{why}") for it, why in told.items() if why]
@@ -324,7 +315,7 @@ class Trial:
         """Returns whether the crate is proved without an edit."""
         os.makedirs(self.kept)
         start = time.time()
-        ran = self.rt.checked(self.crate, {}, ["--jobs", "1"], self.kept)
+        ran = self.kit.checked(self.crate, {}, ["--jobs", "1"], self.kept)
         self.say(f"{self.crate.name} without an edit: {'proved' if not ran.returncode else 'NOT PROVED'}", start)
         if ran.returncode:
             self.say("\n".join(ran.stdout.split("\n")[-30:]))
@@ -335,7 +326,7 @@ class Trial:
         """Calls with a copy of what the check without an edit kept, since checks side by side can't share one."""
         wait_for_memory()
         with tempfile.TemporaryDirectory(dir=self.room) as copy:
-            self.rt.linked(self.kept, f"{copy}/kept")
+            self.kit.copy_kept(self.kept, f"{copy}/kept")
             return call(f"{copy}/kept")
 
     def name_of(self, body):
@@ -352,13 +343,13 @@ class Trial:
         show nothing by it; it is made only where an edited function can't be named."""
         texts, names = edited(self.crate, edits), [self.name_of(it.body) for it in edits]
         only = [word for it in names for word in ("--only", it)] if all(names) else []
-        return self.over_kept(lambda kept: self.rt.checked(self.crate, texts, ["--jobs", "1", *only], kept))
+        return self.over_kept(lambda kept: self.kit.checked(self.crate, texts, ["--jobs", "1", *only], kept))
 
     def try_alone(self, edit):
         """Returns the verdict of `rt must-fail`. An edit that only a proof file's names or a limit of the prover refuse has failed."""
-        kind, said = self.over_kept(lambda kept: self.rt.must_fail(self.crate, edit.path, ["--jobs", "1"], kept))
+        is_refused, said = self.over_kept(lambda kept: self.kit.must_fail(self.crate, edit.path, ["--jobs", "1"], kept))
         why = said.partition(": ")[2]
-        return Verdict(edit, kind == self.rt.REFUSED and ONLY_NAMES not in said, f"alone: {why}")
+        return Verdict(edit, is_refused and ONLY_NAMES not in said, f"alone: {why}")
 
     def try_round(self, edits):
         """Checks the crate with all of these edits, and returns a verdict of each that the check refused, and the edits of which it says
@@ -398,9 +389,9 @@ def available():
 class Edits:
     """All edits of crates, tried in lanes. A crate's are tried once it is handed in, with all that it stands on built."""
 
-    def __init__(self, rt, crates, lanes, say, sample=0, is_anew=False):
-        self.rt, self.say, self.sample = rt, say, sample
-        self.refusals = Refusals(rt, crates, is_anew)
+    def __init__(self, kit, crates, lanes, say, sample=0, is_anew=False):
+        self.kit, self.say, self.sample = kit, say, sample
+        self.refusals = Refusals(kit, crates, is_anew)
         self.room = tempfile.TemporaryDirectory(prefix="edits-")
         self.pool = concurrent.futures.ThreadPoolExecutor(lanes)
         self.trials, self.tasks, self.verdicts, self.bad = [], [], [], []
@@ -408,7 +399,7 @@ class Edits:
 
     def take(self, crate, folder):
         """Tries a crate's edits, in the background."""
-        trial = Trial(self.rt, crate, folder, self.room.name, self.say, lambda edit: self.refusals.known(crate, edit))
+        trial = Trial(self.kit, crate, folder, self.room.name, self.say, lambda edit: self.refusals.known(crate, edit))
         self.trials.append(trial)
         self.say(trial.plan())
         self.verdicts += trial.refused
@@ -504,9 +495,9 @@ def main():
     asked.add_argument("--anew", action="store_true")
     asked.add_argument("crates", nargs="*")
     asked = asked.parse_args()
-    rt = kit()
-    rt.rtlib.guarded()
-    every = rt.rtlib.crates_below(TOP)
+    kit = kits.load()
+    kit.rtlib.guarded()
+    every = kit.rtlib.crates_below(TOP)
     crates = [it for it in every if os.path.isdir(folder_of(it))]
     unknown = set(asked.crates) - {it.name for it in crates}
     if unknown:
@@ -515,9 +506,9 @@ def main():
     if asked.plan:
         with tempfile.TemporaryDirectory() as room:
             for it in crates:
-                say(Trial(rt, it, folder_of(it), room, say).plan())
+                say(Trial(kit, it, folder_of(it), room, say).plan())
         return 0
-    edits = Edits(rt, every, asked.lanes, say, asked.sample, asked.anew)
+    edits = Edits(kit, every, asked.lanes, say, asked.sample, asked.anew)
     for crate in crates:
         if any(dep.build_rlib(["--jobs", "1"], anew=False) for dep in crate.below()):
             return 1

@@ -11,6 +11,7 @@ kits' `rt ci` keeps no proofs: they prove all from nothing each time."""
 import argparse, concurrent.futures, os, re, shutil, subprocess, sys, tempfile, threading, time
 
 import edits as edit_trials
+import kit as kits
 
 TOP = edit_trials.TOP
 START = time.time()
@@ -38,15 +39,13 @@ def copy_to(room):
 
 
 class Gate:
-    def __init__(self, rt, room, sample, is_anew):
-        self.rt, self.room = rt, room
-        # Only a kit whose `rt ci` keeps proofs knows the word.
-        knows_anew = b"--anew" in edit_trials.read(shutil.which("rt"))
-        self.proving = ["rt", "ci", *["--anew"] * (is_anew and knows_anew)]
+    def __init__(self, kit, room, sample, is_anew):
+        self.kit, self.room = kit, room
+        self.proving = kit.proving(is_anew)
         self.passed, self.failed, self.proved, self.counting = 0, [], 0, threading.Lock()
-        self.crates = {it.name: it for it in rt.rtlib.crates_below(room)}
+        self.crates = {it.name: it for it in kit.rtlib.crates_below(room)}
         lanes = len(os.sched_getaffinity(0))
-        self.edits = edit_trials.Edits(rt, self.crates.values(), lanes, say, sample, is_anew)
+        self.edits = edit_trials.Edits(kit, self.crates.values(), lanes, say, sample, is_anew)
         self.handed_in = set()
 
     def count(self, step, passed, failed, start):
@@ -59,7 +58,7 @@ class Gate:
     def start_proving(self):
         """Starts `rt ci` on the copy. All that this process starts from then on takes only the processor time that it leaves."""
         how = {"cwd": self.room, "stdin": subprocess.DEVNULL, "stdout": subprocess.PIPE, "stderr": subprocess.STDOUT, "text": True}
-        ran = subprocess.Popen([*self.rt.rtlib.guarded(), *self.proving], errors="replace", **how)
+        ran = subprocess.Popen([*self.kit.rtlib.guarded(), *self.proving], errors="replace", **how)
         os.nice(15)
         # Processors are idle while the first crates are proved, each over the one before. These edits need no proved crate below.
         for crate in self.crates.values():
@@ -188,11 +187,11 @@ def main():
     os.makedirs(f"{TOP}/bin", exist_ok=True)
     for name in ("gate.log", "ci.log"):
         open(f"{TOP}/bin/{name}", "w", encoding="utf-8").close()
-    rt = edit_trials.kit()
-    rt.rtlib.guarded()
+    kit = kits.load()
+    kit.rtlib.guarded()
     with tempfile.TemporaryDirectory(prefix="gate-") as room:
         copy_to(room)
-        gate = Gate(rt, room, asked.sample, asked.anew)
+        gate = Gate(kit, room, asked.sample, asked.anew)
         # First, since it takes seconds.
         gate.misuse()
         proving = gate.start_proving()

@@ -1,0 +1,47 @@
+"""The kit's own `rt` as a module, with one name for what kits do differently. It has the format of edits and the check of an edited copy."""
+import importlib.machinery, importlib.util, os, shutil, sys
+
+WANTED = ("checked", "must_fail", "read_edit", "rtlib")
+
+
+class Kit:
+    def __init__(self, rt):
+        self.rt, self.rtlib, self.checked = rt, rt.rtlib, rt.checked
+        # How the trial of an edit ends that is refused: some kits have a word for each end, and others say yes or no.
+        self.refused = getattr(rt, "REFUSED", True)
+
+    def proving(self, is_anew):
+        """Returns the words that prove all of a repository, from nothing where the kit keeps proofs and this is asked for."""
+        return ["rt", "ci", *["--anew"] * (is_anew and hasattr(self.rt, "Kept"))]
+
+    def must_fail(self, crate, path, flags, kept):
+        """Returns whether the prover refuses the crate with this edit, and what to say."""
+        told, said = self.rt.must_fail(crate, path, flags, kept)
+        return told == self.refused, said
+
+    def copy_kept(self, kept, to):
+        """Copies what a check kept. A kit that has links for it replaces such files and never changes them."""
+        copy = getattr(self.rt, "linked", shutil.copytree)
+        copy(kept, to)
+
+    def store(self, crates, is_anew):
+        """Returns the store in which the kit keeps the results of `rt ci`, or None if it keeps none."""
+        return self.rt.Kept(crates, is_anew) if hasattr(self.rt, "Kept") else None
+
+    def sum_of(self, crate):
+        """Returns a sum of the kit, the crate and those below it, where the kit keeps results by it."""
+        return self.rt.stamp_of(crate, {})
+
+
+def load():
+    path = shutil.which("rt")
+    if not path:
+        sys.exit("the kit's command rt is not on the PATH")
+    loader = importlib.machinery.SourceFileLoader("kit_rt", os.path.realpath(path))
+    made = importlib.util.module_from_spec(importlib.util.spec_from_loader("kit_rt", loader))
+    sys.modules["kit_rt"] = made
+    loader.exec_module(made)
+    lacking = [it for it in WANTED if not hasattr(made, it)]
+    if lacking:
+        sys.exit(f"this kit's rt lacks {', '.join(lacking)}: the trial of edits was written for the kits that README names")
+    return Kit(made)
