@@ -26,6 +26,8 @@ ROOM = 3_000_000
 LONG = 24
 
 FUNCTION = re.compile(rb"(?m)^[ \t]*(?P<words>(?:[a-z]+(?:\([a-z]+\))? +)*)fn (?P<name>\w+)")
+# An impl, or a trait, whose methods may have bodies.
+OWNER = re.compile(rb"(?m)^(?:impl\b(?P<head>[^{]*)|(?:pub +)?trait +(?P<trait>\w+)[^{]*)\{")
 CLAUSE = re.compile(rb"[ \t]*(requires|ensures|decreases|ghost|where)\b")
 # What the check says of a goal that it couldn't prove, with the file and the line of the function or of its proof's answer.
 GOAL = re.compile(r"note: (?P<file>src/\S+?\.rt):(?P<line>\d+):\d+: (?P<goal>it is not proved that.*|.*`search` gave up.*)")
@@ -129,14 +131,22 @@ def owner_of(head):
                 head = head[at + 1 :]
                 break
     trait, is_trait, kind = head.partition(" for ")
+    # The paths of the two aren't in the name, but those in their brackets are.
+    trait, kind = (re.sub(r"^\s*(\w+::)*", "", it) for it in (trait, kind))
+    if is_trait and not kind.strip("() "):
+        kind = "Unit"
+    elif kind.startswith("&"):
+        kind = f"Ref {kind}"
     words = re.findall(r"\w+", f"{kind} {trait}" if is_trait else trait)
     return "".join(it[0].upper() + it[1:] for it in words if it not in taken)
 
 
 def bodies_of(file, text):
     """Returns the bodies of a source file, whose text has blanks in place of comments, strings and characters."""
-    impls = re.finditer(rb"(?m)^impl\b(?P<head>[^{]*)\{", text)
-    owners = [(it.start(), closing(text, it.end() - 1), owner_of(it["head"].decode())) for it in impls]
+    owners = [
+        (it.start(), closing(text, it.end() - 1), it["trait"].decode() if it["trait"] else owner_of(it["head"].decode()))
+        for it in OWNER.finditer(text)
+    ]
     module = file.removeprefix("src/").removesuffix(".rt")
     found = []
     for fn in FUNCTION.finditer(text):

@@ -17,23 +17,21 @@ use tracing_tree::style::Level;
 use tracing_tree::text::Text;
 use tracing_tree::time::{FormatTime, Moment};
 
-/// A layered over memory, with lines and an amount of 2, whose first id is this.
-pub fn lined_from(alloc: Global, first: u64) -> Layered<Tape, ()> {
-    let layer = HierarchicalLayer::new(alloc, 2, false, Tape::new(alloc)).with_indent_lines(true);
-    Layered::starting_at(alloc, first, layer)
-}
-
-/// The same over another writer, from id 1 on.
-pub fn lined_over<W: Output + Drop>(alloc: Global, writer: W) -> Layered<W, ()>
+/// A layered over this writer, with lines and an amount of 2. It is boxed, since each step of a test is proved over all that its own
+/// values hold.
+pub fn lined_over<W: Output + Drop>(
+    alloc: Global,
+    writer: W,
+) -> Result<Box<Layered<W, ()>>, AllocError>
     requires { W.fault_count writer ≡ 0 }
 {
     let layer = HierarchicalLayer::new(alloc, 2, false, writer).with_indent_lines(true);
-    Layered::new(alloc, layer)
+    Ok(Box::new(alloc, Layered::new(alloc, layer))?)
 }
 
-/// The same, whose first id is 1.
-pub fn lined(alloc: Global) -> Layered<Tape, ()> {
-    lined_from(alloc, 1)
+/// The same over memory.
+pub fn lined(alloc: Global) -> Result<Box<Layered<Tape, ()>>, AllocError> {
+    lined_over(alloc, Tape::new(alloc))
 }
 
 /// The context of thread 1 at the start of 1970, with this current span.

@@ -15,7 +15,7 @@ use tracing_tree_for_tests::Step;
 type Counted = Layered<Wrap<Choppy>, ()>;
 
 // A layer that shows all that it can, over a writer that takes all.
-fn counted(alloc: Global, retrace: bool) -> Counted {
+fn counted(alloc: Global, retrace: bool) -> Result<Box<Counted>, AllocError> {
     let writer = Wrap::new(Choppy::new(alloc, usize::MAX, Trouble::NONE));
     let layer = HierarchicalLayer::new(alloc, 2, false, writer)
         .with_indent_lines(true)
@@ -23,7 +23,7 @@ fn counted(alloc: Global, retrace: bool) -> Counted {
         .with_verbose_exit(true)
         .with_span_retrace(retrace)
         .with_close_retrace(retrace);
-    Layered::new(alloc, layer)
+    Ok(Box::new(alloc, Layered::new(alloc, layer))?)
 }
 
 // Makes these calls, and returns whether each is accepted.
@@ -37,8 +37,8 @@ fn accepts(alloc: Global, layered: &mut Counted, steps: &[Step<'_>]) -> Result<b
     Ok(true)
 }
 
-fn into_writes(layered: Counted) -> usize {
-    let (_registry, layer) = layered.into_parts();
+fn into_writes(layered: Box<Counted>) -> usize {
+    let (_registry, layer) = Box::into_inner(layered).into_parts();
     layer.into_writer().into_inner().writes
 }
 
@@ -48,7 +48,7 @@ fn writes(
     retrace: bool,
     steps: &[Step<'_>],
 ) -> Result<usize, AllocError> {
-    let mut layered = counted(rt.alloc(), retrace);
+    let mut layered = counted(rt.alloc(), retrace)?;
     let accepted = accepts(rt.alloc(), &mut layered, steps)?;
     assert!(rt; accepted, "a call is refused");
     Ok(into_writes(layered))
@@ -129,18 +129,18 @@ impl FormatTime for Asked {
 }
 
 // A layer that asks this timer.
-fn asking(alloc: Global, asked: &Asked) -> Layered<Tape, &Asked> {
+fn asking(alloc: Global, asked: &Asked) -> Result<Box<Layered<Tape, &Asked>>, AllocError> {
     let layer = HierarchicalLayer::new(alloc, 2, false, Tape::new(alloc))
         .with_indent_lines(true)
         .with_span_retrace(true)
         .with_timer(asked);
-    Layered::new(alloc, layer)
+    Ok(Box::new(alloc, Layered::new(alloc, layer))?)
 }
 
 // Makes these calls, whatever they are answered.
 fn make(
     alloc: Global,
-    mut layered: Layered<Tape, &Asked>,
+    mut layered: Box<Layered<Tape, &Asked>>,
     steps: &[Step<'_>],
 ) -> Result<(), AllocError> {
     for step in steps {
@@ -155,7 +155,7 @@ fn times_asked(alloc: Global, steps: &[Step<'_>]) -> Result<(u32, u32), AllocErr
         moments: Cell::new(0),
         elapsed: Cell::new(0),
     };
-    make(alloc, asking(alloc, &asked), steps)?;
+    make(alloc, asking(alloc, &asked)?, steps)?;
     Ok((asked.moments.get(), asked.elapsed.get()))
 }
 

@@ -1,7 +1,7 @@
 //! A run over a writer that takes pieces and refuses one write: each size of piece, and each write.
 
 use crate::fakes::{Choppy, Trouble};
-use std::alloc::Global;
+use std::alloc::{AllocError, Global};
 use std::io::ErrorKind;
 use std::process::Abort;
 use std::test::*;
@@ -116,7 +116,7 @@ fn expected(piece: usize, stop: usize) -> End {
 // A run over a writer that stops.
 type Stopping = Layered<Wrap<Choppy>, ()>;
 
-fn stopping(alloc: Global, piece: usize, trouble: Trouble) -> Stopping {
+fn stopping(alloc: Global, piece: usize, trouble: Trouble) -> Result<Box<Stopping>, AllocError> {
     lined_over(alloc, Wrap::new(Choppy::new(alloc, piece, trouble)))
 }
 
@@ -170,8 +170,8 @@ fn has_failed(alloc: Global, layered: &mut Stopping) -> bool {
     true
 }
 
-fn into_taken(layered: Stopping) -> Choppy {
-    let (_registry, layer) = layered.into_parts();
+fn into_taken(layered: Box<Stopping>) -> Choppy {
+    let (_registry, layer) = Box::into_inner(layered).into_parts();
     layer.into_writer().into_inner()
 }
 
@@ -185,13 +185,13 @@ fn stays(rt: &(impl Abort + AllocGlobal), layered: &mut Stopping, accepted: usiz
 }
 
 // The calls over this writer: what they come to.
-fn ends(rt: &(impl Abort + AllocGlobal), piece: usize, stop: usize) -> End {
+fn ends(rt: &(impl Abort + AllocGlobal), piece: usize, stop: usize) -> Result<End, AllocError> {
     let trouble = Trouble::once(stop, ErrorKind::BrokenPipe);
-    let mut layered = stopping(rt.alloc(), piece, trouble);
+    let mut layered = stopping(rt.alloc(), piece, trouble)?;
     let accepted = accepted(rt, &mut layered);
     stays(rt, &mut layered, accepted);
     let bytes = beginning(rt, into_taken(layered).taken.as_slice());
-    End { accepted, bytes }
+    Ok(End { accepted, bytes })
 }
 
 // How many bytes of the whole text these are.
@@ -201,19 +201,25 @@ fn beginning(rt: &impl Abort, taken: &[u8]) -> usize {
 }
 
 // A writer of such pieces that refuses this write: what the calls come to.
-fn stops_calls(rt: &(impl Abort + AllocGlobal), piece: usize, stop: usize) {
+fn stops_calls(
+    rt: &(impl Abort + AllocGlobal),
+    piece: usize,
+    stop: usize,
+) -> Result<(), AllocError> {
     let wanted = expected(piece, stop);
-    assert_eq!(rt; ends(rt, piece, stop), wanted, "{piece} {stop}");
+    assert_eq!(rt; ends(rt, piece, stop)?, wanted, "{piece} {stop}");
+    Ok(())
 }
 
 // The stops go on until a run meets none.
 #[test]
-fn every_write_is_refused(rt: HostRuntime) {
+fn every_write_is_refused(rt: HostRuntime) -> Result<(), Fail> {
     for piece in 1..=12 {
         for stop in 1..=49 {
-            stops_calls(&rt, piece, stop);
+            stops_calls(&rt, piece, stop)?;
         }
     }
+    Ok(())
 }
 
 // How a run of lines is to end of which so many calls were accepted.
@@ -286,10 +292,11 @@ fn holds_both(alloc: Global, layered: &Stopping) -> bool {
 }
 
 #[test]
-fn a_refused_close_takes_no_handle(rt: HostRuntime) {
+fn a_refused_close_takes_no_handle(rt: HostRuntime) -> Result<(), Fail> {
     let trouble = Trouble::once(3, ErrorKind::StorageFull);
-    let mut layered = stopping(rt.alloc(), usize::MAX, trouble);
+    let mut layered = stopping(rt.alloc(), usize::MAX, trouble)?;
     assert!(rt; closes_both(rt.alloc(), &mut layered) == Err(Refusal::Writer));
     assert!(rt; is_before(&layered, 3));
     assert!(rt; holds_both(rt.alloc(), &layered));
+    Ok(())
 }

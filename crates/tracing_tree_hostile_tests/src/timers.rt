@@ -1,6 +1,6 @@
 //! Timers that fault at one moment.
 
-use std::alloc::Global;
+use std::alloc::{AllocError, Global};
 use std::process::Abort;
 use std::test::*;
 use tracing_tree::call::{Call, Reply};
@@ -47,12 +47,12 @@ const STOP: u64 = 7;
 type Stopping = Layered<Tape, StopAt>;
 
 // Spans that wait for their first event, over this timer.
-fn deferring(alloc: Global, lines: bool, amount: usize) -> Stopping {
+fn deferring(alloc: Global, lines: bool, amount: usize) -> Result<Box<Stopping>, AllocError> {
     let layer = HierarchicalLayer::new(alloc, amount, false, Tape::new(alloc))
         .with_indent_lines(lines)
         .with_deferred_spans(true)
         .with_timer(StopAt(STOP));
-    Layered::new(alloc, layer)
+    Ok(Box::new(alloc, Layered::new(alloc, layer))?)
 }
 
 // What a call at this moment is answered.
@@ -112,8 +112,8 @@ fn answers(
 const TOLD: Step<'static> = Step::Told(Level::Info, "x", Some(2));
 
 #[test]
-fn a_fault_of_the_timer_prints_no_span(rt: HostRuntime) {
-    let mut layered = deferring(rt.alloc(), true, 2);
+fn a_fault_of_the_timer_prints_no_span(rt: HostRuntime) -> Result<(), Fail> {
+    let mut layered = deferring(rt.alloc(), true, 2)?;
     assert!(rt; nests(rt.alloc(), &mut layered, 2));
     answers(&rt, &mut layered, (TOLD, STOP), Err(Refusal::Timer));
     assert!(rt; is_blank(&layered, 2));
@@ -121,6 +121,7 @@ fn a_fault_of_the_timer_prints_no_span(rt: HostRuntime) {
         answers(&rt, &mut layered, (step, 0), Err(Refusal::Failed));
     }
     assert!(rt; is_blank(&layered, 2));
+    Ok(())
 }
 
 const WIDE: Step<'static> = Step::Told(Level::Info, "x", Some(3));
@@ -129,11 +130,12 @@ const NARROW: Step<'static> = Step::Told(Level::Info, "y", Some(1));
 
 // All widths are tested before the timer is asked.
 #[test]
-fn a_row_too_wide_asks_no_timer(rt: HostRuntime) {
-    let mut layered = deferring(rt.alloc(), false, 1 << 63);
+fn a_row_too_wide_asks_no_timer(rt: HostRuntime) -> Result<(), Fail> {
+    let mut layered = deferring(rt.alloc(), false, 1 << 63)?;
     assert!(rt; nests(rt.alloc(), &mut layered, 3));
     answers(&rt, &mut layered, (WIDE, STOP), Err(Refusal::TooWide));
     assert!(rt; is_blank(&layered, 3));
     answers(&rt, &mut layered, (NARROW, 0), Ok(Reply::Done));
     assert!(rt; layered.writer().bytes() == b" a \n  INFO y\n".as_slice());
+    Ok(())
 }

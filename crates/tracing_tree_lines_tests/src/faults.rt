@@ -185,10 +185,10 @@ fn after_calls<'a>(
 ) -> Result<Sink<'a>, AllocError> {
     let alloc = rt.alloc();
     let calls = calls(alloc, CALLS.as_slice())?;
-    let mut layered = lined_over(alloc, Wrap::new(Sink::new(alloc, script)));
+    let mut layered = lined_over(alloc, Wrap::new(Sink::new(alloc, script)))?;
     let answered = layered.run(alloc, calls)?;
     assert_eq!(rt; answered.as_slice(), answers(alloc, accepted)?.as_slice());
-    let (_registry, layer) = layered.into_parts();
+    let (_registry, layer) = Box::into_inner(layered).into_parts();
     Ok(layer.into_writer().into_inner())
 }
 

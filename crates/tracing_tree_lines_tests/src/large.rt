@@ -69,7 +69,7 @@ impl Script {
             calls,
             wanted,
         } = self;
-        let mut layered = lined(alloc);
+        let mut layered = lined(alloc)?;
         let answers = layered.run(alloc, calls)?;
         assert!(rt;
             answers.iter().all(|answer| answer.is_ok()),

@@ -1,6 +1,6 @@
 //! Rows wider than any memory: which refusal a call gets, and who is said to have asked for the memory.
 
-use std::alloc::Global;
+use std::alloc::{AllocError, Global};
 use std::test::*;
 use tracing_tree::call::Reply;
 use tracing_tree::format::{Id, Refusal, Tape};
@@ -14,12 +14,12 @@ use tracing_tree_for_tests::{made, told};
 const AMOUNT: usize = 1 << 62;
 
 // Spans that are first shown with an event in them.
-fn deferring(alloc: Global) -> Layered<Tape, ()> {
+fn deferring(alloc: Global) -> Result<Box<Layered<Tape, ()>>, AllocError> {
     let layer = HierarchicalLayer::new(alloc, AMOUNT, false, Tape::new(alloc))
         .with_indent_lines(true)
         .with_span_retrace(true)
         .with_deferred_spans(true);
-    Layered::new(alloc, layer)
+    Ok(Box::new(alloc, Layered::new(alloc, layer))?)
 }
 
 // Makes so many spans, each in the one before it.
@@ -36,7 +36,7 @@ fn nest(layered: &mut Layered<Tape, ()>, alloc: Global, depth: u64) -> Result<()
 
 // What an event in the lowest of so many spans is answered.
 fn answer_at(alloc: Global, depth: u64) -> Result<Result<Reply, Refusal>, Fail> {
-    let mut layered = deferring(alloc);
+    let mut layered = deferring(alloc)?;
     nest(&mut layered, alloc, depth)?;
     let event = told(alloc, Level::Info, "x", Some(depth))?;
     Ok(layered.call(event))

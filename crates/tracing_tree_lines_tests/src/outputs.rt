@@ -137,14 +137,14 @@ fn taken_until_it_fails(
     writer: Choppy,
 ) -> Result<Vec<u8>, AllocError> {
     let alloc = rt.alloc();
-    let mut layered = lined_over(alloc, Wrap::new(writer));
+    let mut layered = lined_over(alloc, Wrap::new(writer))?;
     answers(rt, &mut layered, REFUSED.as_slice())?;
     assert_eq!(rt; layered.layer().failed(), true);
     assert_eq!(rt; layered.layer().last_span(), Some(Id(1)));
     assert_eq!(rt; layered.registry().span(Id(2)).is_none(), true);
     answers(rt, &mut layered, FAILED.as_slice())?;
     assert_eq!(rt; layered.writer().faults(), 1);
-    let (_registry, layer) = layered.into_parts();
+    let (_registry, layer) = Box::into_inner(layered).into_parts();
     Ok(layer.into_writer().into_inner().taken)
 }
 

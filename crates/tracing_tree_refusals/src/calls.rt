@@ -41,11 +41,12 @@ pub fn both(alloc: Global, script: Script) -> Result<(Vec<Call>, Vec<Call>), All
     Ok((first, second))
 }
 
-/// A layer over an output that takes no memory, and the calls that it is to be asked.
+/// A layer over an output that takes no memory, and the calls that it is to be asked. It is boxed, since each step of what uses it is
+/// proved over all that its own values hold.
 #[derive(Drop)]
 pub struct Prepared {
     script: Script,
-    layered: Layered<Board, ()>,
+    layered: Box<Layered<Board, ()>>,
     trials: Vec<Trial>,
 }
 
@@ -54,7 +55,7 @@ impl Prepared {
         let layer = script.layer(alloc, Board::new(alloc)?);
         Ok(Prepared {
             script,
-            layered: Layered::new(alloc, layer),
+            layered: Box::new(alloc, Layered::new(alloc, layer))?,
             trials: trials(alloc, script)?,
         })
     }
@@ -161,7 +162,7 @@ fn run(
 #[derive(Drop)]
 pub struct OnTape {
     script: Script,
-    layered: Layered<Tape, ()>,
+    layered: Box<Layered<Tape, ()>>,
     trials: Vec<Trial>,
 }
 
@@ -170,7 +171,7 @@ impl OnTape {
         let layer = script.layer(alloc, Tape::new(alloc));
         Ok(OnTape {
             script,
-            layered: Layered::new(alloc, layer),
+            layered: Box::new(alloc, Layered::new(alloc, layer))?,
             trials: trials(alloc, script)?,
         })
     }

@@ -62,7 +62,8 @@ const STEPS: [Step<'static>; 5] = [
 // What is read back of them. It promises nothing, so that the test is soon proved.
 fn steps_read_back(alloc: Global) -> Result<Option<ReadBack>, AllocError> {
     let calls = calls(alloc, STEPS.as_slice())?;
-    Ok(read_back(alloc, &mut lined(alloc), calls))
+    let mut layered = lined(alloc)?;
+    Ok(read_back(alloc, &mut layered, calls))
 }
 
 const SHAPES: [Shape; 4] = [

@@ -101,11 +101,9 @@ fn times_are_appended_to_long_texts(rt: HostRuntime) -> Result<(), Fail> {
 }
 
 // A layer over memory without lines.
-fn spaced(alloc: Global, amount: usize) -> Layered<Tape, ()> {
-    Layered::new(
-        alloc,
-        HierarchicalLayer::new(alloc, amount, false, Tape::new(alloc)),
-    )
+fn spaced(alloc: Global, amount: usize) -> Result<Box<Layered<Tape, ()>>, AllocError> {
+    let layer = HierarchicalLayer::new(alloc, amount, false, Tape::new(alloc));
+    Ok(Box::new(alloc, Layered::new(alloc, layer))?)
 }
 
 fn answer(layered: &mut Layered<Tape, ()>, call: Call) -> Answer {
@@ -114,7 +112,7 @@ fn answer(layered: &mut Layered<Tape, ()>, call: Call) -> Answer {
 
 // How many spans, each in the one before it, are accepted of so many with this amount, and how many bytes they draw.
 fn nested(alloc: Global, amount: usize, depth: u64) -> Result<(u64, usize), AllocError> {
-    let mut layered = spaced(alloc, amount);
+    let mut layered = spaced(alloc, amount)?;
     let mut accepted = 0_u64;
     let mut current = None;
     for id in 1..=depth {
@@ -147,7 +145,7 @@ fn clones(alloc: Global, count: u64) -> Result<Vec<Call>, AllocError> {
 // How many answers a run of them has, of which each is the same.
 fn answered(alloc: Global, count: u64) -> Result<usize, AllocError> {
     let calls = clones(alloc, count)?;
-    let answers: Vec<Answer> = spaced(alloc, 2).run(alloc, calls)?;
+    let answers: Vec<Answer> = spaced(alloc, 2)?.run(alloc, calls)?;
     let refused = Err(Refusal::NotHeld(Id(1)));
     Ok(answers.iter().filter(|answer| **answer == refused).count())
 }
@@ -160,7 +158,7 @@ fn runs_are_long(rt: HostRuntime) -> Result<(), Fail> {
 
 #[test]
 fn an_event_has_many_fields(rt: HostRuntime) -> Result<(), Fail> {
-    let mut layered = spaced(rt.alloc(), 2);
+    let mut layered = spaced(rt.alloc(), 2)?;
     let told = event(rt.alloc(), "x", 100_000, None)?;
     assert!(rt; answer(&mut layered, told) == Ok(Reply::Done));
     Ok(())

@@ -116,18 +116,18 @@ fn draws_over<S: Keeps + Drop>(
 }
 
 // A registry with the layer of a case. None where that isn't fresh.
-fn layered(alloc: Global, case: Case) -> Option<Layered<Tape, ()>> {
+fn layered(alloc: Global, case: Case) -> Result<Option<Box<Layered<Tape, ()>>>, AllocError> {
     let layer = case.layer(alloc);
     if layer.is_fresh() {
-        Some(Layered::new(alloc, layer))
+        Ok(Some(Box::new(alloc, Layered::new(alloc, layer))?))
     } else {
-        None
+        Ok(None)
     }
 }
 
 // They draw it as one run.
 fn draws_as_a_run(rt: &impl Abort, alloc: Global, case: Case) -> Result<(), Fail> {
-    let mut layered = layered(alloc, case).ok_or("not fresh")?;
+    let mut layered = layered(alloc, case)?.ok_or("not fresh")?;
     let answers = run(alloc, &mut layered, case.calls(alloc)?)?;
     assert_eq!(rt; answers.iter().all(|answer| answer.is_ok()), true);
     assert_eq!(rt; text(layered.layer()), case.text().as_bytes());

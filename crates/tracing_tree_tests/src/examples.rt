@@ -31,9 +31,9 @@ fn layered(
     root: Attributes,
     here: Context,
     later: Context,
-) -> Result<Layered<Tape, ()>, Refusal> {
+) -> Result<Box<Layered<Tape, ()>>, Refusal> {
     let layer = HierarchicalLayer::new(alloc, 2, false, Tape::new(alloc)).with_indent_lines(true);
-    let mut layered = Layered::new(alloc, layer);
+    let mut layered = Box::new(alloc, Layered::new(alloc, layer)).map_err(AllocError::from)?;
     if let Reply::Span(id) = layered.call(Call::New(root, here))? {
         layered.call(Call::Close(id, later))?;
     }
@@ -151,9 +151,9 @@ impl FormatTime for Star {
 }
 
 // An event outside every span, with a star before it.
-fn starred(alloc: Global) -> Result<Layered<Tape, Star>, Refusal> {
+fn starred(alloc: Global) -> Result<Box<Layered<Tape, Star>>, Refusal> {
     let layer = HierarchicalLayer::new(alloc, 2, false, Tape::new(alloc)).with_timer(Star);
-    let mut layered = Layered::new(alloc, layer);
+    let mut layered = Box::new(alloc, Layered::new(alloc, layer)).map_err(AllocError::from)?;
     layered.call(Step::Told(Level::Info, "x", None).call(alloc)?)?;
     Ok(layered)
 }
@@ -196,7 +196,7 @@ impl Output for Counter {
 #[test]
 fn writes_to_an_output_of_ones_own(rt: HostRuntime) -> Result<(), Fail> {
     let alloc = rt.alloc();
-    let mut layered = lined_over(alloc, Counter { bytes: 0 });
+    let mut layered = lined_over(alloc, Counter { bytes: 0 })?;
     let event = Step::Told(Level::Info, "x", None).call(alloc)?;
     assert_eq!(rt; layered.call(event), Ok(Reply::Done));
     assert_eq!(rt; layered.writer().bytes, "INFO x\n".len());

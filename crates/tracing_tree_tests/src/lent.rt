@@ -38,7 +38,7 @@ fn root(alloc: Global, layered: &mut Layered<Tape, ()>) -> Result<Reply, Refusal
 #[test]
 fn draws_what_is_lent(rt: HostRuntime) -> Result<(), Fail> {
     let alloc = rt.alloc();
-    let mut layered = lined(alloc);
+    let mut layered = lined(alloc)?;
     assert_eq!(rt; root(alloc, &mut layered), Ok(Reply::Span(Id(1))));
     let text = "┐a \n├─ INFO listening\n┘\n";
     assert_eq!(rt; layered.writer().bytes(), text.as_bytes());

@@ -14,11 +14,14 @@ use tracing_tree::time::{FormatTime, Moment, Uptime, UtcDateTime};
 use tracing_tree_for_tests::{Answer, Step, run, told};
 
 // A layered over memory, with lines and this timer.
-fn timed<FT: FormatTime + Drop>(alloc: Global, timer: FT) -> Layered<Tape, FT> {
+fn timed<FT: FormatTime + Drop>(
+    alloc: Global,
+    timer: FT,
+) -> Result<Box<Layered<Tape, FT>>, AllocError> {
     let layer = HierarchicalLayer::new(alloc, 2, false, Tape::new(alloc))
         .with_indent_lines(true)
         .with_timer(timer);
-    Layered::new(alloc, layer)
+    Ok(Box::new(alloc, Layered::new(alloc, layer))?)
 }
 
 // The call at another moment.
@@ -40,7 +43,7 @@ fn draws<FT: FormatTime + Drop>(
     calls: Vec<Call>,
     wanted: &str,
 ) -> Result<bool, AllocError> {
-    let mut layered = timed(alloc, timer);
+    let mut layered = timed(alloc, timer)?;
     let answers = run(alloc, &mut layered, calls)?;
     let accepted = answers.iter().all(|answer| answer.is_ok());
     Ok(accepted && layered.writer().bytes() == wanted.as_bytes())
@@ -142,12 +145,12 @@ const ASKING: [(Step<'static>, u32); 14] = [
 ];
 
 // A layered whose new and closed spans are drawn once more, with this timer.
-fn asking(alloc: Global, asked: &Asked) -> Layered<Tape, &Asked> {
+fn asking(alloc: Global, asked: &Asked) -> Result<Box<Layered<Tape, &Asked>>, AllocError> {
     let layer = HierarchicalLayer::new(alloc, 2, false, Tape::new(alloc))
         .with_verbose_entry(true)
         .with_verbose_exit(true)
         .with_timer(asked);
-    Layered::new(alloc, layer)
+    Ok(Box::new(alloc, Layered::new(alloc, layer))?)
 }
 
 // Makes this call.
@@ -167,7 +170,7 @@ fn asks_the_timer_once_an_event(rt: HostRuntime) -> Result<(), Fail> {
     let asked = Asked {
         times: Cell::new(0),
     };
-    let mut layered = asking(alloc, &asked);
+    let mut layered = asking(alloc, &asked)?;
     for (step, times) in ASKING {
         make(alloc, &mut layered, step)?;
         assert_eq!(rt; asked.times.get(), times);
@@ -189,7 +192,7 @@ const TIMED_OUT_ANSWERS: [Answer; 3] = [
 
 // Whether an event at 7 in a span that began at 2 is the fault of this timer, which leaves nothing but a failed layer.
 fn fails(alloc: Global, timer: StopAt) -> Result<bool, AllocError> {
-    let mut layered = timed(alloc, timer);
+    let mut layered = timed(alloc, timer)?;
     let calls = calls_at(alloc, TIMED_OUT.as_slice())?;
     let answers = run(alloc, &mut layered, calls)?;
     let layer = layered.layer();
