@@ -31,9 +31,9 @@ fn layered(
     root: Attributes,
     here: Context,
     later: Context,
-) -> Result<Box<Layered<Tape, ()>>, Refusal> {
+) -> Result<Layered<Tape, ()>, Refusal> {
     let layer = HierarchicalLayer::new(alloc, 2, false, Tape::new(alloc)).with_indent_lines(true);
-    let mut layered = Box::new(alloc, Layered::new(alloc, layer)).map_err(AllocError::from)?;
+    let mut layered = Layered::new(alloc, layer);
     if let Reply::Span(id) = layered.call(Call::New(root, here))? {
         layered.call(Call::Close(id, later))?;
     }
@@ -151,9 +151,9 @@ impl FormatTime for Star {
 }
 
 // An event outside every span, with a star before it.
-fn starred(alloc: Global) -> Result<Box<Layered<Tape, Star>>, Refusal> {
+fn starred(alloc: Global) -> Result<Layered<Tape, Star>, Refusal> {
     let layer = HierarchicalLayer::new(alloc, 2, false, Tape::new(alloc)).with_timer(Star);
-    let mut layered = Box::new(alloc, Layered::new(alloc, layer)).map_err(AllocError::from)?;
+    let mut layered = Layered::new(alloc, layer);
     layered.call(Step::Told(Level::Info, "x", None).call(alloc)?)?;
     Ok(layered)
 }
