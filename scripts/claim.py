@@ -3,9 +3,10 @@
 
 NAME is a function, as `read_rows`, a method, as `Layered::run`, or a definition of specs/, as `IsRunOf`. Printed are the function's
 contract and then each definition that it rests on, once: those that it names first, then those that these name, and so on, grouped by
-file under the file's first comment, with the names that the file gives to what it imports. After them come the types of the code and the
-words of the toolchain's library, with the modules that have them, and last 'N lines, M definitions' (comments and blank lines not
-counted), which --count prints alone. --check compares the counts in docs/PROVED.md with what is counted now."""
+file under the file's first comment, with the names that the file gives to what it imports, and the modules of words that several modules
+have. After them come the types of the code as they are declared, the words of these types and of the toolchain's library with the modules
+that have them, and last 'N lines, M definitions' (comments, blank lines and types not counted), which --count prints alone. --check
+compares the counts in docs/PROVED.md with what is counted now."""
 import argparse, collections, difflib, glob, os, re, sys
 
 TOP = os.path.dirname(os.path.dirname(os.path.abspath(__file__)))
@@ -134,7 +135,7 @@ def all_functions():
 def named_in(text, imports, own, definitions):
     """Returns what a text names, in its order: definitions, and other words with their modules, those of the toolchain's library and the
     types of the code."""
-    ours, words = [], {}
+    ours, words = [], []
     code = re.sub(r"(?m)^\s*(?:ghost )?use [^\n]*(?:\n[ \t}][^\n]*)*", "", without_comments(text))
     # A field names no definition: where a record declares it, where a value has it, and where it is asked for.
     fields = re.sub(rf"(?m)^\s+pub {WORD}(?=\s*:)|(?<=[{{;])\s*{WORD}(?=\s*=(?!=))|\.{WORD}", " ", code)
@@ -147,16 +148,16 @@ def named_in(text, imports, own, definitions):
             if name in definitions.get(module, {}):
                 ours.append(definitions[module][name])
             else:
-                words[name] = module
+                words.append((module, name))
     for word, (module, name) in imports.items():
         if "◌" in word and all(part in code for part in word.split("◌") if part):
-            words[name] = module
+            words.append((module, name))
     return ours, words
 
 
 def rests_on(start, definitions):
     """Returns the definitions on which a text rests, those that it names first, and the other words with their modules."""
-    found, words, row = {}, {}, [start]
+    found, words, row = {}, set(), [start]
     while row:
         following = []
         for it in row:
@@ -183,9 +184,18 @@ def find(name, definitions, functions):
     for found in definitions.values():
         if name in found:
             return found[name]
-    every = [*functions, *[it for found in definitions.values() for it in found]]
+    every = list(dict.fromkeys([*functions, *[it for found in definitions.values() for it in found]]))
     near = difflib.get_close_matches(name, every, 5, 0.5) or TRY
     sys.exit(f"claim: nothing is named {name}; near are {', '.join(near)}")
+
+
+def homes_in(found, clashing):
+    """Returns a line for each of these words that definitions of one file have under its own name, with the module that it is from."""
+    homes = set()
+    for each in found:
+        used = named_in(each.text, each.imports, {}, {})[1]
+        homes |= {(name, module) for module, name in used if name in clashing and each.imports.get(name) == (module, name)}
+    return [f"-- {name} here is that of {module}" for name, module in sorted(homes)]
 
 
 def renamed_in(path, texts):
@@ -196,21 +206,37 @@ def renamed_in(path, texts):
     return [f"-- {new} here is {name} of {module}" for module, name, new in whole + each if re.search(rf"\b{new}\b", code)]
 
 
+def declared_at(module):
+    """Returns the declaration of the type of the code that a module of contracts is for, without comments and attributes, or None."""
+    crate, _, path = module.removeprefix("Rattle.").partition(".specs.declared.")
+    name = path.removesuffix(".TheVariants").rpartition(".")[2]
+    for file in sorted(glob.glob(f"{TOP}/crates/{crate}/src/**/*.rt", recursive=True)):
+        text = re.sub(r"(?m)^\s*(?://|#\[)[^\n]*\n|//[^\n]*", "", read(file))
+        start = re.search(rf"(?m)^pub (?:enum|struct) {name}\b[^{{;]*[{{;]", text)
+        if start:
+            end = closing(text, start.end() - 1) if start[0].endswith("{") else start.end()
+            return re.sub(r"\n\s*(?=\n)", "", text[start.start() : end])
+    return None
+
+
 def show(start, found, words):
     print(f"-- {os.path.relpath(start.file, TOP)}\n\n{start.text}\n")
     files = collections.defaultdict(list)
     for it in found:
         files[it.file].append(it)
+    homes = collections.Counter(name for _, name in words)
+    clashing = {name for name, count in homes.items() if count > 1}
     for path, each in files.items():
         first = read(path).split("\n")[0]
         print(f"---- {os.path.relpath(path, TOP)}{': ' + first[3:] if first.startswith('-- ') else ''}")
-        print("\n".join([*renamed_in(path, [it.text for it in each]), ""]))
+        print("\n".join([*renamed_in(path, [it.text for it in each]), *homes_in(each, clashing), ""]))
         print("\n\n".join(it.text for it in each) + "\n")
     modules = collections.defaultdict(list)
-    for name, module in sorted(words.items()):
+    for module, name in sorted(words):
         modules[module].append(name)
     types = {it: names for it, names in modules.items() if it.startswith("Rattle.tracing_tree")}
     print("---- types of the code\n")
+    print("\n\n".join(filter(None, dict.fromkeys(declared_at(it) for it in sorted(types)))) + "\n")
     print("\n".join(f"use {it}.{{{', '.join(names)}}}" for it, names in sorted(types.items())))
     print("\n---- words of the toolchain's library\n")
     print("\n".join(f"use {it}.{{{', '.join(names)}}}" for it, names in sorted(modules.items()) if it not in types) + "\n")
