@@ -138,8 +138,8 @@ impl<W: Output, FT: FormatTime> HierarchicalLayer<W, FT> {
         &self.writer
     }
 
-    /// Returns the last span: the one that opened last, or the parent of the one that closed last,
-    /// if it has one. It may be gone.
+    /// Returns the last span, the one that a call reached last: a span that opened, one that an event or a close was retraced to, or
+    /// the parent of one that closed. It may be gone.
     pub fn last_span(&self) -> Option<Id>
         ensures { result ≡ self.now.last }
     {

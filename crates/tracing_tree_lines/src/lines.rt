@@ -144,7 +144,8 @@ pub struct LinesRun<W: Output> {
     /// How many calls were accepted.
     pub accepted: u64,
 
-    /// The line that ended the run; none where the input was run to its end.
+    /// The line that ended the run; none where the input was run to its end. The last flush may have been refused then: no call
+    /// draws after it that could tell, and `Wrap::is_stuck` does.
     pub fault: Option<LineFault>,
 }
 
@@ -154,8 +155,9 @@ pub struct LinesRun<W: Output> {
 /// The run ends after the first line that spells no call or whose call is refused: that line's number and the cause are the
 /// fault. A line of spaces, tabs and carriage returns alone is counted and skipped. An interrupted read is tried again at most
 /// eight times in a row; `Read` is the cause of another error, of 2^64 - 1 reads of a line that doesn't end, and of line number
-/// 2^64 - 1, which isn't judged. `Memory` is the cause where memory is refused; of line 1 where the buffer of the input can't
-/// be made. The writer is flushed before each read of the input from line 2 on, and not elsewhere.
+/// 2^64 - 1, which isn't judged. `Memory` is the cause where memory is refused before a line's call is made, of line 1 where the
+/// buffer of the input can't be made; where it is refused to the call, the cause is `Refused(Memory)`. The writer is flushed before
+/// each read of the input from line 2 on, and not elsewhere.
 pub fn run_lines<R: Read, W: Output>(alloc: Global, reader: R, writer: W) -> LinesRun<W>
 where
     R: Drop,

@@ -38,8 +38,8 @@ pub record AreParts (block : List ℕ) (parts : List (List ℕ)) : Type 0 where
   pub without_line_ends : IsTrue (list_all (λ part. not (has_line_end part)) parts)
 
 -- The lines of a row: those of its block, which gets a line end first where rows are drawn with
--- lines. `lines` takes the parts, leaves out the last if it is empty, and takes one carriage return
--- from the end of each other.
+-- lines. `lines` takes the parts, takes one carriage return from the end of each but the last, and
+-- leaves out the last if it is empty.
 abbrev pub row_lines : Bool → List ℕ → List (List ℕ)
 row_lines indent_lines block = lines (if indent_lines then block ++ 10 ∷ [] else block)
 
@@ -102,7 +102,7 @@ edge_frame (Retrace verbose) = encode_utf8 corner_down_left
 edge_frame (Close verbose) = encode_utf8 corner_up_left
 edge_frame mode = []
 
--- the first line of a row, further right: `before` columns stand before the branch
+-- the first line of a row, further right: `before` columns stand before the branch of a plain row
 abbrev pub first_frame : SpanMode → ℕ → ℕ → List ℕ
 first_frame PreOpen amount before =
     corners corner_up_right corner_down_left before (before + max (amount / 2) 1)
@@ -117,7 +117,7 @@ first_frame PostClose amount before =
 first_frame Event amount before =
     columns before space ++ encode_utf8 branch ++ columns (amount - 1) horizontal
 
--- how far `│` stands right of the branch
+-- how far `│` stands right of a plain row's branch
 abbrev pub continuation_shift : SpanMode → ℕ
 continuation_shift (Open verbose) = 2
 continuation_shift (Retrace verbose) = 2
@@ -174,7 +174,8 @@ abbrev pub is_last_before_wrap : Settings → ℕ → Bool
 is_last_before_wrap settings level =
     settings.indent_lines && nat_lt 0 level && ((level + 1) % settings.wraparound == 0)
 
--- `─` up to the wrapped level, and a corner, if the row has one
+-- after the last level before the wrap: `─` up to the wrapped level, and a corner, if the row has
+-- one
 abbrev pub mark_line : Settings → Row → Option ℕ → List ℕ
 mark_line settings row None = []
 mark_line settings row (Some corner) =

@@ -77,7 +77,7 @@ begins_with_any characters text =
     list_any (λ character. starts_with (λ x y. x == y) text (encode_utf8_all (character ∷ [])))
     characters
 
--- a text that has a first character past its spaces, which no drawing begins with
+-- a text that has a first character past its spaces, none of those that rows are drawn with
 abbrev pub is_bare_text : List ℕ → Bool
 is_bare_text text =
     not (length (without_start_spaces text) == 0)
@@ -86,7 +86,7 @@ is_bare_text text =
 abbrev pub is_one_line : List (List ℕ) → Bool
 is_one_line lines = length lines == 1
 
--- an event at level 0 has one line, which no drawing begins with
+-- an event at level 0 has one line, which is such a text
 abbrev pub is_bare_line : List (List ℕ) → Bool
 is_bare_line lines = is_one_line lines && list_all is_bare_text lines
 

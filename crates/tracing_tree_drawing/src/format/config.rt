@@ -193,7 +193,7 @@ impl Config {
         }
     }
 
-    /// Shows a span only once an event happens in it or below it.
+    /// Shows a span only once it, or one below it, is the current span of an event.
     pub fn with_deferred_spans(self, deferred_spans: bool) -> Config
         ensures { result ≡ record self { deferred_spans = deferred_spans } }
     {
@@ -310,7 +310,7 @@ impl Config {
         self.bracketed_fields
     }
 
-    /// Whether a span is shown only once an event happens in it or below it.
+    /// Whether a span is shown only once it, or one below it, is the current span of an event.
     pub fn deferred_spans(&self) -> bool
         ensures { result ≡ self.now.deferred_spans }
     {

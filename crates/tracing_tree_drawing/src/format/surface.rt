@@ -26,7 +26,8 @@ pub struct Buffers {
     /// The rows that are drawn already.
     pub indent_buf: String,
 
-    /// The last span: the one that opened last, or the parent of the one that closed last, if it has one. It may be gone.
+    /// The last span, the one that a call reached last: a span that opened, one that an event or a close was retraced to, or the parent
+    /// of one that closed. It may be gone.
     pub current_span: Option<Id>,
 }
 

@@ -106,7 +106,8 @@ then_turn first next =
 
 -- ---- calls
 
--- a new span, which the forest has already
+-- a new span, which the forest has already; where it is retraced to, it counts as printed before, so
+-- that its own row is a retrace row, as in the Rust crate
 abbrev pub turn_of_new : Settings → Context → Forest → Option Id → Id → Turn
 turn_of_new settings context forest last i =
     if settings.deferred_spans then quiet_turn forest last

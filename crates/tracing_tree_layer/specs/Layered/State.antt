@@ -4,8 +4,9 @@ use Rattle.tracing_tree_spans.specs.Registry.Forest.{Forest}
 use Rattle.tracing_tree_drawing.specs.Format.Picture.{Row}
 use Rattle.tracing_tree_context.specs.declared.context.Id.{Id}
 
--- the live spans with their printed marks, the last span (the one that opened last, or the parent
--- of the one that closed last), and whether the layer has failed
+-- the live spans with their printed marks, the last span, and whether the layer has failed; the
+-- last span is the one that a call reached last: a span that opened, one that an event or a close
+-- was retraced to, or the parent of one that closed
 pub record State : Type 0 where
   pub forest : Forest
   pub last : Option Id

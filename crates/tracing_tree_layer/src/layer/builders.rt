@@ -124,7 +124,7 @@ impl<W: Output, FT: FormatTime> HierarchicalLayer<W, FT> {
         self
     }
 
-    /// Shows a span only once an event happens in it or below it.
+    /// Shows a span only once it, or one below it, is the current span of an event.
     pub fn with_deferred_spans(mut self, deferred_spans: bool) -> HierarchicalLayer<W, FT>
         ensures { result ≡ record self {
           settings = record self.settings { deferred_spans = deferred_spans };

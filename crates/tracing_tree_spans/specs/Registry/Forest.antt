@@ -50,7 +50,7 @@ if_live forest (Some i) = if is_live forest i then Some i else None
 abbrev pub unless_live : Forest → Id → Option Id
 unless_live forest i = then_some (not (is_live forest i)) i
 
--- the same of an id that may be missing
+-- an id that may be missing, unless it is live
 abbrev pub any_unless_live : Forest → Option Id → Option Id
 any_unless_live forest o = option_map_or (unless_live forest) o None
 
