@@ -1,4 +1,4 @@
-//! Equality holds exactly where all parts are equal: a function for each public type that derives it, and for `Text` and
+//! Equality holds exactly where all parts are equal: a function for each of 26 public types that derive it, and for `Text` and
 //! `Fields`, whose contract says so.
 
 ghost use Rattle.std.specs.Prelude.{◌≡◌};
