@@ -14,8 +14,11 @@
  *   fields as `field_count` says. (NULL is refused with `TT_NULL`, a text whose address is NULL at length 0 too: `tt_bytes` and
  *   `tt_str` make the empty text of NULL. `fields` may be NULL at a count of 0, and `room` to ask for the length.)
  * - A `bool` is 0 or 1.
- * - A `tt_tree` is first made by `TT_NO_TREE`, or by setting all its bytes to 0. It is never copied: a copy that is used after the
- *   other was freed can't be caught. It may lie anywhere in memory, and may be moved between calls if the old place is then left alone.
+ * - A `tt_tree` is first made by `TT_NO_TREE`, or by setting all its bytes to 0: at file scope in C, `static tt_tree tree;` does so.
+ *   It is never copied: a copy that is used after the other was freed can't be caught. It may lie anywhere in memory that is aligned
+ *   for it, and may be moved between calls if the old place is then left alone.
+ * - What `tree`, `id`, `went` and `room` point to overlaps nothing else that is passed, and no thread changes what is passed before
+ *   the call returns.
  * - `malloc`, `realloc` and `free` belong to one allocator. No function is called from a signal handler, or in the forked child
  *   of a process with threads.
  *
@@ -26,8 +29,8 @@
  * Ownership. The tree owns its memory, and `tt_free` returns it. No function keeps a pointer that it was passed: texts, fields
  * and settings are copied or no longer needed when the call returns.
  *
- * Memory. A call that is refused memory changes nothing, and the same call made again with memory gives the result that it would
- * have given the first time.
+ * Memory. A call that is refused memory changes nothing, and the same call made again with memory does what it would have done the
+ * first time.
  */
 #ifndef TRACING_TREE_H
 #define TRACING_TREE_H
@@ -45,15 +48,16 @@ extern "C" {
 #define TT_VERSION 1u
 
 /* What a call returns. After any status but `TT_OK` no span has been made, changed or closed, nothing has been drawn, and
- * `tt_text` gives no text until the next call (after a refused `tt_new` it gives what it gave before). `TT_TIMER` ends the tree
- * besides: each later call is refused with `TT_FAILED`. */
+ * `tt_text` gives no text until the next call (after a refused `tt_new` it gives what it gave before). Where several statuses apply,
+ * `TT_NULL` comes before all others, then `TT_MISSING`; of the rest any may come. `TT_TIMER` and `TT_FAILED` don't come in this
+ * version: each timer has a text for every moment. */
 enum {
   TT_OK = 0,
   TT_NOT_HELD = 1,  /* a span that the call names isn't live, or has no handle left to close */
   TT_TOO_WIDE = 2,  /* the level of a row times `indent_amount` is above 2^64 - 1 */
   TT_TOO_MANY = 3,  /* no id, or no further handle of this span, is left */
   TT_NO_MEMORY = 4, /* memory was refused; the call may be made again */
-  TT_TIMER = 5,     /* the timer has no text for this moment; the timers of `tt_settings` always have one */
+  TT_TIMER = 5,     /* the timer has no text for this moment */
   TT_FAILED = 6,    /* the tree has failed earlier */
   TT_MISSING = 7,   /* there is no tree: none was made yet, or it was freed */
   TT_NOT_UTF8 = 8,  /* a text isn't UTF-8 */
@@ -64,7 +68,8 @@ enum {
   TT_NULL = 13      /* a pointer is NULL, or a text's address */
 };
 
-/* A tree, or none where all bytes are 0. The fields are the library's. */
+/* A tree; none where `there` is false, as in zeroed memory. The fields are the library's. Padding, here and in the other structs,
+ * isn't read. */
 typedef struct tt_tree {
   void *inside;
   bool there;
@@ -82,7 +87,8 @@ typedef struct tt_text_ref {
   size_t len;
 } tt_text_ref;
 
-/* A field. The value is shown as it is: write quotes around it where quotes are to be seen. */
+/* A field. The value is shown as it is: write quotes around it where quotes are to be seen. Of a field `message` the value is shown
+ * alone, in an event wherever it stands, in a span only in first place. An event leaves out fields whose names begin with `log.`. */
 typedef struct tt_field {
   tt_text_ref name;
   tt_text_ref value;
@@ -101,7 +107,7 @@ typedef struct tt_settings {
   uint64_t size;          /* sizeof(tt_settings). Any other number is refused; `tt_version` tells whether the header fits */
   uint64_t indent_amount; /* columns for each level */
   uint64_t wraparound;    /* after this many levels the indent begins again at the left; not 0 */
-  uint64_t epoch;         /* for TT_TIMER_UPTIME: where the uptime begins, in nanoseconds of `mono` */
+  uint64_t epoch;         /* for TT_TIMER_UPTIME: where the uptime begins, in nanoseconds of `mono`; before it the uptime is 0 */
   uint32_t timer;         /* one of TT_TIMER_.. */
   int32_t offset;         /* for TT_TIMER_LOCAL: seconds east of UTC, -93599 to 93599 */
   bool higher_precision;  /* elapsed times with two decimals */
@@ -113,8 +119,9 @@ typedef struct tt_settings {
   bool verbose_entry;     /* a span's parent is shown again before the span opens */
   bool verbose_exit;      /* a closing span is shown whole, and its parent again after it */
   bool span_retrace;      /* the spans around an event are shown again where another span was shown last */
-  bool deferred_spans;    /* a span is shown only once an event happens in it */
-  bool close_retrace;     /* beside one of the last two: a span that closes is shown again where its parent isn't in sight */
+  bool deferred_spans;    /* a span is shown only once it, or one below it, is the current span of an event */
+  bool close_retrace;     /* beside one of the last two: a span that closes is shown again where its parent isn't on the path of
+                             the last span */
   bool span_modes;        /* rows of spans are labelled, as `open: ` */
   bool bracketed_fields;  /* a span's fields stand in braces */
 } tt_settings;
@@ -124,8 +131,8 @@ typedef struct tt_context {
   uint64_t current;         /* the id of the current span, or 0 for none */
   uint64_t thread_id;       /* the number of the thread */
   tt_text_ref thread_name;  /* the thread's name, read only if has_thread_name */
-  uint64_t mono;            /* nanoseconds on a clock that only goes forward */
-  int64_t wall;             /* nanoseconds since 1970-01-01T00:00:00Z */
+  uint64_t mono;            /* nanoseconds on a clock that only goes forward; where it goes back, the time in a span counts as 0 */
+  int64_t wall;             /* nanoseconds since 1970-01-01T00:00:00Z, negative before it */
   bool has_thread_name;
 } tt_context;
 
@@ -242,7 +249,8 @@ static inline uint32_t tt_refuse_null(tt_tree *tree) {
   return TT_NULL;
 }
 
-/* ---- The functions for C and C++. Each returns TT_NULL where a pointer or a text's address is NULL, and nothing has changed. */
+/* ---- The functions for C and C++. Where a pointer or a text's address is NULL, each that returns a status returns TT_NULL and makes
+ * no call, though `tt_event_timed` may have set its texts; `tt_free` does nothing then, and `tt_text` returns 0. */
 
 /* Makes a tree without spans, where there is none.
  *   TT_OK         the tree is made; `tt_free` must free it
@@ -337,8 +345,9 @@ static inline uint32_t tt_close(tt_tree *tree, uint64_t id, const tt_context *co
   return tt_raw_close(tree, id, &named, went);
 }
 
-/* Shows these texts as the time of each event from now on, in place of the timer of the settings: `moment` in front of the event,
- * and `elapsed` where the current span is live. An empty text shows nothing. Both are copied.
+/* Shows these texts as the time of each event from now on, in place of the timer of the settings, which doesn't come back: `moment`
+ * in front of the event, and `elapsed` where the current span is live. They are shown as they are, without colours. A space follows
+ * `moment` if it isn't empty, and `elapsed` in any case. Both are copied.
  *   TT_OK         the texts are shown from now on
  *   TT_MISSING    there is no tree
  *   TT_NOT_UTF8   a text isn't UTF-8
@@ -359,9 +368,10 @@ typedef struct tt_timer {
   void *data;                                                    /* passed to both; may be NULL */
 } tt_timer;
 
-/* Draws an event as `tt_event` does, with the time that this timer shows. The functions are called once each, before anything is
- * drawn, and must not call the tree. Returns what `tt_set_time` returns where that isn't TT_OK, and else what `tt_event` returns:
- * where the event is refused the texts stay set. */
+/* Draws an event as `tt_event` does, with the time that this timer shows. The functions are called once each, in either order, before
+ * anything is drawn, `elapsed` also where no span is current, and must not call the tree. Each text needs room of its own. Returns
+ * what `tt_set_time` returns where that isn't TT_OK, and else what `tt_event` returns: where the event is refused the texts stay
+ * set. */
 static inline uint32_t tt_event_timed(tt_tree *tree, const tt_timer *timer, const tt_event_ref *event, const tt_field *fields,
                                       size_t field_count, const tt_context *context) {
   uint32_t status;

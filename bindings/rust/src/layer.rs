@@ -6,6 +6,7 @@ use crate::spans::{Kept, Spans};
 use crate::time::{monotonic, wall, FormatTime};
 use crate::{sys, HierarchicalLayer};
 use std::cell::Cell;
+use std::collections::VecDeque;
 use std::io::Write;
 use std::sync::atomic::{AtomicBool, Ordering};
 use std::sync::{Mutex, MutexGuard, PoisonError};
@@ -31,10 +32,10 @@ pub(crate) struct State {
     room: Vec<u8>,
 }
 
-/// Spans that closed while their thread was in a call of this layer.
+/// Spans that closed while their thread was in a call of this layer, in the order in which they closed.
 #[derive(Default)]
 pub(crate) struct Late {
-    ids: Mutex<Vec<Id>>,
+    ids: Mutex<VecDeque<Id>>,
     // Whether there are any, so that most calls take no lock to know it.
     any: AtomicBool,
 }
@@ -42,13 +43,13 @@ pub(crate) struct Late {
 impl Late {
     fn push(&self, id: Id) {
         let mut ids = locked(&self.ids);
-        ids.push(id);
+        ids.push_back(id);
         self.any.store(true, Ordering::Release);
     }
 
     fn pop(&self) -> Option<Id> {
         let mut ids = locked(&self.ids);
-        let id = ids.pop();
+        let id = ids.pop_front();
         self.any.store(!ids.is_empty(), Ordering::Release);
         id
     }
@@ -67,7 +68,8 @@ impl InCall {
     #[inline]
     fn enter() -> Option<InCall> {
         let entered = IN_CALL.try_with(|in_call| in_call.replace(true));
-        matches!(entered, Ok(false)).then_some(InCall)
+        // Made only where the call isn't inside another: to drop it ends the outer one.
+        matches!(entered, Ok(false)).then(|| InCall)
     }
 }
 

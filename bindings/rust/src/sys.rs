@@ -221,6 +221,12 @@ extern "C" {
 #[derive(Clone, Copy, Debug, PartialEq, Eq)]
 pub struct Refused(pub u32);
 
+/// The version of the header that this file follows.
+const VERSION: u32 = 1;
+
+/// The settings have another size than the library's.
+const OTHER_SIZE: Refused = Refused(11);
+
 #[inline]
 fn answered(status: u32) -> Result<(), Refused> {
     if status == 0 {
@@ -240,8 +246,11 @@ pub struct Tree {
 unsafe impl Send for Tree {}
 
 impl Tree {
-    /// A tree with these settings.
+    /// A tree with these settings. A library of another version is refused, whose settings may have other fields in the same size.
     pub fn new(settings: &Settings) -> Result<Tree, Refused> {
+        if version() != VERSION {
+            return Err(OTHER_SIZE);
+        }
         let mut raw = RawTree { inside: std::ptr::null_mut(), there: false };
         // SAFETY: the tree is missing, and the settings are whole.
         answered(unsafe { tt_raw_new(&mut raw, settings) })?;

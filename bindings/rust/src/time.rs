@@ -7,8 +7,9 @@ use std::time::{Duration, Instant, SystemTime, UNIX_EPOCH};
 
 /// What shows the time of an event. (`FormatTime` of `tracing-tree`.)
 ///
-/// The library shows the timers of this module itself. A timer of your own has the two functions: the layer calls them once for each
-/// event, and shows what they wrote, also where they return an error. An event that they tell isn't drawn.
+/// The library shows the timers of this module itself. A timer of your own has the two functions: for each event the layer calls
+/// `format_time` once, and `style_timestamp` once where a span is current, and shows what they wrote, also where they return an error.
+/// An event that they tell isn't drawn.
 pub trait FormatTime: 'static {
     /// Writes the moment that it is now.
     fn format_time(&self, w: &mut impl fmt::Write) -> fmt::Result;

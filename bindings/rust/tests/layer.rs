@@ -218,6 +218,51 @@ fn a_writer_that_logs() {
     assert_eq!(sink.text(), "INFO x\n");
 }
 
+/// Opens a span and logs in it, through its own layer.
+#[derive(Clone)]
+struct Traces(Sink);
+
+impl Write for Traces {
+    fn write(&mut self, bytes: &[u8]) -> io::Result<usize> {
+        info_span!("send").in_scope(|| info!("written"));
+        self.0.write(bytes)
+    }
+
+    fn flush(&mut self) -> io::Result<()> {
+        Ok(())
+    }
+}
+
+#[test]
+fn a_writer_that_opens_spans() {
+    let sink = Sink::default();
+    let traces = Traces(sink.clone());
+    let subscriber = Registry::default().with(plain().with_writer(move || traces.clone()));
+    tracing::subscriber::with_default(subscriber, || drop(info_span!("a")));
+    assert_eq!(sink.text(), "┐a \n┘\n");
+}
+
+/// Lets go of spans, one after another, while it is formatted.
+struct LetsGo(Mutex<Vec<tracing::Span>>);
+
+impl fmt::Debug for LetsGo {
+    fn fmt(&self, f: &mut fmt::Formatter<'_>) -> fmt::Result {
+        for span in self.0.lock().unwrap().drain(..) {
+            drop(span);
+        }
+        f.write_str("x")
+    }
+}
+
+#[test]
+fn a_field_that_closes_spans() {
+    let text = drawn(plain().with_verbose_exit(true), || {
+        let (a, b) = (info_span!("a"), info_span!("b"));
+        info!(by = ?LetsGo(Mutex::new(vec![a, b])), "outside");
+    });
+    assert_eq!(text, "┐a \n┐b \nINFO outside, by=x\n┘a \n┘b \n");
+}
+
 #[test]
 fn a_writer_that_fails_and_panics() {
     struct Fails(Arc<Mutex<u32>>, Sink);

@@ -130,7 +130,7 @@ fn is_lost(answer: Result<Reply, Refusal>) -> bool
     matches!(answer, Err(Refusal::Writer))
 }
 
-/// What C holds: a tree, or none. All its bytes are 0 where there is none.
+/// What C holds: a tree, or none. `there` is false where there is none, as in zeroed memory.
 #[repr(C)]
 #[derive(Drop)]
 pub struct Tree {
