@@ -9,7 +9,7 @@ prover, or only since a proof file names what it took away, has failed, and so h
 changes no meaning: it is tried as the others are, and must be let through, else no refusal shows anything.
 
 Where the kit keeps what it proved, a refusal is kept too, under a sum of all that it rests on: the kit, the crate and those below it, the
-edit, and this file. An edit whose refusal is kept isn't tried again, unless --anew is given.
+edit, this file and kit.py. An edit whose refusal is kept isn't tried again, unless --anew is given.
 
 It prints a line for each edit, and last 'edits: N passed, M failed'. --plan prints the rounds alone. --sample N tries N of the edits that
 a round refused alone too, and an edit of which `rt must-fail` says otherwise has failed."""
@@ -276,7 +276,7 @@ class Refusals:
 
     def __init__(self, kit, crates, is_anew):
         self.kit, self.store = kit, kit.store(crates, is_anew)
-        self.own = hashlib.sha256(read(os.path.abspath(__file__))).hexdigest()
+        self.own = hashlib.sha256(read(os.path.abspath(__file__)) + read(kits.__file__)).hexdigest()
         self.sum_of = functools.lru_cache(maxsize=None)(kit.sum_of)
         # The names that the edits had when this run came to them.
         self.names = {}
