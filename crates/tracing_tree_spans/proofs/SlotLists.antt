@@ -6,7 +6,7 @@ use Rattle.std.specs.Result.{OnOk, OnErr}
 use Rattle.std.proofs.lemmas.Bool.{eqb-true, and_parts}
 use Rattle.std.proofs.lemmas.Bool.Decides.{nat_tests}
 use Rattle.std.proofs.lemmas.List.Folds.{list_all-append}
-use Rattle.std.proofs.lemmas.List.{map-append, append-nil, get_or_read}
+use Rattle.std.proofs.lemmas.List.{map-append, append-nil, get_or_read, set_split, drop_all}
 use Rattle.std.proofs.lemmas.Option.{slice_get-get_or, slice_get_within, slice_get_read, same_Some}
 use Rattle.tracing_tree_spans.specs.Registry.Ids.{id_of, same_id}
 use Rattle.tracing_tree_spans.specs.Registry.Spans.{KeptSpan}
@@ -505,6 +505,16 @@ pub trimmed_end : (old : List Slot) → ends_in_gap old ≡ true → AreRising (
 trimmed_end old ends rising =
     last-part old (take (length old - 1) old) (drop (length old - 1) old) (take-append-drop (length old - 1) old)
     (length-take-le (length old - 1) old (omega arith)) ends rising
+
+-- the last place goes in place of becoming a gap
+pub vacated_end : (slots : List Slot) (at : ℕ) (i : Id) → at ≡ length slots - 1 → at < length slots →
+    AreRising (slot_ids (set slots at (Gone i))) → IsTrimmed (set slots at (Gone i)) (take at slots)
+vacated_end slots at i last inside rising =
+    let rest : drop (suc at) slots ≡ [] = drop_all (suc at) slots (omega arith) in
+    let whole : set slots at (Gone i) ≡ take at slots ++ Gone i ∷ [] =
+    set_split slots at (Gone i) inside ∙ ap (λ xs. take at slots ++ Gone i ∷ xs) rest in
+    let ends : ends_in_gap (set slots at (Gone i)) ≡ true = ap ends_in_gap whole ∙ ends-more (take at slots) (Gone i) in
+    trimmed (set slots at (Gone i)) (take at slots) (Some (Gone i)) whole (λ h. let never : Some (Gone i) ≡ None = h in cc) ends rising
 
 -- what is not in the list is not in a part of it
 above-part : (n : ℕ) (slots : List Slot) → ids_above n (slot_ids slots) ≡ true → ids_above n (slot_ids (filter (λ slot. not (is_gone slot)) slots)) ≡ true

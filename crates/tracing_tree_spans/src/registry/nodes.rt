@@ -1,17 +1,17 @@
 //! The live spans in the order of their ids, each found by its id.
 
-ghost use Rattle.std.specs.Prelude.{◌≡◌, ◌<◌, ◌^◌, ◌++◌, [], ◌∷◌, None, Some, IfSome, MatchOption, OnOk, OnErr, find, length, slice_get, option_copied, false};
+ghost use Rattle.std.specs.Prelude.{◌≡◌, ◌<◌, ◌^◌, ◌++◌, [], ◌∷◌, None, Some, IfSome, MatchOption, OnOk, OnErr, find, length, set, slice_get, option_copied, false};
 ghost use Rattle.std.specs.Fn.{FnOnceReturnsAtMut};
 ghost use Rattle.std.specs.Option.{option_map_or};
 ghost use Rattle.tracing_tree_spans.specs.Registry.Spans.{KeptSpan, handle_more, handle_less, child_more, child_less, kept_printed, fields_more};
 ghost use Rattle.tracing_tree_spans.specs.Registry.Kept.{kept_at, change_kept, leave_out, AreBelow};
+ghost use Rattle.tracing_tree_spans.specs.declared.registry.slot.Slot.TheVariants.{Gone};
 ghost use Rattle.tracing_tree_spans.specs.Registry.Slots.{slot_has, slot_ids, present, ends_in_gap, AreRising, IsLaidOut};
 
 use super::node::Node;
 use super::slot::Slot;
 use std::alloc::{AllocError, Global};
 use std::marker::Model;
-use std::mem;
 use tracing_tree_context::Id;
 use tracing_tree_text::field::Fields;
 
@@ -72,18 +72,15 @@ impl Nodes {
     }
 
     // Takes the span with this id out.
-    pub(crate) fn remove(&mut self, id: Id) -> Option<Node>
-        ensures value { result ≡ kept_at self.old id }
-        ensures rest { self.new ≡ leave_out id self.old }
+    pub(crate) fn remove(&mut self, id: Id)
+        ensures { self.new ≡ leave_out id self.old }
     {
-        let at = position(self.slots.as_slice(), id)?;
-        match mem::replace(&mut self.slots[at], Slot::Gone(id)) {
-            Slot::Live(node) => {
+        if let Some(at) = position(self.slots.as_slice(), id) {
+            if let Slot::Live(_) = &self.slots[at] {
+                vacate(&mut self.slots, at, id);
                 self.live -= 1;
                 trim(&mut self.slots);
-                Some(node)
             }
-            Slot::Gone(_) => None,
         }
     }
 
@@ -248,6 +245,20 @@ fn make_room(slots: &mut Vec<Slot>, live: usize)
 {
     if slots.len() == slots.capacity() && live < slots.len() / 2 {
         slots.retain(|slot| !slot.is_gone());
+    }
+}
+
+// Frees a place: the last one goes, and another becomes a gap.
+fn vacate(slots: &mut Vec<Slot>, at: usize, id: Id)
+    requires inside { at < length slots.old.items }
+    requires rising { AreRising (slot_ids (set slots.old.items at (Gone id))) }
+    ensures spans { present slots.new.items ≡ present (set slots.old.items at (Gone id)) }
+    ensures rising { AreRising (slot_ids slots.new.items) }
+{
+    if at == slots.len() - 1 {
+        slots.truncate(at);
+    } else {
+        slots[at] = Slot::Gone(id);
     }
 }
 

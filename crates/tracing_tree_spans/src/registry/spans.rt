@@ -290,7 +290,9 @@ fn remove_leaf(nodes: &mut Nodes, id: Id) -> Option<Id>
     ensures spans { spans_of nodes.new ≡ without_span id (spans_of nodes.old) }
     ensures tied { IsTied nodes.new }
 {
-    let parent = nodes.remove(id)?.parent()?;
+    let parent = nodes.get(id)?.parent();
+    nodes.remove(id);
+    let parent = parent?;
     nodes.take_child(parent);
     Some(parent)
 }
