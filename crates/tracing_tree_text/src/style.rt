@@ -54,6 +54,7 @@ pub fn styled(alloc: Global, ansi: bool, style: Style, text: &str) -> Result<Str
 }
 
 /// Appends the text in a style, as `styled` makes it. On `AllocError` nothing is appended.
+#[inline(always)]
 pub fn push_styled(out: &mut String, ansi: bool, style: Style, text: &str) -> Result<(), AllocError>
     ensures ok { OnOk result (string_bytes out.new
         ≡ string_bytes out.old ++ styled ansi style text.now) }
@@ -155,8 +156,14 @@ pub fn push_level(out: &mut String, ansi: bool, level: Level) -> Result<(), Allo
     ensures err { OnErr result (string_bytes out.new ≡ string_bytes out.old) }
 {
     if ansi {
-        out.push_str(painted(&level))
-    } else {
-        out.push_str(level.as_str())
+        return out.push_str(painted(&level));
+    }
+    // Each name as a constant, which is written without a copy of unknown length.
+    match level {
+        Level::Trace => out.push_str("TRACE"),
+        Level::Debug => out.push_str("DEBUG"),
+        Level::Info => out.push_str("INFO"),
+        Level::Warn => out.push_str("WARN"),
+        Level::Error => out.push_str("ERROR"),
     }
 }

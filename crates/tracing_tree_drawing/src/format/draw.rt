@@ -1,7 +1,7 @@
 //! The drawing of rows: what docs/FORMATS.md, "Drawing", says of frames, lines and wrap marks.
 
 ghost use Rattle.std.specs.List.{repeat};
-ghost use Rattle.std.specs.Prelude.{◌≡◌, ◌+◌, ◌*◌, ◌^◌, ◌<◌, ◌++◌, ◌∷◌, [], true, false, Err, OnOk, OnErr, IfErr, string_bytes, encode_utf8, if◌then◌else◌};
+ghost use Rattle.std.specs.Prelude.{◌≡◌, ◌+◌, ◌*◌, ◌^◌, ◌<◌, ◌++◌, ◌∷◌, [], true, false, Some, Err, OnOk, OnErr, IfErr, string_bytes, encode_utf8, if◌then◌else◌};
 ghost use Rattle.std.specs.Str.Lines.{strip_carriage_return};
 ghost use Rattle.tracing_tree_drawing.specs.Format.Frames.{HasRoom, corner_pieces, frame_pieces, pushed_text, row_of, span_pieces};
 ghost use Rattle.tracing_tree_drawing.specs.Format.Picture.{columns, drawn_row, edge_frame, first_frame, horizontal, is_last_before_wrap, is_too_wide, later_frame, lined_frame, mark_after_corner, mark_before_corner, mark_line, picture, row_frame, shift_of, space, unnamed_row, wrapped_level};
@@ -97,6 +97,7 @@ impl FramePieces {
     }
 
     // Appends the pieces in order, or some of them.
+    #[inline(always)]
     fn push(&self, out: &mut String) -> Result<(), AllocError>
         ensures ok { OnOk result
             (string_bytes out.new ≡ string_bytes out.old ++ pushed_text self.now) }
@@ -241,6 +242,18 @@ fn corner_after(mode: SpanMode) -> Option<char>
     }
 }
 
+// Appends a text, or nothing. Many texts are empty, as that of a plain close.
+#[inline(always)]
+fn push_text(out: &mut String, text: &str) -> Result<(), AllocError>
+    ensures ok { OnOk result (string_bytes out.new ≡ string_bytes out.old ++ text.now) }
+    ensures extended { IsExtended (string_bytes out.old) (string_bytes out.new) }
+{
+    if text.is_empty() {
+        return Ok(());
+    }
+    out.push_str(text)
+}
+
 // Appends a text `times` times, or fewer, with one growth.
 fn push_repeated(out: &mut String, text: &str, times: usize) -> Result<(), AllocError>
     ensures ok { OnOk result
@@ -261,6 +274,9 @@ fn push_spaces(out: &mut String, count: usize) -> Result<(), AllocError>
         (string_bytes out.new ≡ string_bytes out.old ++ columns count space) }
     ensures extended { IsExtended (string_bytes out.old) (string_bytes out.new) }
 {
+    if count == 0 {
+        return Ok(());
+    }
     if count > SPACES.len() {
         return push_repeated(out, " ", count);
     }
@@ -321,9 +337,6 @@ impl RowDrawing<'_> {
             ++ drawn_row self.now.config.now (row_of self.now block.now)) }
         ensures extended { IsExtended (string_bytes out.old) (string_bytes out.new) }
     {
-        if !self.is_last_before_wrap() {
-            return self.lines(out, block);
-        }
         self.mark(out, corner_before(self.mode))?;
         self.lines(out, block)?;
         self.mark(out, corner_after(self.mode))
@@ -355,6 +368,7 @@ impl RowDrawing<'_> {
     }
 
     // Appends one line, or a beginning of it.
+    #[inline(always)]
     fn line(&self, out: &mut String, frame: &FramePieces, text: &str) -> Result<(), AllocError>
         ensures ok { OnOk result (string_bytes out.new ≡ string_bytes out.old
             ++ (prefix_text self.now.config.now self.now.context.now ++ pushed_text frame.now
@@ -363,7 +377,7 @@ impl RowDrawing<'_> {
     {
         self.config.push_prefix(out, self.context)?;
         frame.push(out)?;
-        out.push_str(text)?;
+        push_text(out, text)?;
         out.push_str("\n")
     }
 
@@ -376,6 +390,7 @@ impl RowDrawing<'_> {
     }
 
     // The frame of the first line, or that of each later one.
+    #[inline(always)]
     fn frame(&self, first: bool) -> FramePieces
         requires { HasRoom self.now }
         ensures { pushed_text result
@@ -398,19 +413,30 @@ impl RowDrawing<'_> {
         self.config.indent_lines() && self.level > 0 && self.wrapped_level() == last
     }
 
-    // Where the levels wrap round after this one, appends a line up to the indent and the corner, if the row has one, or a
-    // beginning of that.
+    // Where the levels wrap round after this one, appends the row's wrap mark, if it has one, or a beginning of that.
+    #[inline(always)]
     fn mark(&self, out: &mut String, corner: Option<char>) -> Result<(), AllocError>
-        requires room { HasRoom self.now }
-        requires last { is_last_before_wrap self.now.config.now self.now.level ≡ true }
+        requires { HasRoom self.now }
         ensures ok { OnOk result
             (string_bytes out.new ≡ string_bytes out.old
             ++ mark_line self.now.config.now (row_of self.now []) corner) }
         ensures extended { IsExtended (string_bytes out.old) (string_bytes out.new) }
     {
-        let Some(corner) = corner else {
-            return Ok(());
-        };
+        match corner {
+            Some(corner) if self.is_last_before_wrap() => self.mark_line(out, corner),
+            _ => Ok(()),
+        }
+    }
+
+    // Appends a line up to the indent and the corner, or a beginning of that.
+    fn mark_line(&self, out: &mut String, corner: char) -> Result<(), AllocError>
+        requires room { HasRoom self.now }
+        requires last { is_last_before_wrap self.now.config.now self.now.level ≡ true }
+        ensures ok { OnOk result
+            (string_bytes out.new ≡ string_bytes out.old
+            ++ mark_line self.now.config.now (row_of self.now []) (Some corner)) }
+        ensures extended { IsExtended (string_bytes out.old) (string_bytes out.new) }
+    {
         let indent = self.wrapped_level() * self.config.indent_amount();
         self.config.push_prefix(out, self.context)?;
         push_repeated(out, "─", indent)?;

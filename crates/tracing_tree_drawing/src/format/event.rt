@@ -60,6 +60,7 @@ pub fn push_shown(out: &mut String, field: &Field) -> Result<(), AllocError>
 }
 
 /// Appends a field as `name=value`. On `AllocError` nothing is appended.
+#[inline(always)]
 pub fn push_named(out: &mut String, field: &Field) -> Result<(), AllocError>
     ensures ok { OnOk result (string_bytes out.new
         ≡ string_bytes out.old ++ named_value field.now) }

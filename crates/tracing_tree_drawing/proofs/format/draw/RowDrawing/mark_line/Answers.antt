@@ -2,7 +2,7 @@ use Rattle.std.proofs.Common.{◌≡◌, ◌*◌, refl, append_assoc, rules}
 use Rattle.std.specs.Char.{encode_utf8}
 use Rattle.tracing_tree_drawing.specs.Format.Picture.{wrapped_level}
 use Rattle.tracing_tree_text.proofs.Extended.{extended_push, extended_twice}
-use Rattle.tracing_tree_drawing.proofs.format.draw.RowDrawing.mark.Goals as goal
+use Rattle.tracing_tree_drawing.proofs.format.draw.RowDrawing.mark_line.Goals as goal
 
 pub returns-clause-ok : goal.returns-clause-ok
 unfolding encode_utf8
@@ -11,7 +11,7 @@ returns-clause-ok c =
     let settings = self.config.now in
     let width : wrapped_level settings self.level * settings.indent_amount ≡ c.wrapped_level.result * c.indent_amount.result =
     rw (c.wrapped_level.ensures.value, c.indent_amount.ensures) refl in
-    rw (c.in-Some.is, c.requires.last, width) (search (rules, append_assoc))
+    rw (c.requires.last, width) (search (rules, append_assoc))
 
 pub returns-clause-extended : goal.returns-clause-extended
 returns-clause-extended c =
