@@ -1,6 +1,6 @@
 -- Plans come to the turns of the definitions.
-use Rattle.std.proofs.Common.{◌≡◌, ◌&&◌, ℕ, ◌≤◌, length, drop, arith, subst, Bool, true, false, not, List, [], ◌∷◌, ◌++◌, map, Option, Some, None, is_some, if◌then◌else◌, refl, sym, ap, ◌∙◌, append_assoc, append-nil}
-use Rattle.std.specs.Option.{option_and_then, option_map_or, option_or}
+use Rattle.std.proofs.Common.{◌≡◌, ◌&&◌, ℕ, ◌≤◌, length, drop, arith, subst, Bool, true, false, not, List, [], ◌∷◌, ◌++◌, map, Option, Some, None, is_some, option_map, if◌then◌else◌, refl, sym, ap, ◌∙◌, append_assoc, append-nil}
+use Rattle.std.specs.Option.{option_map_or, option_or}
 use Rattle.std.specs.List.{common_prefix_len}
 use Rattle.tracing_tree_spans.specs.Registry.Ids.{same_id}
 use Rattle.tracing_tree_layer.proofs.Reading.Parts.{common-right}
@@ -9,7 +9,7 @@ use Rattle.std.proofs.Math.Seq.{drop-length}
 use Rattle.std.proofs.lemmas.List.{map-append}
 use Rattle.tracing_tree_drawing.specs.Format.Settings.{Settings, retraces}
 use Rattle.tracing_tree_spans.specs.Registry.Forest.{Forest, IsForest, is_printed, parent_of, path_of, path_of_any, fresh_ids, mark_all, span_at}
-use Rattle.tracing_tree_spans.specs.Registry.Spans.{Span}
+use Rattle.tracing_tree_spans.specs.Registry.Spans.{ShownSpan, shown_span}
 use Rattle.tracing_tree_spans.specs.Registry.Paths.{PartOnce}
 use Rattle.tracing_tree_spans.proofs.PathLaws.{path_of-step}
 use Rattle.tracing_tree_spans.proofs.CommonLaws.{paths_part_once, nothing_parts_once}
@@ -195,21 +195,23 @@ pub last_paths_part_once : (forest : Forest) → IsForest forest → (last : Opt
 last_paths_part_once forest formed None i = nothing_parts_once (path_of forest i)
 last_paths_part_once forest formed (Some j) i = paths_part_once forest formed j i
 
--- below the last span itself a child alone is fresh
+-- right below the last path a span alone is fresh
 beyond-more : (path : List Id) (i : Id) → drop (common_prefix_len same_id path (path ++ i ∷ [])) (path ++ i ∷ []) ≡ i ∷ []
 beyond-more [] i = refl
 beyond-more (j ∷ path) i =
     let rest = beyond-more path i in
     rw (same-refl j) (drop-next (common_prefix_len same_id path (path ++ i ∷ [])) j (path ++ i ∷ []) ∙ rest)
 
-pub fresh-child : (forest : Forest) → IsForest forest → (i above : Id) → parent_of forest i ≡ Some above → fresh_ids forest (Some above) i ≡ i ∷ []
-fresh-child forest formed i above e =
-    elim (span_at forest i) as (λ o. span_at forest i ≡ o → option_and_then (λ (span : Span). span.parent) o ≡ Some above → fresh_ids forest (Some above) i ≡ i ∷ []) [
+pub fresh-below : (forest : Forest) → IsForest forest → (i : Id) (shown : ShownSpan) (last : Option Id) →
+    Some shown ≡ option_map shown_span (span_at forest i) → path_of_any forest shown.parent ≡ path_of_any forest last → fresh_ids forest last i ≡ i ∷ []
+fresh-below forest formed i shown last e same =
+    elim (span_at forest i) as (λ o. span_at forest i ≡ o → Some shown ≡ option_map shown_span o → fresh_ids forest last i ≡ i ∷ []) [
       | None ↦ (λ h k. absurd cc)
       | Some s ↦ (λ h k.
-          let step : path_of forest i ≡ path_of forest above ++ i ∷ [] =
-          path_of-step forest formed i s h ∙ ap (λ o. path_of_any forest o ++ i ∷ []) k in
-          ap (λ path. drop (common_prefix_len same_id (path_of forest above) path) path) step ∙ beyond-more (path_of forest above) i)
+          let own : shown_span s ≡ shown = cc in
+          let step : path_of forest i ≡ path_of_any forest last ++ i ∷ [] =
+          path_of-step forest formed i s h ∙ ap (λ (x : ShownSpan). path_of_any forest x.parent ++ i ∷ []) own ∙ ap (λ path. path ++ i ∷ []) same in
+          ap (λ path. drop (common_prefix_len same_id (path_of_any forest last) path) path) step ∙ beyond-more (path_of_any forest last) i)
     ] refl e
 
 -- what is shared is part of the new path

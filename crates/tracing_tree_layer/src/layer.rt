@@ -316,6 +316,7 @@ fn commit<S: LookupSpan>(plan: &Plan, last: &mut Option<Id>, spans: &mut S)
 
 // Writes what was drawn, once and whole, or gives it up. Only a fault of the writer leaves a text
 // on the page.
+#[inline(always)]
 fn send<W: Output>(
     drawn: Result<(), Refusal>,
     page: &mut Page,

@@ -7,6 +7,7 @@ use super::{Output, OutputFault};
 
 /// Has the output keep a text, or else writes it whole, and leaves an empty one in its place. On a fault the text stays; what was
 /// written is then a beginning that isn't the whole, and nothing where the output's writes are whole.
+#[inline(always)]
 pub fn write_whole<O: Output>(text: &mut String, out: &mut O) -> Result<(), OutputFault>
     requires { O.fault_count out.old < u64.MAX }
     ensures written { WritesWhole (string_bytes text.old) result

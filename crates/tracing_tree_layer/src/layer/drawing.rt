@@ -120,6 +120,7 @@ impl<'a, S: LookupSpan> CallDrawing<'a, S> {
     }
 
     // Planned rows, one after another.
+    #[inline(always)]
     fn rows(&self, page: &mut Page, rows: &[PlannedRow]) -> Result<(), Refusal>
         requires { IsBlank page.old }
         ensures { let settings = self.now.config.now in
@@ -133,7 +134,8 @@ impl<'a, S: LookupSpan> CallDrawing<'a, S> {
         Ok(())
     }
 
-    // A planned row.
+    // A planned row. It stands apart, so that little is done where none is planned.
+    #[inline(never)]
     fn row(&self, page: &mut Page, row: PlannedRow) -> Result<(), Refusal>
         requires { IsBlank page.old }
         ensures { let settings = self.now.config.now in

@@ -233,23 +233,54 @@ impl<S: LookupSpan> Planner<'_, S> {
             return Ok(());
         }
         if self.follows_last(plan, id) {
-            return self.show(plan, &[id], id);
+            return self.show_alone(plan, id);
         }
+        self.retrace_apart(plan, id)
+    }
+
+    // The same where the paths have to be compared. It stands apart, since it is rare and takes room for two paths.
+    #[inline(never)]
+    fn retrace_apart(&self, plan: &mut Plan, id: Id) -> Result<(), AllocError>
+        ensures { let forest = S.forest self.now.spans.now in
+            OnOk result (plan.new ≡ retraced_plan self.now.config.now forest id plan.old) }
+    {
         let old = self.path(plan.allocator(), plan.last())?;
         let new = self.path(plan.allocator(), Some(id))?;
         let fresh = beyond(old.as_slice(), new.as_slice());
         self.show(plan, fresh, id)
     }
 
-    // Returns whether the span's parent is the last span. It alone is fresh then.
+    // Returns whether the span stands right below the last span, or is a root and the last span has gone. It alone is fresh then.
     fn follows_last(&self, plan: &Plan, id: Id) -> bool
         ensures { let fresh = fresh_after (S.forest self.now.spans.now) id plan.now in
             result ≡ true → fresh ≡ id ∷ [] }
     {
-        match self.spans.parent(id) {
-            Some(parent) => plan.last() == Some(parent),
-            None => false,
+        let Some(span) = self.spans.span(id) else {
+            return false;
+        };
+        match (span.parent(), plan.last()) {
+            (Some(parent), Some(last)) => parent == last,
+            (None, Some(last)) => self.spans.span(last).is_none(),
+            (None, None) => true,
+            (Some(_), None) => false,
         }
+    }
+
+    // Shows a span that alone is fresh. It becomes printed, and is the last one.
+    fn show_alone(&self, plan: &mut Plan, fresh: Id) -> Result<(), AllocError>
+        ensures { let forest = S.forest self.now.spans.now in
+            let marked = marked_by plan.old forest in
+            let rows = planned_fresh_rows self.now.config.now marked forest (fresh ∷ []) in
+            OnOk result (plan.new ≡ record {
+              rows = plan.old.rows ++ rows;
+              fresh = plan.old.fresh ++ fresh ∷ [];
+              last = Some fresh;
+            }) }
+    {
+        self.first_fresh_row(plan, fresh)?;
+        plan.print_one(fresh)?;
+        plan.reach(fresh);
+        Ok(())
     }
 
     // Shows these fresh spans on the way to a span. They become printed, and the span is the last one.
@@ -269,7 +300,7 @@ impl<S: LookupSpan> Planner<'_, S> {
         Ok(())
     }
 
-    // The rows of fresh spans. The parent of the first is shown before it, if entries are verbose.
+    // The rows of fresh spans.
     fn fresh_rows(&self, plan: &mut Plan, ids: &[Id]) -> Result<(), AllocError>
         ensures { let forest = S.forest self.now.spans.now in
             let marked = marked_by plan.old forest in
@@ -279,17 +310,29 @@ impl<S: LookupSpan> Planner<'_, S> {
         let Some((first, others)) = ids.split_first() else {
             return Ok(());
         };
-        let verbose = self.config.verbose_entry();
-        self.parent(plan, verbose, SpanMode::PreOpen, *first)?;
-        let shown = verbose && self.spans.parent(*first).is_some();
-        self.fresh_row(plan, shown, *first)?;
+        self.first_fresh_row(plan, *first)?;
         for id in others {
             self.fresh_row(plan, false, *id)?;
         }
         Ok(())
     }
 
+    // The row of the first fresh span, and before it that of its parent, if entries are verbose.
+    #[inline(always)]
+    fn first_fresh_row(&self, plan: &mut Plan, id: Id) -> Result<(), AllocError>
+        ensures { let forest = S.forest self.now.spans.now in
+            let marked = marked_by plan.old forest in
+            let rows = planned_fresh_rows self.now.config.now marked forest (id ∷ []) in
+            OnOk result (plan.new ≡ with_rows rows plan.old) }
+    {
+        let verbose = self.config.verbose_entry();
+        self.parent(plan, verbose, SpanMode::PreOpen, id)?;
+        let shown = verbose && self.spans.parent(id).is_some();
+        self.fresh_row(plan, shown, id)
+    }
+
     // The row of a fresh span: a span that was printed before is retraced, and another opens.
+    #[inline(always)]
     fn fresh_row(&self, plan: &mut Plan, verbose: bool, id: Id) -> Result<(), AllocError>
         ensures { let forest = S.forest self.now.spans.now in
             let row = planned_fresh (marked_by plan.old forest) forest verbose id in
@@ -304,6 +347,7 @@ impl<S: LookupSpan> Planner<'_, S> {
     }
 
     // The parent of a span, if it is to be shown and there is one.
+    #[inline(always)]
     fn parent(&self, plan: &mut Plan, shown: bool, mode: SpanMode, id: Id) -> Result<(), AllocError>
         ensures { let rows = planned_parent shown (S.forest self.now.spans.now) mode id in
             OnOk result (plan.new ≡ with_rows rows plan.old) }
@@ -318,6 +362,7 @@ impl<S: LookupSpan> Planner<'_, S> {
     }
 
     // A row about a span.
+    #[inline(always)]
     fn row(&self, plan: &mut Plan, mode: SpanMode, id: Id) -> Result<(), AllocError>
         ensures { let row = planned_row (S.forest self.now.spans.now) mode id in
             OnOk result (plan.new ≡ with_rows (row ∷ []) plan.old) }
@@ -327,6 +372,7 @@ impl<S: LookupSpan> Planner<'_, S> {
     }
 
     // How many spans stand above the span.
+    #[inline(always)]
     fn level(&self, alloc: Global, id: Id) -> Result<usize, AllocError>
         ensures { let path = path_of (S.forest self.now.spans.now) id in
             IfOk result (λ level. level ≡ length path - 1) }
