@@ -269,6 +269,7 @@ fn push_repeated(out: &mut String, text: &str, times: usize) -> Result<(), Alloc
 }
 
 // Appends `count` spaces, or fewer.
+#[inline(always)]
 fn push_spaces(out: &mut String, count: usize) -> Result<(), AllocError>
     ensures ok { OnOk result
         (string_bytes out.new ≡ string_bytes out.old ++ columns count space) }
@@ -378,7 +379,7 @@ impl RowDrawing<'_> {
         self.config.push_prefix(out, self.context)?;
         frame.push(out)?;
         push_text(out, text)?;
-        out.push_str("\n")
+        out.push('\n')
     }
 
     // The level that counts for the indent.
