@@ -1,53 +1,54 @@
 //! Fields as texts.
 
 use crate::sys;
-use std::cell::Cell;
 use std::fmt::{self, Write as _};
 use tracing_core::field::{Field, Visit};
 
-thread_local! {
-    // The buffers of the last call on this thread. A call takes them out, so that another call, made while a field is formatted,
-    // finds none and makes its own.
-    static SPARE: Cell<Option<Box<Fields>>> = const { Cell::new(None) };
-}
-
 /// Fields with the texts of their values.
-#[derive(Default)]
 pub(crate) struct Fields(sys::Fields);
 
 impl Fields {
-    /// The fields that `record` visits.
-    #[inline(always)]
-    pub(crate) fn of(record: impl FnOnce(&mut dyn Visit)) -> Box<Fields> {
-        let mut fields = SPARE.try_with(Cell::take).ok().flatten().unwrap_or_default();
-        fields.0.clear();
-        record(&mut *fields);
-        fields
+    pub(crate) const fn new() -> Fields {
+        Fields(sys::Fields::new())
     }
 
-    /// Makes a call with the fields, and keeps their buffers for the next one.
+    /// Forgets all fields, keeps the room, and takes the fields that `record` visits.
     #[inline(always)]
-    pub(crate) fn with<R>(mut self: Box<Self>, then: impl FnOnce(&[sys::Field<'_>]) -> R) -> R {
-        let result = then(self.0.as_slice());
-        let _ = SPARE.try_with(|spare| spare.set(Some(self)));
-        result
+    pub(crate) fn take(&mut self, record: impl FnOnce(&mut dyn Visit)) {
+        self.0.clear();
+        record(self);
+    }
+
+    /// The fields.
+    #[inline]
+    pub(crate) fn as_slice(&mut self) -> &[sys::Field<'_>] {
+        self.0.as_slice()
+    }
+
+    fn record_number(&mut self, field: &Field, value: u64, is_negative: bool) {
+        self.0.push_number(value, is_negative);
+        self.0.end(field.name());
+    }
+
+    #[cold]
+    #[inline(never)]
+    fn record_escaped(&mut self, field: &Field, value: &str) {
+        self.record_debug(field, &value);
     }
 }
 
-// The bytes that `Debug` shows as they are.
-const SHOWN: [bool; 256] = {
-    let mut shown = [false; 256];
-    let mut byte = b' ';
-    while byte <= b'~' {
-        shown[byte as usize] = !matches!(byte, b'"' | b'\\');
-        byte += 1;
-    }
-    shown
-};
+// Whether `Debug` shows a byte as it is.
+#[inline]
+fn is_shown(byte: u8) -> bool {
+    matches!(byte, b' '..=b'~') & (byte != b'"') & (byte != b'\\')
+}
 
-// Whether `Debug` shows a text as it is, between quotes.
+// Whether `Debug` shows a text as it is, between quotes. Eight bytes are looked at at once.
+#[inline]
 fn is_shown_as_it_is(text: &str) -> bool {
-    text.bytes().all(|byte| SHOWN[usize::from(byte)])
+    let mut eights = text.as_bytes().chunks_exact(8);
+    let all_eights = eights.all(|eight| eight.iter().fold(true, |all, byte| all & is_shown(*byte)));
+    all_eights && eights.remainder().iter().all(|byte| is_shown(*byte))
 }
 
 // Each value is shown as `Debug` shows it. The usual types are written without its machinery.
@@ -60,30 +61,22 @@ impl Visit for Fields {
 
     fn record_str(&mut self, field: &Field, value: &str) {
         if !is_shown_as_it_is(value) {
-            return self.record_debug(field, &value);
+            return self.record_escaped(field, value);
         }
-        let text = self.0.text();
-        text.reserve(value.len() + 2);
-        text.push_str("\"");
-        text.push_str(value);
-        text.push_str("\"");
+        self.0.push_quoted(value);
         self.0.end(field.name());
     }
 
     fn record_u64(&mut self, field: &Field, value: u64) {
-        self.0.push_digits(value);
-        self.0.end(field.name());
+        self.record_number(field, value, false);
     }
 
     fn record_i64(&mut self, field: &Field, value: i64) {
-        if value < 0 {
-            self.0.text().push('-');
-        }
-        self.record_u64(field, value.unsigned_abs());
+        self.record_number(field, value.unsigned_abs(), value < 0);
     }
 
     fn record_bool(&mut self, field: &Field, value: bool) {
-        self.0.text().push_str(if value { "true" } else { "false" });
+        let _ = self.0.text().write_str(if value { "true" } else { "false" });
         self.0.end(field.name());
     }
 }

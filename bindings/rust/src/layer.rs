@@ -1,29 +1,19 @@
 //! The layer's part of the work: what `tracing` tells goes to the library, and the text that comes back goes to the writer.
 
-use crate::entered;
-use crate::fields::Fields;
+use crate::here::{self, Here};
 use crate::spans::{Kept, Spans};
 use crate::time::{monotonic, wall, FormatTime};
 use crate::{sys, HierarchicalLayer};
-use std::cell::Cell;
 use std::collections::VecDeque;
 use std::io::Write;
 use std::sync::atomic::{AtomicBool, Ordering};
 use std::sync::{Mutex, MutexGuard, PoisonError};
-use std::thread::{self, Thread};
-use std::time::Instant;
+use std::time::Duration;
 use tracing_core::span::{Attributes, Id, Record};
 use tracing_core::{Event, Level, Subscriber};
 use tracing_subscriber::fmt::MakeWriter;
 use tracing_subscriber::layer::{Context, Layer};
 use tracing_subscriber::registry::LookupSpan;
-
-thread_local! {
-    // Whether this thread is in a call of a layer.
-    static IN_CALL: Cell<bool> = const { Cell::new(false) };
-    // The number of this thread, once it was asked for.
-    static NUMBER: Cell<Option<u64>> = const { Cell::new(None) };
-}
 
 /// The tree, which is made at the first call, with its spans and a buffer for texts.
 pub(crate) struct State {
@@ -60,42 +50,10 @@ impl Late {
     }
 }
 
-// For as long as it lives, this thread is in a call. A call inside a call draws nothing, as in `tracing-tree`: a writer or a
-// `Debug` that logs would wait for itself.
-struct InCall;
-
-impl InCall {
-    #[inline]
-    fn enter() -> Option<InCall> {
-        let entered = IN_CALL.try_with(|in_call| in_call.replace(true));
-        // Made only where the call isn't inside another: to drop it ends the outer one.
-        matches!(entered, Ok(false)).then(|| InCall)
-    }
-}
-
-impl Drop for InCall {
-    #[inline]
-    fn drop(&mut self) {
-        let _ = IN_CALL.try_with(|in_call| in_call.set(false));
-    }
-}
-
 // What a lock guards is whole even after a panic: each call of the library is made whole or not at all.
 #[inline]
 fn locked<T>(mutex: &Mutex<T>) -> MutexGuard<'_, T> {
     mutex.lock().unwrap_or_else(PoisonError::into_inner)
-}
-
-// The number in `ThreadId(7)`.
-fn thread_number(thread: &Thread) -> u64 {
-    NUMBER.with(|known| {
-        let number = known.get().unwrap_or_else(|| {
-            let shown = format!("{:?}", thread.id());
-            shown.chars().filter(char::is_ascii_digit).collect::<String>().parse().unwrap_or(0)
-        });
-        known.set(Some(number));
-        number
-    })
 }
 
 #[inline]
@@ -114,35 +72,46 @@ where
     W: for<'writer> MakeWriter<'writer> + 'static,
     FT: FormatTime,
 {
-    // What the timer of the caller's shows of an event in a span that opened then.
-    fn time(&self, opened: Option<Instant>) -> (String, String) {
+    // What the timer of the caller's shows of an event here and now.
+    #[cold]
+    #[inline(never)]
+    fn time(&self, here: &Here) -> (String, String) {
+        let current = here.entered.current(self.number);
+        let opened = locked(&self.state).as_ref().and_then(|state| Some(state.spans.get(current?)?.opened));
         let (mut moment, mut elapsed) = (String::new(), String::new());
         let _ = self.timer.format_time(&mut moment);
         if let Some(opened) = opened {
-            let _ = self.timer.style_timestamp(self.settings.ansi, opened.elapsed(), &mut elapsed);
+            let open = Duration::from_nanos(monotonic().saturating_sub(opened));
+            let _ = self.timer.style_timestamp(self.settings.ansi, open, &mut elapsed);
         }
         (moment, elapsed)
     }
 
-    // Makes a call, which opens this span or none, and writes its text. A tree that can't be made draws nothing, nor does a call
-    // that is refused or isn't made.
+    // Makes the tree, at the first call. One that can't be made is tried again at the next call.
+    #[cold]
+    #[inline(never)]
+    fn make_tree(&self, state: &mut Option<State>) {
+        *state = sys::Tree::new(&self.settings).ok().map(|tree| State { tree, spans: Spans::default(), room: vec![0; 1024] });
+    }
+
+    // Makes a call, which opens this span or none, and writes its text. Where there is no tree nothing is drawn, nor where the call
+    // is refused or isn't made.
     #[inline(always)]
-    fn call(&self, opens: Option<&Id>, make: impl FnOnce(&mut sys::Tree, &mut Spans) -> Option<()>) {
+    fn draw(&self, here: &Here, opens: Option<&Id>, make: impl FnOnce(&mut sys::Tree, &mut Spans) -> Option<()>) {
         let mut state = locked(&self.state);
         if state.is_none() {
-            let Ok(tree) = sys::Tree::new(&self.settings) else { return };
-            *state = Some(State { tree, spans: Spans::default(), room: Vec::new() });
+            self.make_tree(&mut state);
         }
         let Some(state) = state.as_mut() else { return };
         // A span that had this id before has closed, if late.
-        if self.late.any() && opens.is_some_and(|id| state.spans.get(id).is_some()) {
-            self.close_late(state);
+        if opens.is_some_and(|id| self.late.any() && state.spans.get(id.into_u64()).is_some()) {
+            self.close_late(here, state);
         }
         if make(&mut state.tree, &mut state.spans).is_some() {
             self.write(state);
         }
         if self.late.any() {
-            self.close_late(state);
+            self.close_late(here, state);
         }
     }
 
@@ -156,31 +125,39 @@ where
     }
 
     // Closes the spans that closed in the course of calls. Their ids may be given anew once they are out of `late`.
-    fn close_late(&self, state: &mut State) {
+    #[cold]
+    #[inline(never)]
+    fn close_late(&self, here: &Here, state: &mut State) {
         while let Some(id) = self.late.pop() {
             let Some(kept) = state.spans.remove(&id) else { continue };
-            if self.with_context(|context| state.tree.close(kept.id, context)).is_ok() {
+            if state.tree.close(kept.id, &self.context(here)).is_ok() {
                 self.write(state);
             }
         }
     }
 
-    // What goes with a call, outside all spans, for as long as it is made.
+    // What goes with a call, outside all spans.
     #[inline(always)]
-    fn with_context<R>(&self, then: impl FnOnce(&sys::Context<'_>) -> R) -> R {
+    fn context<'a>(&self, here: &'a Here) -> sys::Context<'a> {
+        if self.settings.shows_context() {
+            self.shown_context(here)
+        } else {
+            sys::Context::NONE
+        }
+    }
+
+    #[inline(never)]
+    fn shown_context<'a>(&self, here: &'a Here) -> sys::Context<'a> {
         let clocked = self.settings.timer != 0;
-        let shown = self.settings.thread_names || self.settings.thread_ids;
-        let thread = shown.then(thread::current);
-        let name = thread.as_ref().filter(|_| self.settings.thread_names).and_then(Thread::name);
-        let numbered = thread.as_ref().filter(|_| self.settings.thread_ids);
-        then(&sys::Context {
+        let name = if self.settings.thread_names { here.name() } else { None };
+        sys::Context {
             current: 0,
-            thread_id: numbered.map_or(0, thread_number),
+            thread_id: if self.settings.thread_ids { here.number() } else { 0 },
             thread_name: name.unwrap_or("").into(),
             mono: if clocked { monotonic() } else { 0 },
             wall: if clocked { wall() } else { 0 },
             has_thread_name: name.is_some(),
-        })
+        }
     }
 }
 
@@ -191,76 +168,76 @@ where
     FT: FormatTime,
 {
     fn on_new_span(&self, attrs: &Attributes<'_>, id: &Id, ctx: Context<'_, S>) {
-        let Some(_in_call) = InCall::enter() else { return };
-        let current = if attrs.is_contextual() { entered::current(self.number) } else { None };
-        let named = current.as_ref().or(attrs.parent());
-        let opened = self.own_timer.then(Instant::now);
-        let fields = Fields::of(|visit| attrs.record(visit));
-        self.with_context(|context| {
-            fields.with(|fields| {
-                self.call(Some(id), |tree, spans| {
-                    let parent = spans.parent(id, named, &ctx).map(|kept| kept.id);
-                    let attributes = sys::Attributes {
-                        name: attrs.metadata().name().into(),
-                        target: attrs.metadata().target().into(),
-                        parent: parent.unwrap_or(0),
-                        parent_kind: if parent.is_some() { sys::OF } else { sys::ROOT },
-                    };
-                    let made = tree.new_span(&attributes, fields, context).ok()?;
-                    spans.insert(id, Kept { id: made, opened });
-                    Some(())
-                })
-            })
+        here::call(|here, fields| {
+            let current = if attrs.is_contextual() { here.entered.current(self.number) } else { None };
+            let named = current.or(attrs.parent().map(Id::into_u64));
+            let opened = if self.own_timer { monotonic() } else { 0 };
+            fields.take(|visit| attrs.record(visit));
+            let context = self.context(here);
+            self.draw(here, Some(id), |tree, spans| {
+                let parent = spans.parent(id, named, &ctx).map(|kept| kept.id);
+                let attributes = sys::Attributes {
+                    name: attrs.metadata().name().into(),
+                    target: attrs.metadata().target().into(),
+                    parent: parent.unwrap_or(0),
+                    parent_kind: if parent.is_some() { sys::OF } else { sys::ROOT },
+                };
+                let made = tree.new_span(&attributes, fields.as_slice(), &context).ok()?;
+                spans.insert(id, Kept { id: made, opened });
+                Some(())
+            });
         });
     }
 
     fn on_record(&self, id: &Id, values: &Record<'_>, _: Context<'_, S>) {
-        let Some(_in_call) = InCall::enter() else { return };
-        let fields = Fields::of(|visit| values.record(visit));
-        fields.with(|fields| self.call(None, |tree, spans| tree.record(spans.get(id)?.id, fields).ok()));
+        here::call(|here, fields| {
+            fields.take(|visit| values.record(visit));
+            self.draw(here, None, |tree, spans| tree.record(spans.get(id.into_u64())?.id, fields.as_slice()).ok());
+        });
     }
 
     fn on_event(&self, event: &Event<'_>, _: Context<'_, S>) {
-        let Some(_in_call) = InCall::enter() else { return };
-        let time = self.own_timer.then(|| {
-            let opened = locked(&self.state).as_ref().and_then(|state| state.spans.current(self.number)?.opened);
-            self.time(opened)
-        });
-        let fields = Fields::of(|visit| event.record(visit));
-        self.with_context(|context| {
-            fields.with(|fields| {
-                self.call(None, |tree, spans| {
-                    if let Some((moment, elapsed)) = &time {
-                        tree.set_time(&sys::Time { moment: moment.as_str().into(), elapsed: elapsed.as_str().into() }).ok()?;
-                    }
-                    let current = spans.current(self.number).map_or(0, |kept| kept.id);
-                    let named = event.parent().and_then(|id| spans.get(id));
-                    let told = sys::Event {
-                        target: event.metadata().target().into(),
-                        parent: named.map_or(0, |kept| kept.id),
-                        parent_kind: match named {
-                            Some(_) => sys::OF,
-                            None if event.is_contextual() => sys::CURRENT,
-                            None => sys::ROOT,
-                        },
-                        level: level(event.metadata().level()),
-                    };
-                    tree.event(&told, fields, &sys::Context { current, ..*context }).ok()
-                })
-            })
+        here::call(|here, fields| {
+            let time = if self.own_timer { Some(self.time(here)) } else { None };
+            fields.take(|visit| event.record(visit));
+            let mut context = self.context(here);
+            self.draw(here, None, |tree, spans| {
+                if let Some((moment, elapsed)) = &time {
+                    tree.set_time(&sys::Time { moment: moment.as_str().into(), elapsed: elapsed.as_str().into() }).ok()?;
+                }
+                let current = here.entered.current(self.number).and_then(|id| spans.get(id));
+                context.current = current.map_or(0, |kept| kept.id);
+                let named = event.parent().and_then(|id| spans.get(id.into_u64()));
+                let told = sys::Event {
+                    target: event.metadata().target().into(),
+                    parent: named.map_or(0, |kept| kept.id),
+                    parent_kind: match named {
+                        Some(_) => sys::OF,
+                        None if event.is_contextual() => sys::CURRENT,
+                        None => sys::ROOT,
+                    },
+                    level: level(event.metadata().level()),
+                };
+                tree.event(&told, fields.as_slice(), &context).ok()
+            });
         });
     }
 
     fn on_enter(&self, id: &Id, _: Context<'_, S>) {
-        entered::enter(self.number, id);
+        here::enter(self.number, id);
     }
 
     fn on_exit(&self, id: &Id, _: Context<'_, S>) {
-        entered::leave(self.number, id);
+        here::leave(self.number, id);
     }
 
     fn on_close(&self, id: Id, _: Context<'_, S>) {
-        let Some(_in_call) = InCall::enter() else { return self.late.push(id) };
-        self.with_context(|context| self.call(None, |tree, spans| tree.close(spans.remove(&id)?.id, context).ok().map(drop)));
+        let closed = here::call(|here, _| {
+            let context = self.context(here);
+            self.draw(here, None, |tree, spans| tree.close(spans.remove(&id)?.id, &context).ok().map(drop));
+        });
+        if closed.is_none() {
+            self.late.push(id);
+        }
     }
 }

@@ -20,6 +20,7 @@
 
 mod entered;
 mod fields;
+mod here;
 mod layer;
 mod spans;
 #[allow(unsafe_code)]

@@ -1,9 +1,7 @@
 //! The ids that the spans of `tracing` have in the tree.
 
-use crate::entered;
 use std::collections::HashMap;
 use std::hash::{BuildHasherDefault, Hasher};
-use std::time::Instant;
 use tracing_core::span::Id;
 use tracing_core::Subscriber;
 use tracing_subscriber::layer::Context;
@@ -14,8 +12,8 @@ use tracing_subscriber::registry::LookupSpan;
 pub(crate) struct Kept {
     /// Its id in the tree.
     pub(crate) id: u64,
-    /// When it opened, for a layer with a timer of the caller's.
-    pub(crate) opened: Option<Instant>,
+    /// When it opened, on the clock of `monotonic`, for a layer with a timer of the caller's.
+    pub(crate) opened: u64,
 }
 
 /// The spans that were drawn and haven't closed, by their ids in `tracing`. An id is given anew only after its span has closed.
@@ -31,8 +29,8 @@ impl Spans {
     }
 
     #[inline]
-    pub(crate) fn get(&self, id: &Id) -> Option<Kept> {
-        self.kept.get(&id.into_u64()).copied()
+    pub(crate) fn get(&self, id: u64) -> Option<Kept> {
+        self.kept.get(&id).copied()
     }
 
     #[inline]
@@ -40,19 +38,13 @@ impl Spans {
         self.kept.remove(&id.into_u64())
     }
 
-    /// The span that this thread is in. A span that a filter hides from the layer isn't entered for it.
-    #[inline(always)]
-    pub(crate) fn current(&self, layer: u64) -> Option<Kept> {
-        self.get(&entered::current(layer)?)
-    }
-
     /// The parent of a new span; where it is hidden from this layer, the next one around it that isn't.
     #[inline(always)]
-    pub(crate) fn parent<S>(&self, id: &Id, named: Option<&Id>, ctx: &Context<'_, S>) -> Option<Kept>
+    pub(crate) fn parent<S>(&self, id: &Id, named: Option<u64>, ctx: &Context<'_, S>) -> Option<Kept>
     where
         S: Subscriber + for<'span> LookupSpan<'span>,
     {
-        self.get(named?).or_else(|| self.get(&ctx.span(id)?.parent()?.id()))
+        self.get(named?).or_else(|| self.get(ctx.span(id)?.parent()?.id().into_u64()))
     }
 }
 

@@ -3,6 +3,7 @@
 #[path = "layout.rs"]
 mod layout;
 
+use std::fmt;
 use std::marker::PhantomData;
 
 /// A text.
@@ -12,6 +13,11 @@ pub struct Text<'a> {
     at: *const u8,
     len: usize,
     of: PhantomData<&'a str>,
+}
+
+impl Text<'_> {
+    /// The empty text.
+    pub const NONE: Text<'static> = Text { at: "".as_ptr(), len: 0, of: PhantomData };
 }
 
 impl<'a> From<&'a str> for Text<'a> {
@@ -29,63 +35,123 @@ pub struct Field<'a> {
     pub value: Text<'a>,
 }
 
+// The two digits of each number below 100.
+const PAIRS: [[u8; 2]; 100] = {
+    let mut pairs = [[0; 2]; 100];
+    let mut number = 0;
+    while number < 100 {
+        pairs[number] = [b'0' + (number / 10) as u8, b'0' + (number % 10) as u8];
+        number += 1;
+    }
+    pairs
+};
+
 /// Fields whose values stand one after another in one text.
-#[derive(Default)]
 pub struct Fields {
     text: String,
-    // Where a value lies is said once all are written, since the text moves as it grows.
     list: Vec<Field<'static>>,
     // Where the values end that are in the list.
     end: usize,
+    // The text's capacity when the addresses in the list were said anew. With another one the text has moved since.
+    capacity: usize,
 }
 
 impl Fields {
+    /// No fields.
+    pub const fn new() -> Fields {
+        Fields { text: String::new(), list: Vec::new(), end: 0, capacity: 0 }
+    }
+
     /// Forgets all fields, and keeps the room.
+    #[inline]
     pub fn clear(&mut self) {
         self.text.clear();
         self.list.clear();
         self.end = 0;
     }
 
-    /// The text, to whose end the next value is written.
-    pub fn text(&mut self) -> &mut String {
+    /// What writes to the end of the text. It can't take away room from the text, which only grows.
+    #[inline]
+    pub fn text(&mut self) -> &mut impl fmt::Write {
         &mut self.text
     }
 
-    /// Writes a number to the end of the text.
-    pub fn push_digits(&mut self, number: u64) {
-        let mut digits = [0; 20];
-        let (mut at, mut rest) = (digits.len(), number);
-        loop {
-            at -= 1;
-            digits[at] = b'0' + (rest % 10) as u8;
-            rest /= 10;
-            if rest == 0 {
-                break;
-            }
+    /// Writes a text between quotes to the end of the text.
+    #[inline]
+    pub fn push_quoted(&mut self, quoted: &str) {
+        let (len, size) = (self.text.len(), quoted.len() + 2);
+        self.text.reserve(size);
+        // SAFETY: room for the text and two quotes was reserved, they are UTF-8 together, and the text lies elsewhere.
+        unsafe {
+            let text = self.text.as_mut_vec();
+            let to = text.as_mut_ptr().add(len);
+            to.write(b'"');
+            to.add(1).copy_from_nonoverlapping(quoted.as_ptr(), size - 2);
+            to.add(size - 1).write(b'"');
+            text.set_len(len + size);
         }
-        // SAFETY: these are digits.
+    }
+
+    /// Writes a number to the end of the text.
+    #[inline]
+    pub fn push_number(&mut self, number: u64, is_negative: bool) {
+        let mut digits = [0; 21];
+        let (mut at, mut rest) = (digits.len(), number);
+        while rest >= 10 {
+            at -= 2;
+            digits[at..at + 2].copy_from_slice(&PAIRS[(rest % 100) as usize]);
+            rest /= 100;
+        }
+        if rest > 0 || number == 0 {
+            at -= 1;
+            digits[at] = b'0' + rest as u8;
+        }
+        if is_negative {
+            at -= 1;
+            digits[at] = b'-';
+        }
+        // SAFETY: these are a sign and digits.
         self.text.push_str(unsafe { std::str::from_utf8_unchecked(&digits[at..]) });
     }
 
     /// What was written since the last field is the value of this one.
     #[inline]
     pub fn end(&mut self, name: &'static str) {
-        let value = Text { at: name.as_ptr(), len: self.text.len() - self.end, of: PhantomData };
+        if self.list.len() == self.list.capacity() {
+            return self.end_beyond(name);
+        }
+        let value = Text { at: self.text.as_ptr().wrapping_add(self.end), len: self.text.len() - self.end, of: PhantomData };
         self.end = self.text.len();
         self.list.push(Field { name: name.into(), value });
+    }
+
+    // By itself, so that the usual case keeps nothing over a call.
+    #[cold]
+    #[inline(never)]
+    fn end_beyond(&mut self, name: &'static str) {
+        self.list.reserve(8);
+        self.end(name);
     }
 
     /// The fields.
     #[inline]
     pub fn as_slice(&mut self) -> &[Field<'_>] {
-        let mut begin = 0;
-        for field in &mut self.list {
-            let end = begin + field.value.len;
-            field.value.at = self.text[begin..end].as_ptr();
-            begin = end;
+        if self.text.capacity() != self.capacity {
+            self.move_values();
         }
         &self.list
+    }
+
+    // Says anew where each value lies.
+    #[cold]
+    #[inline(never)]
+    fn move_values(&mut self) {
+        let mut at = self.text.as_ptr();
+        for field in &mut self.list {
+            field.value.at = at;
+            at = at.wrapping_add(field.value.len);
+        }
+        self.capacity = self.text.capacity();
     }
 }
 
@@ -146,6 +212,14 @@ pub const ROOT: u32 = 0;
 pub const CURRENT: u32 = 1;
 pub const OF: u32 = 2;
 
+impl Settings {
+    /// Whether any of the thread's name, its number and the clocks is shown.
+    #[inline]
+    pub fn shows_context(&self) -> bool {
+        (self.timer != 0) | self.thread_names | self.thread_ids
+    }
+}
+
 /// What goes with a call.
 #[repr(C)]
 #[derive(Clone, Copy)]
@@ -156,6 +230,12 @@ pub struct Context<'a> {
     pub mono: u64,
     pub wall: i64,
     pub has_thread_name: bool,
+}
+
+impl Context<'_> {
+    /// Nothing.
+    pub const NONE: Context<'static> =
+        Context { current: 0, thread_id: 0, thread_name: Text::NONE, mono: 0, wall: 0, has_thread_name: false };
 }
 
 /// What a new span is made of.
@@ -305,15 +385,13 @@ impl Tree {
     /// The text of the last call, in a buffer that is used again.
     #[inline]
     pub fn text<'a>(&mut self, room: &'a mut Vec<u8>) -> &'a [u8] {
-        if room.is_empty() {
-            room.resize(1024, 0);
-        }
         // SAFETY: the room has as many bytes as are said.
-        let mut length = unsafe { tt_raw_text(&mut self.raw, room.as_mut_ptr(), room.len()) };
+        let length = unsafe { tt_raw_text(&mut self.raw, room.as_mut_ptr(), room.len()) };
         if length > room.len() {
             room.resize(length, 0);
             // SAFETY: as before.
-            length = unsafe { tt_raw_text(&mut self.raw, room.as_mut_ptr(), room.len()) };
+            let length = unsafe { tt_raw_text(&mut self.raw, room.as_mut_ptr(), room.len()) };
+            return &room[..length];
         }
         &room[..length]
     }

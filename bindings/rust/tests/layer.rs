@@ -1,5 +1,6 @@
 //! What a service sees of the layer: the drawing, threads, and what goes wrong in the middle of a call.
 
+use std::cell::RefCell;
 use std::fmt::{self, Write as TextWrite};
 use std::io::{self, Write};
 use std::panic::{catch_unwind, AssertUnwindSafe};
@@ -322,6 +323,39 @@ fn a_layer_that_goes_before_its_spans() {
     assert_eq!(sink.text(), "┐a \n┘\n");
 }
 
+/// Logs, and lets go of a span, at the end of its thread.
+struct AtEnd(tracing::Dispatch, Option<tracing::Span>);
+
+impl Drop for AtEnd {
+    fn drop(&mut self) {
+        let span = self.1.take();
+        tracing::dispatcher::with_default(&self.0, || {
+            info!(by = ?Logs(Mutex::new(span)), "outside");
+            info!("next");
+        });
+    }
+}
+
+/// What a thread keeps goes in the opposite order. So the layer's goes first here, and that of `tracing` last.
+#[test]
+fn a_thread_that_ends() {
+    thread_local! {
+        static AT_END: RefCell<Option<AtEnd>> = const { RefCell::new(None) };
+    }
+    let sink = Sink::default();
+    let echo = Echo(sink.clone());
+    let dispatch = tracing::Dispatch::new(Registry::default().with(plain().with_writer(move || echo.clone())));
+    let work = move || {
+        tracing::dispatcher::with_default(&dispatch, || {
+            AT_END.set(Some(AtEnd(dispatch.clone(), None)));
+            let span = info_span!("a");
+            AT_END.with_borrow_mut(|at_end| at_end.as_mut().unwrap().1 = Some(span));
+        })
+    };
+    thread::spawn(work).join().unwrap();
+    assert_eq!(sink.text(), "┐a \nINFO outside, by=x\n┘\nINFO next\n");
+}
+
 #[test]
 fn two_layers() {
     let (first, second) = (Sink::default(), Sink::default());
@@ -368,12 +402,50 @@ fn threads() {
     }
 }
 
+/// Each call shows the number and the name of its own thread.
+#[test]
+fn numbers_of_threads() {
+    let sink = Sink::default();
+    let writer = sink.clone();
+    let layer = plain().with_thread_ids(true).with_thread_names(true).with_writer(move || writer.clone());
+    let dispatch = tracing::Dispatch::new(Registry::default().with(layer));
+    let tell = || {
+        let shown = format!("{:?}", thread::current().id());
+        let number = shown.trim_start_matches("ThreadId(").trim_end_matches(')').to_owned();
+        tracing::dispatcher::with_default(&dispatch, || info_span!("a").in_scope(|| info!("x")));
+        number
+    };
+    thread::scope(|scope| {
+        for name in [Some("one"), None] {
+            let builder = name.map_or(thread::Builder::new(), |name| thread::Builder::new().name(name.into()));
+            let number = builder.spawn_scoped(scope, tell).unwrap().join().unwrap();
+            let prefix = format!("{number}{}", name.map_or(String::new(), |name| format!(":{name}")));
+            let text = std::mem::take(&mut *sink.0.lock().unwrap());
+            assert_eq!(String::from_utf8(text).unwrap(), format!("{prefix}┐a \n{prefix}├─ INFO x\n{prefix}┘\n"));
+        }
+    });
+}
+
 /// A value is shown as `Debug` shows it.
 #[test]
 fn values() {
     let texts = ["", "plain, it's", "\"quoted\"", "back\\slash", "é", "line\nfeed", "\u{7f}\u{0}", "\u{301}"];
     for text in texts {
         assert_eq!(drawn(plain(), || info!(text)), format!("INFO text={text:?}\n"));
+    }
+    // A byte that isn't shown as it is, at each place of short and longer texts.
+    for length in [1, 7, 8, 9, 16, 17] {
+        for place in 0..length {
+            for other in ["\"", "\\", "\n", "\u{7f}", "é", "~", " "] {
+                let text = format!("{}{other}{}", "x".repeat(place), "x".repeat(length - 1 - place));
+                assert_eq!(drawn(plain(), || info!(text)), format!("INFO text={text:?}\n"));
+            }
+        }
+    }
+    for power in 1..20 {
+        let (least, most) = (10u64.pow(power), 10u64.pow(power) - 1);
+        let text = drawn(plain(), || info!(least, most, below = -(most as i64)));
+        assert_eq!(text, format!("INFO least={least}, most={most}, below={}\n", -(most as i64)));
     }
     for (signed, unsigned) in [(0, 0), (7, 10), (-1, 99), (i64::MIN, u64::MAX), (i64::MAX, 1 << 63)] {
         let text = drawn(plain(), || info!(signed, unsigned));
