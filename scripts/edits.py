@@ -8,12 +8,16 @@ outside a function, and one that doesn't compile among the others. An edit that 
 prover, or only since a proof file names what it took away, has failed, and so has one that is proved or doesn't apply. harmless.edit
 changes no meaning: it is tried as the others are, and must be let through, else no refusal shows anything.
 
+A crate's edits are tried over the proofs of a check without an edit, which must prove the functions that the rounds edit and what they call,
+and the whole crate where an edit goes alone. That check begins with what checks of the crate kept on this machine, and from nothing where
+there is none, where it doesn't prove them over that, and with --anew.
+
 Where the kit keeps what it proved, a refusal is kept too, under a sum of all that it rests on: the kit, the crate and those below it, the
 edit, this file and kit.py. An edit whose refusal is kept isn't tried again, unless --anew is given.
 
 It prints a line for each edit, and last 'edits: N passed, M failed'. --plan prints the rounds alone. --sample N tries N of the edits that
 a round refused alone too, and an edit of which `rt must-fail` says otherwise has failed."""
-import argparse, concurrent.futures, functools, hashlib, os, re, sys, tempfile, threading, time
+import argparse, concurrent.futures, functools, hashlib, os, re, shutil, sys, tempfile, threading, time
 from collections import Counter, defaultdict
 from dataclasses import dataclass
 
@@ -36,6 +40,8 @@ COMPILES = re.compile(r"(?m)^(src/\S+?\.rt):(\d+):\d+: error")
 # A function that a check names, and the last line of a check that came to a verdict of some functions or of all.
 PROVED = re.compile(r"(?m)^fn \w+::(\S+): proved\b")
 ENDED = re.compile(r"(?m)^(logic=not-proved|only=\d+ proved=)")
+# The status of a check that is asked for a function by words that fit none, or several.
+UNKNOWN = 2
 # What antt says of a proof that names what an edit took away. It is no answer about a contract.
 NAMES = re.compile(r"has no field|is not in scope|has no `|was not admitted|cannot continue|expected the end")
 ONLY_NAMES = "only because a proof file names what the edit took away"
@@ -62,6 +68,16 @@ class Body:
     start: int
     end: int
     is_const: bool
+
+    @property
+    def path(self):
+        """The path by which the check knows the function, but where an impl stands in another module than its type."""
+        return self.folder.replace("/", "::")
+
+    @property
+    def tail(self):
+        """The end of that path, which the check's name ends in wherever an impl stands."""
+        return "::".join(self.path.split("::")[-2:])
 
     def holds(self, at, end):
         """Returns whether these places lie in the body, or in the signature and what follows it without a clause between."""
@@ -306,15 +322,17 @@ class Refusals:
 class Trial:
     """The edits of one crate: the check without an edit, whose work the others are done over, the rounds, and the edits alone."""
 
-    def __init__(self, kit, crate, folder, room, say, known=lambda edit: None):
-        self.kit, self.crate, self.room, self.say = kit, crate, room, say
+    def __init__(self, kit, crate, folder, room, say, known=lambda edit: None, is_anew=False):
+        self.kit, self.crate, self.room, self.say, self.is_anew = kit, crate, room, say, is_anew
         self.bodies = all_bodies(kit, crate)
         self.edits = edits_of(crate, folder, self.bodies)
         told = {it: known(it) for it in self.edits}
         self.refused = [Verdict(it, True, f"{KEPT}{why}") for it, why in told.items() if why]
         self.rounds, self.alone = rounds_of([it for it in self.edits if not told[it]])
         self.kept = f"{room}/{crate.name}"
-        # The names of the crate's functions, once they are proved.
+        # What an edit alone is tried over is the whole crate, as the harmless edit is in the end.
+        self.is_whole = bool(self.alone) or crate.name == ITS_CRATE
+        # The names of the functions that are proved without an edit.
         self.functions = []
 
     def plan(self):
@@ -322,15 +340,37 @@ class Trial:
         return f"{self.crate.name}: {len(self.edits)} edits, in rounds of {[len(it) for it in self.rounds]}, {len(self.alone)} alone{kept}"
 
     def check_unchanged(self):
-        """Returns whether the crate is proved without an edit."""
-        os.makedirs(self.kept)
-        start = time.time()
-        ran = self.kit.checked(self.crate, {}, ["--jobs", "1"], self.kept)
+        """Returns whether the functions that rounds edit are proved without an edit, and the whole crate where edits are tried alone. Unless
+        all is to be tried anew, the check begins with what others of the crate kept on this machine."""
+        start, work = time.time(), None if self.is_anew else self.kit.work_for(self.crate)
+        ran = self.check_over(work)
+        if ran.returncode and work:
+            ran = self.check_over(None)
         self.say(f"{self.crate.name} without an edit: {'proved' if not ran.returncode else 'NOT PROVED'}", start)
         if ran.returncode:
             self.say("\n".join(ran.stdout.split("\n")[-30:]))
         self.functions = PROVED.findall(ran.stdout)
         return not ran.returncode
+
+    def check_over(self, work):
+        """Checks the crate without an edit, over a copy of what is kept in this folder, if there is one. It checks the functions that rounds
+        edit and what they call, where that is enough and the end of each one's path fits no other function."""
+        self.begin_with(work)
+        tails = sorted({it.body.tail for edits in self.rounds for it in edits})
+        only = [] if self.is_whole else [word for it in tails for word in ("--only", it)]
+        ran = self.kit.checked(self.crate, {}, ["--jobs", "1", *only], self.kept)
+        return self.kit.checked(self.crate, {}, ["--jobs", "1"], self.kept) if only and ran.returncode == UNKNOWN else ran
+
+    def begin_with(self, work):
+        """Makes the folder anew in which the check without an edit keeps what it proved."""
+        shutil.rmtree(self.kept, ignore_errors=True)
+        try:
+            if work:
+                return self.kit.copy_kept(work, self.kept)
+        except (OSError, shutil.Error):
+            # Another command may write what is copied here.
+            shutil.rmtree(self.kept, ignore_errors=True)
+        return os.makedirs(self.kept)
 
     def over_kept(self, call):
         """Calls with a copy of what the check without an edit kept, since checks side by side can't share one."""
@@ -341,11 +381,9 @@ class Trial:
 
     def name_of(self, body):
         """Returns the name that the check gives a body's function, or None where it can't be told."""
-        whole = body.folder.replace("/", "::")
         # An impl may stand in another module than its type, and its name may go on with the type's own.
-        end = "::".join(whole.split("::")[-2:])
         plain = {it: re.sub(r"\+[^:]+", "", it) for it in self.functions}
-        near = [it for it in plain if plain[it] == whole] or [it for it in plain if plain[it].endswith(f"::{end}")]
+        near = [it for it in plain if plain[it] == body.path] or [it for it in plain if plain[it].endswith(f"::{body.tail}")]
         return near[0] if len(near) == 1 else None
 
     def check_edited(self, edits):
@@ -400,7 +438,7 @@ class Edits:
     """All edits of crates, tried in lanes. A crate's are tried once it is handed in, with all that it stands on built."""
 
     def __init__(self, kit, crates, lanes, say, sample=0, is_anew=False):
-        self.kit, self.say, self.sample = kit, say, sample
+        self.kit, self.say, self.sample, self.is_anew = kit, say, sample, is_anew
         self.refusals = Refusals(kit, crates, is_anew)
         self.room = tempfile.TemporaryDirectory(prefix="edits-")
         self.pool = concurrent.futures.ThreadPoolExecutor(lanes)
@@ -409,7 +447,7 @@ class Edits:
 
     def take(self, crate, folder):
         """Tries a crate's edits, in the background."""
-        trial = Trial(self.kit, crate, folder, self.room.name, self.say, lambda edit: self.refusals.known(crate, edit))
+        trial = Trial(self.kit, crate, folder, self.room.name, self.say, lambda edit: self.refusals.known(crate, edit), self.is_anew)
         self.trials.append(trial)
         self.say(trial.plan())
         self.verdicts += trial.refused

@@ -19,6 +19,12 @@ class Kit:
         told, said = self.rt.must_fail(crate, path, flags, kept)
         return told == self.refused, said
 
+    def work_for(self, crate):
+        """Returns a folder of what checks of the crate kept, in this checkout or in another, that one of it can begin with, or None."""
+        own = f"{crate.folder}/out/incremental"
+        found = self.rt.work_for(crate) if hasattr(self.rt, "work_for") else own
+        return found if found and os.path.isdir(found) else None
+
     def copy_kept(self, kept, to):
         """Copies what a check kept. A kit that has links for it replaces such files and never changes them."""
         copy = getattr(self.rt, "linked", shutil.copytree)
