@@ -15,8 +15,8 @@ WORD = r"[A-Za-z_][\w'-]*"
 ITEM = re.compile(rf"(?m)^(?:(?:abbrev|pub|record|data|unfoldable|opaque)\s+)*(?P<name>{WORD})\b[^\n]*?(?::|where|\()")
 IMPORT = re.compile(r"(?m)^\s*(?:ghost |pub )*use (?P<module>[\w.]+?)\.(?:\{(?P<names>[^}]*)\}|(?P<one>[\w◌≡]+))[ \t]*;?[ \t]*$", re.S)
 
-# A definition: its name, its file, its text with the comment above it, and what its file imports.
-Definition = collections.namedtuple("Definition", "name file text imports")
+# A definition: its name, its file, its text with the comment above it, what its file imports, and the head of its unnamed module, if any.
+Definition = collections.namedtuple("Definition", "name file text imports head")
 # A function of the code: its name, its file, its signature with its contract, and what its file imports.
 Function = collections.namedtuple("Function", "name file text imports")
 
@@ -61,7 +61,7 @@ def blocks_of(text):
 
 def items_of(path):
     """Returns the definitions of a file of specs/. One begins at the left edge of the file or of an unnamed module, below its comment, and
-    ends before the next one's. One of a module is given with the module's head, which says its parameters."""
+    ends before the next one's."""
     text = read(path)
     imports, found = imports_of(text), {}
     for head, block in blocks_of(text):
@@ -73,8 +73,7 @@ def items_of(path):
             continue
         words = [it for it in re.findall(WORD, heads[0][0]) if it not in ("abbrev", "pub", "record", "data", "unfoldable", "opaque")]
         if words:
-            shown = f"{head}\n" + re.sub(r"(?m)^(?=.)", "  ", block) if head else block
-            found[words[0]] = Definition(words[0], path, shown, imports)
+            found[words[0]] = Definition(words[0], path, block, imports, head)
     return found
 
 
@@ -173,7 +172,10 @@ def rests_on(start, definitions):
 
 
 def lines_of(definitions):
-    return sum(len([it for it in without_comments(each.text).split("\n") if it.strip()]) for each in definitions)
+    """Returns how many lines the definitions have. The head of an unnamed module counts once."""
+    heads = {(it.file, it.head): it.head for it in definitions}
+    texts = [*heads.values(), *[it.text for it in definitions]]
+    return sum(len([it for it in without_comments(text).split("\n") if it.strip()]) for text in texts)
 
 
 def find(name, definitions, functions):
@@ -219,6 +221,17 @@ def declared_at(module):
     return None
 
 
+def shown_in_modules(definitions):
+    """Returns the texts of these definitions of a file, those of one unnamed module together, below the module's head."""
+    modules = collections.defaultdict(list)
+    for it in definitions:
+        modules[it.head].append(it.text)
+    for head, texts in modules.items():
+        if head:
+            texts = [f"{head}\n" + re.sub(r"(?m)^(?=.)", "  ", "\n\n".join(texts))]
+        yield from texts
+
+
 def show(start, found, words):
     print(f"-- {os.path.relpath(start.file, TOP)}\n\n{start.text}\n")
     files = collections.defaultdict(list)
@@ -230,7 +243,7 @@ def show(start, found, words):
         first = read(path).split("\n")[0]
         print(f"---- {os.path.relpath(path, TOP)}{': ' + first[3:] if first.startswith('-- ') else ''}")
         print("\n".join([*renamed_in(path, [it.text for it in each]), *homes_in(each, clashing), ""]))
-        print("\n\n".join(it.text for it in each) + "\n")
+        print("\n\n".join(shown_in_modules(each)) + "\n")
     modules = collections.defaultdict(list)
     for module, name in sorted(words):
         modules[module].append(name)
