@@ -10,9 +10,17 @@ use Rattle.tracing_tree_context.specs.declared.context.Id.{Id}
 use Rattle.tracing_tree_spans.proofs.ForestLaws.{same_id-eq, path_of-is_path}
 use Rattle.tracing_tree_spans.proofs.PathLaws.{path_of-none}
 use Rattle.tracing_tree_layer.proofs.DifferingLaws.{differing-no_left, differing-equal, differing-unequal}
-use Rattle.tracing_tree_layer.specs.Difference.Items.{differing, same_at, AgreeDownward, PathsAgreeDownward, PathsDifferFreshly}
+use Rattle.tracing_tree_layer.specs.Difference.Items.{differing, has_equal_at, PathsDifferFreshly}
 
 -- ---- places that agree
+
+-- both lists have the place, and the same id there
+abbrev same_at : List Id → List Id → ℕ → Bool
+same_at old new place = option_map_or (λ i. has_equal_at same_id old place i) (slice_get new place) false
+
+-- where two places agree, so do all before them
+abbrev AgreeDownward : List Id → List Id → Type 0
+AgreeDownward old new = (low high : ℕ) → low < high → same_at old new high ≡ true → same_at old new low ≡ true
 
 same-refl : (i : Id) → same_id i i ≡ true
 same-refl i = grind (arith)
@@ -64,7 +72,7 @@ any-descends forest formed None = tt
 any-descends forest formed (Some i) = path-descends forest formed i
 
 -- where two paths of one forest agree, so do all places before
-pub paths-agree_downward : (forest : Forest) → IsForest forest → PathsAgreeDownward forest
+paths-agree_downward : (forest : Forest) → IsForest forest → (last : Option Id) (i : Id) → AgreeDownward (path_of_any forest last) (path_of forest i)
 paths-agree_downward forest formed last i =
     agree-below forest None None (path_of_any forest last) (path_of forest i) (any-descends forest formed last) (path-descends forest formed i)
 
@@ -81,7 +89,7 @@ pub drop-next : (n : ℕ) (j : Id) (right : List Id) → drop (1 + n) (j ∷ rig
 drop-next n j right = let e : 1 + n ≡ suc n = omega arith in ap (λ m. drop m (j ∷ right)) e
 
 -- where lists agree downward, what differs is what follows their common beginning
-pub differing-agreeing : (left right : List Id) → AgreeDownward left right →
+differing-agreeing : (left right : List Id) → AgreeDownward left right →
     differing same_id left right ≡ drop (common_prefix_len same_id left right) right
 differing-agreeing [] right h = differing-no_left same_id right
 differing-agreeing (i ∷ left) [] h = refl

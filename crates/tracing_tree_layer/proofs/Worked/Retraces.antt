@@ -2,14 +2,16 @@
 use Rattle.std.specs.Prelude.{◌≡◌, ℕ, true, List, [], ◌∷◌, Some, refl, codes, encode_utf8_all, ◌==◌, map}
 use Rattle.std.specs.Char.{encode_utf8}
 use Rattle.std.specs.Fmt.{digits}
-use Rattle.tracing_tree_spans.specs.Registry.Ids.{id_of}
+use Rattle.std.specs.List.{common_prefix_len}
+use Rattle.tracing_tree_spans.specs.Registry.Ids.{id_of, same_id}
+use Rattle.tracing_tree_spans.specs.Registry.Paths.{looks_back}
 use Rattle.tracing_tree_text.specs.Field.{rendered_field}
 use Rattle.tracing_tree_context.specs.declared.context.Context.{Context}
 use Rattle.tracing_tree_context.specs.declared.context.Id.{Id}
 use Rattle.tracing_tree_spans.specs.declared.registry.Parent.TheVariants.{Current}
 use Rattle.tracing_tree_text.specs.declared.style.Level.TheVariants.{Info}
 use Rattle.tracing_tree_layer.specs.declared.call.Call.TheVariants.{New, Event, Close}
-use Rattle.tracing_tree_layer.specs.Difference.Items.{differing, common_length, compared_count}
+use Rattle.tracing_tree_layer.specs.Difference.Items.{differing}
 use Rattle.tracing_tree_layer.proofs.Calls.{lined, outside, inside, made, message, informed, closed, written, written_after}
 
 -- a root after another has gone
@@ -86,7 +88,9 @@ ids numbers = map id_of numbers
 
 -- how long the common beginning is, and how many pairs were compared
 abbrev pub common_of : List ℕ → List ℕ → ℕ × ℕ
-common_of old new = (common_length (ids old) (ids new), compared_count (ids old) (ids new))
+common_of old new =
+    let shared = common_prefix_len same_id (ids old) (ids new) in
+    (shared, looks_back (ids old) (ids new) shared)
 
 pub two_in_common : common_of (1 ∷ 2 ∷ 3 ∷ []) (1 ∷ 2 ∷ 4 ∷ 5 ∷ []) ≡ (2, 2)
 two_in_common = refl
