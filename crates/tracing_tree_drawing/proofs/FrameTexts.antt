@@ -5,7 +5,8 @@ use Rattle.std.specs.Char.{encode_utf8}
 use Rattle.std.proofs.Math.Nat.{zero-add, suc-add}
 use Rattle.std.proofs.lemmas.List.{append-nil}
 use Rattle.tracing_tree_drawing.specs.Format.Frames.{frame_pieces, span_pieces}
-use Rattle.tracing_tree_drawing.specs.Format.Picture.{columns, space, span_corners, vertical}
+use Rattle.tracing_tree_drawing.specs.Format.Picture.{columns, span_corners}
+use Rattle.tracing_tree_drawing.proofs.Characters.{space, vertical}
 
 -- `many` times, and then `more` times
 repeat-append : (many more : ℕ) (piece : List ℕ) → repeat (many + more) piece ≡ repeat many piece ++ repeat more piece

@@ -1,3 +1,4 @@
+pub mod Characters
 pub mod PartsLaws
 pub mod FrameTexts
 pub mod LineLaws

@@ -6,7 +6,8 @@ use Rattle.std.proofs.lemmas.Str.Ascii.{IsAscii-from_all}
 use Rattle.std.proofs.lemmas.List.Elements.{All-replicate}
 use Rattle.std.specs.Prelude.{replicate, IsAscii}
 use Rattle.std.proofs.lemmas.List.{take-replicate}
-use Rattle.tracing_tree_drawing.specs.Format.Picture.{columns, space}
+use Rattle.tracing_tree_drawing.specs.Format.Picture.{columns}
+use Rattle.tracing_tree_drawing.proofs.Characters.{space}
 
 -- `count` spaces, one after the other
 repeat-space : (count : ℕ) → columns count space ≡ replicate count space

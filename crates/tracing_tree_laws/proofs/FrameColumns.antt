@@ -6,7 +6,8 @@ use Rattle.std.specs.Char.{encode_utf8}
 use Rattle.std.proofs.Math.Nat.{zero-add, add-zero, suc-add}
 use Rattle.std.proofs.lemmas.Bool.Decides.{nat_tests}
 use Rattle.std.proofs.lemmas.List.{append-nil}
-use Rattle.tracing_tree_drawing.specs.Format.Picture.{columns, corners, span_corners, edge_frame, first_frame, later_frame, lined_frame, shift_of, continuation_shift, corner_up_right, corner_up_left, corner_down_right, corner_down_left, space, horizontal, vertical, branch}
+use Rattle.tracing_tree_drawing.specs.Format.Picture.{columns, corners, span_corners, edge_frame, first_frame, later_frame, lined_frame, shift_of, continuation_shift}
+use Rattle.tracing_tree_drawing.proofs.Characters.{corner_up_right, corner_up_left, corner_down_right, corner_down_left, space, horizontal, vertical, branch}
 use Rattle.tracing_tree_laws.specs.Columns.{columns_text, blank_columns, corner_columns, span_columns, branch_columns, bar_columns, edge_columns, first_columns, later_columns, lined_columns}
 use Rattle.tracing_tree_drawing.specs.declared.format.SpanMode.{SpanMode}
 use Rattle.tracing_tree_drawing.specs.declared.format.SpanMode.TheVariants.{PreOpen, Open, Close, Retrace, PostClose, Event}

@@ -1,7 +1,8 @@
 -- The columns of a frame: how many there are, and which character stands in each.
 use Rattle.std.specs.Prelude.{ℕ, ◌+◌, ◌-◌, ◌*◌, ◌/◌, max, nat_lt, nat_le, ◌==◌, ◌&&◌, Bool, true, false, if◌then◌else◌, List, map, encode_utf8_all}
 use Rattle.std.specs.List.{range_with_len}
-use Rattle.tracing_tree_drawing.specs.Format.Picture.{space, horizontal, vertical, corner_down_right, corner_down_left, corner_up_right, corner_up_left, branch, continuation_shift, shift_of}
+use Rattle.tracing_tree_drawing.specs.Format.Picture.{continuation_shift, shift_of}
+use Prim.Native.Char.{code}
 use Rattle.tracing_tree_drawing.specs.declared.format.SpanMode.{SpanMode}
 use Rattle.tracing_tree_drawing.specs.declared.format.SpanMode.TheVariants.{PreOpen, Open, Close, Retrace, PostClose, Event}
 
@@ -16,7 +17,7 @@ columns_text frame = encode_utf8_all (map frame.glyph (range_with_len 0 frame.wi
 
 -- a space in each column
 abbrev pub blank_columns : ℕ → FrameColumns
-blank_columns width = record { width = width; glyph = λ column. space }
+blank_columns width = record { width = width; glyph = λ column. code " " }
 
 -- one column with this character
 abbrev pub single_column : ℕ → FrameColumns
@@ -28,7 +29,7 @@ corner_columns left right from to = record {
   width = to + 1;
   glyph = λ column. if column == from then left
       else (if column == to then right
-      else (if nat_lt from column && nat_lt column to then horizontal else space));
+      else (if nat_lt from column && nat_lt column to then code "─" else code " "));
 }
 
 -- a span's corners; in a verbose row with room the first is half an amount further right
@@ -42,36 +43,36 @@ span_columns left right true amount before =
 abbrev pub branch_columns : ℕ → ℕ → FrameColumns
 branch_columns from width = record {
   width = width;
-  glyph = λ column. if column == from then branch
-      else (if nat_lt from column then horizontal else space);
+  glyph = λ column. if column == from then code "├"
+      else (if nat_lt from column then code "─" else code " ");
 }
 
 -- `│` in the column `from`, spaces before it and in `amount` columns after it
 abbrev pub bar_columns : ℕ → ℕ → FrameColumns
 bar_columns from amount = record {
   width = from + 1 + amount;
-  glyph = λ column. if column == from then vertical else space;
+  glyph = λ column. if column == from then code "│" else code " ";
 }
 
 -- at the left edge
 abbrev pub edge_columns : SpanMode → FrameColumns
-edge_columns (Open verbose) = single_column corner_down_left
-edge_columns (Retrace verbose) = single_column corner_down_left
-edge_columns (Close verbose) = single_column corner_up_left
+edge_columns (Open verbose) = single_column (code "┐")
+edge_columns (Retrace verbose) = single_column (code "┐")
+edge_columns (Close verbose) = single_column (code "┘")
 edge_columns mode = blank_columns 0
 
 -- the first line of a row, further right, after `before` columns
 abbrev pub first_columns : SpanMode → ℕ → ℕ → FrameColumns
 first_columns PreOpen amount before =
-    corner_columns corner_up_right corner_down_left before (before + max (amount / 2) 1)
+    corner_columns (code "└") (code "┐") before (before + max (amount / 2) 1)
 first_columns (Open verbose) amount before =
-    span_columns corner_up_right corner_down_left verbose amount before
+    span_columns (code "└") (code "┐") verbose amount before
 first_columns (Retrace verbose) amount before =
-    span_columns corner_up_right corner_down_left verbose amount before
+    span_columns (code "└") (code "┐") verbose amount before
 first_columns (Close verbose) amount before =
-    span_columns corner_down_right corner_up_left verbose amount before
+    span_columns (code "┌") (code "┘") verbose amount before
 first_columns PostClose amount before =
-    corner_columns corner_down_right corner_up_left before (before + max (amount / 2) 1)
+    corner_columns (code "┌") (code "┘") before (before + max (amount / 2) 1)
 first_columns Event amount before = branch_columns before (before + amount)
 
 -- a later line of a row, further right

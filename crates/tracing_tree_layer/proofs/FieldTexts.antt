@@ -1,7 +1,7 @@
 -- The fields of a row, one behind the other.
-use Rattle.std.proofs.Common.{◌≡◌, ℕ, Bool, true, false, not, if◌then◌else◌, List, [], ◌∷◌, ◌++◌, map, flat_map, codes, refl, ap}
+use Rattle.std.proofs.Common.{◌≡◌, ℕ, Bool, true, false, not, if◌then◌else◌, List, [], ◌∷◌, ◌++◌, map, filter, flat_map, codes, refl, ap}
 use Rattle.tracing_tree_text.specs.declared.field.Field.{Field}
-use Rattle.tracing_tree_drawing.specs.Format.Texts.{is_log_field, shown_field, event_field, comma_after, event_fields, shown_fields, spaced_fields}
+use Rattle.tracing_tree_drawing.specs.Format.Texts.{is_log_field, shown_field, event_field, comma_after, event_fields, spaced_fields}
 
 -- what these fields of an event add, behind a field or not
 abbrev pub added_fields : Bool → List Field → List ℕ
@@ -11,6 +11,10 @@ added_fields comma (field ∷ others) = event_field comma field ++ added_fields 
 -- a comma, a space and a text
 abbrev pub behind_comma : List ℕ → List ℕ
 behind_comma text = codes ", " ++ text
+
+-- the fields of an event that are shown
+abbrev pub shown_fields : List Field → List Field
+shown_fields fields = filter (λ field. not (is_log_field field)) fields
 
 -- behind a field each field that is shown stands behind a comma
 pub added_fields-true : (fields : List Field) → added_fields true fields ≡ flat_map behind_comma (map shown_field (shown_fields fields))

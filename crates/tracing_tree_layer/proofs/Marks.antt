@@ -100,7 +100,7 @@ span_row-marked settings context ids forest mode i =
     (λ k. record (span_row settings context forest mode i) { level = length (path k) - 1; block = block k })
 
 pub parent_rows-marked : (on : Bool) (settings : Settings) (context : Context) (ids : List Id) (forest : Forest) (mode : SpanMode) (i : Id) →
-    parent_rows on settings context (mark_all ids forest) mode i ≡ parent_rows on settings context forest mode i
+    parent_rows settings context (mark_all ids forest) on mode i ≡ parent_rows settings context forest on mode i
 parent_rows-marked on settings context ids forest mode i =
     ap (λ (o : Option Id). if on then option_map_or (λ above. span_row settings context (mark_all ids forest) mode above ∷ []) o [] else []) (parent_of-marked ids forest i)
     ∙ by (parent_of forest i)

@@ -37,7 +37,7 @@ module _ (settings : Settings) (context : Context) (forest : Forest) where
   -- ---- rows
 
   pub parent-planned : (shown : Bool) (mode : SpanMode) (i : Id) →
-      rows_of_planned settings context forest (planned_parent shown forest mode i) ≡ parent_rows shown settings context forest mode i
+      rows_of_planned settings context forest (planned_parent shown forest mode i) ≡ parent_rows settings context forest shown mode i
   parent-planned true mode i = elim (parent_of forest i) as (λ o.
       rows_of_planned settings context forest (option_map_or (λ above. planned_row forest mode above ∷ []) o [])
       ≡ option_map_or (λ above. span_row settings context forest mode above ∷ []) o []) [ None ↦ refl | Some above ↦ refl ]
@@ -57,7 +57,7 @@ module _ (settings : Settings) (context : Context) (forest : Forest) where
   fresh-rows ids (first ∷ others) =
       let marked = mark_all ids forest in
       let entry = settings.verbose_entry in
-      let parents : rows_of_planned settings context forest (planned_parent entry forest PreOpen first) ≡ parent_rows entry settings context marked PreOpen first =
+      let parents : rows_of_planned settings context forest (planned_parent entry forest PreOpen first) ≡ parent_rows settings context marked entry PreOpen first =
       parent-planned entry PreOpen first ∙ sym (parent_rows-marked entry settings context ids forest PreOpen first) in
       let shown : (entry && is_some (parent_of forest first)) ≡ (entry && is_some (parent_of marked first)) =
       ap (λ (o : Option Id). entry && is_some o) (sym (parent_of-marked ids forest first)) in
@@ -91,7 +91,7 @@ module _ (settings : Settings) (context : Context) (forest : Forest) where
       let marked = marked_by plan forest in
       let exit = settings.verbose_exit in
       let own = sym (span_row-marked settings context plan.fresh forest (Close exit) i) in
-      let parents : rows_of_planned settings context forest (planned_parent exit forest PostClose i) ≡ parent_rows exit settings context marked PostClose i =
+      let parents : rows_of_planned settings context forest (planned_parent exit forest PostClose i) ≡ parent_rows settings context marked exit PostClose i =
       parent-planned exit PostClose i ∙ sym (parent_rows-marked exit settings context plan.fresh forest PostClose i) in
       let drawn = map-append (row_of_planned settings context forest) plan.rows (planned_row forest (Close exit) i ∷ planned_parent exit forest PostClose i)
       ∙ (λ k. rows_of_planned settings context forest plan.rows ++ own k ∷ parents k) in
@@ -174,13 +174,13 @@ module _ (settings : Settings) (context : Context) (forest : Forest) where
       turn_of_plan settings context forest (if d then empty_plan last else (if settings.span_retrace then retraced_plan settings forest i printed
       else record printed { rows = planned_parent entry forest PreOpen i ++ planned_row forest (Open entry) i ∷ []; last = Some i }))
       ≡ (if d then quiet_turn forest last else (if settings.span_retrace then retrace_to settings context (mark_all (i ∷ []) forest) last i
-      else record { rows = parent_rows entry settings context forest PreOpen i ++ span_row settings context forest (Open entry) i ∷ []; forest = mark_all (i ∷ []) forest; last = Some i }))) [
+      else record { rows = parent_rows settings context forest entry PreOpen i ++ span_row settings context forest (Open entry) i ∷ []; forest = mark_all (i ∷ []) forest; last = Some i }))) [
         | true ↦ empty-turn last
         | false ↦ elim settings.span_retrace as (λ r.
             turn_of_plan settings context forest (if r then retraced_plan settings forest i printed
             else record printed { rows = planned_parent entry forest PreOpen i ++ planned_row forest (Open entry) i ∷ []; last = Some i })
             ≡ (if r then retrace_to settings context (mark_all (i ∷ []) forest) last i
-            else record { rows = parent_rows entry settings context forest PreOpen i ++ span_row settings context forest (Open entry) i ∷ []; forest = mark_all (i ∷ []) forest; last = Some i })) [
+            else record { rows = parent_rows settings context forest entry PreOpen i ++ span_row settings context forest (Open entry) i ∷ []; forest = mark_all (i ∷ []) forest; last = Some i })) [
               | true ↦ retraced-turn i printed
               | false ↦ let drawn = map-append (row_of_planned settings context forest) (planned_parent entry forest PreOpen i) (planned_row forest (Open entry) i ∷ [])
                   ∙ ap (λ more. more ++ span_row settings context forest (Open entry) i ∷ []) (parent-planned entry PreOpen i) in
@@ -188,7 +188,7 @@ module _ (settings : Settings) (context : Context) (forest : Forest) where
             ]
       ]
       ∙ ap (λ marked. if settings.deferred_spans then quiet_turn forest last else (if settings.span_retrace then retrace_to settings context marked last i
-      else record { rows = parent_rows entry settings context forest PreOpen i ++ span_row settings context forest (Open entry) i ∷ []; forest = marked; last = Some i })) (sym (mark_printed-all i forest))
+      else record { rows = parent_rows settings context forest entry PreOpen i ++ span_row settings context forest (Open entry) i ∷ []; forest = marked; last = Some i })) (sym (mark_printed-all i forest))
 
 -- two paths of one forest part once, that of the last span too, if there is one
 pub last_paths_part_once : (forest : Forest) → IsForest forest → (last : Option Id) (i : Id) → PartOnce (path_of_any forest last) (path_of forest i)

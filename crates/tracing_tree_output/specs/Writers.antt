@@ -13,11 +13,8 @@ pub record SeenWriter : Type 0 where
 
 -- what `Output` tells of a writer
 abbrev pub seen_writer : {W : Type 0} → Output W → W → SeenWriter
-seen_writer output writer = record {
-  bytes = output.contents writer;
-  faults = output.fault_count writer;
-  whole = output.WHOLE;
-}
+seen_writer output it =
+    record { bytes = output.contents it; faults = output.fault_count it; whole = output.WHOLE }
 
 -- a beginning of a text that isn't the whole
 pub record IsCutShort (text front : List ℕ) : Type 0 where

@@ -3,7 +3,8 @@ use Rattle.std.proofs.Common.{◌≡◌, ℕ, ◌+◌, ◌-◌, ◌%◌, ◌/◌
 use Rattle.std.specs.Char.{encode_utf8}
 use Rattle.std.specs.List.{starts_with}
 use Rattle.std.proofs.lemmas.List.{append-nil}
-use Rattle.tracing_tree_drawing.specs.Format.Picture.{columns, horizontal}
+use Rattle.tracing_tree_drawing.specs.Format.Picture.{columns}
+use Rattle.tracing_tree_drawing.proofs.Characters.{horizontal}
 use Rattle.tracing_tree_drawing.specs.declared.rows.row.Shape.TheVariants.{Event}
 use Rattle.tracing_tree_drawing.specs.Rows.Line.{after_front, one_line_row, read_event}
 use Rattle.tracing_tree_drawing.proofs.RowsRead.Bytes.{begins-after}

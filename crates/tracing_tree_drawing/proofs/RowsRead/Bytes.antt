@@ -2,7 +2,8 @@
 use Rattle.std.proofs.Common.{◌≡◌, ◌≢◌, ℕ, zero, suc, ◌+◌, ◌==◌, Bool, true, false, List, [], ◌∷◌, ◌++◌, drop, Some, None, is_some, if◌then◌else◌, refl, sym, ap, ◌∙◌, subst, arith, append_assoc, eq-eqb, eqb-true}
 use Rattle.std.specs.Char.{encode_utf8}
 use Rattle.std.specs.List.{repeat, starts_with}
-use Rattle.tracing_tree_drawing.specs.Format.Picture.{columns, space, horizontal}
+use Rattle.tracing_tree_drawing.specs.Format.Picture.{columns}
+use Rattle.tracing_tree_drawing.proofs.Characters.{space, horizontal}
 use Rattle.tracing_tree_drawing.specs.Rows.RowText.{without_start_spaces}
 use Rattle.tracing_tree_drawing.specs.Rows.Line.{after_front, after_run, start_spaces}
 

@@ -4,7 +4,8 @@ use Rattle.std.specs.Char.{encode_utf8}
 use Rattle.std.specs.List.{list_all}
 use Rattle.std.proofs.lemmas.Bool.{and_parts, and_from, or_from}
 use Rattle.std.proofs.lemmas.List.Folds.{list_any-append, list_all-append}
-use Rattle.tracing_tree_drawing.specs.Format.Picture.{has_line_end, columns, lined_frame, edge_frame, first_frame, later_frame, corners, span_corners, continuation_shift, shift_of, space, horizontal, vertical, branch, corner_down_left, corner_up_left, corner_up_right, corner_down_right}
+use Rattle.tracing_tree_drawing.specs.Format.Picture.{has_line_end, columns, lined_frame, edge_frame, first_frame, later_frame, corners, span_corners, continuation_shift, shift_of}
+use Rattle.tracing_tree_drawing.proofs.Characters.{space, horizontal, vertical, branch, corner_down_left, corner_up_left, corner_up_right, corner_down_right}
 use Rattle.tracing_tree_drawing.specs.declared.format.SpanMode.{SpanMode}
 use Rattle.tracing_tree_drawing.specs.declared.format.SpanMode.TheVariants.{PreOpen, Open, Close, Retrace, PostClose, Event}
 use Rattle.tracing_tree_drawing.specs.Rows.RowText.{is_unbroken, TextRow, mode_of, is_text_row}

@@ -2,7 +2,8 @@
 use Rattle.std.proofs.Common.{◌≡◌, ℕ, zero, suc, ◌+◌, ◌-◌, ◌*◌, ◌<◌, ◌≤◌, ◌==◌, ◌&&◌, Bool, true, false, not, List, length, Option, Some, None, option_and_then, refl, sym, ap, ◌∙◌, arith, ne_eqb}
 use Rattle.std.specs.Char.{encode_utf8}
 use Rattle.std.proofs.Math.Nat.{suc-mul}
-use Rattle.tracing_tree_drawing.specs.Format.Picture.{vertical, shift_of, continuation_shift}
+use Rattle.tracing_tree_drawing.specs.Format.Picture.{shift_of, continuation_shift}
+use Rattle.tracing_tree_drawing.proofs.Characters.{vertical}
 use Rattle.tracing_tree_drawing.specs.Rows.RowText.{mode_of, without_start_spaces}
 use Rattle.tracing_tree_drawing.specs.declared.rows.row.Shape.{Shape}
 use Rattle.tracing_tree_drawing.specs.Rows.Line.{after_front, read_later, read_later_at, start_spaces}

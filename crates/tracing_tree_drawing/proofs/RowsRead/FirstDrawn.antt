@@ -4,7 +4,8 @@ use Rattle.std.specs.Char.{encode_utf8}
 use Rattle.std.specs.Option.{option_map_or}
 use Rattle.std.proofs.lemmas.Bool.{le-leb, or_left, and_from}
 use Rattle.std.proofs.lemmas.Nat.{div-add-mod'}
-use Rattle.tracing_tree_drawing.specs.Format.Picture.{space, horizontal, branch, corner_down_left, corner_up_left, corner_up_right, corner_down_right, columns, lined_frame, first_frame, corners, span_corners, shift_of}
+use Rattle.tracing_tree_drawing.specs.Format.Picture.{columns, lined_frame, first_frame, corners, span_corners, shift_of}
+use Rattle.tracing_tree_drawing.proofs.Characters.{space, horizontal, branch, corner_down_left, corner_up_left, corner_up_right, corner_down_right}
 use Rattle.tracing_tree_drawing.specs.declared.format.SpanMode.{SpanMode}
 use Rattle.tracing_tree_drawing.specs.declared.format.SpanMode.TheVariants as Mode
 use Rattle.tracing_tree_drawing.specs.Rows.RowText.{TextRow, mode_of, fits_shape, is_bare_text, is_one_line, without_start_spaces}

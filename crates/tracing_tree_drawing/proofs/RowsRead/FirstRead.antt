@@ -6,7 +6,8 @@ use Rattle.std.specs.List.{starts_with}
 use Rattle.std.proofs.lemmas.List.{append-nil}
 use Rattle.std.proofs.Math.Nat.{suc-mul}
 use Rattle.std.proofs.lemmas.Nat.{div-mul-add, mod-mul-add}
-use Rattle.tracing_tree_drawing.specs.Format.Picture.{space, horizontal, vertical, branch, corner_down_left, corner_up_left, corner_up_right, corner_down_right, columns, lined_frame, first_frame, corners, span_corners, shift_of}
+use Rattle.tracing_tree_drawing.specs.Format.Picture.{columns, lined_frame, first_frame, corners, span_corners, shift_of}
+use Rattle.tracing_tree_drawing.proofs.Characters.{space, horizontal, vertical, branch, corner_down_left, corner_up_left, corner_up_right, corner_down_right}
 use Rattle.tracing_tree_drawing.specs.declared.format.SpanMode.{SpanMode}
 use Rattle.tracing_tree_drawing.specs.declared.format.SpanMode.TheVariants as Mode
 use Rattle.tracing_tree_drawing.specs.Rows.RowText.{TextRow, mode_of, fits_shape, is_bare_text, begins_with_any, drawing_marks, without_start_spaces}

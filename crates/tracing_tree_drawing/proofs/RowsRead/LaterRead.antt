@@ -2,7 +2,8 @@
 use Rattle.std.proofs.Common.{◌≡◌, ℕ, zero, suc, ◌+◌, ◌-◌, ◌*◌, ◌<◌, ◌==◌, ◌&&◌, Bool, true, false, not, List, ◌++◌, Option, Some, None, option_and_then, refl, sym, ap, ◌∙◌, arith, eqb-true, ne_eqb}
 use Rattle.std.specs.Char.{encode_utf8}
 use Rattle.std.proofs.lemmas.Bool.{and_parts}
-use Rattle.tracing_tree_drawing.specs.Format.Picture.{space, vertical, columns, lined_frame, later_frame, shift_of, continuation_shift}
+use Rattle.tracing_tree_drawing.specs.Format.Picture.{columns, lined_frame, later_frame, shift_of, continuation_shift}
+use Rattle.tracing_tree_drawing.proofs.Characters.{space, vertical}
 use Rattle.tracing_tree_drawing.specs.declared.format.SpanMode.{SpanMode}
 use Rattle.tracing_tree_drawing.specs.Rows.RowText.{mode_of, without_start_spaces}
 use Rattle.tracing_tree_drawing.specs.declared.rows.row.Shape.{Shape}

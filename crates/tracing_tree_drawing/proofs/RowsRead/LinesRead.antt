@@ -5,7 +5,8 @@ use Rattle.std.specs.Option.{option_map_or}
 use Rattle.std.specs.List.{list_all}
 use Rattle.std.proofs.lemmas.Bool.{and_parts}
 use Rattle.std.proofs.lemmas.List.{append-nil}
-use Rattle.tracing_tree_drawing.specs.Format.Picture.{vertical, shift_of}
+use Rattle.tracing_tree_drawing.specs.Format.Picture.{shift_of}
+use Rattle.tracing_tree_drawing.proofs.Characters.{vertical}
 use Rattle.tracing_tree_drawing.specs.Rows.RowText.{TextRow, mode_of, fits_shape, is_text_row, without_start_spaces}
 use Rattle.tracing_tree_drawing.specs.declared.rows.row.Shape.{Shape}
 use Rattle.tracing_tree_drawing.specs.Rows.Line.{LineRead.FirstLine, LineRead.LaterLine, after_front, start_spaces, one_line_row, read_first, read_later_at, read_below, read_line, with_last, rows_after, last_after, read_from, read_lines}

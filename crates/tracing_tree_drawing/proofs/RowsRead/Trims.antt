@@ -3,7 +3,8 @@ use Rattle.std.proofs.Common.{◌≡◌, ◌≢◌, ℕ, zero, suc, ◌+◌, ◌
 use Rattle.std.specs.Char.{encode_utf8}
 use Rattle.std.specs.List.{repeat}
 use Rattle.std.specs.Str.Pattern.{FindsTextPrefix, FindsCharPrefix, CutsPrefixes, IsFullyTrimmed, IsTrimStartMatches}
-use Rattle.tracing_tree_drawing.specs.Format.Picture.{columns, space, horizontal}
+use Rattle.tracing_tree_drawing.specs.Format.Picture.{columns}
+use Rattle.tracing_tree_drawing.proofs.Characters.{space, horizontal}
 use Rattle.tracing_tree_drawing.specs.Rows.RowText.{without_start_spaces}
 use Rattle.tracing_tree_drawing.specs.Rows.Line.{after_front, after_run, start_spaces}
 use Rattle.tracing_tree_drawing.proofs.RowsRead.Bytes.{after_front-more, after_front-gives, after_front-is, rest-after, spaces-count}

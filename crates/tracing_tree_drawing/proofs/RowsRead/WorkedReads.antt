@@ -2,7 +2,7 @@
 use Rattle.std.proofs.Common.{◌≡◌, ℕ, List, [], ◌∷◌, Some, None, true, false, refl}
 use Rattle.std.specs.Char.{encode_utf8}
 use Rattle.std.specs.Prelude.{encode_utf8_all}
-use Rattle.tracing_tree_drawing.specs.Format.Picture.{horizontal, vertical, branch, corner_down_left, corner_up_left, corner_up_right, corner_down_right}
+use Rattle.tracing_tree_drawing.proofs.Characters.{horizontal, vertical, branch, corner_down_left, corner_up_left, corner_up_right, corner_down_right}
 use Rattle.tracing_tree_drawing.specs.Rows.RowText.{TextRow}
 use Rattle.tracing_tree_drawing.specs.declared.rows.row.Shape.{Shape}
 use Rattle.tracing_tree_drawing.specs.declared.rows.row.Shape.TheVariants.{PreOpen, OpenRoot, Open, CloseRoot, Close, Event}

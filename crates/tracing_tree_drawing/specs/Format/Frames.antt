@@ -1,15 +1,24 @@
 -- What the code's frames append, and which row a drawing draws.
 use Rattle.std.specs.Prelude.{ℕ, ◌+◌, ◌-◌, ◌*◌, ◌/◌, ◌<◌, nat_le, Bool, true, false, if◌then◌else◌, List, ◌++◌, encode_utf8, ◌^◌}
 use Rattle.std.specs.List.{repeat}
-use Rattle.tracing_tree_drawing.specs.Format.Picture.{Row, columns, space, horizontal, level_used, unnamed_row}
+use Rattle.tracing_tree_drawing.specs.Format.Picture.{Row, columns, level_used, unnamed_row}
+use Prim.Native.Char.{code}
 use Rattle.tracing_tree_drawing.specs.Format.Texts.{prefix_text}
 use Rattle.tracing_tree_drawing.specs.declared.format.draw.RowDrawing.{RowDrawing}
 use Rattle.tracing_tree_drawing.specs.declared.format.draw.FramePieces.{FramePieces}
 
+-- columns of spaces
+abbrev pub blanks : ℕ → List ℕ
+blanks count = columns count (code " ")
+
+-- one column of `─`
+abbrev pub line_piece : List ℕ
+line_piece = encode_utf8 (code "─")
+
 -- spaces, a branch, `filled` fillers, and a corner
 abbrev pub frame_pieces : ℕ → List ℕ → List ℕ → ℕ → List ℕ → List ℕ
 frame_pieces spaces branch filler filled corner =
-    columns spaces space ++ branch ++ repeat filled filler ++ corner
+    blanks spaces ++ branch ++ repeat filled filler ++ corner
 
 abbrev pub pushed_text : FramePieces → List ℕ
 pushed_text frame =
@@ -18,14 +27,14 @@ pushed_text frame =
 -- two corners in these columns, with a line between them
 abbrev pub corner_pieces : List ℕ → List ℕ → ℕ → ℕ → List ℕ
 corner_pieces left right from to =
-    frame_pieces from left (encode_utf8 horizontal) (to - from - 1) right
+    frame_pieces from left line_piece (to - from - 1) right
 
 -- the corners of a span's row, as `span_corners` says of characters
 abbrev pub span_pieces : List ℕ → List ℕ → Bool → ℕ → ℕ → List ℕ
 span_pieces left right false amount before = corner_pieces left right before (before + amount)
 span_pieces left right true amount before =
     if nat_le 2 amount then corner_pieces left right (before + amount / 2) (before + amount)
-    else columns (before + amount + 1) space
+    else blanks (before + amount + 1)
 
 -- the row that a drawing draws, with this block
 abbrev pub row_of : RowDrawing → List ℕ → Row

@@ -2,6 +2,7 @@
 use Rattle.std.specs.Prelude.{◌≡◌, ℕ, ◌+◌, ◌-◌, ◌*◌, ◌/◌, ◌%◌, ◌<◌, max, nat_lt, nat_le, ◌==◌, ◌&&◌, Bool, true, false, not, if◌then◌else◌, List, [], ◌∷◌, ◌++◌, flat_map, length, Option, Some, None, IsTrue, encode_utf8, ◌^◌}
 use Rattle.std.specs.List.{enumerate_from, repeat, list_any, list_all, join_with_byte, slice_split}
 use Rattle.std.specs.Str.Lines.{lines}
+use Prim.Native.Char.{code}
 use Rattle.tracing_tree_drawing.specs.Format.Settings.{Settings}
 use Rattle.tracing_tree_context.specs.declared.context.Id.{Id}
 use Rattle.tracing_tree_drawing.specs.declared.format.SpanMode.{SpanMode}
@@ -45,38 +46,6 @@ row_lines indent_lines block = lines (if indent_lines then block ++ 10 ∷ [] el
 
 -- ---- frames
 
--- the codes of the characters
-abbrev pub space : ℕ
-space = 32
-
--- `─`
-abbrev pub horizontal : ℕ
-horizontal = 0x2500
-
--- `│`
-abbrev pub vertical : ℕ
-vertical = 0x2502
-
--- `┌`
-abbrev pub corner_down_right : ℕ
-corner_down_right = 0x250C
-
--- `┐`
-abbrev pub corner_down_left : ℕ
-corner_down_left = 0x2510
-
--- `└`
-abbrev pub corner_up_right : ℕ
-corner_up_right = 0x2514
-
--- `┘`
-abbrev pub corner_up_left : ℕ
-corner_up_left = 0x2518
-
--- `├`
-abbrev pub branch : ℕ
-branch = 0x251C
-
 -- `many` columns of one character
 abbrev pub columns : ℕ → ℕ → List ℕ
 columns many character = repeat many (encode_utf8 character)
@@ -84,38 +53,33 @@ columns many character = repeat many (encode_utf8 character)
 -- two corners in these columns, with spaces before them and `─` between them
 abbrev pub corners : ℕ → ℕ → ℕ → ℕ → List ℕ
 corners left right from to =
-    columns from space ++ encode_utf8 left ++ columns (to - from - 1) horizontal
+    columns from (code " ") ++ encode_utf8 left ++ columns (to - from - 1) (code "─")
     ++ encode_utf8 right
 
 -- the corners of a span's row; in a verbose row the first stands half an amount further right, and
 -- an amount of 1 leaves no room for them
 abbrev pub span_corners : ℕ → ℕ → Bool → ℕ → ℕ → List ℕ
-span_corners left right false amount before = corners left right before (before + amount)
-span_corners left right true amount before =
-    if nat_le 2 amount then corners left right (before + amount / 2) (before + amount)
-    else columns (before + amount + 1) space
+span_corners left right false amount from = corners left right from (from + amount)
+span_corners left right true amount from =
+    if nat_le 2 amount then corners left right (from + amount / 2) (from + amount)
+    else columns (from + amount + 1) (code " ")
 
 -- the frame of a line, which stands between its prefix and its text: at the left edge
 abbrev pub edge_frame : SpanMode → List ℕ
-edge_frame (Open verbose) = encode_utf8 corner_down_left
-edge_frame (Retrace verbose) = encode_utf8 corner_down_left
-edge_frame (Close verbose) = encode_utf8 corner_up_left
+edge_frame (Open verbose) = encode_utf8 (code "┐")
+edge_frame (Retrace verbose) = encode_utf8 (code "┐")
+edge_frame (Close verbose) = encode_utf8 (code "┘")
 edge_frame mode = []
 
--- the first line of a row, further right: `before` columns stand before the branch of a plain row
+-- the first line of a row, further right: the branch of a plain row stands in the column `from`
 abbrev pub first_frame : SpanMode → ℕ → ℕ → List ℕ
-first_frame PreOpen amount before =
-    corners corner_up_right corner_down_left before (before + max (amount / 2) 1)
-first_frame (Open verbose) amount before =
-    span_corners corner_up_right corner_down_left verbose amount before
-first_frame (Retrace verbose) amount before =
-    span_corners corner_up_right corner_down_left verbose amount before
-first_frame (Close verbose) amount before =
-    span_corners corner_down_right corner_up_left verbose amount before
-first_frame PostClose amount before =
-    corners corner_down_right corner_up_left before (before + max (amount / 2) 1)
-first_frame Event amount before =
-    columns before space ++ encode_utf8 branch ++ columns (amount - 1) horizontal
+first_frame PreOpen amount from = corners (code "└") (code "┐") from (from + max (amount / 2) 1)
+first_frame (Open verbose) amount from = span_corners (code "└") (code "┐") verbose amount from
+first_frame (Retrace verbose) amount from = span_corners (code "└") (code "┐") verbose amount from
+first_frame (Close verbose) amount from = span_corners (code "┌") (code "┘") verbose amount from
+first_frame PostClose amount from = corners (code "┌") (code "┘") from (from + max (amount / 2) 1)
+first_frame Event amount from =
+    columns from (code " ") ++ encode_utf8 (code "├") ++ columns (amount - 1) (code "─")
 
 -- how far `│` stands right of a plain row's branch
 abbrev pub continuation_shift : SpanMode → ℕ
@@ -126,9 +90,9 @@ continuation_shift mode = 0
 
 -- a later line
 abbrev pub later_frame : SpanMode → ℕ → ℕ → List ℕ
-later_frame mode amount before =
-    columns (before + continuation_shift mode) space ++ encode_utf8 vertical
-    ++ columns amount space
+later_frame mode amount from =
+    columns (from + continuation_shift mode) (code " ") ++ encode_utf8 (code "│")
+    ++ columns amount (code " ")
 
 -- the rows of a parent round its child stand one level further right
 abbrev pub shift_of : SpanMode → ℕ
@@ -140,82 +104,75 @@ shift_of mode = 0
 abbrev pub lined_frame : SpanMode → ℕ → ℕ → ℕ → List ℕ
 lined_frame mode amount wrapped place =
     let used = wrapped + shift_of mode in
-    if used == 0 then edge_frame mode
-    else (if amount == 0 then []
-    else (if place == 0 then first_frame mode amount (used * amount - amount)
-    else later_frame mode amount (used * amount - amount)))
-
-abbrev pub wrapped_level : Settings → ℕ → ℕ
-wrapped_level settings level = level % settings.wraparound
-
--- the frame of line `place` of a row
-abbrev pub row_frame : Settings → SpanMode → ℕ → ℕ → List ℕ
-row_frame settings mode level place =
-    let wrapped = wrapped_level settings level in
-    if settings.indent_lines then lined_frame mode settings.indent_amount wrapped place
-    else columns (wrapped * settings.indent_amount + (if place == 0 then 1 else 3)) space
-
--- ---- pictures
+    let from = used * amount - amount in
+    if used == 0 then edge_frame mode else (if amount == 0 then []
+    else (if place == 0 then first_frame mode amount from else later_frame mode amount from))
 
 -- one line: prefix, frame, text and line end
 abbrev pub drawn_line : List ℕ → List ℕ → List ℕ → List ℕ
 drawn_line prefix frame text = prefix ++ frame ++ text ++ 10 ∷ []
 
--- the lines of a row, in order
-abbrev pub picture : Settings → Row → List ℕ
-picture settings row =
-    flat_map (λ line. drawn_line row.prefix (row_frame settings row.mode row.level line.0) line.1)
-    (enumerate_from 0 (row_lines settings.indent_lines row.block))
-
--- ---- wrap marks
-
--- the levels wrap round after this one
-abbrev pub is_last_before_wrap : Settings → ℕ → Bool
-is_last_before_wrap settings level =
-    settings.indent_lines && nat_lt 0 level && ((level + 1) % settings.wraparound == 0)
-
--- after the last level before the wrap: `─` up to the wrapped level, and a corner, if the row has
--- one
-abbrev pub mark_line : Settings → Row → Option ℕ → List ℕ
-mark_line settings row None = []
-mark_line settings row (Some corner) =
-    if is_last_before_wrap settings row.level
-    then row.prefix
-    ++ columns (wrapped_level settings row.level * settings.indent_amount) horizontal
-    ++ encode_utf8 corner ++ 10 ∷ []
-    else []
-
 -- a row that closes has its mark before it
 abbrev pub mark_before_corner : SpanMode → Option ℕ
-mark_before_corner (Close verbose) = Some corner_down_left
-mark_before_corner PostClose = Some corner_down_left
+mark_before_corner (Close verbose) = Some (code "┐")
+mark_before_corner PostClose = Some (code "┐")
 mark_before_corner mode = None
 
 -- a row that opens has it after it; one that is retraced has none, nor has an event
 abbrev pub mark_after_corner : SpanMode → Option ℕ
-mark_after_corner PreOpen = Some corner_up_left
-mark_after_corner (Open verbose) = Some corner_up_left
+mark_after_corner PreOpen = Some (code "┘")
+mark_after_corner (Open verbose) = Some (code "┘")
 mark_after_corner mode = None
 
-abbrev pub drawn_row : Settings → Row → List ℕ
-drawn_row settings row =
-    mark_line settings row (mark_before_corner row.mode)
-    ++ picture settings row
-    ++ mark_line settings row (mark_after_corner row.mode)
+module _ (settings : Settings) where
+  abbrev pub wrapped_level : ℕ → ℕ
+  wrapped_level level = level % settings.wraparound
 
--- the text of the rows
-abbrev pub draw : Settings → List Row → List ℕ
-draw settings rows = flat_map (drawn_row settings) rows
+  -- the frame of line `place` of a row
+  abbrev pub row_frame : SpanMode → ℕ → ℕ → List ℕ
+  row_frame mode level place =
+      let wrapped = wrapped_level level in
+      if settings.indent_lines then lined_frame mode settings.indent_amount wrapped place
+      else columns (wrapped * settings.indent_amount + (if place == 0 then 1 else 3)) (code " ")
 
--- ---- widths
+  -- ---- pictures
 
--- the level that counts for the width
-abbrev pub level_used : Settings → SpanMode → ℕ → ℕ
-level_used settings mode level =
-    wrapped_level settings level + (if settings.indent_lines then shift_of mode else 0)
+  -- the lines of a row, in order
+  abbrev pub picture : Row → List ℕ
+  picture row =
+      flat_map (λ line. drawn_line row.prefix (row_frame row.mode row.level line.0) line.1)
+      (enumerate_from 0 (row_lines settings.indent_lines row.block))
 
--- the width passes the greatest number of its type
-abbrev pub is_too_wide : Settings → Row → Bool
-is_too_wide settings row =
-    nat_le (2 ^ 64)
-    (level_used settings row.mode row.level * settings.indent_amount)
+  -- ---- wrap marks
+
+  -- the levels wrap round after this one
+  abbrev pub is_last_before_wrap : ℕ → Bool
+  is_last_before_wrap level =
+      settings.indent_lines && nat_lt 0 level && ((level + 1) % settings.wraparound == 0)
+
+  -- after the last level before the wrap: `─` up to the wrapped level, and a corner, if the row has
+  -- one
+  abbrev pub mark_line : Row → Option ℕ → List ℕ
+  mark_line row None = []
+  mark_line row (Some corner) =
+      let line = columns (wrapped_level row.level * settings.indent_amount) (code "─") in
+      if is_last_before_wrap row.level then drawn_line row.prefix line (encode_utf8 corner) else []
+
+  abbrev pub drawn_row : Row → List ℕ
+  drawn_row row =
+      mark_line row (mark_before_corner row.mode) ++ picture row
+      ++ mark_line row (mark_after_corner row.mode)
+
+  -- the text of the rows
+  abbrev pub draw : List Row → List ℕ
+  draw rows = flat_map drawn_row rows
+
+  -- ---- widths
+
+  -- the level that counts for the width
+  abbrev pub level_used : SpanMode → ℕ → ℕ
+  level_used mode level = wrapped_level level + (if settings.indent_lines then shift_of mode else 0)
+
+  -- the width passes the greatest number of its type
+  abbrev pub is_too_wide : Row → Bool
+  is_too_wide row = nat_le (2 ^ 64) (level_used row.mode row.level * settings.indent_amount)

@@ -1,6 +1,6 @@
 -- The texts of labels, fields and prefixes.
-use Rattle.std.specs.Prelude.{ℕ, ◌||◌, nat_eq, Bool, true, false, not, if◌then◌else◌, List, [], ◌∷◌, ◌++◌, map, filter, flat_map, Option, Some, None, decimal, codes, bytes_eq}
-use Rattle.std.specs.List.{starts_with}
+use Rattle.std.specs.Prelude.{ℕ, ◌||◌, nat_eq, Bool, true, false, not, if◌then◌else◌, List, [], ◌∷◌, ◌++◌, map, filter, Option, Some, None, decimal, codes, bytes_eq}
+use Rattle.std.specs.List.{join_by, starts_with}
 use Rattle.tracing_tree_context.specs.declared.context.Context.{Context}
 use Rattle.tracing_tree_text.specs.declared.field.Field.{Field}
 use Rattle.tracing_tree_drawing.specs.Format.Settings.{Settings}
@@ -22,11 +22,6 @@ label Event = codes "event: "
 
 -- ---- fields
 
--- the pieces in a row, with the separator between each two
-abbrev pub joined : List ℕ → List (List ℕ) → List ℕ
-joined separator [] = []
-joined separator (piece ∷ pieces) = piece ++ flat_map (λ next. separator ++ next) pieces
-
 -- `name=value`
 abbrev pub named_value : Field → List ℕ
 named_value field = field.name ++ 61 ∷ field.value
@@ -41,7 +36,8 @@ shown_field field = if is_message field then field.value else named_value field
 -- the fields of a span: only in the first place is a message shown alone
 abbrev pub span_fields : List Field → List ℕ
 span_fields [] = []
-span_fields (first ∷ others) = joined (codes ", ") (shown_field first ∷ map named_value others)
+span_fields (first ∷ others) =
+    join_by (λ piece. piece) (codes ", ") (shown_field first ∷ map named_value others)
 
 -- fields with these names belong to a log record, and an event doesn't show them
 abbrev pub is_log_field : Field → Bool
@@ -56,19 +52,15 @@ event_field comma field =
 abbrev pub comma_after : Bool → Field → Bool
 comma_after comma field = comma || not (is_log_field field)
 
--- the fields of an event that are shown
-abbrev pub shown_fields : List Field → List Field
-shown_fields fields = filter (λ field. not (is_log_field field)) fields
-
 -- a space and the fields, or nothing if there is none
 abbrev pub spaced_fields : List Field → List ℕ
 spaced_fields [] = []
 spaced_fields (first ∷ others) =
-    32 ∷ joined (codes ", ") (shown_field first ∷ map shown_field others)
+    32 ∷ join_by (λ piece. piece) (codes ", ") (shown_field first ∷ map shown_field others)
 
 -- the fields of an event
 abbrev pub event_fields : List Field → List ℕ
-event_fields fields = spaced_fields (shown_fields fields)
+event_fields fields = spaced_fields (filter (λ field. not (is_log_field field)) fields)
 
 -- ---- prefixes
 

@@ -2,7 +2,8 @@
 use Rattle.std.specs.Prelude.{true, false, ℕ, ◌+◌, ◌-◌, ◌*◌, ◌/◌, ◌%◌, ◌==◌, true, false, not, ◌&&◌, if◌then◌else◌, List, [], ◌∷◌, ◌++◌, Option, Some, None, option_map, option_and_then, encode_utf8}
 use Rattle.std.specs.Option.{option_map_or}
 use Rattle.std.specs.List.{prefix_len}
-use Rattle.tracing_tree_drawing.specs.Format.Picture.{columns, space, horizontal, vertical, branch, corner_down_left, corner_up_left, corner_up_right, corner_down_right, shift_of, continuation_shift}
+use Rattle.tracing_tree_drawing.specs.Format.Picture.{columns, shift_of, continuation_shift}
+use Prim.Native.Char.{code}
 use Rattle.tracing_tree_drawing.specs.Rows.RowText.{TextRow, mode_of, is_bare_text, without_start_spaces}
 use Rattle.tracing_tree_drawing.specs.declared.rows.row.Shape.{Shape}
 use Rattle.tracing_tree_drawing.specs.declared.rows.row.Shape.TheVariants.{PreOpen, OpenRoot, Open, CloseRoot, Close, PostClose, Event}
@@ -17,12 +18,12 @@ after_front (byte ∷ front) (first ∷ text) = if byte == first then after_fron
 
 -- the spaces before the first other character
 abbrev pub start_spaces : List ℕ → ℕ
-start_spaces line = prefix_len (λ byte. byte == space) line
+start_spaces line = prefix_len (λ byte. byte == code " ") line
 
 -- what follows `count` `─` and the character
 abbrev pub after_run : ℕ → ℕ → List ℕ → Option (List ℕ)
 after_run count character text =
-    after_front (columns count horizontal ++ encode_utf8 character) text
+    after_front (columns count (code "─") ++ encode_utf8 character) text
 
 -- ---- first lines
 
@@ -51,19 +52,19 @@ abbrev pub read_event : ℕ → ℕ → List ℕ → Option TextRow
 read_event amount spaces text =
     if spaces % amount == 0
     then option_map (one_line_row Event (spaces / amount + 1))
-    (after_front (columns (amount - 1) horizontal) text)
+    (after_front (columns (amount - 1) (code "─")) text)
     else None
 
 -- a line, the number of spaces at its start, and what follows these
 abbrev pub read_first_at : ℕ → List ℕ → ℕ → List ℕ → Option TextRow
 read_first_at amount line spaces rest =
-    option_map_or (read_root OpenRoot spaces) (after_front (encode_utf8 corner_down_left) rest)
-    (option_map_or (read_root CloseRoot spaces) (after_front (encode_utf8 corner_up_left) rest)
-    (option_map_or (read_corners corner_down_left (Open false) PreOpen (Open true) amount spaces)
-    (after_front (encode_utf8 corner_up_right) rest)
-    (option_map_or (read_corners corner_up_left (Close false) PostClose (Close true) amount spaces)
-    (after_front (encode_utf8 corner_down_right) rest)
-    (option_map_or (read_event amount spaces) (after_front (encode_utf8 branch) rest)
+    option_map_or (read_root OpenRoot spaces) (after_front (encode_utf8 (code "┐")) rest)
+    (option_map_or (read_root CloseRoot spaces) (after_front (encode_utf8 (code "┘")) rest)
+    (option_map_or (read_corners (code "┐") (Open false) PreOpen (Open true) amount spaces)
+    (after_front (encode_utf8 (code "└")) rest)
+    (option_map_or (read_corners (code "┘") (Close false) PostClose (Close true) amount spaces)
+    (after_front (encode_utf8 (code "┌")) rest)
+    (option_map_or (read_event amount spaces) (after_front (encode_utf8 (code "├")) rest)
     (if is_bare_text line then Some (one_line_row Event 0 line) else None)))))
 
 -- the row that begins with this line
@@ -76,7 +77,7 @@ read_first amount line = read_first_at amount line (start_spaces line) (without_
 abbrev pub read_later_at : ℕ → Shape → ℕ → ℕ → List ℕ → Option (List ℕ)
 read_later_at amount shape used spaces text =
     if not (used == 0) && (spaces == used * amount - amount + continuation_shift (mode_of shape))
-    then after_front (columns amount space) text
+    then after_front (columns amount (code " ")) text
     else None
 
 -- the text of a later line of a row of this shape and level
@@ -84,7 +85,7 @@ abbrev pub read_later : ℕ → Shape → ℕ → List ℕ → Option (List ℕ)
 read_later amount shape level line =
     option_and_then (read_later_at amount shape (level + shift_of (mode_of shape))
     (start_spaces line))
-    (after_front (encode_utf8 vertical) (without_start_spaces line))
+    (after_front (encode_utf8 (code "│")) (without_start_spaces line))
 
 -- ---- one line
 

@@ -1,7 +1,8 @@
 -- The text of rows as they are read back.
 use Rattle.std.specs.Prelude.{◌≡◌, ℕ, ◌+◌, ◌-◌, ◌*◌, ◌≤◌, nat_le, nat_lt, ◌==◌, ◌&&◌, ◌||◌, Bool, true, false, not, IsTrue, if◌then◌else◌, List, [], ◌∷◌, ◌++◌, length, map, drop, take, flat_map, filter, filter_map, Option, Some, None, option_map, encode_utf8_all, ◌^◌}
 use Rattle.std.specs.List.{enumerate_from, range_with_len, last_or, list_all, list_any, starts_with, prefix_len}
-use Rattle.tracing_tree_drawing.specs.Format.Picture.{parts_of, has_line_end, drawn_line, lined_frame, shift_of, corner_down_left, corner_up_left, corner_up_right, corner_down_right, branch, vertical}
+use Rattle.tracing_tree_drawing.specs.Format.Picture.{parts_of, has_line_end, drawn_line, lined_frame, shift_of}
+use Prim.Native.Char.{code}
 use Rattle.tracing_tree_drawing.specs.declared.format.SpanMode.{SpanMode}
 use Rattle.tracing_tree_drawing.specs.declared.format.SpanMode.TheVariants as Mode
 use Rattle.tracing_tree_drawing.specs.declared.rows.paths.EventPath.{EventPath}
@@ -65,7 +66,7 @@ is_event Event = true
 -- the characters that a drawing is made of, without the horizontal one
 abbrev pub drawing_marks : List ℕ
 drawing_marks =
-    corner_down_left ∷ corner_up_left ∷ corner_up_right ∷ corner_down_right ∷ branch ∷ vertical ∷ []
+    code "┐" ∷ code "┘" ∷ code "└" ∷ code "┌" ∷ code "├" ∷ code "│" ∷ []
 
 -- the text without the spaces at its start
 abbrev pub without_start_spaces : List ℕ → List ℕ

@@ -3,8 +3,8 @@
 ghost use Rattle.std.specs.List.{repeat};
 ghost use Rattle.std.specs.Prelude.{◌≡◌, ◌+◌, ◌*◌, ◌^◌, ◌<◌, ◌++◌, ◌∷◌, [], true, false, Some, Err, OnOk, OnErr, IfErr, string_bytes, encode_utf8, if◌then◌else◌};
 ghost use Rattle.std.specs.Str.Lines.{strip_carriage_return};
-ghost use Rattle.tracing_tree_drawing.specs.Format.Frames.{HasRoom, corner_pieces, frame_pieces, pushed_text, row_of, span_pieces};
-ghost use Rattle.tracing_tree_drawing.specs.Format.Picture.{columns, drawn_row, edge_frame, first_frame, horizontal, is_last_before_wrap, is_too_wide, later_frame, lined_frame, mark_after_corner, mark_before_corner, mark_line, picture, row_frame, shift_of, space, unnamed_row, wrapped_level};
+ghost use Rattle.tracing_tree_drawing.specs.Format.Frames.{HasRoom, blanks, corner_pieces, frame_pieces, line_piece, pushed_text, row_of, span_pieces};
+ghost use Rattle.tracing_tree_drawing.specs.Format.Picture.{columns, drawn_row, edge_frame, first_frame, is_last_before_wrap, is_too_wide, later_frame, lined_frame, mark_after_corner, mark_before_corner, mark_line, picture, row_frame, shift_of, unnamed_row, wrapped_level};
 ghost use Rattle.tracing_tree_text.specs.Extended.{IsExtended};
 ghost use Rattle.tracing_tree_drawing.specs.Format.Texts.{prefix_text};
 
@@ -57,7 +57,7 @@ impl FramePieces {
         to: usize,
     ) -> FramePieces
         requires order { from < to }
-        requires near { near.now ≡ left.now ++ encode_utf8 horizontal ++ right.now }
+        requires near { near.now ≡ left.now ++ line_piece ++ right.now }
         ensures { pushed_text result ≡ corner_pieces left.now right.now from to }
     {
         if to - from == 2 {
@@ -82,7 +82,7 @@ impl FramePieces {
         amount: usize,
         before: usize,
     ) -> FramePieces
-        requires near { near.now ≡ left.now ++ encode_utf8 horizontal ++ right.now }
+        requires near { near.now ≡ left.now ++ line_piece ++ right.now }
         requires amount { 0 < amount }
         requires fits { before + amount < 2 ^ 64 }
         ensures { pushed_text result ≡ span_pieces left.now right.now verbose amount before }
@@ -272,7 +272,7 @@ fn push_repeated(out: &mut String, text: &str, times: usize) -> Result<(), Alloc
 #[inline(always)]
 fn push_spaces(out: &mut String, count: usize) -> Result<(), AllocError>
     ensures ok { OnOk result
-        (string_bytes out.new ≡ string_bytes out.old ++ columns count space) }
+        (string_bytes out.new ≡ string_bytes out.old ++ blanks count) }
     ensures extended { IsExtended (string_bytes out.old) (string_bytes out.new) }
 {
     if count == 0 {

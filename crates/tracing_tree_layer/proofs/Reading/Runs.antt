@@ -6,7 +6,7 @@ use Rattle.tracing_tree_drawing.specs.Format.Settings.{Settings, retraces}
 use Rattle.tracing_tree_spans.specs.Registry.Ids.{id_of}
 use Rattle.tracing_tree_time.specs.Clock.{Timer}
 use Rattle.tracing_tree_spans.specs.Registry.Spans.{Span}
-use Rattle.tracing_tree_spans.specs.Registry.Forest.{Forest, new_span, add_span, lacks_next, any_unless_live, named_parent}
+use Rattle.tracing_tree_spans.specs.Registry.Forest.{Forest, new_span, add_span, any_unless_live, named_parent}
 use Rattle.tracing_tree_drawing.specs.Format.Picture.{Row}
 use Rattle.tracing_tree_text.specs.declared.field.Field.{Field}
 use Rattle.tracing_tree_context.specs.declared.context.Id.{Id}
@@ -47,12 +47,12 @@ no-cause false None false wide faults e = (refl, refl)
 
 new-accepted : (settings : Settings) (timer : Timer) (state : State) (attributes : Attributes) (context : Context) →
     cause_of settings timer state (A.New attributes context) ≡ None →
-    (any_unless_live state.forest (named_parent attributes.parent context.current) ≡ None) × (lacks_next state.forest ≡ false)
+    (any_unless_live state.forest (named_parent attributes.parent context.current) ≡ None) × (is_none state.forest.next ≡ false)
 new-accepted settings timer state attributes context h =
-    no-cause state.failed (any_unless_live state.forest (named_parent attributes.parent context.current)) (lacks_next state.forest)
+    no-cause state.failed (any_unless_live state.forest (named_parent attributes.parent context.current)) (is_none state.forest.next)
     (draws_too_wide settings (turn_of settings timer state.forest state.last (A.New attributes context)).rows) false h
 
-next-found : (forest : Forest) → lacks_next forest ≡ false → forest.next ≡ Some (new_id forest)
+next-found : (forest : Forest) → is_none forest.next ≡ false → forest.next ≡ Some (new_id forest)
 next-found forest h = by forest.next h
   where
     by : (o : Option Id) → is_none o ≡ false → o ≡ Some (unwrap_or o (id_of 0))

@@ -50,7 +50,7 @@ seen-row o level row rows b e = ap (λ b. seen (if b then row.span else o) level
 
 -- rows about a parent open nothing
 pub seen-parent_rows : (o : Option Id) (level : ℕ) (on : Bool) (settings : Settings) (context : Context) (forest : Forest) (mode : SpanMode) (i : Id) →
-    is_opening_mode mode ≡ false → seen o level (parent_rows on settings context forest mode i) ≡ o
+    is_opening_mode mode ≡ false → seen o level (parent_rows settings context forest on mode i) ≡ o
 seen-parent_rows o level false settings context forest mode i e = refl
 seen-parent_rows o level true settings context forest mode i e = by (parent_of forest i)
   where
@@ -134,7 +134,7 @@ seen-fresh settings context forest [] o level = refl
 seen-fresh settings context forest (j ∷ ids) o level =
     let verbose : Bool = settings.verbose_entry && is_some (parent_of forest j) in
     let rest : List Row = map (fresh_row settings context forest false) ids in
-    seen-append o level (parent_rows settings.verbose_entry settings context forest PreOpen j) (fresh_row settings context forest verbose j ∷ rest)
+    seen-append o level (parent_rows settings context forest settings.verbose_entry PreOpen j) (fresh_row settings context forest verbose j ∷ rest)
     ∙ ap (λ p. seen p level (fresh_row settings context forest verbose j ∷ rest)) (seen-parent_rows o level settings.verbose_entry settings context forest PreOpen j refl)
     ∙ verbose-first settings context forest verbose j rest o level
 
@@ -184,4 +184,4 @@ fresh-opened settings context forest (j ∷ ids) i h =
     let plain : list_any (opens_span i) (fresh_row settings context forest false j ∷ rest) ≡ true = plain-opens settings context forest (j ∷ ids) i h in
     let first : list_any (opens_span i) (fresh_row settings context forest verbose j ∷ rest) ≡ true =
     ap (λ b. b || list_any (opens_span i) rest) (fresh-is settings context forest verbose i j ∙ sym (fresh-is settings context forest false i j)) ∙ plain in
-    opened-right (parent_rows settings.verbose_entry settings context forest PreOpen j) (fresh_row settings context forest verbose j ∷ rest) i first
+    opened-right (parent_rows settings context forest settings.verbose_entry PreOpen j) (fresh_row settings context forest verbose j ∷ rest) i first

@@ -77,7 +77,7 @@ only-one i j h = sym (same_id-eq j i (by (same_id j i) h))
 -- without a retrace: the rows of its parent and its own
 abbrev opened_alone : Settings → Context → Forest → Id → List Row
 opened_alone settings context forest i =
-    parent_rows settings.verbose_entry settings context forest PreOpen i ++ span_row settings context forest (Open settings.verbose_entry) i ∷ []
+    parent_rows settings context forest settings.verbose_entry PreOpen i ++ span_row settings context forest (Open settings.verbose_entry) i ∷ []
 
 -- a new span's turn, by the two settings
 abbrev turn_by : Settings → Context → Forest → Option Id → Id → Bool → Bool → Turn
@@ -93,7 +93,7 @@ alone-opens settings context forest last rows s f all eager found new =
     opens-same after (path_of_any forest s.parent ++ s.id ∷ []) (path_of (add_span s forest) s.id) (path_of-new s forest s.id (same-refl s.id))
     (λ j h. in_either (path_of_any forest s.parent) (s.id ∷ []) j h
     (λ k. opened-left rows own j (above s.parent refl j k))
-    (λ k. opened-right rows own j (opened-right (parent_rows settings.verbose_entry settings context new PreOpen s.id) (row ∷ []) j
+    (λ k. opened-right rows own j (opened-right (parent_rows settings context new settings.verbose_entry PreOpen s.id) (row ∷ []) j
     (subst (λ i. list_any (opens_span i) (row ∷ []) ≡ true) (only-one s.id j k) (rw (same-refl s.id) refl)))))
   where
     row : Row

@@ -45,17 +45,15 @@ opens_span i row = is_opening_mode row.mode && option_map_or (same_id i) row.spa
 abbrev pub close_is_on_path : Settings → Forest → Option Id → Id → Bool
 close_is_on_path settings forest last i =
     (settings.deferred_spans && not (is_printed forest i))
-    || option_map_or (λ above. list_any (same_id above) (path_of_any forest last))
-    (parent_of forest i) true
+    || option_map_or (λ j. list_any (same_id j) (path_of_any forest last)) (parent_of forest i) true
 
 -- the same of closes, one after another
 abbrev pub closes_are_on_path : Settings → Context → List Id → Forest → Option Id → Bool
 closes_are_on_path settings context [] forest last = true
 closes_are_on_path settings context (i ∷ others) forest last =
+    let closed = turn_of_close settings context forest last i in
     close_is_on_path settings forest last i
-    && closes_are_on_path settings context others
-    (turn_of_close settings context forest last i).forest
-    (turn_of_close settings context forest last i).last
+    && closes_are_on_path settings context others closed.forest closed.last
 
 -- the same of a call that is accepted
 abbrev pub call_is_on_path : Settings → State → Call → Bool
@@ -71,6 +69,10 @@ run_is_on_path settings timer state (call ∷ calls) =
     && run_is_on_path settings timer (run_one settings timer state call).state calls
 
 -- ---- events of a run
+
+-- the rows of a run that began empty
+abbrev pub rows_of : Settings → Timer → Option Id → List Call → List Row
+rows_of settings timer first calls = (run settings timer (opening_state first) calls).rows
 
 -- After the calls before it an event is accepted. Its row is the last that these calls and it draw.
 pub record EventInRun (settings : Settings) (timer : Timer) (first : Option Id)
@@ -90,18 +92,14 @@ module _ {settings : Settings} {timer : Timer} {first : Option Id} {calls : List
 
   -- the place of its row
   abbrev pub place_of : EventInRun settings timer first calls → ℕ
-  place_of e = length (run settings timer (opening_state first)
-      (e.before ++ A.Event e.event e.context ∷ [])).rows - 1
+  place_of e =
+      length (rows_of settings timer first (e.before ++ A.Event e.event e.context ∷ [])) - 1
 
   -- its parent is its current span, which is live
   abbrev pub IsInCurrent : EventInRun settings timer first calls → Id → Type 0
   IsInCurrent e i =
       (current_of (forest_at e) e.context ≡ Some i)
       × (event_parent (forest_at e) e.event e.context ≡ Some i)
-
--- the rows of a run that began empty
-abbrev pub rows_of : Settings → Timer → Option Id → List Call → List Row
-rows_of settings timer first calls = (run settings timer (opening_state first) calls).rows
 
 -- ---- laws
 

@@ -36,16 +36,14 @@ pub record LayeredView (W FT : Type 0) : Type 0 where
 module _ {W FT : Type 0} where
   -- what `FormatTime` and `Output` tell of it
   abbrev pub seen : FormatTime FT → Output W → LayeredView W FT → Seen
-  seen time output layered = record {
-    settings = layered.layer.settings;
-    timer = time.timer layered.layer.timer;
-    state = record {
-      forest = layered.forest;
-      last = layered.layer.last;
-      failed = layered.layer.failed;
-    };
-    writer = seen_writer output layered.layer.writer;
-  }
+  seen time output layered =
+      let layer = layered.layer in
+      record {
+        settings = layer.settings;
+        timer = time.timer layer.timer;
+        state = record { forest = layered.forest; last = layer.last; failed = layer.failed };
+        writer = seen_writer output layer.writer;
+      }
 
   -- What is changed: settings and timer stay, and this holds of what was seen and what is seen.
   pub record Changes (see : LayeredView W FT → Seen) (Holds : Seen → Seen → Type 0)

@@ -24,16 +24,6 @@ block_of settings forest mode i =
     option_map_or (λ span. span_block settings mode span.target span.name span.kept.fields)
     (span_at forest i) []
 
--- a row about a live span
-abbrev pub span_row : Settings → Context → Forest → SpanMode → Id → Row
-span_row settings context forest mode i = record {
-  mode = mode;
-  span = Some i;
-  level = level_of forest i;
-  block = block_of settings forest mode i;
-  prefix = prefix_text settings context;
-}
-
 -- the current span of an event, if it is live
 abbrev pub current_of : Forest → Context → Option Id
 current_of forest context = if_live forest context.current
@@ -65,44 +55,61 @@ event_row settings timer forest event context = record {
   prefix = prefix_text settings context;
 }
 
--- a row about the parent of a span, if the setting is on and there is a parent
-abbrev pub parent_rows : Bool → Settings → Context → Forest → SpanMode → Id → List Row
-parent_rows on settings context forest mode i =
-    if on then option_map_or (λ above. span_row settings context forest mode above ∷ [])
-    (parent_of forest i) [] else []
-
--- ---- retracing
-
 -- a span that was printed before is retraced, and another opens
 abbrev pub fresh_mode : Forest → Id → Bool → SpanMode
 fresh_mode forest i verbose = if is_printed forest i then Retrace verbose else Open verbose
 
-abbrev pub fresh_row : Settings → Context → Forest → Bool → Id → Row
-fresh_row settings context forest verbose i =
-    span_row settings context forest (fresh_mode forest i verbose) i
-
--- the rows of fresh spans: the first is verbose if its parent is shown before it
-abbrev pub fresh_rows : Settings → Context → Forest → List Id → List Row
-fresh_rows settings context forest [] = []
-fresh_rows settings context forest (first ∷ others) =
-    parent_rows settings.verbose_entry settings context forest PreOpen first
-    ++ fresh_row settings context forest
-    (settings.verbose_entry && is_some (parent_of forest first)) first
-    ∷ map (fresh_row settings context forest false) others
-
--- to a span: the rows of the fresh spans, which are printed from now on, and the span is the last
-abbrev pub retrace_to : Settings → Context → Forest → Option Id → Id → Turn
-retrace_to settings context forest last i = record {
-  rows = fresh_rows settings context forest (fresh_ids forest last i);
-  forest = mark_all (fresh_ids forest last i) forest;
-  last = Some i;
-}
-
 -- one turn and then another, which begins where the first ends
 abbrev pub then_turn : Turn → (Forest → Option Id → Turn) → Turn
 then_turn first next =
-    record (next first.forest first.last)
-    { rows = first.rows ++ (next first.forest first.last).rows }
+    let rest = next first.forest first.last in
+    record rest { rows = first.rows ++ rest.rows }
+
+-- an event's row alone
+abbrev pub turn_of_row : Row → Forest → Option Id → Turn
+turn_of_row row forest last = record { rows = row ∷ []; forest = forest; last = last }
+
+module _ (settings : Settings) (context : Context) (forest : Forest) where
+  -- a row about a live span
+  abbrev pub span_row : SpanMode → Id → Row
+  span_row mode i = record {
+    mode = mode;
+    span = Some i;
+    level = level_of forest i;
+    block = block_of settings forest mode i;
+    prefix = prefix_text settings context;
+  }
+
+  -- a row about the parent of a span, if the setting is on and there is a parent
+  abbrev pub parent_rows : Bool → SpanMode → Id → List Row
+  parent_rows on mode i =
+      if on then option_map_or (λ above. span_row mode above ∷ []) (parent_of forest i) [] else []
+
+  -- ---- retracing
+
+  abbrev pub fresh_row : Bool → Id → Row
+  fresh_row verbose i = span_row (fresh_mode forest i verbose) i
+
+  -- the rows of fresh spans: the first is verbose if its parent is shown before it
+  abbrev pub fresh_rows : List Id → List Row
+  fresh_rows [] = []
+  fresh_rows (first ∷ others) =
+      parent_rows settings.verbose_entry PreOpen first
+      ++ fresh_row (settings.verbose_entry && is_some (parent_of forest first)) first
+      ∷ map (fresh_row false) others
+
+  -- to a span: the rows of the fresh spans, which are printed from now on, and the span is the last
+  abbrev pub retrace_to : Option Id → Id → Turn
+  retrace_to last i =
+      let fresh = fresh_ids forest last i in
+      record { rows = fresh_rows fresh; forest = mark_all fresh forest; last = Some i }
+
+  -- what comes before an event's row: its current span is retraced, if it is live and the settings
+  -- say so
+  abbrev pub turn_before_event : Option Id → Option Id → Turn
+  turn_before_event last None = quiet_turn forest last
+  turn_before_event last (Some current) =
+      if retraces settings then retrace_to last current else quiet_turn forest last
 
 -- ---- calls
 
@@ -110,26 +117,11 @@ then_turn first next =
 -- that its own row is a retrace row, as in the Rust crate
 abbrev pub turn_of_new : Settings → Context → Forest → Option Id → Id → Turn
 turn_of_new settings context forest last i =
+    let above = parent_rows settings context forest settings.verbose_entry PreOpen i in
+    let row = span_row settings context forest (Open settings.verbose_entry) i in
     if settings.deferred_spans then quiet_turn forest last
     else (if settings.span_retrace then retrace_to settings context (mark_printed i forest) last i
-    else record {
-      rows = parent_rows settings.verbose_entry settings context forest PreOpen i
-          ++ span_row settings context forest (Open settings.verbose_entry) i ∷ [];
-      forest = mark_printed i forest;
-      last = Some i;
-    })
-
--- an event's row alone
-abbrev pub turn_of_row : Row → Forest → Option Id → Turn
-turn_of_row row forest last = record { rows = row ∷ []; forest = forest; last = last }
-
--- what comes before an event's row: its current span is retraced, if it is live and the settings
--- say so
-abbrev pub turn_before_event : Settings → Context → Forest → Option Id → Option Id → Turn
-turn_before_event settings context forest last None = quiet_turn forest last
-turn_before_event settings context forest last (Some current) =
-    if retraces settings then retrace_to settings context forest last current else quiet_turn forest
-    last
+    else record { rows = above ++ row ∷ []; forest = mark_printed i forest; last = Some i })
 
 abbrev pub turn_of_event : Settings → Timer → Context → Forest → Option Id → Event → Turn
 turn_of_event settings timer context forest last event =
@@ -138,12 +130,10 @@ turn_of_event settings timer context forest last event =
 
 -- a span that closes, and its parent, which is the last span from then on
 abbrev pub close_turn : Settings → Context → Id → Forest → Option Id → Turn
-close_turn settings context i forest last = record {
-  rows = span_row settings context forest (Close settings.verbose_exit) i
-      ∷ parent_rows settings.verbose_exit settings context forest PostClose i;
-  forest = forest;
-  last = option_or (parent_of forest i) last;
-}
+close_turn settings context i forest last =
+    let row = span_row settings context forest (Close settings.verbose_exit) i in
+    let above = parent_rows settings context forest settings.verbose_exit PostClose i in
+    record { rows = row ∷ above; forest = forest; last = option_or (parent_of forest i) last }
 
 -- the close of one span, on the forest before the call: nothing if the span was deferred and never
 -- printed

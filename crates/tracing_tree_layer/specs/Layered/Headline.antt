@@ -25,17 +25,15 @@ pub record Runs (calls : List Call) (given : List Reply) (old new : Seen) : Type
   pub state : new.state ≡ (run_from old calls).state
   pub replies : given ≡ (run_from old calls).replies
   pub continued : (begun : State) (earlier : List Call) →
-      run old.settings old.timer begun (earlier ++ calls)
-      ≡ then_run (run old.settings old.timer begun earlier)
-      (λ state. run old.settings old.timer state calls)
+      let from = run old.settings old.timer in
+      from begun (earlier ++ calls) ≡ then_run (from begun earlier) (λ state. from state calls)
 
 -- one call after another is answered, each by its answer
 abbrev pub AreAnswered : List Call → List (Result Reply Refusal) → Seen → Seen → Type 0
 AreAnswered [] [] old new = new ≡ old
-AreAnswered [] (answer ∷ answers) old new = ⊥
-AreAnswered (call ∷ calls) [] old new = ⊥
 AreAnswered (call ∷ calls) (answer ∷ answers) old new =
     (between : Seen) × IsAnswered call answer old between × AreAnswered calls answers between new
+AreAnswered calls answers old new = ⊥
 
 -- Where these calls are made in the state to which a run comes that began empty, the reading laws
 -- hold of the joined calls: the rows above an event open its ancestors.

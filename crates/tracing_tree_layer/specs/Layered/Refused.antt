@@ -6,7 +6,7 @@ use Rattle.std.specs.List.{list_any}
 use Rattle.tracing_tree_drawing.specs.Format.Settings.{Settings}
 use Rattle.tracing_tree_time.specs.Clock.{Timer}
 use Rattle.tracing_tree_drawing.specs.Format.Picture.{Row, is_too_wide}
-use Rattle.tracing_tree_spans.specs.Registry.Forest.{Forest, is_live, handles_of, closing_of, named_parent, unless_live, any_unless_live, unless_handle, lacks_next, has_all_handles}
+use Rattle.tracing_tree_spans.specs.Registry.Forest.{Forest, is_live, handles_of, closing_of, named_parent, unless_live, any_unless_live, unless_handle, has_all_handles}
 use Rattle.tracing_tree_context.specs.declared.context.Id.{Id}
 use Rattle.tracing_tree_context.specs.declared.context.Context.{Context}
 use Rattle.tracing_tree_context.specs.declared.context.Refusal.{Refusal}
@@ -29,7 +29,7 @@ id_not_held forest call = None
 
 -- no id is left for a new span, or no further handle can be counted
 abbrev pub is_too_many : Forest → Call → Bool
-is_too_many forest (New attributes context) = lacks_next forest
+is_too_many forest (New attributes context) = is_none forest.next
 is_too_many forest (Clone i) = has_all_handles forest i
 is_too_many forest call = false
 
@@ -37,58 +37,56 @@ is_too_many forest call = false
 abbrev pub draws_too_wide : Settings → List Row → Bool
 draws_too_wide settings rows = list_any (is_too_wide settings) rows
 
--- the timer has no text for this elapsed time, if there is one
-abbrev pub lacks_elapsed : Settings → Timer → Option ℕ → Bool
-lacks_elapsed settings timer since =
-    option_map_or (λ nanos. is_none (timer.elapsed_text settings.ansi nanos)) since false
-
--- the timer has no text for the moment of an event, or for the time in its current span
-abbrev pub timer_faults_at : Settings → Timer → Forest → Context → Bool
-timer_faults_at settings timer forest context =
-    is_none (timer.moment_text context.moment)
-    || lacks_elapsed settings timer (time_in_current forest context)
-
--- the timer has no text for an event
-abbrev pub timer_faults : Settings → Timer → Forest → Call → Bool
-timer_faults settings timer forest (Event event context) =
-    timer_faults_at settings timer forest context
-timer_faults settings timer forest call = false
-
 -- the first of several
 abbrev pub first_of_all : List (Option Refusal) → Option Refusal
 first_of_all [] = None
 first_of_all (o ∷ others) = option_or o (first_of_all others)
 
--- why a call is refused, want of memory and faults of the writer aside
-abbrev pub cause_of : Settings → Timer → State → Call → Option Refusal
-cause_of settings timer state call = first_of_all (
-    then_some state.failed Failed
-    ∷ option_map NotHeld (id_not_held state.forest call)
-    ∷ then_some (is_too_many state.forest call) TooMany
-    ∷ then_some (draws_too_wide settings (turn_of settings timer state.forest state.last call).rows)
-    TooWide
-    ∷ then_some (timer_faults settings timer state.forest call) TimerFault
-    ∷ [])
+module _ (settings : Settings) (timer : Timer) where
+  -- the timer has no text for this elapsed time, if there is one
+  abbrev pub lacks_elapsed : Option ℕ → Bool
+  lacks_elapsed since =
+      option_map_or (λ nanos. is_none (timer.elapsed_text settings.ansi nanos)) since false
 
--- the row of an event itself would be too wide
-abbrev pub is_event_too_wide : Settings → Timer → Forest → Told → Context → Bool
-is_event_too_wide settings timer forest event context =
-    is_too_wide settings (event_row settings timer forest event context)
+  -- the timer has no text for the moment of an event, or for the time in its current span
+  abbrev pub timer_faults_at : Forest → Context → Bool
+  timer_faults_at forest context =
+      is_none (timer.moment_text context.moment) || lacks_elapsed (time_in_current forest context)
 
--- A call that grows nothing, or that is refused before it grows anything: a new span whose parent
--- is not held or for which no id is left, a clone, a record of a span that is not live, an event
--- whose own row is too wide, and a close with which no span goes.
-abbrev pub is_without_memory : Settings → Timer → Forest → Call → Bool
-is_without_memory settings timer forest (New attributes context) =
-    is_some (id_not_held forest (New attributes context)) || lacks_next forest
-is_without_memory settings timer forest (Clone i) = true
-is_without_memory settings timer forest (Record i record') = not (is_live forest i)
-is_without_memory settings timer forest (Event event context) =
-    is_event_too_wide settings timer forest event context
-is_without_memory settings timer forest (Close i context) =
-    not (handles_of forest i == 1) || (length (closing_of forest i) == 0)
+  -- the timer has no text for an event
+  abbrev pub timer_faults : Forest → Call → Bool
+  timer_faults forest (Event event context) = timer_faults_at forest context
+  timer_faults forest call = false
 
--- a call that is never refused for want of memory; each call on a layer that has failed is one
-abbrev pub takes_no_memory : Settings → Timer → State → Call → Bool
-takes_no_memory settings timer state call =
-    state.failed || is_without_memory settings timer state.forest call
+  -- why a call is refused, want of memory and faults of the writer aside
+  abbrev pub cause_of : State → Call → Option Refusal
+  cause_of state call =
+      let rows = (turn_of settings timer state.forest state.last call).rows in
+      first_of_all (
+      then_some state.failed Failed
+      ∷ option_map NotHeld (id_not_held state.forest call)
+      ∷ then_some (is_too_many state.forest call) TooMany
+      ∷ then_some (draws_too_wide settings rows) TooWide
+      ∷ then_some (timer_faults state.forest call) TimerFault
+      ∷ [])
+
+  -- the row of an event itself would be too wide
+  abbrev pub is_event_too_wide : Forest → Told → Context → Bool
+  is_event_too_wide forest event context =
+      is_too_wide settings (event_row settings timer forest event context)
+
+  -- A call that grows nothing, or that is refused before it grows anything: a new span whose parent
+  -- is not held or for which no id is left, a clone, a record of a span that is not live, an event
+  -- whose own row is too wide, and a close with which no span goes.
+  abbrev pub is_without_memory : Forest → Call → Bool
+  is_without_memory forest (New attributes context) =
+      is_some (id_not_held forest (New attributes context)) || is_none forest.next
+  is_without_memory forest (Clone i) = true
+  is_without_memory forest (Record i record') = not (is_live forest i)
+  is_without_memory forest (Event event context) = is_event_too_wide forest event context
+  is_without_memory forest (Close i context) =
+      not (handles_of forest i == 1) || (length (closing_of forest i) == 0)
+
+  -- a call that is never refused for want of memory; each call on a layer that has failed is one
+  abbrev pub takes_no_memory : State → Call → Bool
+  takes_no_memory state call = state.failed || is_without_memory state.forest call

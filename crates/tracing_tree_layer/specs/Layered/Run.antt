@@ -27,24 +27,6 @@ after_refusal state TimerFault = record state { failed = true }
 after_refusal state Writer = record state { failed = true }
 after_refusal state refusal = state
 
--- an accepted call
-abbrev pub accepted : Settings → Timer → State → Call → Run
-accepted settings timer state call = record {
-  state = state_after settings timer state call;
-  rows = (turn_of settings timer state.forest state.last call).rows;
-  replies = reply_of state.forest call ∷ [];
-}
-
--- a call, by the cause for which it is refused, if there is one
-abbrev pub run_by_cause : Settings → Timer → State → Call → Option Refusal → Run
-run_by_cause settings timer state call None = accepted settings timer state call
-run_by_cause settings timer state call (Some refusal) = no_call (after_refusal state refusal)
-
--- one call; one that is refused draws nothing
-abbrev pub run_one : Settings → Timer → State → Call → Run
-run_one settings timer state call =
-    run_by_cause settings timer state call (cause_of settings timer state call)
-
 -- one run and then another, which begins where the first ends
 abbrev pub then_run : Run → (State → Run) → Run
 then_run first next = record {
@@ -53,41 +35,22 @@ then_run first next = record {
   replies = first.replies ++ (next first.state).replies;
 }
 
--- these calls, one after another
-abbrev pub run : Settings → Timer → State → List Call → Run
-run settings timer state [] = no_call state
-run settings timer state (call ∷ calls) =
-    then_run (run_one settings timer state call) (λ next. run settings timer next calls)
+-- the calls that were answered with a reply
+abbrev pub accepted_calls : List Call → List (Result Reply Refusal) → List Call
+accepted_calls (call ∷ calls) (Ok reply ∷ answers) = call ∷ accepted_calls calls answers
+accepted_calls (call ∷ calls) (Err refusal ∷ answers) = accepted_calls calls answers
+accepted_calls calls answers = []
 
--- ---- answers
+-- the replies among the answers
+abbrev pub replies_among : List (Result Reply Refusal) → List Reply
+replies_among [] = []
+replies_among (Ok reply ∷ answers) = reply ∷ replies_among answers
+replies_among (Err refusal ∷ answers) = replies_among answers
 
 -- what a call is answered where memory suffices and the writer doesn't fault
 abbrev pub answer_by_cause : State → Call → Option Refusal → Result Reply Refusal
 answer_by_cause state call None = Ok (reply_of state.forest call)
 answer_by_cause state call (Some refusal) = Err refusal
-
-abbrev pub answer_of : Settings → Timer → State → Call → Result Reply Refusal
-answer_of settings timer state call =
-    answer_by_cause state call (cause_of settings timer state call)
-
--- the same of each of these calls
-abbrev pub answers_of : Settings → Timer → State → List Call → List (Result Reply Refusal)
-answers_of settings timer state [] = []
-answers_of settings timer state (call ∷ calls) =
-    answer_of settings timer state call
-    ∷ answers_of settings timer (run_one settings timer state call).state calls
-
--- the calls that were answered with a reply
-abbrev pub accepted_calls : List Call → List (Result Reply Refusal) → List Call
-accepted_calls [] answers = []
-accepted_calls (call ∷ calls) [] = []
-accepted_calls (call ∷ calls) (Ok reply ∷ answers) = call ∷ accepted_calls calls answers
-accepted_calls (call ∷ calls) (Err refusal ∷ answers) = accepted_calls calls answers
-
--- the text of a call
-abbrev pub call_text : Settings → Timer → State → Call → List ℕ
-call_text settings timer state call =
-    draw settings (turn_of settings timer state.forest state.last call).rows
 
 -- a refusal is for the first cause, or for want of memory where the call takes some; that for the
 -- writer comes only where there is no cause and a text to be written
@@ -96,25 +59,59 @@ IsRefusedFor cause without_memory text Memory = without_memory ≡ false
 IsRefusedFor cause without_memory text Writer = (cause ≡ None) × (text ≢ [])
 IsRefusedFor cause without_memory text refusal = cause ≡ Some refusal
 
--- an answer that a call may get
-abbrev pub MayAnswer : Settings → Timer → State → Call → Result Reply Refusal → Type 0
-MayAnswer settings timer state call (Ok reply) =
-    (cause_of settings timer state call ≡ None) × (reply ≡ reply_of state.forest call)
-MayAnswer settings timer state call (Err refusal) =
-    IsRefusedFor (cause_of settings timer state call) (takes_no_memory settings timer state call)
-    (call_text settings timer state call) refusal
+module _ (settings : Settings) (timer : Timer) where
+  -- ---- runs
 
--- the state after an answer
-abbrev pub state_after_answer : Settings → Timer → State → Call → Result Reply Refusal → State
-state_after_answer settings timer state call (Ok reply) = state_after settings timer state call
-state_after_answer settings timer state call (Err refusal) = after_refusal state refusal
+  -- an accepted call
+  abbrev pub accepted : State → Call → Run
+  accepted state call = record {
+    state = state_after settings timer state call;
+    rows = (turn_of settings timer state.forest state.last call).rows;
+    replies = reply_of state.forest call ∷ [];
+  }
 
--- the replies among the answers
-abbrev pub replies_among : List (Result Reply Refusal) → List Reply
-replies_among [] = []
-replies_among (Ok reply ∷ answers) = reply ∷ replies_among answers
-replies_among (Err refusal ∷ answers) = replies_among answers
+  -- a call, by the cause for which it is refused, if there is one
+  abbrev pub run_by_cause : State → Call → Option Refusal → Run
+  run_by_cause state call None = accepted state call
+  run_by_cause state call (Some refusal) = no_call (after_refusal state refusal)
 
--- what the rows of a run look like
-abbrev pub text_of : Settings → Timer → State → List Call → List ℕ
-text_of settings timer state calls = draw settings (run settings timer state calls).rows
+  -- one call; one that is refused draws nothing
+  abbrev pub run_one : State → Call → Run
+  run_one state call = run_by_cause state call (cause_of settings timer state call)
+
+  -- these calls, one after another
+  abbrev pub run : State → List Call → Run
+  run state [] = no_call state
+  run state (call ∷ calls) = then_run (run_one state call) (λ next. run next calls)
+
+  -- what the rows of a run look like
+  abbrev pub text_of : State → List Call → List ℕ
+  text_of state calls = draw settings (run state calls).rows
+
+  -- ---- answers
+
+  abbrev pub answer_of : State → Call → Result Reply Refusal
+  answer_of state call = answer_by_cause state call (cause_of settings timer state call)
+
+  -- the same of each of these calls
+  abbrev pub answers_of : State → List Call → List (Result Reply Refusal)
+  answers_of state [] = []
+  answers_of state (call ∷ calls) =
+      answer_of state call ∷ answers_of (run_one state call).state calls
+
+  -- the text of a call
+  abbrev pub call_text : State → Call → List ℕ
+  call_text state call = draw settings (turn_of settings timer state.forest state.last call).rows
+
+  -- an answer that a call may get
+  abbrev pub MayAnswer : State → Call → Result Reply Refusal → Type 0
+  MayAnswer state call (Ok reply) =
+      (cause_of settings timer state call ≡ None) × (reply ≡ reply_of state.forest call)
+  MayAnswer state call (Err refusal) =
+      IsRefusedFor (cause_of settings timer state call) (takes_no_memory settings timer state call)
+      (call_text state call) refusal
+
+  -- the state after an answer
+  abbrev pub state_after_answer : State → Call → Result Reply Refusal → State
+  state_after_answer state call (Ok reply) = state_after settings timer state call
+  state_after_answer state call (Err refusal) = after_refusal state refusal

@@ -14,11 +14,8 @@ pub record State : Type 0 where
 
 -- no span is live, there is no last span, and nothing has failed; the first id, if any is left
 abbrev pub opening_state : Option Id → State
-opening_state first = record {
-  forest = record { spans = []; next = first };
-  last = None;
-  failed = false;
-}
+opening_state first =
+    record { forest = record { spans = []; next = first }; last = None; failed = false }
 
 -- what a call draws, and the printed marks and the last span after it
 pub record Turn : Type 0 where

@@ -31,31 +31,25 @@ reply_of forest (Clone i) = Cloned i
 reply_of forest (Close i context) = Closed (not (length (closing_of forest i) == 0))
 reply_of forest call = Done
 
--- the rows of an accepted call, and the printed marks and the last span after it
-abbrev pub turn_of : Settings → Timer → Forest → Option Id → Call → Turn
-turn_of settings timer forest last (New attributes context) =
-    turn_of_new settings context (with_new_span attributes context forest) last (new_id forest)
-turn_of settings timer forest last (Event event context) =
-    turn_of_event settings timer context forest last event
-turn_of settings timer forest last (Close i context) =
-    turn_of_closes settings context (closing_of forest i) forest last
-turn_of settings timer forest last call = quiet_turn forest last
+module _ (settings : Settings) (timer : Timer) (forest : Forest) where
+  -- the rows of an accepted call, and the printed marks and the last span after it
+  abbrev pub turn_of : Option Id → Call → Turn
+  turn_of last (New attributes context) =
+      turn_of_new settings context (with_new_span attributes context forest) last (new_id forest)
+  turn_of last (Event event context) = turn_of_event settings timer context forest last event
+  turn_of last (Close i context) = turn_of_closes settings context (closing_of forest i) forest last
+  turn_of last call = quiet_turn forest last
 
 -- what else an accepted call changes in the forest, once its marks are made; the first forest is
 -- the one before the call
 abbrev pub changed_forest : Forest → Call → Forest → Forest
-changed_forest before (Clone i) forest = add_handle i forest
-changed_forest before (Record i record') forest = add_fields record'.fields i forest
-changed_forest before (Close i context) forest =
-    without_spans (closing_of before i) (take_handle i forest)
-changed_forest before call forest = forest
+changed_forest old (Clone i) forest = add_handle i forest
+changed_forest old (Record i record') forest = add_fields record'.fields i forest
+changed_forest old (Close i _) forest = without_spans (closing_of old i) (take_handle i forest)
+changed_forest old call forest = forest
 
 -- the state after an accepted call
 abbrev pub state_after : Settings → Timer → State → Call → State
 state_after settings timer state call =
     let turn = turn_of settings timer state.forest state.last call in
-    record {
-      forest = changed_forest state.forest call turn.forest;
-      last = turn.last;
-      failed = state.failed;
-    }
+    record state { forest = changed_forest state.forest call turn.forest; last = turn.last }

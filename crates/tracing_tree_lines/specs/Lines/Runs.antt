@@ -33,10 +33,9 @@ LacksSettings input =
 abbrev pub EndsRun : Settings → Timer → State → List ℕ → LineCause → Type 0
 EndsRun settings timer state line NoSettings = ⊥
 EndsRun settings timer state line NotACall = SpellsNothing line
-EndsRun settings timer state line Read = ⊤
-EndsRun settings timer state line Memory = ⊤
 EndsRun settings timer state line (Refused refusal) =
     (call : Call) × SpellsCall line call × MayAnswer settings timer state call (Err refusal)
+EndsRun settings timer state line cause = ⊤
 
 -- a fault that comes from outside may be of a line that was not read whole
 abbrev pub is_from_outside : LineCause → Bool
@@ -103,11 +102,6 @@ pub record RunsLines (input : List ℕ) (accepted : ℕ) (fault : Option LineFau
       (IsFaultAfter settings (chosen_timer timer) (lines_run settings timer calls).state others
       judged)
 
-module _ {input : List ℕ} {accepted : ℕ} {fault : Option LineFault} where
-  -- the text of the accepted calls
-  abbrev pub lines_text : RunsLines input accepted fault → List ℕ
-  lines_text r = draw r.settings (lines_run r.settings r.timer r.calls).rows
-
 -- After the text of the accepted calls nothing is written, but after a fault of the writer a
 -- beginning of the text of the call that this line spells, and nothing where writes are whole.
 abbrev pub IsLeftAfter : Bool → Settings → Timer → State → List ℕ → LineCause → List ℕ → Type 0
@@ -132,7 +126,8 @@ pub record WritesLines {input : List ℕ} {accepted : ℕ} {fault : Option LineF
   pub left : IsLeftByFault old.whole r.settings (chosen_timer r.timer)
       (lines_run r.settings r.timer r.calls).state
       (slice_get r.others r.judged) fault front
-  pub appends : Appends old.bytes new.bytes (lines_text r ++ front)
+  pub appends : Appends old.bytes new.bytes
+      (draw r.settings (lines_run r.settings r.timer r.calls).rows ++ front)
 
 -- the count of the writer's faults, by the cause that ended the run: it rose by one where the
 -- writer is to blame, and stayed elsewhere

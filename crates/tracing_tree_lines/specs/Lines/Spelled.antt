@@ -182,12 +182,8 @@ switches change = sets as_bool change
 abbrev pub sets_timer : Data → Asked → Option Asked
 sets_timer value asked = option_map (λ timer. (asked.0, timer)) (timer_value value)
 
--- settings: each key, and what its value sets
-abbrev pub SettingList : Type 0
-SettingList = List (List ℕ × (Data → Asked → Option Asked))
-
--- all settings
-abbrev pub all_settings : SettingList
+-- all settings: each key, and what its value sets
+abbrev pub all_settings : List (List ℕ × (Data → Asked → Option Asked))
 all_settings =
     (codes "indent_amount", sets whole_value (λ n s. record s { indent_amount = n }))
     ∷ (codes "wraparound", sets positive_value (λ n s. record s { wraparound = n }))

@@ -58,10 +58,6 @@ any_unless_live forest o = option_map_or (unless_live forest) o None
 abbrev pub unless_handle : Forest → Id → Option Id
 unless_handle forest i = then_some (handles_of forest i == 0) i
 
--- the greatest id was given out
-abbrev pub lacks_next : Forest → Bool
-lacks_next forest = is_none forest.next
-
 -- the span has as many handles as can be counted
 abbrev pub has_all_handles : Forest → Id → Bool
 has_all_handles forest i = handles_of forest i == (2 ^ 64 - 1)
@@ -149,8 +145,7 @@ take_handle = update_span (λ span. record span { handles = span.handles - 1 })
 -- the fields go to the end of the span's
 abbrev pub add_fields : List Field → Id → Forest → Forest
 add_fields fields =
-    update_span
-    (λ span. record span { kept = record span.kept { fields = span.kept.fields ++ fields } })
+    update_span (λ it. record it { kept = record it.kept { fields = it.kept.fields ++ fields } })
 
 -- the span of this id becomes printed
 abbrev pub mark_printed : Id → Forest → Forest
@@ -160,8 +155,7 @@ mark_printed = update_span printed_span
 abbrev pub mark_all : List Id → Forest → Forest
 mark_all ids forest =
     record forest {
-      spans = map (λ span. if list_any (same_id span.id) ids then printed_span span else span)
-          forest.spans;
+      spans = map (λ it. if list_any (same_id it.id) ids then printed_span it else it) forest.spans;
     }
 
 -- the forest without these spans
@@ -230,9 +224,8 @@ pub record IsLongestGoing (forest : Forest) (ids going : List Id) : Type 0 where
 -- before it
 abbrev pub going_up : Forest → Id → List Id
 going_up forest i =
-    map (λ step. step.1)
-    (take_while (λ step. goes_after forest step.0 step.1)
-    (with_previous (reverse (path_of forest i))))
+    let steps = with_previous (reverse (path_of forest i)) in
+    map (λ step. step.1) (take_while (λ step. goes_after forest step.0 step.1) steps)
 
 -- what leaves the forest when one handle of a span is taken away, the lowest first
 abbrev pub closing_of : Forest → Id → List Id

@@ -3,7 +3,8 @@ use Rattle.std.proofs.lemmas.List.{append-nil}
 use Rattle.std.specs.Char.{encode_utf8}
 use Rattle.std.specs.List.{repeat}
 use Rattle.tracing_tree_drawing.specs.declared.format.SpanMode.TheVariants.{Event}
-use Rattle.tracing_tree_drawing.specs.Format.Picture.{columns, corners, first_frame, space, branch, corner_up_right, corner_down_left, corner_down_right, corner_up_left, horizontal}
+use Rattle.tracing_tree_drawing.specs.Format.Picture.{columns, corners, first_frame}
+use Rattle.tracing_tree_drawing.proofs.Characters.{space, branch, corner_up_right, corner_down_left, corner_down_right, corner_up_left, horizontal}
 use Rattle.tracing_tree_drawing.specs.Format.Frames.{frame_pieces}
 use Rattle.tracing_tree_drawing.proofs.FrameTexts.{span-pieces}
 use Rattle.tracing_tree_drawing.proofs.format.draw.first_frame.Goals as goal

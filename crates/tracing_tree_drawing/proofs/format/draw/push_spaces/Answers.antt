@@ -1,7 +1,8 @@
 use Rattle.std.proofs.Common.{◌≡◌, ◌∙◌, arith, rules}
 use Rattle.std.proofs.lemmas.Str.{IsCharBoundary-from_ascii}
 use Rattle.std.specs.Prelude.{replicate}
-use Rattle.tracing_tree_drawing.specs.Format.Picture.{columns, space}
+use Rattle.tracing_tree_drawing.specs.Format.Picture.{columns}
+use Rattle.tracing_tree_drawing.proofs.Characters.{space}
 use Rattle.tracing_tree_drawing.proofs.Spaces.{ready-spaces, ascii-spaces}
 use Rattle.tracing_tree_drawing.proofs.format.draw.push_spaces.Goals as goal
 

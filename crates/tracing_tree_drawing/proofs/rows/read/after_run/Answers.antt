@@ -1,6 +1,6 @@
 use Rattle.std.specs.Char.{encode_utf8}
 use Rattle.std.specs.List.{repeat}
-use Rattle.tracing_tree_drawing.specs.Format.Picture.{horizontal}
+use Rattle.tracing_tree_drawing.proofs.Characters.{horizontal}
 use Rattle.tracing_tree_drawing.proofs.RowsRead.Trims.{after-first_none, stripped-run}
 use Rattle.tracing_tree_drawing.proofs.rows.read.after_run.Goals as goal
 

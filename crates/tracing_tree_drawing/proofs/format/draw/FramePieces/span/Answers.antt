@@ -1,7 +1,8 @@
 use Rattle.std.proofs.Common.{◌≡◌, ◌∙◌, ◌+◌, false, ap, arith, nat_le}
 use Rattle.std.specs.Char.{encode_utf8}
 use Rattle.std.proofs.lemmas.Bool.Decides.{nat_tests}
-use Rattle.tracing_tree_drawing.specs.Format.Picture.{columns, space}
+use Rattle.tracing_tree_drawing.specs.Format.Picture.{columns}
+use Rattle.tracing_tree_drawing.proofs.Characters.{space}
 use Rattle.tracing_tree_drawing.proofs.FrameTexts.{blank-pieces}
 use Rattle.tracing_tree_drawing.proofs.format.draw.FramePieces.span.Goals as goal
 

@@ -1,7 +1,8 @@
 use Rattle.std.proofs.Common.{◌≡◌, ◌∙◌, ◌+◌, ◌*◌, ℕ, List, [], Bor, refl, sym, ap}
 use Rattle.std.specs.Char.{encode_utf8}
 use Rattle.tracing_tree_drawing.specs.Format.Frames.{frame_pieces}
-use Rattle.tracing_tree_drawing.specs.Format.Picture.{columns, space, wrapped_level}
+use Rattle.tracing_tree_drawing.specs.Format.Picture.{columns, wrapped_level}
+use Rattle.tracing_tree_drawing.proofs.Characters.{space}
 use Rattle.tracing_tree_drawing.proofs.FrameTexts.{blank-pieces}
 use Rattle.tracing_tree_drawing.proofs.format.draw.RowDrawing.frame.Goals as goal
 use Rattle.tracing_tree_drawing.proofs.format.draw.RowDrawing.frame.Goals.{then-first, else-first}
