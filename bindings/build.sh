@@ -22,10 +22,10 @@ else
 fi
 objects=$(mktemp -d)
 trap 'rm -rf "$objects"' EXIT
-top=$(pwd)
+proved=$(realpath "$proved")
 heap=$(dirname "$(rt doc)")/c/liblibc_c.a
 mkdir "$objects/tree" "$objects/heap"
-(cd "$objects/tree" && ar x "$top/$proved")
+(cd "$objects/tree" && ar x "$proved")
 (cd "$objects/heap" && ar x "$heap")
 ar crsD bin/libtracing_tree.a "$objects"/*/*.o
 cat > "$objects/exports.map" <<'MAP'
