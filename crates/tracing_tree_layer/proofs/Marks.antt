@@ -13,7 +13,6 @@ use Rattle.tracing_tree_context.specs.declared.context.Id.{Id}
 use Rattle.tracing_tree_context.specs.declared.context.Context.{Context}
 use Rattle.tracing_tree_spans.specs.declared.registry.node.Data.{Data}
 use Rattle.tracing_tree_drawing.specs.declared.format.SpanMode.{SpanMode}
-use Rattle.tracing_tree_drawing.specs.declared.format.SpanMode.TheVariants.{PreOpen, Open, Close, Retrace, PostClose, Event}
 use Rattle.tracing_tree_layer.specs.Layer.Block.{span_block}
 use Rattle.tracing_tree_layer.specs.Layer.Turns.{block_of, span_row, parent_rows}
 use Rattle.tracing_tree_layer.specs.Layer.CloseRetrace.{retraces_before_close}

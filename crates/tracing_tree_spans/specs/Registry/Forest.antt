@@ -1,5 +1,5 @@
 -- The live spans, their paths, and what closes with a span.
-use Rattle.std.specs.Prelude.{◌≡◌, ℕ, ◌+◌, ◌-◌, nat_lt, ◌==◌, ◌&&◌, Bool, true, false, not, if◌then◌else◌, IsTrue, List, [], ◌∷◌, ◌++◌, length, map, reverse, drop, filter, find, take_while, zip, Option, Some, None, is_some, is_none, option_map, option_and_then, ⊤, ◌^◌}
+use Rattle.std.specs.Prelude.{◌≡◌, ℕ, ◌+◌, ◌-◌, nat_lt, ◌==◌, ◌&&◌, Bool, true, false, not, if◌then◌else◌, IsTrue, List, [], ◌∷◌, ◌++◌, length, map, reverse, drop, filter, find, take_while, zip, Option, Some, None, is_some, option_map, option_and_then, ⊤, ◌^◌}
 use Rattle.std.specs.Option.{option_map_or}
 use Rattle.std.specs.Bool.{then_some}
 use Rattle.std.specs.List.{list_all, list_any, last_or, common_prefix_len}
