@@ -128,6 +128,7 @@ def main():
         counts += [it.result() if it else (0, 1) for it in ran_by]
     if programs:
         counts += [check_docs(what, *words) for what, *words in DOCS]
+        say("left out: the library for C, and the Rust crate over it, which have no build without proofs: make bindings-test")
     passed, failed = (sum(it) for it in zip(*counts))
     print(f"{passed} passed, {failed} failed")
     return 1 if failed else 0
