@@ -6,7 +6,8 @@
 demo:
 	@scripts/demo.sh
 
-# Every test, every worked case and the runs of the programs, on the sources as they stand and without a proof.
+# Every test, every worked case and the runs of the programs, on the sources as they stand and without a proof. Also the tests of the
+# library for C, where a checkout on this machine has proved it as it stands.
 test: need-python
 	@python3 scripts/tests.py
 

@@ -25,6 +25,14 @@ class Kit:
         found = self.rt.work_for(crate) if hasattr(self.rt, "work_for") else own
         return found if found and os.path.isdir(found) else None
 
+    def is_proved_here(self, crate):
+        """Returns whether a check on this machine proved the crate's text as it stands, and left work with which a build is done soon. A kit
+        that notes no such check proves each build from nothing."""
+        if not hasattr(self.rt, "places_of"):
+            return False
+        stamp = crate.stamp()
+        return any(proved == stamp and os.path.isdir(f"{it}/out/incremental") for it, proved in self.rt.places_of(crate))
+
     def copy_kept(self, kept, to):
         """Copies what a check kept. A kit that has links for it replaces such files and never changes them."""
         copy = getattr(self.rt, "linked", shutil.copytree)

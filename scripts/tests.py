@@ -4,9 +4,13 @@
 The tests of each crate run by `rt try --test`, which compiles the sources as they stand, with checks. The programs are compiled so too
 (scripts/unproved.py), and scripts/program.sh runs them as their users do. A model that is written from the docs alone (scripts/model.py)
 says what they must write for random lines, and they are run where files and pipes end. That no function does anything but what its contract
-says is for `make gate` to show, which runs tests, cases and programs again as they are proved and built. The last line is
-'N passed, M failed'."""
+says is for `make gate` to show, which runs tests, cases and programs again as they are proved and built.
+
+The library for C has no build without its proofs, which take longer than all the tests. Its tests and those of the Rust crate run where a
+check on this machine has proved the library as it stands. The last line is 'N passed, M failed'."""
 import concurrent.futures, glob, os, re, shutil, subprocess, sys, time
+
+import kit as kits
 
 TOP = os.path.dirname(os.path.dirname(os.path.abspath(__file__)))
 START = time.time()
@@ -97,6 +101,28 @@ def run_programs(*words):
     return passed, max(runs - passed, 1 if status else 0)
 
 
+def lacks_for_bindings():
+    """Returns why the tests of the library for C are left out, or None where they can run soon."""
+    if not shutil.which(os.environ.get("CC", "cc")):
+        return "there is no C compiler"
+    kit = kits.load()
+    crate = next(it for it in kit.rtlib.crates_below(TOP) if it.name == "tracing_tree_c")
+    return None if kit.is_proved_here(crate) else "it is not proved on this machine as it stands, and has no build without proofs"
+
+
+def run_bindings():
+    """Builds the library for C over the proofs that are kept, and runs its tests and those of the Rust crate. One compares it with the
+    program, as compiled here."""
+    status, said = ran("bindings/build.sh")
+    if not status:
+        status, said = ran("env", f"TRACING_TREE={PROGRAMS['tracing_tree_cli']}", "bindings/test.sh")
+    print(said, end="", flush=True)
+    found = re.search(r"(?m)^bindings: (\d+) passed, (\d+) failed$", said)
+    passed, failed = (int(found[1]), int(found[2])) if found else (0, 1)
+    ended(f"the library for C: {passed} passed, {failed} failed")
+    return passed, max(failed, 1 if status else 0)
+
+
 def check_docs(what, *words):
     """Compares the docs with the sources by a script, and returns how many places are as they stand there and how many are not."""
     _, said = ran(sys.executable, *words)
@@ -117,18 +143,23 @@ def main():
         sys.exit(f"test: no crate with tests is named {', '.join(sorted(unknown))}")
     wanted = [it for it in crates if not sys.argv[1:] or it in sys.argv[1:]]
     programs = [] if sys.argv[1:] else [*PROGRAMS]
-    STEPS["all"] = len(wanted) + len(programs) + (len(RUNS) + len(DOCS) if programs else 0)
+    lacking = lacks_for_bindings() if programs else None
+    has_bindings = bool(programs) and not lacking
+    STEPS["all"] = len(wanted) + len(programs) + has_bindings + (len(RUNS) + len(DOCS) if programs else 0)
     say(f"{len(wanted)} crates with tests and {len(programs)} programs, compiled without their proofs")
     with concurrent.futures.ThreadPoolExecutor(len(os.sched_getaffinity(0))) as pool:
         tested = [pool.submit(run_tests, it) for it in wanted]
         built = [pool.submit(build, it) for it in programs]
         counts = [it.result() for it in tested]
         are_built = [it.result() for it in built]
+        bound = [pool.submit(run_bindings)] if has_bindings else []
         ran_by = [pool.submit(run_programs, *it) if all(are_built) else None for it in RUNS if programs]
         counts += [it.result() if it else (0, 1) for it in ran_by]
+        counts += [it.result() for it in bound]
     if programs:
         counts += [check_docs(what, *words) for what, *words in DOCS]
-        say("left out: the library for C, and the Rust crate over it, which have no build without proofs: make bindings-test")
+    if lacking:
+        say(f"left out: the tests of the library for C and of the Rust crate, since {lacking}: make bindings-test proves it and runs them")
     passed, failed = (sum(it) for it in zip(*counts))
     print(f"{passed} passed, {failed} failed")
     return 1 if failed else 0
