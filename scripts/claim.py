@@ -4,9 +4,10 @@
 NAME is a function, as `read_rows`, a method, as `Layered::run`, or a definition of specs/, as `IsRunOf`. Printed are the function's
 contract and then each definition that it rests on, once: those that it names first, then those that these name, and so on, grouped by
 file under the file's first comment, with the names that the file gives to what it imports, and the modules of words that several modules
-have. After them come the types of the code as they are declared, the words of these types and of the toolchain's library with the modules
-that have them, and last 'N lines, M definitions' (comments, blank lines and types not counted), which --count prints alone. --check
-compares the counts in docs/PROVED.md with what is counted now."""
+have. After them come the types of the code that these and the function's signature name, as they are declared, and of traits the ghost
+members; then the words of these types and of the toolchain's library with the modules that have them, and last 'N lines, M definitions'
+(comments, blank lines and types not counted), which --count prints alone. --check compares the counts in docs/PROVED.md with what is
+counted now."""
 import argparse, collections, difflib, glob, os, re, sys
 
 TOP = os.path.dirname(os.path.dirname(os.path.abspath(__file__)))
@@ -17,8 +18,8 @@ IMPORT = re.compile(r"(?m)^\s*(?:ghost |pub )*use (?P<module>[\w.]+?)\.(?:\{(?P<
 
 # A definition: its name, its file, its text with the comment above it, what its file imports, and the head of its unnamed module, if any.
 Definition = collections.namedtuple("Definition", "name file text imports head")
-# A function of the code: its name, its file, its signature with its contract, and what its file imports.
-Function = collections.namedtuple("Function", "name file text imports")
+# A function of the code: its name, its file, its signature with its contract, what its file imports, and the head of its impl.
+Function = collections.namedtuple("Function", "name file text imports head")
 
 
 def read(path):
@@ -101,7 +102,7 @@ def functions_of(path):
     text = read(path)
     imports, found = imports_of(text), []
     bare = re.sub(r'//[^\n]*|"(?:\\.|[^"\\])*"', lambda it: re.sub(r"[^\n]", " ", it[0]), text)
-    impls = [(it.start(), closing(bare, it.end() - 1), it["head"]) for it in re.finditer(r"(?m)^(?:impl|pub trait)\b(?P<head>[^{]*)\{", bare)]
+    impls = [(it.start(), closing(bare, it.end() - 1), it) for it in re.finditer(r"(?m)^(?:impl|pub trait)\b(?P<head>[^{]*)\{", bare)]
     for fn in re.finditer(r"(?m)^[ \t]*(?:pub(?:\(\w+\))? )?(?:const )?fn (?P<name>\w+)", bare):
         at = fn.end()
         while True:
@@ -113,12 +114,12 @@ def functions_of(path):
                 break
             at = closing(bare, stop.start())
         end = stop.start() if stop else at
-        head = next((it for start, last, it in impls if start <= fn.start() < last), "")
-        head = re.sub(r"^\s*<[^>]*(?:<[^>]*>[^>]*)*>", "", head)
+        within = next((it for start, last, it in impls if start <= fn.start() < last), None)
+        head = re.sub(r"^\s*<[^>]*(?:<[^>]*>[^>]*)*>", "", within["head"] if within else "")
         kind = re.match(r"\s*(?:[\w:]+(?:<[^>]*>)?\s+for\s+)?&?(\w+)", head)
         name = f"{kind[1]}::{fn['name']}" if kind else fn["name"]
         above = re.search(r"(?:^[ \t]*(?://|#\[)[^\n]*\n)*\Z", text[: fn.start()], re.M)
-        found.append(Function(name, path, text[above.start() : end].rstrip("\n "), imports))
+        found.append(Function(name, path, text[above.start() : end].rstrip("\n "), imports, within[0] if within else ""))
     return found
 
 
@@ -208,17 +209,58 @@ def renamed_in(path, texts):
     return [f"-- {new} here is {name} of {module}" for module, name, new in whole + each if re.search(rf"\b{new}\b", code)]
 
 
-def declared_at(module):
-    """Returns the declaration of the type of the code that a module of contracts is for, without comments and attributes, or None."""
-    crate, _, path = module.removeprefix("Rattle.").partition(".specs.declared.")
-    name = path.removesuffix(".TheVariants").rpartition(".")[2]
-    for file in sorted(glob.glob(f"{TOP}/crates/{crate}/src/**/*.rt", recursive=True)):
-        text = re.sub(r"(?m)^\s*(?://|#\[)[^\n]*\n|//[^\n]*", "", read(file))
-        start = re.search(rf"(?m)^pub (?:enum|struct) {name}\b[^{{;]*[{{;]", text)
-        if start:
-            end = closing(text, start.end() - 1) if start[0].endswith("{") else start.end()
-            return re.sub(r"\n\s*(?=\n)", "", text[start.start() : end])
-    return None
+def ghosts_in(trait):
+    """Returns a trait with what its ghost members say of its types alone, below their comments."""
+    head = trait[: trait.index("{") + 1]
+    members = re.findall(r"(?m)^(?:[ \t]*///[^\n]*\n)*[ \t]*ghost (?!use\b)[^;]*;", trait)
+    return "\n".join([head, *members, "}"])
+
+
+def type_in(text):
+    """Returns a type as it is declared, with the comments of what is public, without attributes, and `..` for fields that aren't public."""
+    lines, hidden = [], False
+    for line in re.sub(r"(?m)^\s*(?:#\[|//(?!/))[^\n]*\n", "", text).split("\n"):
+        is_field = text.startswith("pub struct") and re.match(r"    \w", line) and not line.startswith("    pub ")
+        hidden = hidden or bool(is_field)
+        if line.strip() and not is_field:
+            lines.append(line)
+    return "\n".join([*lines[:-1], "    ..", lines[-1]] if hidden else lines)
+
+
+def declared():
+    """Returns each public type and trait of the code, by its crate and its name, as a claim shows it: a trait with its ghost members alone."""
+    found = {}
+    for path in sorted(glob.glob(f"{TOP}/crates/*/src/**/*.rt", recursive=True)):
+        text, crate = read(path), os.path.relpath(path, f"{TOP}/crates").partition("/")[0]
+        for it in re.finditer(rf"(?m)^pub (?P<kind>enum|struct|trait) (?P<name>{WORD})[^{{;\n]*(?:\n[^{{;]*)?[{{;]", text):
+            end = closing(text, it.end() - 1) if it[0].endswith("{") else it.end()
+            whole = text[it.start() : end]
+            found[crate, it["name"]] = ghosts_in(whole) if it["kind"] == "trait" else type_in(whole)
+    return found
+
+
+def types_of(start, modules):
+    """Returns the types and traits of the code that a claim shows: those that its definitions name by the modules of contracts, those of the
+    function's signature, and those of their public parts."""
+    every, shown = declared(), {}
+    homes = collections.defaultdict(list)
+    for crate, name in every:
+        homes[name].append(crate)
+    row = []
+    for module in modules:
+        crate, _, path = module.removeprefix("Rattle.").partition(".specs.declared.")
+        row.append((crate, path.removesuffix(".TheVariants").rpartition(".")[2]))
+    own = os.path.relpath(start.file, f"{TOP}/crates").partition("/")[0]
+    signature = re.split(r"\n\s*(?:requires|ensures)\b", without_comments(start.text))[0] if isinstance(start, Function) else ""
+    row += [(own, name) for name in re.findall(WORD, signature)]
+    while row:
+        crate, name = row.pop(0)
+        at = (crate, name) if (crate, name) in every else (homes[name][0], name) if len(homes.get(name, [])) == 1 else None
+        if at and at not in shown:
+            shown[at] = every[at]
+            parts = [] if every[at].startswith("pub trait") else re.findall(r"[(:](.*)", without_comments(every[at]))
+            row += [(at[0], it) for it in re.findall(WORD, "\n".join(parts))]
+    return [shown[at] for at in sorted(shown)]
 
 
 def shown_in_modules(definitions):
@@ -233,7 +275,8 @@ def shown_in_modules(definitions):
 
 
 def show(start, found, words):
-    print(f"-- {os.path.relpath(start.file, TOP)}\n\n{start.text}\n")
+    head = f"{start.head.rstrip()}\n" if isinstance(start, Function) and start.head else ""
+    print(f"-- {os.path.relpath(start.file, TOP)}\n\n{head}{start.text}\n")
     files = collections.defaultdict(list)
     for it in found:
         files[it.file].append(it)
@@ -249,7 +292,7 @@ def show(start, found, words):
         modules[module].append(name)
     types = {it: names for it, names in modules.items() if it.startswith("Rattle.tracing_tree")}
     print("---- types of the code\n")
-    print("\n\n".join(filter(None, dict.fromkeys(declared_at(it) for it in sorted(types)))) + "\n")
+    print("\n\n".join(types_of(start, types)) + "\n")
     print("\n".join(f"use {it}.{{{', '.join(names)}}}" for it, names in sorted(types.items())))
     print("\n---- words of the toolchain's library\n")
     print("\n".join(f"use {it}.{{{', '.join(names)}}}" for it, names in sorted(modules.items()) if it not in types) + "\n")
