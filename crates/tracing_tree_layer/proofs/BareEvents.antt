@@ -11,18 +11,18 @@ use Rattle.tracing_tree_spans.specs.Registry.Forest.{Forest}
 use Rattle.tracing_tree_time.specs.Clock.{Timer as Clock}
 use Rattle.tracing_tree_drawing.specs.Format.Picture.{draw}
 use Rattle.tracing_tree_layer.specs.Layered.State.{State, Turn}
-use Rattle.tracing_tree_layer.specs.Layered.Refused.{draws_too_wide, timer_faults_at}
+use Rattle.tracing_tree_layer.specs.Layered.Refused.{timer_faults_at}
 use Rattle.tracing_tree_layer.proofs.Causes.{first_cause}
 use Rattle.tracing_tree_layer.specs.Layered.Run.{IsRefusedFor, after_refusal}
 use Rattle.tracing_tree_layer.specs.Layered.Seen.{Seen, seen_later}
 use Rattle.tracing_tree_layer.specs.Layer.Turns.{turn_of_event}
 use Rattle.tracing_tree_layer.specs.Layer.Layers.{LayerView, Changes, seen}
 use Rattle.tracing_tree_layer.specs.Layer.Bare.{on_event, bare_cause_of, IsBareAnswered}
-use Rattle.tracing_tree_layer.specs.Layer.Drawn.{DoesTurn, failed_by, rows_cause}
+use Rattle.tracing_tree_layer.specs.Layer.Drawn.{DoesTurn, failed_by, rows_cause, draws_too_wide}
 use Rattle.tracing_tree_layer.proofs.TurnLaws.{first_cause_of_rows}
 
 -- rows that are refused without a request for memory are refused as rows that take some
-loud : (cause : Option Refusal) (quiet : Bool) (text : List ℕ) (refusal : Refusal) → IsRefusedFor cause quiet text refusal → IsRefusedFor cause false text refusal
+loud : (cause : Option Refusal) (quiet : Bool) (text : List ℕ) (refusal : Refusal) → IsRefusedFor cause text quiet refusal → IsRefusedFor cause text false refusal
 loud cause quiet text (NotHeld i) h = h
 loud cause quiet text TooWide h = h
 loud cause quiet text TooMany h = h
@@ -86,8 +86,8 @@ module _ {W FT : Type 0} (time : FormatTime FT) (output : Output W) where
         written = d.written.written;
       }
       by (Err refusal) d = record {
-        allowed = subst (λ (failed : Bool). IsRefusedFor (bare_cause_of old.settings clock before.state (on_event event context)) failed (draw old.settings turn.rows) refusal) (sym sound)
-            (subst (λ (o : Option Refusal). IsRefusedFor o false (draw old.settings turn.rows) refusal) (sym cause)
+        allowed = subst (λ (failed : Bool). IsRefusedFor (bare_cause_of old.settings clock before.state (on_event event context)) (draw old.settings turn.rows) failed refusal) (sym sound)
+            (subst (λ (o : Option Refusal). IsRefusedFor o (draw old.settings turn.rows) false refusal) (sym cause)
             (loud (rows_cause old.settings turn.rows faults) quiet (draw old.settings turn.rows) refusal d.written.answer));
         left = (λ i. seen time output (record { forest = d.marked i; layer = d.layer i }))
             ∙ (λ i. seen_later before (failed-after before.state refusal sound i) (seen_writer output new.writer));

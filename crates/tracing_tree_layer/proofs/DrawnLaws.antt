@@ -7,7 +7,7 @@ use Rattle.tracing_tree_drawing.specs.Format.Settings.{Settings}
 use Rattle.tracing_tree_drawing.specs.Format.Picture.{Row, draw, drawn_row, is_too_wide, unnamed_row}
 use Rattle.tracing_tree_context.specs.declared.context.Refusal.{Refusal}
 use Rattle.tracing_tree_context.specs.declared.context.Refusal.TheVariants.{NotHeld, TooWide, TooMany, Memory, Timer, Writer, Failed}
-use Rattle.tracing_tree_spans.specs.Registry.Forest.{Forest, IsForest, is_live, if_live, path_of, path_of_any}
+use Rattle.tracing_tree_spans.specs.Registry.Forest.{Forest, is_live, if_live, path_of, path_of_any}
 use Rattle.tracing_tree_context.specs.declared.context.Id.{Id}
 use Rattle.tracing_tree_context.specs.declared.context.Context.{Context}
 use Rattle.tracing_tree_spans.specs.declared.registry.Event.{Event}
@@ -20,10 +20,9 @@ use Rattle.std.specs.Io.KnownBytes.{Appends}
 use Rattle.std.proofs.KnownBytes.{Keeps-refl}
 use Rattle.tracing_tree_output.specs.Writers.{IsCutShort, LeavesCut, SeenWriter}
 use Rattle.tracing_tree_layer.specs.Layered.State.{Turn}
-use Rattle.tracing_tree_layer.specs.Layered.Refused.{draws_too_wide, is_event_too_wide}
 use Rattle.tracing_tree_layer.specs.Layer.Turns.{then_turn, turn_of_row, turn_of_closes, event_depth, event_level, event_parent}
 use Rattle.tracing_tree_layer.specs.Layer.Plan.{PlanView, rows_of_planned, row_of_planned, turn_of_plan}
-use Rattle.tracing_tree_layer.specs.Layer.Drawn.{AddsRow, DoesTurn, DrawsRows, Drafts, IsUndrawn, IsWritten, Sends, failed_by, has_no_id, has_no_row, rows_cause, when_ok}
+use Rattle.tracing_tree_layer.specs.Layer.Drawn.{AddsRow, DoesTurn, DrawsRows, Drafts, IsUndrawn, IsWritten, Sends, failed_by, has_no_id, has_no_row, rows_cause, when_ok, draws_too_wide, is_event_too_wide}
 use Rattle.tracing_tree_layer.specs.declared.layer.page.Page.{Page}
 use Rattle.tracing_tree_layer.specs.declared.layer.plan.PlannedRow.{PlannedRow}
 
@@ -127,11 +126,11 @@ draws_added settings row (Err Writer) a b c text h = absurd h
 draws_added settings row (Err Failed) a b c text h = absurd h
 
 -- a span that isn't live stands in none
-pub path-if_live : (forest : Forest) → IsForest forest → (i : Id) → path_of_any forest (if_live forest (Some i)) ≡ path_of forest i
-path-if_live forest formed i =
+pub path-if_live : (forest : Forest) (i : Id) → path_of_any forest (if_live forest (Some i)) ≡ path_of forest i
+path-if_live forest i =
     elim (is_live forest i) as (λ b. is_live forest i ≡ b → path_of_any forest (if b then Some i else None) ≡ path_of forest i) [
       | true ↦ (λ e. refl)
-      | false ↦ (λ e. sym (path_of-none forest formed i e))
+      | false ↦ (λ e. sym (path_of-none forest i e))
     ] refl
 
 -- a row without its span is drawn as the row

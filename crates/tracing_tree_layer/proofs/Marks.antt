@@ -16,7 +16,8 @@ use Rattle.tracing_tree_drawing.specs.declared.format.SpanMode.{SpanMode}
 use Rattle.tracing_tree_layer.specs.Layer.Block.{span_block}
 use Rattle.tracing_tree_layer.specs.Layer.Turns.{block_of, span_row, parent_rows}
 use Rattle.tracing_tree_layer.specs.Layer.CloseRetrace.{retraces_before_close}
-use Rattle.tracing_tree_layer.proofs.Reading.Changes.{find-same, path_of-same, path_of_any-same}
+use Rattle.tracing_tree_spans.proofs.RegistryLaws.{find-same}
+use Rattle.tracing_tree_layer.proofs.Reading.Changes.{path_of-same, path_of_any-same}
 use Rattle.tracing_tree_layer.proofs.Reading.Kept.{marked, marked-same, printed-marked, mark_printed-all}
 
 -- ---- marks together

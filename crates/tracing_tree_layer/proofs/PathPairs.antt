@@ -7,8 +7,8 @@ use Rattle.tracing_tree_spans.specs.Registry.Ids.{same_id}
 use Rattle.tracing_tree_spans.specs.Registry.Spans.{Span}
 use Rattle.tracing_tree_spans.specs.Registry.Forest.{Forest, span_at, is_live, path_of, path_of_any, Descends, IsForest}
 use Rattle.tracing_tree_context.specs.declared.context.Id.{Id}
-use Rattle.tracing_tree_spans.proofs.ForestLaws.{same_id-eq, path_of-is_path}
-use Rattle.tracing_tree_spans.proofs.PathLaws.{path_of-none}
+use Rattle.tracing_tree_spans.proofs.ForestLaws.{same_id-eq}
+use Rattle.tracing_tree_spans.proofs.PathLaws.{path_of-is_path, path_of-none}
 use Rattle.tracing_tree_layer.proofs.DifferingLaws.{differing-no_left, differing-equal, differing-unequal}
 use Rattle.tracing_tree_layer.specs.Difference.Items.{differing, has_equal_at, PathsDifferFreshly}
 
@@ -64,7 +64,7 @@ agree-below forest above other (i ∷ old) (j ∷ new) h k (suc low) (suc high) 
 path-descends : (forest : Forest) → IsForest forest → (i : Id) → Descends forest None (path_of forest i)
 path-descends forest formed i = elim (is_live forest i) as (λ b. is_live forest i ≡ b → Descends forest None (path_of forest i)) [
   | true ↦ (λ e. (path_of-is_path forest formed i e).descends)
-  | false ↦ (λ e. subst (λ path. Descends forest None path) (sym (path_of-none forest formed i e)) tt)
+  | false ↦ (λ e. subst (λ path. Descends forest None path) (sym (path_of-none forest i e)) tt)
 ] refl
 
 any-descends : (forest : Forest) → IsForest forest → (o : Option Id) → Descends forest None (path_of_any forest o)

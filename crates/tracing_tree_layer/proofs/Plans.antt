@@ -19,9 +19,9 @@ use Rattle.tracing_tree_context.specs.declared.context.Context.{Context}
 use Rattle.tracing_tree_drawing.specs.declared.format.SpanMode.{SpanMode}
 use Rattle.tracing_tree_drawing.specs.declared.format.SpanMode.TheVariants.{PreOpen, Open, Close, PostClose}
 use Rattle.tracing_tree_layer.specs.Layered.State.{Turn, quiet_turn}
-use Rattle.tracing_tree_layer.specs.Layer.Turns.{span_row, parent_rows, fresh_mode, fresh_row, fresh_rows, retrace_to, then_turn, turn_of_new, turn_before_event, close_turn, turn_of_close, turn_of_closes}
+use Rattle.tracing_tree_layer.specs.Layer.Turns.{span_row, parent_rows, fresh_row, fresh_rows, retrace_to, then_turn, turn_of_new, turn_before_event, close_turn, turn_of_close, turn_of_closes}
 use Rattle.tracing_tree_layer.specs.Layer.CloseRetrace.{retraces_before_close}
-use Rattle.tracing_tree_layer.specs.Layer.Plan.{PlanView, empty_plan, row_of_planned, rows_of_planned, turn_of_plan, marked_by, planned_row, planned_parent, planned_fresh, planned_fresh_rows, retraced_plan, plan_of_new, plan_before_event, closed_plan, plan_of_close, plan_of_closes}
+use Rattle.tracing_tree_layer.specs.Layer.Plan.{fresh_mode, PlanView, empty_plan, row_of_planned, rows_of_planned, turn_of_plan, marked_by, planned_row, planned_parent, planned_fresh, planned_fresh_rows, retraced_plan, plan_of_new, plan_before_event, closed_plan, plan_of_close, plan_of_closes}
 use Rattle.tracing_tree_layer.specs.declared.layer.plan.PlannedRow.{PlannedRow}
 use Rattle.tracing_tree_layer.proofs.Marks.{mark_all-none, mark_all-append, parent_of-marked, fresh_ids-marked, span_row-marked, parent_rows-marked}
 use Rattle.tracing_tree_layer.proofs.Reading.Kept.{mark_printed-all}

@@ -22,23 +22,24 @@ use Rattle.tracing_tree_output.specs.declared.output.Output.{Ghosts as Output}
 use Rattle.tracing_tree_time.specs.declared.timer.FormatTime.{Ghosts as FormatTime}
 use Rattle.tracing_tree_layer.specs.Layer.Layers.{LayerView, LayeredView, Changes, seen}
 use Rattle.tracing_tree_layer.specs.Layered.Seen.{Seen, seen_later}
-use Rattle.tracing_tree_layer.specs.Layered.Step.{turn_of, new_id, with_new_span}
-use Rattle.tracing_tree_layer.specs.Layered.Refused.{cause_of, id_not_held, is_too_many, draws_too_wide, timer_faults, takes_no_memory}
+use Rattle.tracing_tree_layer.specs.Layered.Step.{turn_of, new_id}
+use Rattle.tracing_tree_layer.specs.Layered.Refused.{cause_of, id_not_held, is_too_many, timer_faults, takes_no_memory}
 use Rattle.tracing_tree_layer.proofs.Causes.{first_cause}
 use Rattle.tracing_tree_layer.specs.Layered.Run.{call_text}
 use Rattle.tracing_tree_layer.specs.Layered.Answered.{IsAnswered}
 use Rattle.tracing_tree_layer.specs.declared.call.Call.{Call}
 use Rattle.tracing_tree_layer.specs.declared.call.Call.TheVariants.{New, Close}
+use Rattle.tracing_tree_layer.specs.declared.call.Reply.TheVariants as Replied
 use Rattle.tracing_tree_layer.specs.declared.call.Reply.TheVariants.{Closed}
 use Rattle.tracing_tree_layer.proofs.MarkedCloses.{handles_of-marked, closing_of-marked, closes-marked}
-use Rattle.tracing_tree_layer.specs.Layer.Drawn.{rows_cause, failed_by, IsWritten, DoesTurn}
+use Rattle.tracing_tree_layer.specs.Layer.Drawn.{rows_cause, failed_by, IsWritten, DoesTurn, draws_too_wide}
 
 -- ---- refusals
 
 -- A refusal of rows is one of the call that draws them: it has their cause, and leaves what they leave. The call takes memory.
 pub answered_refused : (call : Call) (rows : List Row) (faults quiet : Bool) (refusal : Refusal) (old new : Seen) → old.state.failed ≡ false →
     cause_of old.settings old.timer old.state call ≡ rows_cause old.settings rows faults →
-    call_text old.settings old.timer old.state call ≡ draw old.settings rows → (quiet ≡ false → takes_no_memory old.settings old.timer old.state call ≡ false) →
+    call_text old.settings old.timer old.state call ≡ draw old.settings rows → (quiet ≡ false → (old.state.failed || takes_no_memory old.settings old.timer old.state.forest call) ≡ false) →
     IsWritten old.settings rows faults quiet (Err refusal) old.writer new.writer → new ≡ seen_later old (record old.state { failed = failed_by {A = Unit {0}} (Err refusal) }) new.writer →
     IsAnswered call (Err refusal) old new
 answered_refused call rows faults quiet (NotHeld i) old new sound cause text memory h left =
@@ -90,7 +91,7 @@ module _ {W FT : Type 0} (time : FormatTime FT) (output : Output W) where
       old.layer.failed ≡ false →
       cause_of before.settings before.timer before.state call ≡ rows_cause before.settings rows faults →
       call_text before.settings before.timer before.state call ≡ draw before.settings rows →
-      (quiet ≡ false → takes_no_memory before.settings before.timer before.state call ≡ false) →
+      (quiet ≡ false → (before.state.failed || takes_no_memory before.settings before.timer before.state.forest call) ≡ false) →
       IsWritten old.layer.settings rows faults quiet (Err refusal) (seen_writer output old.layer.writer) (seen_writer output new.layer.writer) →
       new.layer ≡ record old.layer { writer = new.layer.writer; failed = failed_by {A = Unit {0}} (Err refusal) } → new.forest ≡ old.forest →
       Changes (seen time output) (IsAnswered call (Err refusal)) old new
@@ -116,7 +117,7 @@ module _ {W FT : Type 0} (time : FormatTime FT) (output : Output W) where
       let timer = time.timer old.layer.timer in
       let state = (seen time output old).state in
       let id : new_id old.forest ≡ i = ap (λ (o : Option Id). unwrap_or o (id_of 0)) is_new.1 in
-      let grown : with_new_span attributes context old.forest ≡ made =
+      let grown : add_span (new_span (new_id old.forest) attributes context.current context.moment.mono) old.forest ≡ made =
       ap (λ j. add_span (new_span j attributes context.current context.moment.mono) old.forest) id ∙ sym is_new.2 in
       let same : turn_of settings timer old.forest old.layer.last (New attributes context) ≡ turn_of_new settings context made old.layer.last i =
       (λ k. turn_of_new settings context (grown k) old.layer.last (id k)) in
@@ -125,6 +126,40 @@ module _ {W FT : Type 0} (time : FormatTime FT) (output : Output W) where
       (cause-turn settings timer state (New attributes context) sound is_new.0 (ap (λ (o : Option Id). is_none o) is_new.1)
       ∙ ap (λ (t : Turn). rows_cause settings t.rows false) same)
       (ap (λ (t : Turn). draw settings t.rows) same) (λ h. rw sound (λ k. is_some (is_new.0 k) || is_none (is_new.1 k))) written layer forest
+
+  -- A new span whose rows are written stays.
+  pub new_drawn : (attributes : Attributes) (context : Context) (i : Id) (quiet : Bool) (done : Unit {0}) (old new : LayeredView W FT) (made : Forest) →
+      old.layer.failed ≡ false → IsNewSpan attributes context (Ok i) old.forest made →
+      DoesTurn (seen_writer output) (turn_of_new old.layer.settings context made old.layer.last i) false quiet (Ok done) old.layer new.layer made new.forest →
+      Changes (seen time output) (IsAnswered (New attributes context) (Ok (Replied.Span i))) old new
+  new_drawn attributes context i quiet done old new made sound is_new does =
+      let settings = old.layer.settings in
+      let timer = time.timer old.layer.timer in
+      let state = (seen time output old).state in
+      let id : new_id old.forest ≡ i = ap (λ (o : Option Id). unwrap_or o (id_of 0)) is_new.1 in
+      let grown : add_span (new_span (new_id old.forest) attributes context.current context.moment.mono) old.forest ≡ made =
+      ap (λ j. add_span (new_span j attributes context.current context.moment.mono) old.forest) id ∙ sym is_new.2 in
+      let turn = turn_of settings timer old.forest old.layer.last (New attributes context) in
+      let same : turn ≡ turn_of_new settings context made old.layer.last i = (λ k. turn_of_new settings context (grown k) old.layer.last (id k)) in
+      let P : Turn → Type 0 = λ t. DoesTurn (seen_writer output) t false quiet (Ok done) old.layer new.layer made new.forest in
+      let does : P turn = subst P (sym same) does in
+      let layer : new.layer ≡ record old.layer { writer = new.layer.writer; last = turn.last; failed = old.layer.failed } =
+      does.layer ∙ (λ k. record old.layer { writer = new.layer.writer; last = turn.last; failed = sym sound k }) in
+      record {
+        changed = record {
+          allowed = (
+            cause-turn settings timer state (New attributes context) sound is_new.0 (ap (λ (o : Option Id). is_none o) is_new.1) ∙ does.written.answer,
+            sym (ap Replied.Span id),
+          );
+          left = (λ k. seen time output (record { forest = does.marked k; layer = layer k }));
+          written = does.written.written;
+        };
+        fixed = layer ∙ (λ k. record old.layer {
+          writer = new.layer.writer;
+          last = sym (ap (λ (l : LayerView W FT). l.last) layer) k;
+          failed = sym (ap (λ (l : LayerView W FT). l.failed) layer) k;
+        });
+      }
 
   -- What closes was written, and is removed.
   pub closes : (i : Id) (context : Context) (went quiet : Bool) (done : Unit {0}) (old new : LayeredView W FT) (ids : List Id) (marked : Forest) →

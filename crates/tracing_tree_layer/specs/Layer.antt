@@ -2,6 +2,7 @@
 pub mod CloseRetrace
 pub mod Turns
 pub mod Block
+pub mod Heads
 pub mod Plan
 pub mod Drawn
 pub mod Layers

@@ -13,10 +13,10 @@ ghost use Rattle.tracing_tree_drawing.specs.Format.Settings.{default_settings};
 ghost use Rattle.tracing_tree_spans.specs.Registry.Forest.{mark_all};
 ghost use Rattle.tracing_tree_layer.specs.Layer.Block.{event_tail};
 ghost use Rattle.tracing_tree_layer.specs.Layer.Turns.{event_depth, turn_of_new, turn_of_event, turn_of_closes};
-ghost use Rattle.tracing_tree_layer.specs.Layered.Refused.{is_event_too_wide, timer_faults_at};
+ghost use Rattle.tracing_tree_layer.specs.Layered.Refused.{timer_faults_at};
 ghost use Rattle.tracing_tree_layer.specs.Layer.Layers.{is_fresh, IsFlushed};
 ghost use Rattle.tracing_tree_output.specs.Writers.{seen_writer};
-ghost use Rattle.tracing_tree_layer.specs.Layer.Drawn.{failed_by, has_no_id, DoesTurn, IsReady, Sends};
+ghost use Rattle.tracing_tree_layer.specs.Layer.Drawn.{failed_by, has_no_id, DoesTurn, IsReady, Sends, is_event_too_wide};
 
 use crate::told::ToldEvent;
 pub use block::push_event_tail;

@@ -144,9 +144,11 @@ impl<W: Output, FT: FormatTime> Layered<W, FT> {
 
     /// Makes a call: the registry's part of it, the layer's rows, and the reply.
     ///
-    /// `Failed` after an earlier call was refused for the timer or the writer; `NotHeld` of a parent, a span to be cloned or a
-    /// handle to be closed that isn't there; `TooMany` where no id or no further handle is left; `TooWide` where a row's level used times
-    /// the amount passes `usize`; `Timer` and `Writer` for their faults; `Memory` where memory is refused.
+    /// The first cause of these decides: `Failed` after an earlier call was refused for the timer or the writer, until `recover`;
+    /// `NotHeld` of a new span's parent or a span to be cloned that isn't live, or of a span to be closed that has no handle;
+    /// `TooMany` where no id or no further handle is left; `TooWide` where a row's level used times the amount passes `usize`; `Timer`
+    /// and `Writer` for their faults; `Memory`, in place of a cause too, where memory is refused. A refused call leaves the spans,
+    /// their marks and the last span.
     pub fn call(&mut self, call: Call) -> Result<Reply, Refusal>
         ensures answered { Changes (seen FT.FormatTime W.Output) (IsAnswered call result)
             self.old self.new }

@@ -4,8 +4,8 @@ use Rattle.std.specs.Io.KnownBytes.{Appends}
 use Rattle.tracing_tree_output.specs.declared.output.Output.{Ghosts as Output}
 use Rattle.tracing_tree_output.specs.declared.output.OutputFault.{OutputFault}
 
--- a writer: its bytes, if they are known, how many writes it has refused, and whether it takes
--- texts whole
+-- a writer: the bytes that it has taken, if they are known, how many writes it has refused, and
+-- whether it takes texts whole
 pub record SeenWriter : Type 0 where
   pub bytes : Option (List ℕ)
   pub faults : ℕ

@@ -14,7 +14,8 @@ use Rattle.tracing_tree_context.specs.declared.context.Refusal.TheVariants.{NotH
 use Rattle.tracing_tree_layer.specs.Layered.State.{State, opening_state}
 use Rattle.tracing_tree_layer.specs.Layered.Seen.{Seen}
 use Rattle.tracing_tree_layer.specs.Layered.Step.{turn_of, state_after}
-use Rattle.tracing_tree_layer.specs.Layered.Refused.{cause_of, first_of_all, id_not_held, is_too_many, draws_too_wide, timer_faults}
+use Rattle.tracing_tree_layer.specs.Layer.Drawn.{draws_too_wide}
+use Rattle.tracing_tree_layer.specs.Layered.Refused.{cause_of, first_of_all, id_not_held, is_too_many, timer_faults}
 use Rattle.tracing_tree_layer.proofs.Causes.{first_cause, Causes}
 use Rattle.tracing_tree_layer.specs.Layered.Run.{Run, run, state_after_answer, MayAnswer, call_text}
 use Rattle.tracing_tree_layer.specs.Layered.Answered.{IsAnswered, Writes}

@@ -1,7 +1,7 @@
 -- What may end a run over a source.
 use Rattle.std.proofs.Common.{◌≡◌, ℕ, ◌+◌, true, Result, Ok, Err, IfErr, subst, arith}
 use Rattle.std.specs.Prelude.{⊤, MatchResult}
-use Rattle.tracing_tree_lines.specs.Lines.Runs.{is_from_outside}
+use Rattle.tracing_tree_lines.specs.Lines.Reads.{is_from_outside}
 use Rattle.tracing_tree_lines.specs.declared.lines.LineCause.{LineCause}
 use Rattle.tracing_tree_lines.specs.declared.lines.LineCause.TheVariants.{Settings as NoSettings, NotACall, Read, Memory, Refused}
 use Rattle.tracing_tree_sources.specs.Source.{MayEnd}

@@ -9,7 +9,7 @@ use Rattle.tracing_tree_layer.specs.Layer.Layers.{Flushes}
 use Rattle.tracing_tree_layer.specs.declared.call.Call.{Call}
 use Rattle.tracing_tree_lines.specs.Lines.Spelled.{input_lines, is_skipped}
 use Rattle.tracing_tree_lines.specs.Lines.Reads.{TakesLine}
-use Rattle.tracing_tree_lines.specs.Lines.Runs.{is_from_outside}
+use Rattle.tracing_tree_lines.specs.Lines.Reads.{is_from_outside}
 use Rattle.tracing_tree_lines.specs.declared.lines.LineCause.{LineCause}
 use Rattle.tracing_tree_lines.specs.declared.lines.LineFault.{LineFault}
 use Rattle.tracing_tree_lines.specs.declared.lines.LineCause.TheVariants.{Settings as NoSettings, NotACall, Read, Memory, Refused}

@@ -17,6 +17,7 @@ use Rattle.tracing_tree_spans.proofs.PathLaws.{path_of-step}
 use Rattle.tracing_tree_spans.proofs.ClosingLaws.{closing_of-longest}
 use Rattle.tracing_tree_spans.proofs.SpanLists.{all_above}
 use Rattle.tracing_tree_spans.proofs.ClosingWalk.{way_up, way-none}
+use Rattle.tracing_tree_spans.proofs.GrownForests.{as_forest}
 use Rattle.tracing_tree_spans.proofs.ClosingSteps.{one_less, less-same, going-step, closing-first, way-changed, childless, rest_of, left, rest-goes, rest-stays, left-cons, left-none}
 use Rattle.tracing_tree_spans.proofs.RegistryLaws.{without, kept-without}
 use Rattle.tracing_tree_spans.proofs.KeptLists.{found-span}
@@ -154,7 +155,7 @@ part-begins nodes i node kept h one none =
       counted = refl;
       closes = sym (closing-first (alone spans) kept.0 i node.span h.found
           ∙ ap (λ b. if b then i ∷ going_after (alone spans) (Some i) (way_up (alone spans) node.span.parent) else []) goes);
-      bounded = let n = ap (λ (ids : List Id). length ids) (h.path ∙ path_of-step (alone spans) kept.0 i node.span h.found) in
+      bounded = let n = ap (λ (ids : List Id). length ids) (h.path ∙ path_of-step (alone spans) (as_forest (alone spans) kept.0) i node.span h.found) in
           let sum = length-append (path_of_any (alone spans) node.span.parent) (i ∷ []) in omega (arith, n, sum);
     }
 
@@ -205,7 +206,7 @@ part-more nodes i a node whole count o kept h e zero-left one closed =
     goes-test nodes closed.last a closed.below node kept h closed.found (closed.parent ∙ e) ∙ rw (zero-left, one) refl in
     let step : going_after (alone spans) (Some closed.last) (way_up (alone spans) o) ≡ a ∷ rest =
     ap (λ p. going_after (alone spans) (Some closed.last) (way_up (alone spans) p)) e
-    ∙ going-step (alone spans) kept.0 (Some closed.last) a node.span h.found ∙ ap (λ b. if b then a ∷ rest else []) test in
+    ∙ going-step (alone spans) (as_forest (alone spans) kept.0) (Some closed.last) a node.span h.found ∙ ap (λ b. if b then a ∷ rest else []) test in
     record {
       going = closed.going ++ a ∷ [];
       last = a;
@@ -214,7 +215,7 @@ part-more nodes i a node whole count o kept h e zero-left one closed =
       parent = refl;
       counted = length-append closed.going (a ∷ []) ∙ ap (λ n. n + 1) closed.counted;
       closes = append_assoc closed.going (a ∷ []) rest ∙ ap (λ xs. closed.going ++ xs) (sym step) ∙ closed.closes;
-      bounded = let n = ap (λ p. length (path_of_any (alone spans) p)) e ∙ ap (λ (ids : List Id). length ids) (path_of-step (alone spans) kept.0 a node.span h.found) in
+      bounded = let n = ap (λ p. length (path_of_any (alone spans) p)) e ∙ ap (λ (ids : List Id). length ids) (path_of-step (alone spans) (as_forest (alone spans) kept.0) a node.span h.found) in
           let sum = length-append (path_of_any (alone spans) node.span.parent) (a ∷ []) in
           let b = closed.bounded in omega (arith, n, sum, b);
     }
@@ -294,7 +295,7 @@ pub rest-missing : (nodes : List KeptSpan) (before a : Id) (o : Option Id) → I
 rest-missing nodes before a o kept none e =
     let gone : find (has_id a) (spans_of nodes) ≡ None = found-span nodes a ∙ ap (λ o. option_map (λ (n : KeptSpan). n.span) o) none in
     ap (λ p. going_after (alone (spans_of nodes)) (Some before) (way_up (alone (spans_of nodes)) p)) e
-    ∙ ap (λ ids. going_after (alone (spans_of nodes)) (Some before) ids) (way-none (alone (spans_of nodes)) kept.0 a gone)
+    ∙ ap (λ ids. going_after (alone (spans_of nodes)) (Some before) ids) (way-none (alone (spans_of nodes)) a gone)
 
 -- nor at a span that a handle or another child keeps
 pub rest-kept : (nodes : List KeptSpan) (i a : Id) (node : KeptSpan) (whole count : ℕ) (o : Option Id) → IsKept (spans_of nodes) None → IsKeptAt nodes a node → o ≡ Some a →
@@ -305,7 +306,7 @@ rest-kept nodes i a node whole count o kept h e closed stays =
     let test : goes_after (alone spans) (Some closed.last) a ≡ false =
     goes-test nodes closed.last a closed.below node kept h closed.found (closed.parent ∙ e) ∙ stays in
     ap (λ p. going_after (alone spans) (Some closed.last) (way_up (alone spans) p)) e
-    ∙ going-step (alone spans) kept.0 (Some closed.last) a node.span h.found
+    ∙ going-step (alone spans) (as_forest (alone spans) kept.0) (Some closed.last) a node.span h.found
     ∙ ap (λ b. if b then a ∷ going_after (alone spans) (Some a) (way_up (alone spans) node.span.parent) else []) test
 
 -- the test, as the code makes it
@@ -338,7 +339,7 @@ next-goes now i kept some = by (find (has_id i) now) refl
     by : (o : Option Span) → find (has_id i) now ≡ o → IsNextToGo now i
     by None e =
         let none : length (rest_of now (Some i)) ≡ 0 =
-        ap (λ ids. length (going_after (alone now) None ids)) (way-none (alone now) kept.0 i e) in
+        ap (λ ids. length (going_after (alone now) None ids)) (way-none (alone now) i e) in
         absurd (omega (arith, none, some))
     by (Some s) e = test ((s.handles == 0) && lacks_others now None i) refl
       where

@@ -8,14 +8,15 @@ use Rattle.std.proofs.lemmas.Bool.Decides.{nat_tests}
 use Rattle.std.proofs.lemmas.Option.{same_Some, MatchOption-at_some}
 use Rattle.tracing_tree_spans.specs.Registry.Ids.{same_id}
 use Rattle.tracing_tree_spans.specs.Registry.Spans.{Span}
-use Rattle.tracing_tree_spans.specs.Registry.Forest.{Forest, has_id, is_child_of, span_at, handles_of, update_span, take_handle, path_of, is_live, path_among, IsForest, IsClosing, IsLongestGoing, goes_after, going_up, closing_of, after_close, unless_handle, without_spans}
+use Rattle.tracing_tree_spans.specs.Registry.Forest.{Forest, has_id, is_child_of, span_at, handles_of, update_span, take_handle, path_of, is_live, IsGrown, IsForest, IsGrownForest, IsClosing, IsLongestGoing, goes_after, going_up, closing_of, after_close, unless_handle, without_spans}
 use Rattle.tracing_tree_spans.specs.Registry.Registered.{IsRising, IsKept, alone, going_after, is_other_child, lacks_others}
 use Rattle.tracing_tree_context.specs.declared.context.Id.{Id}
-use Rattle.tracing_tree_spans.proofs.ForestLaws.{same_id-eq, path_of-is_path}
-use Rattle.tracing_tree_spans.proofs.PathLaws.{path_above}
+use Rattle.tracing_tree_spans.proofs.ForestLaws.{path_among, same_id-eq}
+use Rattle.tracing_tree_spans.proofs.PathLaws.{path_above, path_of-is_path, path_of-among}
 use Rattle.tracing_tree_spans.proofs.ClosingLaws.{going-cons, closing_of-longest}
 use Rattle.tracing_tree_spans.proofs.SpanLists.{all_above, higher_not, find-id}
-use Rattle.tracing_tree_spans.proofs.RegistryLaws.{forest_of, place, IsPlace, IsSame, changed, changed-same, reverse-map, without, other-id, reverse-filter, any-reverse}
+use Rattle.tracing_tree_spans.proofs.RegistryLaws.{forest_of, place, IsPlace, IsSame, changed, changed-same, without, other-id, reverse-filter, any-reverse, grown-without}
+use Rattle.tracing_tree_spans.proofs.GrownForests.{as_forest, path_of-mapped}
 use Rattle.tracing_tree_spans.proofs.Children.{all-filter}
 use Rattle.tracing_tree_spans.proofs.ClosingWalk.{way_up, way-step, way-none, way-fresh}
 
@@ -74,28 +75,13 @@ lacks-changed u h before i spans =
     ∙ ap (λ b. not b) (other-changed u h i before spans)
     ∙ sym (all-filter (is_child_of i) (λ child. option_map_or (same_id child.id) before false) spans)
 
--- and each its path
-pub path-changed : (u : Span → Span) → IsSame u → (spans : List Span) (i : Id) → path_among (map u spans) i ≡ path_among spans i
-path-changed u h [] i = refl
-path-changed u h (x ∷ older) i =
-    ap (λ (k : Id). if same_id k i then option_map_or (λ above. path_among (map u older) above) (u x).parent [] ++ i ∷ [] else path_among (map u older) i) (h.ids x)
-    ∙ ap (λ (o : Option Id). if has_id i x then option_map_or (λ above. path_among (map u older) above) o [] ++ i ∷ [] else path_among (map u older) i) (h.parents x)
-    ∙ ap (λ (path : List Id). if has_id i x then path ++ i ∷ [] else path_among (map u older) i) (up x.parent (λ j. path-changed u h older j))
-    ∙ ap (λ (path : List Id). if has_id i x then path_above older x.parent ++ i ∷ [] else path) (path-changed u h older i)
-  where
-    up : (o : Option Id) → ((j : Id) → path_among (map u older) j ≡ path_among older j) →
-        option_map_or (λ above. path_among (map u older) above) o [] ≡ path_above older o
-    up None ih = refl
-    up (Some above) ih = ih above
-
 -- and each its way up
 pub way-changed : (change : Span → Span) → IsSame change → (i : Id) (forest : Forest) (o : Option Id) →
     way_up (update_span change i forest) o ≡ way_up forest o
 way-changed change same i forest None = refl
 way-changed change same i forest (Some j) =
     ap (λ (path : List Id). reverse path)
-    (ap (λ xs. path_among xs j) (reverse-map (changed change i) forest.spans)
-    ∙ path-changed (changed change i) (changed-same change i same) (reverse forest.spans) j)
+    (path_of-mapped (changed change i) (changed-same change i same) forest.spans forest.next forest.next j)
 
 -- the span with a handle less
 abbrev pub one_less : Span → Span
@@ -125,7 +111,7 @@ going-other forest i before (j ∷ ids) h =
     ∙ sym (going-cons forest before j ids)
 
 -- the first that closes with a handle of a span, and the rest, read off the forest before
-pub closing-first : (forest : Forest) → IsForest forest → (i : Id) (s : Span) → span_at forest i ≡ Some s →
+pub closing-first : (forest : Forest) → IsGrownForest forest → (i : Id) (s : Span) → span_at forest i ≡ Some s →
     closing_of forest i
     ≡ (if (s.handles - 1 == 0) && lacks_others forest.spans None i then i ∷ going_after forest (Some i) (way_up forest s.parent) else [])
 closing-first forest formed i s h =
@@ -134,7 +120,7 @@ closing-first forest formed i s h =
     ap (λ o. (option_map_or (λ (span : Span). span.handles) o 0 == 0) && lacks_others less.spans None i)
     (find-own one_less less-same i forest.spans s h)
     ∙ ap (λ b. (s.handles - 1 == 0) && b) (lacks-changed (changed one_less i) (changed-same one_less i less-same) None i forest.spans) in
-    ap (λ ids. going_after less None ids) (way-changed one_less less-same i forest (Some i) ∙ way-step forest formed i s h)
+    ap (λ ids. going_after less None ids) (way-changed one_less less-same i forest (Some i) ∙ way-step forest (as_forest forest formed) i s h)
     ∙ going-cons less None i (way_up forest s.parent)
     ∙ ap (λ b. if b then i ∷ going_after less (Some i) (way_up forest s.parent) else []) goes
     ∙ ap (λ rest. if (s.handles - 1 == 0) && lacks_others forest.spans None i then i ∷ rest else [])
@@ -187,14 +173,20 @@ path-without i (x ∷ older) h j other =
         rw e (ap (λ (path : List Id). if has_id j x then path ++ j ∷ [] else path_among (without i older) j) (up ih x.parent parent)
         ∙ ap (λ (path : List Id). if has_id j x then path_above older x.parent ++ j ∷ [] else path) (ih j other))
 
+-- in a forest too
+pub path_of-without : (i : Id) (spans : List Span) → IsGrown (reverse spans) → list_any (is_child_of i) spans ≡ false → (j : Id) → same_id i j ≡ false →
+    path_of (alone (without i spans)) j ≡ path_of (alone spans) j
+path_of-without i spans grown h j e =
+    let none : list_any (is_child_of i) (reverse spans) ≡ false = any-reverse (is_child_of i) spans ∙ h in
+    let turned : reverse (without i spans) ≡ without i (reverse spans) = reverse-filter (λ span. not (has_id i span)) spans in
+    path_of-among (alone (without i spans)) (subst IsGrown (sym turned) (grown-without i (reverse spans) grown none)) j
+    ∙ ap (λ xs. path_among xs j) turned ∙ path-without i (reverse spans) none j e ∙ sym (path_of-among (alone spans) grown j)
+
 -- and its way up
-pub way-without : (i : Id) (spans : List Span) → list_any (is_child_of i) spans ≡ false → (o : Option Id) → option_map_or (same_id i) o false ≡ false →
-    way_up (alone (without i spans)) o ≡ way_up (alone spans) o
-way-without i spans h None e = refl
-way-without i spans h (Some j) e =
-    ap (λ (path : List Id). reverse path)
-    (ap (λ xs. path_among xs j) (reverse-filter (λ span. not (has_id i span)) spans)
-    ∙ path-without i (reverse spans) (any-reverse (is_child_of i) spans ∙ h) j e)
+pub way-without : (i : Id) (spans : List Span) → IsGrown (reverse spans) → list_any (is_child_of i) spans ≡ false → (o : Option Id) →
+    option_map_or (same_id i) o false ≡ false → way_up (alone (without i spans)) o ≡ way_up (alone spans) o
+way-without i spans grown h None e = refl
+way-without i spans grown h (Some j) e = ap (λ (path : List Id). reverse path) (path_of-without i spans grown h j e)
 
 -- another span is found without it as before
 find-without : (i j : Id) (spans : List Span) → same_id i j ≡ false → find (has_id j) (without i spans) ≡ find (has_id j) spans
@@ -327,16 +319,16 @@ above-gone spans kept i s found children (Some p) e = by (find (has_id p) spans)
     other = subst (λ o. option_map_or (same_id i) o false ≡ false) e (not-found (has_id i) (is_child_of i) spans s found children)
 
     same : way_up (alone (without i spans)) (Some p) ≡ way_up (alone spans) (Some p)
-    same = way-without i spans children (Some p) other
+    same = way-without i spans kept.0.grown children (Some p) other
 
     by : (o : Option Span) → find (has_id p) spans ≡ o →
         going_after (alone spans) (Some i) (way_up (alone spans) (Some p)) ≡ rest_of (without i spans) (Some p)
     by None h =
-        let none : way_up (alone spans) (Some p) ≡ [] = way-none (alone spans) kept.0 p h in
+        let none : way_up (alone spans) (Some p) ≡ [] = way-none (alone spans) p h in
         ap (λ ids. going_after (alone spans) (Some i) ids) none ∙ sym (ap (λ ids. going_after (alone (without i spans)) None ids) (same ∙ none))
     by (Some t) h =
         let up : List Id = way_up (alone spans) t.parent in
-        let step : way_up (alone spans) (Some p) ≡ p ∷ up = way-step (alone spans) kept.0 p t h in
+        let step : way_up (alone spans) (Some p) ≡ p ∷ up = way-step (alone spans) (as_forest (alone spans) kept.0) p t h in
         let others = or_parts (same_id i p) (list_any (same_id i) up) (subst (λ ids. list_any (same_id i) ids ≡ false) step fresh) in
         let parents : list_any (λ r. is_child_of r s) up ≡ false =
         subst (λ o. list_any (λ r. option_map_or (same_id r) o false) up ≡ false) (sym e)
@@ -354,7 +346,7 @@ pub rest-goes : (spans : List Span) → IsKept spans None → (i : Id) (s : Span
     s.handles ≡ 0 → lacks_others spans None i ≡ true → rest_of spans (Some i) ≡ i ∷ rest_of (without i spans) s.parent
 rest-goes spans kept i s found handles none =
     let goes : goes_after (alone spans) None i ≡ true = rw (found, handles) none in
-    going-step (alone spans) kept.0 None i s found
+    going-step (alone spans) (as_forest (alone spans) kept.0) None i s found
     ∙ ap (λ b. if b then i ∷ going_after (alone spans) (Some i) (way_up (alone spans) s.parent) else []) goes
     ∙ ap (λ rest. i ∷ rest) (above-gone spans kept i s found (childless i spans none) s.parent refl)
 
@@ -363,12 +355,12 @@ pub rest-stays : (spans : List Span) → IsKept spans None → (i : Id) (s : Spa
     ((s.handles == 0) && lacks_others spans None i) ≡ false → rest_of spans (Some i) ≡ []
 rest-stays spans kept i s found stays =
     let goes : goes_after (alone spans) None i ≡ false = rw found stays in
-    going-step (alone spans) kept.0 None i s found
+    going-step (alone spans) (as_forest (alone spans) kept.0) None i s found
     ∙ ap (λ b. if b then i ∷ going_after (alone spans) (Some i) (way_up (alone spans) s.parent) else []) goes
 
 -- nor from an id that isn't live
 pub rest-lost : (spans : List Span) → IsKept spans None → (i : Id) → find (has_id i) spans ≡ None → rest_of spans (Some i) ≡ []
-rest-lost spans kept i none = ap (λ ids. going_after (alone spans) None ids) (way-none (alone spans) kept.0 i none)
+rest-lost spans kept i none = ap (λ ids. going_after (alone spans) None ids) (way-none (alone spans) i none)
 
 -- a span goes, then the others
 pub left-cons : (i : Id) (ids : List Id) (spans : List Span) → left (i ∷ ids) spans ≡ left ids (without i spans)
@@ -458,14 +450,14 @@ kept-none spans next kept = (record { grown = kept.0.grown; below_next = refl },
 -- ---- a loop that lists them
 
 -- a span closes after the one before it, or it stays
-pub listed : (spans : List Span) → IsForest (alone spans) → (before : Option Id) (i : Id) (at : ℕ) (s : Span) (answer : Bool) → IsPlace spans i at s →
+pub listed : (spans : List Span) → IsGrownForest (alone spans) → (before : Option Id) (i : Id) (at : ℕ) (s : Span) (answer : Bool) → IsPlace spans i at s →
     answer ≡ ((s.handles == 0) && lacks_others spans before s.id) →
     going_after (alone spans) before (way_up (alone spans) (Some i)) ≡ (if answer then i ∷ going_after (alone spans) (Some i) (way_up (alone spans) s.parent) else [])
 listed spans formed before i at s answer here test =
     let goes : goes_after (alone spans) before i ≡ answer =
     ap (λ o. (option_map_or (λ (span : Span). span.handles) o 0 == 0) && lacks_others spans before i) here.found
     ∙ ap (λ j. (s.handles == 0) && lacks_others spans before j) (sym here.same) ∙ sym test in
-    going-step (alone spans) formed before i s here.found
+    going-step (alone spans) (as_forest (alone spans) formed) before i s here.found
     ∙ ap (λ b. if b then i ∷ going_after (alone spans) (Some i) (way_up (alone spans) s.parent) else []) goes
 
 -- ---- the list of what closes

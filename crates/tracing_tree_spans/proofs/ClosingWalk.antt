@@ -4,13 +4,13 @@ use Rattle.std.specs.List.{list_all, list_any}
 use Rattle.std.proofs.lemmas.Bool.{not-true, and_parts, or_parts}
 use Rattle.std.proofs.lemmas.Option.{same_Some}
 use Rattle.std.proofs.lemmas.List.Folds.{list_any-append, list_all-append}
-use Rattle.std.proofs.lemmas.List.{reverse-append, reverse-reverse}
+use Rattle.std.proofs.lemmas.List.{reverse-append}
 use Rattle.tracing_tree_spans.specs.Registry.Ids.{same_id}
 use Rattle.tracing_tree_spans.specs.Registry.Spans.{Span}
-use Rattle.tracing_tree_spans.specs.Registry.Forest.{Forest, has_id, span_at, path_among, path_of, path_of_any, IsGrown, IsForest}
+use Rattle.tracing_tree_spans.specs.Registry.Forest.{Forest, has_id, span_at, path_of, path_of_any, IsGrown, IsForest, IsGrownForest}
 use Rattle.tracing_tree_context.specs.declared.context.Id.{Id}
-use Rattle.tracing_tree_spans.proofs.PathLaws.{path_above, look-by, parent-among, above-older, path_of-step, path_of-none}
-use Rattle.tracing_tree_spans.proofs.ForestLaws.{look, look-reverse, look-newest, path-newest, path-older, same_id-eq}
+use Rattle.tracing_tree_spans.proofs.PathLaws.{path_above, look-by, parent-among, above-older, path_of-step, path_of-none, path_of_any-among}
+use Rattle.tracing_tree_spans.proofs.ForestLaws.{path_among, look, look-turned, look-newest, path-newest, path-older, same_id-eq}
 
 -- ---- the way up
 
@@ -25,8 +25,8 @@ way-step forest formed i s h =
     ap (λ (path : List Id). reverse path) (path_of-step forest formed i s h) ∙ reverse-append (path_of_any forest s.parent) (i ∷ [])
 
 -- from a span that isn't live there is no way
-pub way-none : (forest : Forest) → IsForest forest → (i : Id) → span_at forest i ≡ None → way_up forest (Some i) ≡ []
-way-none forest formed i h = ap (λ (path : List Id). reverse path) (path_of-none forest formed i (rw h refl))
+pub way-none : (forest : Forest) (i : Id) → span_at forest i ≡ None → way_up forest (Some i) ≡ []
+way-none forest i h = ap (λ (path : List Id). reverse path) (path_of-none forest i (rw h refl))
 
 -- a parent has a shorter path
 pub path-falls : (forest : Forest) → IsForest forest → (i : Id) (s : Span) → span_at forest i ≡ Some s →
@@ -50,7 +50,7 @@ holds_one (y ∷ before) after x e = cc
 pub way-live : (forest : Forest) → IsForest forest → (i first : Id) (s : Span) (ids : List Id) → span_at forest i ≡ Some s →
     ids ++ way_up forest (Some i) ≡ way_up forest (Some first) → ¬ (span_at forest first ≡ None)
 way-live forest formed i first s ids h way gone =
-    holds_one ids (way_up forest s.parent) i (ap (λ xs. ids ++ xs) (sym (way-step forest formed i s h)) ∙ way ∙ way-none forest formed first gone)
+    holds_one ids (way_up forest s.parent) i (ap (λ xs. ids ++ xs) (sym (way-step forest formed i s h)) ∙ way ∙ way-none forest first gone)
 
 -- ---- an id stands once on its way up
 
@@ -133,9 +133,10 @@ any-turned p (j ∷ ids) h =
     ∙ rw (any-turned p ids parts.1, parts.0) refl
 
 -- on the way up from its parent a span's id does not stand
-pub way-fresh : (forest : Forest) → IsForest forest → (i : Id) (s : Span) → span_at forest i ≡ Some s →
+pub way-fresh : (forest : Forest) → IsGrownForest forest → (i : Id) (s : Span) → span_at forest i ≡ Some s →
     list_any (same_id i) (way_up forest s.parent) ≡ false
 way-fresh forest formed i s h =
-    let turned : look (reverse forest.spans) i ≡ Some s =
-    sym (look-reverse (reverse forest.spans) formed.grown i) ∙ ap (λ xs. look xs i) (reverse-reverse forest.spans) ∙ h in
-    any-turned (same_id i) (path_above (reverse forest.spans) s.parent) (above-fresh (reverse forest.spans) formed.grown i s turned)
+    let fresh : list_any (same_id i) (path_above (reverse forest.spans) s.parent) ≡ false =
+    above-fresh (reverse forest.spans) formed.grown i s (look-turned forest formed.grown i ∙ h) in
+    any-turned (same_id i) (path_of_any forest s.parent)
+    (ap (λ ids. list_any (same_id i) ids) (path_of_any-among forest formed.grown s.parent) ∙ fresh)

@@ -9,8 +9,9 @@ use Rattle.tracing_tree_spans.specs.Registry.Ids.{same_id}
 use Rattle.tracing_tree_spans.specs.Registry.Forest.{Forest, is_live, path_of, Descends, IsPath, IsForest}
 use Rattle.tracing_tree_spans.specs.Registry.Paths.{agree_at, PartOnce}
 use Rattle.tracing_tree_context.specs.declared.context.Id.{Id}
-use Rattle.tracing_tree_spans.proofs.ForestLaws.{same_id-eq, last_or-push, path_of-is_path}
-use Rattle.tracing_tree_spans.proofs.PathLaws.{path_of-only, path_of-none}
+use Rattle.tracing_tree_spans.proofs.ForestLaws.{same_id-eq, last_or-push}
+use Rattle.tracing_tree_spans.proofs.PathsUp.{descends-front}
+use Rattle.tracing_tree_spans.proofs.PathLaws.{path_of-is_path, path_of-only, path_of-none}
 
 -- what is read at a place that both have says whether they agree there
 pub agree-read : (old new : List Id) (k : ℕ) (i j : Id) → k < length old → k < length new → agree_at old new k ≡ same_id (get_or old k i) (get_or new k j)
@@ -66,12 +67,6 @@ same-agree (x ∷ old) (y ∷ new) (suc n) (suc k) same low within =
     let rest : take n old ≡ take n new = cc in
     same-agree old new n k rest (omega arith) (omega arith)
 
--- a beginning of a way down is a way down
-descends-front : (forest : Forest) (above : Option Id) (front : List Id) (i : Id) (back : List Id) → Descends forest above (front ++ i ∷ back) →
-    Descends forest above (front ++ i ∷ [])
-descends-front forest above [] i back h = (h.0, tt)
-descends-front forest above (j ∷ front) i back h = (h.0, descends-front forest (Some j) front i back h.1)
-
 -- up to a place a path is the path of the span there
 path-upto : (forest : Forest) → IsForest forest → (i : Id) (k : ℕ) (x : Id) → slice_get (path_of forest i) k ≡ Some x →
     take (k + 1) (path_of forest i) ≡ path_of forest x
@@ -98,9 +93,9 @@ path-upto forest formed i k x read = by (is_live forest i) refl
           descends = descends-front forest None (take k path) x (drop (k + 1) path) down;
           ends = last_or-push None (take k path) x;
         } in
-        upto ∙ path_of-only forest formed x (take k path ++ x ∷ []) there
+        upto ∙ path_of-only forest x (take k path ++ x ∷ []) there
     by false gone =
-        let none : length path ≡ 0 = ap (λ (ids : List Id). length ids) (path_of-none forest formed i gone) in
+        let none : length path ≡ 0 = ap (λ (ids : List Id). length ids) (path_of-none forest i gone) in
         absurd (omega (arith, within, none))
 
 -- two lists agree at a place where both have one id

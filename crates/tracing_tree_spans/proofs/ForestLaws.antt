@@ -1,5 +1,5 @@
--- In a well-formed forest the path of a live span is a path: it begins at a root, each span is the parent of the next, and
--- it ends at the span.
+-- Where each span stands after its parent, there is a path to each live span: it begins at a root, each span is the parent of
+-- the next, and it ends at the span.
 use Rattle.std.proofs.Common.{◌≡◌, Bool, true, false, ◌||◌, List, [], ◌∷◌, ◌++◌, reverse, find, Option, Some, None, is_some, option_map, refl, sym, ap, ◌∙◌, subst, if◌then◌else◌}
 use Rattle.std.specs.Option.{option_map_or, option_or}
 use Rattle.std.specs.List.{list_any, last_or}
@@ -8,8 +8,14 @@ use Rattle.std.proofs.lemmas.List.{reverse-append, reverse-reverse}
 use Rattle.std.proofs.lemmas.Bool.{eqb-true, not-true, or_parts}
 use Rattle.tracing_tree_spans.specs.Registry.Ids.{id_of, same_id}
 use Rattle.tracing_tree_spans.specs.Registry.Spans.{Span}
-use Rattle.tracing_tree_spans.specs.Registry.Forest.{Forest, has_id, span_at, is_live, path_among, path_of, Descends, IsPath, IsGrown, IsForest}
+use Rattle.tracing_tree_spans.specs.Registry.Forest.{Forest, has_id, span_at, is_live, Descends, IsPath, IsGrown}
 use Rattle.tracing_tree_context.specs.declared.context.Id.{Id}
+
+-- the path of a span among these, the newest first: the path of its parent among the older ones, and the span
+abbrev pub path_among : List Span → Id → List Id
+path_among [] i = []
+path_among (span ∷ older) i =
+    if has_id i span then option_map_or (λ above. path_among older above) span.parent [] ++ i ∷ [] else path_among older i
 
 -- the first span with this id
 abbrev pub look : List Span → Id → Option Span
@@ -157,16 +163,20 @@ descends-falls : (forest : Forest) (above : Option Id) (path : List Id) → Fall
 descends-falls forest above [] h = tt
 descends-falls forest above (i ∷ below) h = (h.0, descends-falls forest (Some i) below h.1)
 
+-- turned back, the list is looked up as it is
+pub look-turned : (forest : Forest) → IsGrown (reverse forest.spans) → (i : Id) → look (reverse forest.spans) i ≡ span_at forest i
+look-turned forest grown i = sym (look-reverse (reverse forest.spans) grown i) ∙ ap (λ xs. look xs i) (reverse-reverse forest.spans)
+
 -- the path of a live span is a path
-pub path_of-is_path : (forest : Forest) → IsForest forest → (i : Id) → is_live forest i ≡ true → IsPath forest i (path_of forest i)
-path_of-is_path forest formed i live =
+pub among-is_path : (forest : Forest) → IsGrown (reverse forest.spans) → (i : Id) → is_live forest i ≡ true →
+    IsPath forest i (path_among (reverse forest.spans) i)
+among-is_path forest grown i live =
     let spans : List Span = reverse forest.spans in
-    let turned : (j : Id) → look spans j ≡ span_at forest j =
-    (λ j. sym (look-reverse spans formed.grown j) ∙ ap (λ xs. look xs j) (reverse-reverse forest.spans)) in
+    let turned : (j : Id) → look spans j ≡ span_at forest j = look-turned forest grown in
     let here : list_any (has_id i) spans ≡ true = sym (is_some-find (has_id i) spans) ∙ ap (λ o. is_some o) (turned i) ∙ live in
-    let parts = path_among-reaches spans formed.grown i here in
+    let parts = path_among-reaches spans grown i here in
     record {
-      descends = descends-falls forest None (path_of forest i)
-          (falls-weaken (look spans) (span_at forest) (λ j h. sym (turned j)) None (path_of forest i) parts.0);
+      descends = descends-falls forest None (path_among spans i)
+          (falls-weaken (look spans) (span_at forest) (λ j h. sym (turned j)) None (path_among spans i) parts.0);
       ends = parts.1;
     }

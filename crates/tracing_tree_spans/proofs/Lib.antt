@@ -1,8 +1,10 @@
 pub mod PathLaws
 pub mod ClosingLaws
 pub mod ForestLaws
+pub mod PathsUp
 pub mod SpanLists
 pub mod RegistryLaws
+pub mod GrownForests
 pub mod Children
 pub mod ClosingWalk
 pub mod ClosingSteps

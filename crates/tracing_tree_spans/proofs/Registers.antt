@@ -11,10 +11,11 @@ use Rattle.std.proofs.lemmas.Bool.Decides.{nat_tests}
 use Rattle.std.proofs.lemmas.List.{map-append, length-reverse, reverse-reverse}
 use Rattle.std.proofs.lemmas.List.Folds.{find-append}
 use Rattle.tracing_tree_spans.specs.Registry.Spans.{Span, KeptSpan, handle_less}
-use Rattle.tracing_tree_spans.specs.Registry.Forest.{Forest, has_id, is_child_of, span_at, handles_of, unless_live, unless_handle, has_all_handles, any_unless_live, update_span, closing_of, children_of, path_of, IsPathIfLive, IsClosing, IsForest}
+use Rattle.tracing_tree_spans.specs.Registry.Forest.{Forest, has_id, is_child_of, span_at, handles_of, unless_live, unless_handle, has_all_handles, any_unless_live, update_span, closing_of, children_of, path_of, IsPathIfLive, IsClosing, IsGrownForest}
 use Rattle.tracing_tree_spans.specs.Registry.Registered.{IsKept, IsNewest, alone, going_after, lacks_others}
 use Rattle.tracing_tree_spans.specs.Registry.Kept.{keeps_id, kept_at, spans_of, change_kept, with_child, kept_path, AreBelow, IsTied}
 use Rattle.tracing_tree_context.specs.declared.context.Id.{Id}
+use Rattle.tracing_tree_spans.proofs.GrownForests.{as_forest}
 use Rattle.tracing_tree_spans.proofs.ForestLaws.{is_some-find}
 use Rattle.tracing_tree_spans.proofs.PathLaws.{path_of-none, path_of-whole}
 use Rattle.tracing_tree_spans.proofs.RegistryLaws.{forest_of, changed, changed-same, forest-updated, rising-changed, below-changed, all_below, without, parent-live, taken-back}
@@ -212,7 +213,7 @@ kept-back spans new next now i kept view newest e = by spans refl
 -- ---- a close
 
 -- what closes has one handle
-pub closing-one : (now : Forest) → IsForest now → (i : Id) (s : Span) → span_at now i ≡ Some s → (s.handles ≢ 0) → (closing_of now i ≢ []) → handles_of now i ≡ 1
+pub closing-one : (now : Forest) → IsGrownForest now → (i : Id) (s : Span) → span_at now i ≡ Some s → (s.handles ≢ 0) → (closing_of now i ≢ []) → handles_of now i ≡ 1
 closing-one now formed i s here some closes =
     ap (λ o. option_map_or (λ (span : Span). span.handles) o 0) here ∙ by (s.handles - 1 == 0) refl
   where
@@ -271,19 +272,19 @@ error-live (Err e) now i s h = λ none. (let found : Some s ≡ None = sym h ∙
 -- ---- paths
 
 -- and an id that isn't live has none
-pub path-gone : (now : Forest) → IsForest now → (i : Id) → span_at now i ≡ None → path_of now i ≡ []
-path-gone now formed i h = path_of-none now formed i (ap (λ (o : Option Span). is_some o) h)
+pub path-gone : (now : Forest) (i : Id) → span_at now i ≡ None → path_of now i ≡ []
+path-gone now i h = path_of-none now i (ap (λ (o : Option Span). is_some o) h)
 
 -- what is answered of a live span is its path
-pub if-whole : {E : Type 0} (now : Forest) → IsForest now → (i : Id) (r : Result (Vec Id Global) E) → IfOk r (λ path. path.items ≡ path_of now i) →
+pub if-whole : {E : Type 0} (now : Forest) → IsGrownForest now → (i : Id) (r : Result (Vec Id Global) E) → IfOk r (λ path. path.items ≡ path_of now i) →
     IfOk r (λ path. IsPathIfLive now i path.items)
-if-whole now formed i (Ok path) h = path_of-whole now formed i path.items h
+if-whole now formed i (Ok path) h = path_of-whole now (as_forest now formed) i path.items h
 if-whole now formed i (Err e) h = tt
 
-pub if-turned : {E : Type 0} (now : Forest) → IsForest now → (i : Id) (r : Result (Vec Id Global) E) → IfOk r (λ path. path.items ≡ reverse (path_of now i)) →
+pub if-turned : {E : Type 0} (now : Forest) → IsGrownForest now → (i : Id) (r : Result (Vec Id Global) E) → IfOk r (λ path. path.items ≡ reverse (path_of now i)) →
     IfOk r (λ path. IsPathIfLive now i (reverse path.items))
 if-turned now formed i (Ok path) h =
-    path_of-whole now formed i (reverse path.items) (ap (λ (ids : List Id). reverse ids) h ∙ reverse-reverse (path_of now i))
+    path_of-whole now (as_forest now formed) i (reverse path.items) (ap (λ (ids : List Id). reverse ids) h ∙ reverse-reverse (path_of now i))
 if-turned now formed i (Err e) h = tt
 
 -- ---- a parent that may be missing
@@ -321,5 +322,5 @@ some-part part closing some e none =
     let n = ap (λ (ids : List Id). length ids) (e ∙ none) in some (sym (length-reverse part) ∙ n)
 
 -- what closes is what a closing is
-pub closing-whole-is : (now : Forest) → IsForest now → (i : Id) (s : Span) (ids : List Id) → span_at now i ≡ Some s → ids ≡ closing_of now i → IsClosing now i ids
-closing-whole-is now formed i s ids here e = closing_of-is now formed i (ap (λ (o : Option Span). is_some o) here) ids e
+pub closing-whole-is : (now : Forest) → IsGrownForest now → (i : Id) (s : Span) (ids : List Id) → span_at now i ≡ Some s → ids ≡ closing_of now i → IsClosing now i ids
+closing-whole-is now formed i s ids here e = closing_of-is now (as_forest now formed) i (ap (λ (o : Option Span). is_some o) here) ids e

@@ -1,5 +1,5 @@
 -- A registry stays well-formed when a span of it changes in all but its id and its parent, comes or goes.
-use Rattle.std.proofs.Common.{◌≡◌, ℕ, ◌+◌, ◌<◌, ◌≤◌, nat_lt, ◌==◌, Bool, true, false, ◌&&◌, ◌||◌, not, List, [], ◌∷◌, ◌++◌, length, get_or, set, map, reverse, find, filter, slice_get, Option, Some, None, Result, Ok, Err, is_some, if◌then◌else◌, arith, rules, refl, sym, ap, ◌∙◌, subst}
+use Rattle.std.proofs.Common.{◌≡◌, ℕ, ◌+◌, ◌<◌, ◌≤◌, nat_lt, ◌==◌, Bool, true, false, ◌&&◌, ◌||◌, not, List, [], ◌∷◌, ◌++◌, length, get_or, set, map, reverse, find, filter, slice_get, Option, option_map, Some, None, Result, Ok, Err, is_some, if◌then◌else◌, arith, rules, refl, sym, ap, ◌∙◌, subst}
 use Rattle.std.specs.Option.{option_map_or, option_to_list}
 use Rattle.std.specs.Result.{OnOk, OnErr}
 use Rattle.std.specs.Bool.{then_some}
@@ -12,7 +12,7 @@ use Rattle.std.proofs.lemmas.Option.{slice_get_read}
 use Rattle.std.proofs.lemmas.List.{reverse-append, map-append, append-nil}
 use Rattle.tracing_tree_spans.specs.Registry.Ids.{id_of, same_id}
 use Rattle.tracing_tree_spans.specs.Registry.Spans.{Span}
-use Rattle.tracing_tree_spans.specs.Registry.Forest.{Forest, has_id, is_child_of, span_at, update_span, id_after, any_unless_live, add_span, take_back, IsGrown, IsForest}
+use Rattle.tracing_tree_spans.specs.Registry.Forest.{Forest, has_id, is_child_of, span_at, update_span, id_after, any_unless_live, add_span, take_back, IsGrown, IsGrownForest}
 use Rattle.tracing_tree_spans.specs.Registry.Registered.{IsRising, IsKept, IsNewest, alone}
 use Rattle.tracing_tree_context.specs.declared.context.Id.{Id}
 use Rattle.tracing_tree_spans.proofs.SpanLists.{all_above, own_id, find-id, set_is_update}
@@ -99,6 +99,16 @@ grown-changed u h (x ∷ spans) grown = (
   grown-changed u h spans grown.2,
 )
 
+-- a span is found changed
+pub find-same : (u : Span → Span) → IsSame u → (i : Id) (spans : List Span) → find (has_id i) (map u spans) ≡ option_map u (find (has_id i) spans)
+find-same u h i [] = refl
+find-same u h i (x ∷ spans) = ap (λ (k : Id). if same_id k i then Some (u x) else find (has_id i) (map u spans)) (h.ids x) ∙ by (find-same u h i spans) (has_id i x) refl
+  where
+    by : find (has_id i) (map u spans) ≡ option_map u (find (has_id i) spans) → (b : Bool) → has_id i x ≡ b →
+        (if has_id i x then Some (u x) else find (has_id i) (map u spans)) ≡ option_map u (find (has_id i) (x ∷ spans))
+    by ih true e = rw e refl
+    by ih false e = rw e ih
+
 -- a change of each span and a turn round may change places
 pub reverse-map : (u : Span → Span) (spans : List Span) → reverse (map u spans) ≡ map u (reverse spans)
 reverse-map u [] = refl
@@ -113,7 +123,7 @@ next-changed u h spans None = refl
 next-changed u h spans (Some next) = below-changed u h next.0 spans
 
 -- a forest in which a span has changed
-pub forest-updated : (change : Span → Span) → IsSame change → (i : Id) (forest : Forest) → IsForest forest → IsForest (update_span change i forest)
+pub forest-updated : (change : Span → Span) → IsSame change → (i : Id) (forest : Forest) → IsGrownForest forest → IsGrownForest (update_span change i forest)
 forest-updated change same i forest formed =
     let h : IsSame (changed change i) = changed-same change i same in
     record {

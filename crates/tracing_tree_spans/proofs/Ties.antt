@@ -10,16 +10,17 @@ use Rattle.std.proofs.lemmas.List.Elements.{filter-append}
 use Rattle.std.proofs.lemmas.Option.{same_Some}
 use Rattle.tracing_tree_spans.specs.Registry.Ids.{same_id}
 use Rattle.tracing_tree_spans.specs.Registry.Spans.{Span, KeptSpan, child_less}
-use Rattle.tracing_tree_spans.specs.Registry.Forest.{has_id, is_child_of, parent_of, path_of, path_of_any, path_among, children_of, IsForest}
+use Rattle.tracing_tree_spans.specs.Registry.Forest.{has_id, is_child_of, parent_of, path_of, path_of_any, children_of, IsGrown, IsGrownForest}
 use Rattle.tracing_tree_spans.specs.Registry.Registered.{IsRising, alone}
 use Rattle.tracing_tree_spans.specs.Registry.Kept.{keeps_id, kept_at, spans_of, change_kept, leave_out, with_child, kept_path, IsTied}
 use Rattle.tracing_tree_context.specs.declared.context.Id.{Id}
-use Rattle.tracing_tree_spans.proofs.ForestLaws.{path-newest, path-older, is_some-find, same_id-eq}
-use Rattle.tracing_tree_spans.proofs.PathLaws.{path_of-none}
-use Rattle.tracing_tree_spans.proofs.RegistryLaws.{IsSame, changed, changed-same, reverse-map, without, reverse-filter, any-reverse}
+use Rattle.tracing_tree_spans.proofs.ForestLaws.{path_among, path-newest, path-older, is_some-find, same_id-eq}
+use Rattle.tracing_tree_spans.proofs.PathLaws.{path_of-none, path_of-among, path_of_any-among}
+use Rattle.tracing_tree_spans.proofs.RegistryLaws.{IsSame, changed, changed-same, without, any-reverse}
+use Rattle.tracing_tree_spans.proofs.GrownForests.{path_of-mapped}
 use Rattle.tracing_tree_spans.proofs.SpanLists.{all_above}
 use Rattle.tracing_tree_spans.proofs.NewestLaws.{filter-missing, no-child}
-use Rattle.tracing_tree_spans.proofs.ClosingSteps.{path-changed, path-without}
+use Rattle.tracing_tree_spans.proofs.ClosingSteps.{path_of-without}
 use Rattle.tracing_tree_spans.proofs.SlotLists.{leave-none}
 use Rattle.tracing_tree_spans.proofs.KeptLists.{found-span, spans-changed, spans-same, spans-child, spans-left, spans-childless, found-before, found-left, times, counted-more, without_child, counted-less}
 
@@ -47,7 +48,7 @@ children-changed u h j (x ∷ spans) =
 
 -- changed spans have the same paths
 pub path_of-changed : (u : Span → Span) → IsSame u → (spans : List Span) (j : Id) → path_of (alone (map u spans)) j ≡ path_of (alone spans) j
-path_of-changed u h spans j = ap (λ xs. path_among xs j) (reverse-map u spans) ∙ path-changed u h (reverse spans) j
+path_of-changed u h spans j = path_of-mapped u h spans None None j
 
 pub tied-change : (change : KeptSpan → KeptSpan) (u : Span → Span) → KeepsTies change u → (i : Id) (nodes : List KeptSpan) → IsTied nodes →
     IsTied (change_kept change i nodes)
@@ -89,15 +90,15 @@ tied-change change u h i nodes tied = record { paths = paths; children = childre
 -- ---- the path of a parent
 
 -- a kept path is the path
-pub kept_path-is : (nodes : List KeptSpan) → IsForest (alone (spans_of nodes)) → IsTied nodes → (o : Option Id) →
+pub kept_path-is : (nodes : List KeptSpan) → IsTied nodes → (o : Option Id) →
     kept_path nodes o ≡ path_of_any (alone (spans_of nodes)) o
-kept_path-is nodes formed tied None = refl
-kept_path-is nodes formed tied (Some p) = by (kept_at nodes p) refl
+kept_path-is nodes tied None = refl
+kept_path-is nodes tied (Some p) = by (kept_at nodes p) refl
   where
     by : (o : Option KeptSpan) → kept_at nodes p ≡ o → option_map_or (λ (node : KeptSpan). node.path) o [] ≡ path_of (alone (spans_of nodes)) p
     by None e =
         let gone : find (has_id p) (spans_of nodes) ≡ None = found-span nodes p ∙ ap (λ o. option_map (λ (node : KeptSpan). node.span) o) e in
-        sym (path_of-none (alone (spans_of nodes)) formed p (ap (λ (o : Option Span). is_some o) gone))
+        sym (path_of-none (alone (spans_of nodes)) p (ap (λ (o : Option Span). is_some o) gone))
     by (Some node) e = tied.paths p node e
 
 -- ---- a span comes
@@ -113,13 +114,24 @@ old-not spans s j t fresh found = by (has_id j s) refl
         let here : list_any (has_id j) spans ≡ true = sym (is_some-find (has_id j) spans) ∙ ap (λ (o : Option Span). is_some o) found in
         absurd (let both : true ≡ false = sym here ∙ subst (λ k. list_any (has_id k) spans ≡ false) same fresh in cc)
 
+-- the newest span stands before all others, once they are turned round
+path_of-pushed : (spans : List Span) (s : Span) → IsGrown (s ∷ reverse spans) → (j : Id) → path_of (alone (spans ++ s ∷ [])) j ≡ path_among (s ∷ reverse spans) j
+path_of-pushed spans s grown j =
+    let turned : reverse (spans ++ s ∷ []) ≡ s ∷ reverse spans = reverse-append spans (s ∷ []) in
+    path_of-among (alone (spans ++ s ∷ [])) (subst IsGrown (sym turned) grown) j ∙ ap (λ xs. path_among xs j) turned
+
 -- the newest span changes no older path
-path_of-more : (spans : List Span) (s : Span) (j : Id) → has_id j s ≡ false → path_of (alone (spans ++ s ∷ [])) j ≡ path_of (alone spans) j
-path_of-more spans s j other = ap (λ xs. path_among xs j) (reverse-append spans (s ∷ [])) ∙ path-older s (reverse spans) j other
+pub path_of-more : (spans : List Span) (s : Span) → IsGrown (s ∷ reverse spans) → (j : Id) → has_id j s ≡ false →
+    path_of (alone (spans ++ s ∷ [])) j ≡ path_of (alone spans) j
+path_of-more spans s grown j other =
+    path_of-pushed spans s grown j ∙ path-older s (reverse spans) j other ∙ sym (path_of-among (alone spans) grown.2 j)
 
 -- its own path is its parent's and itself
-path_of-new : (spans : List Span) (s : Span) (j : Id) → has_id j s ≡ true → path_of (alone (spans ++ s ∷ [])) j ≡ path_of_any (alone spans) s.parent ++ j ∷ []
-path_of-new spans s j own = ap (λ xs. path_among xs j) (reverse-append spans (s ∷ [])) ∙ path-newest s (reverse spans) j own
+pub path_of-new : (spans : List Span) (s : Span) → IsGrown (s ∷ reverse spans) → (j : Id) → has_id j s ≡ true →
+    path_of (alone (spans ++ s ∷ [])) j ≡ path_of_any (alone spans) s.parent ++ j ∷ []
+path_of-new spans s grown j own =
+    path_of-pushed spans s grown j ∙ path-newest s (reverse spans) j own
+    ∙ ap (λ (path : List Id). path ++ j ∷ []) (sym (path_of_any-among (alone spans) grown.2 s.parent))
 
 -- it is one more child of its parent
 children-more : (spans : List Span) (s : Span) (j : Id) → length (children_of (alone (spans ++ s ∷ [])) j) ≡ length (children_of (alone spans) j) + times j s.parent
@@ -130,7 +142,7 @@ children-more spans s j =
     ≡ length (filter (is_child_of j) spans) + (if b then 1 else 0)) [ true ↦ refl | false ↦ refl ]
 
 -- an id that no span has is no parent
-children-none : (spans : List Span) (j : Id) → IsForest (alone spans) → list_any (has_id j) spans ≡ false → length (children_of (alone spans) j) ≡ 0
+children-none : (spans : List Span) (j : Id) → IsGrownForest (alone spans) → list_any (has_id j) spans ≡ false → length (children_of (alone spans) j) ≡ 0
 children-none spans j formed fresh =
     let none : list_any (is_child_of j) spans ≡ false =
     sym (any-reverse (is_child_of j) spans) ∙ no-child j (reverse spans) formed.grown (any-reverse (has_id j) spans ∙ fresh) in
@@ -143,7 +155,7 @@ pub record IsNext (nodes : List KeptSpan) (node : KeptSpan) : Type 0 where
   pub path : node.path ≡ kept_path nodes node.span.parent ++ node.span.id ∷ []
   pub childless : node.children ≡ 0
 
-pub tied-push : (nodes : List KeptSpan) (node : KeptSpan) → IsForest (alone (spans_of nodes)) → IsTied nodes → IsNext nodes node →
+pub tied-push : (nodes : List KeptSpan) (node : KeptSpan) → IsGrownForest (alone (spans_of nodes)) → IsTied nodes → IsNext nodes node →
     IsTied (with_child node.span.parent (nodes ++ node ∷ []))
 tied-push nodes node formed tied new = record {
   paths = λ j n e. let m = counted-more node.span.parent (nodes ++ node ∷ []) j n e in
@@ -154,6 +166,16 @@ tied-push nodes node formed tied new = record {
   where
     spans : spans_of (with_child node.span.parent (nodes ++ node ∷ [])) ≡ spans_of nodes ++ node.span ∷ []
     spans = spans-child node.span.parent (nodes ++ node ∷ []) ∙ map-append (λ (n : KeptSpan). n.span) nodes (node ∷ [])
+
+    among : (o : Option Id) → option_map_or (λ above. list_any (has_id above) (spans_of nodes)) o true ≡ true →
+        option_map_or (λ above. list_any (has_id above) (reverse (spans_of nodes))) o true ≡ true
+    among None h = refl
+    among (Some above) h = any-reverse (has_id above) (spans_of nodes) ∙ h
+
+    grown : IsGrown (node.span ∷ reverse (spans_of nodes))
+    grown =
+        let fresh : list_any (has_id node.span.id) (reverse (spans_of nodes)) ≡ false = any-reverse (has_id node.span.id) (spans_of nodes) ∙ new.fresh in
+        (ap (λ b. not b) fresh, among node.span.parent new.parent, formed.grown)
 
     found : (j : Id) (m : KeptSpan) → kept_at (nodes ++ node ∷ []) j ≡ Some m → option_or (kept_at nodes j) (kept_at (node ∷ []) j) ≡ Some m
     found j m e = sym (find-append (keeps_id j) nodes (node ∷ [])) ∙ e
@@ -172,14 +194,14 @@ tied-push nodes node formed tied new = record {
         m.path ≡ path_of (alone (spans_of nodes ++ node.span ∷ [])) j
     path-by j m (Some k) e h =
         let same : k ≡ m = same_Some k m h in
-        sym (ap (λ (n : KeptSpan). n.path) same) ∙ tied.paths j k e ∙ sym (path_of-more (spans_of nodes) node.span j (old j k e))
+        sym (ap (λ (n : KeptSpan). n.path) same) ∙ tied.paths j k e ∙ sym (path_of-more (spans_of nodes) node.span grown j (old j k e))
     path-by j m None e h =
         let here = own j m h in
         let id : node.span.id ≡ j = same_id-eq node.span.id j here.0 in
         sym (ap (λ (n : KeptSpan). n.path) here.1) ∙ new.path
-        ∙ ap (λ path. path ++ node.span.id ∷ []) (kept_path-is nodes formed tied node.span.parent)
+        ∙ ap (λ path. path ++ node.span.id ∷ []) (kept_path-is nodes tied node.span.parent)
         ∙ ap (λ k. path_of_any (alone (spans_of nodes)) node.span.parent ++ k ∷ []) id
-        ∙ sym (path_of-new (spans_of nodes) node.span j here.0)
+        ∙ sym (path_of-new (spans_of nodes) node.span grown j here.0)
 
     path : (j : Id) (m : KeptSpan) → kept_at (nodes ++ node ∷ []) j ≡ Some m → m.path ≡ path_of (alone (spans_of nodes ++ node.span ∷ [])) j
     path j m e = path-by j m (kept_at nodes j) refl (found j m e)
@@ -203,13 +225,6 @@ tied-push nodes node formed tied new = record {
     count j m e = count-by j m (kept_at nodes j) refl (found j m e)
 
 -- ---- a span goes
-
--- without a span without children each other has its path
-pub path_of-without : (i : Id) (spans : List Span) → list_any (is_child_of i) spans ≡ false → (j : Id) → same_id i j ≡ false →
-    path_of (alone (without i spans)) j ≡ path_of (alone spans) j
-path_of-without i spans childless j other =
-    ap (λ xs. path_among xs j) (reverse-filter (λ span. not (has_id i span)) spans)
-    ∙ path-without i (reverse spans) (any-reverse (is_child_of i) spans ∙ childless) j other
 
 -- above an id no span has it
 above-all : (i : Id) (spans : List Span) → all_above i.0 spans ≡ true → without i spans ≡ spans
@@ -247,12 +262,12 @@ children-without i (x ∷ spans) s rising h j = by (λ k. children-without i spa
         rw e (more (is_child_of j x) (filter (is_child_of j) spans) (filter (is_child_of j) (without i spans)) (times j s.parent)
         (ih (subst (λ b. (if b then Some x else find (has_id i) spans) ≡ Some s) e h)))
 
-pub tied-remove : (nodes : List KeptSpan) (i : Id) (node : KeptSpan) → IsRising (spans_of nodes) → IsTied nodes → kept_at nodes i ≡ Some node →
+pub tied-remove : (nodes : List KeptSpan) (i : Id) (node : KeptSpan) → IsGrown (reverse (spans_of nodes)) → IsRising (spans_of nodes) → IsTied nodes → kept_at nodes i ≡ Some node →
     list_any (is_child_of i) (spans_of nodes) ≡ false → IsTied (without_child node.span.parent (leave_out i nodes))
-tied-remove nodes i node rising tied here childless = record {
+tied-remove nodes i node grown rising tied here childless = record {
   paths = λ j n e. let m = counted-less node.span.parent (leave_out i nodes) j n e in
       let there = found-left i nodes j m.0 m.1.before in
-      m.1.path ∙ tied.paths j m.0 there.1 ∙ sym (path_of-without i (spans_of nodes) childless j there.0)
+      m.1.path ∙ tied.paths j m.0 there.1 ∙ sym (path_of-without i (spans_of nodes) grown childless j there.0)
       ∙ ap (λ xs. path_of (alone xs) j) (sym spans);
   children = λ j n e. let m = counted-less node.span.parent (leave_out i nodes) j n e in
       let there = found-left i nodes j m.0 m.1.before in
@@ -304,19 +319,19 @@ child-counted nodes new i p node rising tied here parent e = by (kept_at new p) 
         omega (arith, count, fewer, one)
 
 -- a span goes that counts at its parent
-pub tied-leaf : (nodes left new : List KeptSpan) (i p : Id) (node : KeptSpan) → IsRising (spans_of nodes) → IsTied nodes → kept_at nodes i ≡ Some node →
+pub tied-leaf : (nodes left new : List KeptSpan) (i p : Id) (node : KeptSpan) → IsGrown (reverse (spans_of nodes)) → IsRising (spans_of nodes) → IsTied nodes → kept_at nodes i ≡ Some node →
     list_any (is_child_of i) (spans_of nodes) ≡ false → node.span.parent ≡ Some p → left ≡ leave_out i nodes → new ≡ change_kept child_less p left → IsTied new
-tied-leaf nodes left new i p node rising tied here childless parent e e' =
+tied-leaf nodes left new i p node grown rising tied here childless parent e e' =
     let whole : new ≡ without_child node.span.parent (leave_out i nodes) =
     e' ∙ ap (change_kept child_less p) e ∙ ap (λ o. without_child o (leave_out i nodes)) (sym parent) in
-    subst IsTied (sym whole) (tied-remove nodes i node rising tied here childless)
+    subst IsTied (sym whole) (tied-remove nodes i node grown rising tied here childless)
 
 -- a root goes
-pub tied-root : (nodes new : List KeptSpan) (i : Id) (node : KeptSpan) → IsRising (spans_of nodes) → IsTied nodes → kept_at nodes i ≡ Some node →
+pub tied-root : (nodes new : List KeptSpan) (i : Id) (node : KeptSpan) → IsGrown (reverse (spans_of nodes)) → IsRising (spans_of nodes) → IsTied nodes → kept_at nodes i ≡ Some node →
     list_any (is_child_of i) (spans_of nodes) ≡ false → node.span.parent ≡ None → new ≡ leave_out i nodes → IsTied new
-tied-root nodes new i node rising tied here childless parent e =
+tied-root nodes new i node grown rising tied here childless parent e =
     let whole : new ≡ without_child node.span.parent (leave_out i nodes) = e ∙ ap (λ o. without_child o (leave_out i nodes)) (sym parent) in
-    subst IsTied (sym whole) (tied-remove nodes i node rising tied here childless)
+    subst IsTied (sym whole) (tied-remove nodes i node grown rising tied here childless)
 
 -- the spans that are left
 pub spans-leaf : (nodes left new : List KeptSpan) (i p : Id) → left ≡ leave_out i nodes → new ≡ change_kept child_less p left →

@@ -104,5 +104,5 @@ walk-ends forest i ids None formed h way = sym (append-nil ids) ∙ way
 walk-ends forest i ids (Some j) formed h way = by (span_at forest j) refl h
   where
     by : (o : Option Span) → span_at forest j ≡ o → None ≡ option_map shown_span o → ids ≡ way_up forest (Some i)
-    by None e g = sym (append-nil ids) ∙ ap (λ xs. ids ++ xs) (sym (way-none forest formed j e)) ∙ way
+    by None e g = sym (append-nil ids) ∙ ap (λ xs. ids ++ xs) (sym (way-none forest j e)) ∙ way
     by (Some s) e g = absurd cc

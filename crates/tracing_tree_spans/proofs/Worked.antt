@@ -1,2 +1,3 @@
 -- Examples computed from the definitions.
 pub mod Paths
+pub mod Forests

@@ -27,3 +27,5 @@ mod texts;
 mod timed;
 #[cfg(test)]
 mod timers;
+#[cfg(test)]
+mod turned;

@@ -112,7 +112,8 @@ pub record IsCivilOn (day : ℤ) (nanos : ℕ) (civil : Civil) : Type 0 where
   pub second_in : civil.second < 60
   pub nanosecond_in : civil.nanosecond < 1_000_000_000
 
--- the month of a day of the year, counted from 0: how many months have begun by then
+-- the month, from 1, of a day of the year, which is counted from 0: how many months have begun by
+-- then
 abbrev pub month_on : ℤ → ℕ → ℕ
 month_on year day =
     count_by (λ months. nat_le (days_of_months year months) day) (range_with_len 0 12)
@@ -134,8 +135,8 @@ civil_in year day nanos = record {
   nanosecond = nanos % 1_000_000_000;
 }
 
--- the day number of a count of nanoseconds after the start of 1970, and the nanoseconds after that
--- day's midnight
+-- The number of the day at a count of nanoseconds after the start of 1970. `nanos_of_day` is how
+-- many of them lie after that day's midnight.
 abbrev pub day_at : ℤ → ℤ
 day_at nanos = int_div_euclid nanos (pos 86_400_000_000_000)
 
@@ -209,7 +210,7 @@ timer_with higher text = record {
 abbrev pub utc_timer : Bool → Timer
 utc_timer higher = timer_with higher (λ moment. civil_text (civil_at moment.wall.nanosecond))
 
--- at the offset that applies at an instant
+-- a timer of local date and time; the function gives the offset in seconds at an instant
 abbrev pub local_timer : Bool → (ℤ → ℤ) → Timer
 local_timer higher offset =
     timer_with higher (λ moment. local_text moment.wall.nanosecond (offset moment.wall.nanosecond))

@@ -39,8 +39,8 @@ pub record AreParts (block : List ℕ) (parts : List (List ℕ)) : Type 0 where
   pub without_line_ends : IsTrue (list_all (λ part. not (has_line_end part)) parts)
 
 -- The lines of a row: those of its block, which gets a line end first where rows are drawn with
--- lines. `lines` takes the parts, takes one carriage return from the end of each but the last, and
--- leaves out the last if it is empty.
+-- lines. `lines` splits the text at its line ends, drops one carriage return from the end of each
+-- part but the last, and leaves out the last part if it is empty.
 abbrev pub row_lines : Bool → List ℕ → List (List ℕ)
 row_lines indent_lines block = lines (if indent_lines then block ++ 10 ∷ [] else block)
 
@@ -57,14 +57,15 @@ corners left right from to =
     ++ encode_utf8 right
 
 -- the corners of a span's row; in a verbose row the first stands half an amount further right, and
--- an amount of 1 leaves no room for them
+-- an amount of 1 leaves no room for them, so that spaces stand there
 abbrev pub span_corners : ℕ → ℕ → Bool → ℕ → ℕ → List ℕ
 span_corners left right false amount from = corners left right from (from + amount)
 span_corners left right true amount from =
     if nat_le 2 amount then corners left right (from + amount / 2) (from + amount)
     else columns (from + amount + 1) (code " ")
 
--- the frame of a line, which stands between its prefix and its text: at the left edge
+-- A frame stands between the prefix and the text of a line. This is that of each line of a row at
+-- the left edge.
 abbrev pub edge_frame : SpanMode → List ℕ
 edge_frame (Open verbose) = encode_utf8 (code "┐")
 edge_frame (Retrace verbose) = encode_utf8 (code "┐")
@@ -94,7 +95,7 @@ later_frame mode amount from =
     columns (from + continuation_shift mode) (code " ") ++ encode_utf8 (code "│")
     ++ columns amount (code " ")
 
--- the rows of a parent round its child stand one level further right
+-- where rows are drawn with lines, those of a parent round its child stand one level further right
 abbrev pub shift_of : SpanMode → ℕ
 shift_of PreOpen = 1
 shift_of PostClose = 1
@@ -118,7 +119,7 @@ mark_before_corner (Close verbose) = Some (code "┐")
 mark_before_corner PostClose = Some (code "┐")
 mark_before_corner mode = None
 
--- a row that opens has it after it; one that is retraced has none, nor has an event
+-- a row that opens has its mark after it; one that is retraced has none, nor has an event
 abbrev pub mark_after_corner : SpanMode → Option ℕ
 mark_after_corner PreOpen = Some (code "┘")
 mark_after_corner (Open verbose) = Some (code "┘")
@@ -145,13 +146,13 @@ module _ (settings : Settings) where
 
   -- ---- wrap marks
 
-  -- the levels wrap round after this one
+  -- rows are drawn with lines, and the levels wrap round after this one, which isn't 0
   abbrev pub is_last_before_wrap : ℕ → Bool
   is_last_before_wrap level =
       settings.indent_lines && nat_lt 0 level && ((level + 1) % settings.wraparound == 0)
 
-  -- after the last level before the wrap: `─` up to the wrapped level, and a corner, if the row has
-  -- one
+  -- the wrap mark of a row that has a corner for it: where the levels wrap round after the row's
+  -- own, a line of `─` up to the wrapped level, and the corner
   abbrev pub mark_line : Row → Option ℕ → List ℕ
   mark_line row None = []
   mark_line row (Some corner) =
@@ -173,6 +174,6 @@ module _ (settings : Settings) where
   abbrev pub level_used : SpanMode → ℕ → ℕ
   level_used mode level = wrapped_level level + (if settings.indent_lines then shift_of mode else 0)
 
-  -- the width passes the greatest number of its type
+  -- the width passes the greatest `usize`, 2^64 - 1
   abbrev pub is_too_wide : Row → Bool
   is_too_wide row = nat_le (2 ^ 64) (level_used row.mode row.level * settings.indent_amount)

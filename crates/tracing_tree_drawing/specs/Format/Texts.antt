@@ -39,7 +39,7 @@ span_fields [] = []
 span_fields (first ∷ others) =
     join_by (λ piece. piece) (codes ", ") (shown_field first ∷ map named_value others)
 
--- fields with these names belong to a log record, and an event doesn't show them
+-- a field whose name begins with `log.` belongs to a log record, and an event doesn't show it
 abbrev pub is_log_field : Field → Bool
 is_log_field field = starts_with nat_eq field.name (codes "log.")
 

@@ -19,7 +19,8 @@ is_plain_at_edge (Retrace verbose) lines = is_one_line lines
 is_plain_at_edge PostClose lines = true
 is_plain_at_edge Event lines = is_one_line lines && list_all is_bare_text lines
 
--- no prefix, no level that wraps, and what is drawn at the left edge is plain
+-- no prefix, a level below the last before the wrap, where a wrap mark may stand, and what is drawn
+-- at the left edge is plain
 abbrev pub is_readable_row : Settings → Row → Bool
 is_readable_row settings row =
     (length row.prefix == 0) && nat_lt (row.level + 1) settings.wraparound
@@ -51,13 +52,13 @@ pub record IsDrawing (amount : ℕ) (text : List ℕ) (settings : Settings)
   pub readable : IsReadable settings rows
   pub drawn : text ≡ draw settings rows
 
--- whatever readable rows the text is the drawing of, these are what they are read back as
+-- if the text is the drawing of readable rows, what is read is these rows, as `text_row` shows them
 abbrev pub ReadsDrawing : ℕ → List ℕ → List TextRow → Type 0
 ReadsDrawing amount text read =
     (settings : Settings) (rows : List Row) → IsDrawing amount text settings rows →
     read ≡ text_rows rows
 
--- of the drawing of readable rows no line is a fault
+-- if the text is the drawing of readable rows, the fault is `Memory`
 abbrev pub ReadsNoDrawing : ℕ → List ℕ → ReadFault → Type 0
 ReadsNoDrawing amount text fault =
     (settings : Settings) (rows : List Row) → IsDrawing amount text settings rows → fault ≡ Memory

@@ -9,7 +9,8 @@ use Rattle.tracing_tree_drawing.specs.declared.rows.paths.EventPath.{EventPath}
 use Rattle.tracing_tree_drawing.specs.declared.rows.row.Shape.{Shape}
 use Rattle.tracing_tree_drawing.specs.declared.rows.row.Shape.TheVariants.{PreOpen, OpenRoot, Open, CloseRoot, Close, PostClose, Event}
 
--- a row as it is read back: its shape, its level and its lines
+-- A row as it is read back: its shape, its level and its lines. Contracts see the `Row` of the code's
+-- rows so. A parent's row has the level of the parent, one less than where it is drawn.
 pub record TextRow : Type 0 where
   pub shape : Shape
   pub level : ℕ
@@ -63,7 +64,7 @@ is_event Event = true
 
 -- ---- what may be a row
 
--- the characters that a drawing is made of, without the horizontal one
+-- the characters with which a frame can begin, which are all but the horizontal one
 abbrev pub drawing_marks : List ℕ
 drawing_marks =
     code "┐" ∷ code "┘" ∷ code "└" ∷ code "┌" ∷ code "├" ∷ code "│" ∷ []
@@ -78,7 +79,7 @@ begins_with_any characters text =
     list_any (λ character. starts_with (λ x y. x == y) text (encode_utf8_all (character ∷ [])))
     characters
 
--- a text that has a first character past its spaces, none of those that rows are drawn with
+-- a text not of spaces alone, whose first character past its spaces is none of these marks
 abbrev pub is_bare_text : List ℕ → Bool
 is_bare_text text =
     not (length (without_start_spaces text) == 0)
@@ -87,7 +88,7 @@ is_bare_text text =
 abbrev pub is_one_line : List (List ℕ) → Bool
 is_one_line lines = length lines == 1
 
--- an event at level 0 has one line, which is such a text
+-- what an event at level 0 has: one line, which is a bare text
 abbrev pub is_bare_line : List (List ℕ) → Bool
 is_bare_line lines = is_one_line lines && list_all is_bare_text lines
 
@@ -104,7 +105,8 @@ fits_shape Event level lines = nat_le 1 level || is_bare_line lines
 abbrev pub is_unbroken : List ℕ → Bool
 is_unbroken text = not (has_line_end text)
 
--- what a row is, always
+-- what each `Row` of the code is: at least one line, no line end in a line, and a shape that may have
+-- this level and these lines
 abbrev pub is_text_row : TextRow → Bool
 is_text_row row =
     nat_le 1 (length row.lines) && list_all is_unbroken row.lines
@@ -156,8 +158,8 @@ IsUnreadable amount text = (rows : List TextRow) → ¬ (IsReading amount text r
 abbrev pub ended : List (List ℕ) → List ℕ
 ended lines = flat_map (λ line. line ++ 10 ∷ []) lines
 
--- the first lines of a text, each with its line end; all of it if there are no more, though its
--- last line may lack one
+-- the first lines of a text, each with its line end; the whole text if it has no more than these,
+-- though its last line may lack its end
 abbrev pub first_lines : ℕ → List ℕ → List ℕ
 first_lines n text =
     if nat_lt n (length (parts_of text)) then ended (take n (parts_of text)) else text

@@ -383,11 +383,11 @@ impl<'a> TextReader<'a> {
     }
 }
 
-/// The rows of a drawing. The caller must ensure that the amount is 2 or more.
+/// The rows whose drawing the text is: no other rows have that text. The caller must ensure that the amount is 2 or more.
 ///
-/// `Line` where a line is no line of a row, or the last line has no line end; `Memory` where memory is refused. A drawing that isn't
-/// readable (docs/FORMATS.md, 'Rows and their reader'), as one with prefixes, wrap marks or another amount, may be read as other rows
-/// than were drawn.
+/// `Line(n)` where line n, from 1, is the first that is no line of a row, or the last one without a line end; `Memory` where memory
+/// is refused. A drawing that isn't readable (docs/FORMATS.md, 'Rows and their reader'), as one with prefixes, wrap marks or another
+/// amount, may be read as other rows than were drawn.
 ///
 /// ```rust
 /// read_rows(alloc, "┐a\n├─ INFO x\n┘\n", 2) // `OpenRoot`, `Event` of level 1, `CloseRoot`

@@ -1,14 +1,14 @@
 -- What changes of a forest leave of its paths.
-use Rattle.std.proofs.Common.{◌≡◌, ℕ, nat_lt, Bool, true, false, ◌&&◌, List, [], ◌∷◌, ◌++◌, map, reverse, find, Option, Some, None, option_map, if◌then◌else◌, arith, refl, sym, ap, ◌∙◌, subst}
+use Rattle.std.proofs.Common.{◌≡◌, ℕ, nat_lt, Bool, true, false, ◌&&◌, List, [], ◌∷◌, ◌++◌, map, reverse, Option, Some, None, arith, refl, sym, ap, ◌∙◌, subst}
 use Rattle.std.specs.Option.{option_map_or}
 use Rattle.std.specs.List.{list_all, last_or}
 use Rattle.tracing_tree_spans.specs.Registry.Ids.{same_id}
 use Rattle.tracing_tree_spans.specs.Registry.Spans.{Span}
-use Rattle.tracing_tree_spans.specs.Registry.Forest.{Forest, has_id, is_live, path_among, path_of, path_of_any, Descends, IsGrown, IsForest}
+use Rattle.tracing_tree_spans.specs.Registry.Forest.{Forest, is_live, path_of, path_of_any, Descends, IsGrown, IsForest, IsGrownForest}
 use Rattle.tracing_tree_context.specs.declared.context.Id.{Id}
-use Rattle.tracing_tree_spans.proofs.ForestLaws.{path_of-is_path}
-use Rattle.tracing_tree_spans.proofs.PathLaws.{path_above, path_of-only, path_of-none}
+use Rattle.tracing_tree_spans.proofs.PathLaws.{path_of-is_path, path_of-only, path_of-none}
 use Rattle.tracing_tree_spans.proofs.RegistryLaws.{IsSame, grown-changed, reverse-map}
+use Rattle.tracing_tree_spans.proofs.GrownForests.{path_of-mapped}
 
 -- ---- parts of a path
 
@@ -33,60 +33,36 @@ not-empty [] back j e = cc
 not-empty (x ∷ front) back j e = cc
 
 -- a span that has a path is live
-pub path-is_live : (forest : Forest) → IsForest forest → (i j : Id) (front back : List Id) → path_of forest i ≡ front ++ j ∷ back → is_live forest i ≡ true
-path-is_live forest formed i j front back e = by (is_live forest i) refl
+pub path-is_live : (forest : Forest) (i j : Id) (front back : List Id) → path_of forest i ≡ front ++ j ∷ back → is_live forest i ≡ true
+path-is_live forest i j front back e = by (is_live forest i) refl
   where
     by : (b : Bool) → is_live forest i ≡ b → b ≡ true
     by true h = refl
-    by false h = not-empty front back j (sym (path_of-none forest formed i h) ∙ e)
+    by false h = not-empty front back j (sym (path_of-none forest i h) ∙ e)
 
 -- the path of a span on a path is the path up to it
 pub path-front : (forest : Forest) → IsForest forest → (i j : Id) (front back : List Id) → path_of forest i ≡ front ++ j ∷ back →
     path_of forest j ≡ front ++ j ∷ []
 path-front forest formed i j front back e =
-    let live = path-is_live forest formed i j front back e in
+    let live = path-is_live forest i j front back e in
     let whole : Descends forest None (front ++ j ∷ back) = subst (λ path. Descends forest None path) e ((path_of-is_path forest formed i live).descends) in
-    sym (path_of-only forest formed j (front ++ j ∷ []) (record {
+    sym (path_of-only forest j (front ++ j ∷ []) (record {
       descends = descends-front forest None front back j whole;
       ends = last-front None front j;
     }))
 
 -- ---- changes that leave ids and parents
 
-pub path_among-same : (u : Span → Span) → IsSame u → (spans : List Span) (i : Id) → path_among (map u spans) i ≡ path_among spans i
-path_among-same u h [] i = refl
-path_among-same u h (x ∷ older) i =
-    ap (λ (k : Id). if same_id k i then option_map_or (λ above. path_among (map u older) above) (u x).parent [] ++ i ∷ [] else path_among (map u older) i) (h.ids x)
-    ∙ ap (λ (o : Option Id). if has_id i x then option_map_or (λ above. path_among (map u older) above) o [] ++ i ∷ [] else path_among (map u older) i) (h.parents x)
-    ∙ ap (λ (path : List Id). if has_id i x then path ++ i ∷ [] else path_among (map u older) i) (up x.parent (λ j. path_among-same u h older j))
-    ∙ ap (λ (path : List Id). if has_id i x then path_above older x.parent ++ i ∷ [] else path) (path_among-same u h older i)
-  where
-    up : (o : Option Id) → ((j : Id) → path_among (map u older) j ≡ path_among older j) →
-        option_map_or (λ above. path_among (map u older) above) o [] ≡ path_above older o
-    up None ih = refl
-    up (Some above) ih = ih above
-
 -- the forest with each span changed
 abbrev pub changed_all : (Span → Span) → Forest → Forest
 changed_all u forest = record forest { spans = map u forest.spans }
 
 pub path_of-same : (u : Span → Span) → IsSame u → (forest : Forest) (i : Id) → path_of (changed_all u forest) i ≡ path_of forest i
-path_of-same u h forest i =
-    ap (λ xs. path_among xs i) (reverse-map u forest.spans) ∙ path_among-same u h (reverse forest.spans) i
+path_of-same u h forest i = path_of-mapped u h forest.spans forest.next forest.next i
 
 pub path_of_any-same : (u : Span → Span) → IsSame u → (forest : Forest) (o : Option Id) → path_of_any (changed_all u forest) o ≡ path_of_any forest o
 path_of_any-same u h forest None = refl
 path_of_any-same u h forest (Some i) = path_of-same u h forest i
-
--- a span is found changed
-pub find-same : (u : Span → Span) → IsSame u → (i : Id) (spans : List Span) → find (has_id i) (map u spans) ≡ option_map u (find (has_id i) spans)
-find-same u h i [] = refl
-find-same u h i (x ∷ spans) = ap (λ (k : Id). if same_id k i then Some (u x) else find (has_id i) (map u spans)) (h.ids x) ∙ by (find-same u h i spans) (has_id i x) refl
-  where
-    by : find (has_id i) (map u spans) ≡ option_map u (find (has_id i) spans) → (b : Bool) → has_id i x ≡ b →
-        (if has_id i x then Some (u x) else find (has_id i) (map u spans)) ≡ option_map u (find (has_id i) (x ∷ spans))
-    by ih true e = rw e refl
-    by ih false e = rw e ih
 
 -- the same ids are below a number
 below-same : (u : Span → Span) → IsSame u → (n : ℕ) (spans : List Span) →
@@ -102,7 +78,7 @@ next-same : (u : Span → Span) → IsSame u → (spans : List Span) (o : Option
 next-same u h spans None = refl
 next-same u h spans (Some next) = below-same u h next.0 spans
 
-pub forest-same : (u : Span → Span) → IsSame u → (forest : Forest) → IsForest forest → IsForest (changed_all u forest)
+pub forest-same : (u : Span → Span) → IsSame u → (forest : Forest) → IsGrownForest forest → IsGrownForest (changed_all u forest)
 forest-same u h forest formed = record {
   grown = subst IsGrown (sym (reverse-map u forest.spans)) (grown-changed u h (reverse forest.spans) formed.grown);
   below_next = next-same u h forest.spans forest.next ∙ formed.below_next;

@@ -18,7 +18,7 @@ use Rattle.tracing_tree_layer.specs.Layer.Turns.{retrace_to, then_turn, close_tu
 use Rattle.tracing_tree_layer.specs.Laws.Reading.{close_is_on_path, closes_are_on_path}
 use Rattle.tracing_tree_layer.proofs.Reading.Changes.{no_both, changed_all}
 use Rattle.tracing_tree_layer.proofs.Reading.Left.{Each, GoesAlong, is_gone, closing-along}
-use Rattle.tracing_tree_layer.proofs.Reading.Kept.{IsFollowed, IsAllShown, IsLatest, IsQuiet, followed-quiet, latest-same, all_shown-quiet, marked, marked-same, printed-marked, followed-left, latest-left, all_shown-left, latest-retrace, printed-live}
+use Rattle.tracing_tree_layer.proofs.Reading.Kept.{IsFollowed, well-formed, IsAllShown, IsLatest, IsQuiet, followed-quiet, latest-same, all_shown-quiet, marked, marked-same, printed-marked, followed-left, latest-left, all_shown-left, latest-retrace, printed-live}
 use Rattle.tracing_tree_layer.proofs.Reading.Turns.{IsKeptUp, IsLatestAfter, kept-quiet, latest-quiet, kept-retrace, kept-then, latest-then, parent-on_path, parent-found, kept-close_turn, latest-close_turn, IsShown, IsParentOn}
 
 -- ---- forests whose spans have changed
@@ -178,13 +178,13 @@ latest-close settings context i forest last rows f all on premise h =
     by : (b : Bool) → (settings.deferred_spans && not (is_printed forest i)) ≡ b → (c : Bool) → retraces_before_close settings forest last i ≡ c →
         IsLatestAfter rows (close_by settings context forest last i b c)
     by true e c k = latest-quiet forest last rows h
-    by false e false k = latest-close_turn settings context i forest last rows f.formed h (parent-on settings forest last i all on e k premise)
+    by false e false k = latest-close_turn settings context i forest last rows (well-formed f) h (parent-on settings forest last i all on e k premise)
     by false e true k =
         let turn : Turn = retrace_to settings context forest last i in
         let up : IsKeptUp settings rows turn = kept-retrace settings context forest last rows i f all (printed-live forest i (retraced-printed settings forest last i k)) in
         latest-then rows turn (close_turn settings context i)
-        (latest-close_turn settings context i turn.forest turn.last (rows ++ turn.rows) up.followed.formed
-        (latest-retrace settings context forest f.formed last rows i h) (up-parent turn.forest up.followed.formed (parent_of turn.forest i) refl))
+        (latest-close_turn settings context i turn.forest turn.last (rows ++ turn.rows) (well-formed up.followed)
+        (latest-retrace settings context forest (well-formed f) last rows i h) (up-parent turn.forest (well-formed up.followed) (parent_of turn.forest i) refl))
 
 -- ---- closes one after another
 

@@ -6,16 +6,17 @@ use Rattle.std.proofs.lemmas.Bool.{cases_lt, or_cases, and_parts}
 use Rattle.tracing_tree_drawing.specs.Format.Settings.{Settings}
 use Rattle.tracing_tree_spans.specs.Registry.Ids.{same_id}
 use Rattle.tracing_tree_spans.specs.Registry.Spans.{Span, printed_span}
-use Rattle.tracing_tree_spans.specs.Registry.Forest.{Forest, has_id, span_at, is_live, is_printed, path_of, path_of_any, IsForest, mark_all, mark_printed, fresh_ids, add_span, any_unless_live, without_spans}
+use Rattle.tracing_tree_spans.specs.Registry.Forest.{Forest, has_id, span_at, is_live, is_printed, path_of, path_of_any, IsForest, IsGrownForest, mark_all, mark_printed, fresh_ids, add_span, any_unless_live, without_spans}
 use Rattle.tracing_tree_drawing.specs.Format.Picture.{Row}
 use Rattle.tracing_tree_context.specs.declared.context.Id.{Id}
 use Rattle.tracing_tree_context.specs.declared.context.Context.{Context}
 use Rattle.tracing_tree_spans.proofs.ForestLaws.{same_id-eq}
 use Rattle.tracing_tree_spans.proofs.PathLaws.{path_of-none}
+use Rattle.tracing_tree_spans.proofs.GrownForests.{as_forest}
 use Rattle.tracing_tree_spans.proofs.SpanLists.{find-id}
-use Rattle.tracing_tree_spans.proofs.RegistryLaws.{IsSame, changed}
+use Rattle.tracing_tree_spans.proofs.RegistryLaws.{IsSame, changed, find-same}
 use Rattle.tracing_tree_layer.specs.Layer.Turns.{fresh_rows}
-use Rattle.tracing_tree_layer.proofs.Reading.Changes.{same-refl, no_both, changed_all, path_of-same, path_of_any-same, find-same, forest-same}
+use Rattle.tracing_tree_layer.proofs.Reading.Changes.{same-refl, no_both, changed_all, path_of-same, path_of_any-same, forest-same}
 use Rattle.tracing_tree_layer.proofs.Reading.Newest.{is_given, path_of-other, find-new, live-given, given-other, given-more, forest-grown}
 use Rattle.tracing_tree_layer.proofs.Reading.Left.{Each, GoesAlong, is_gone, forest-left, path_of-kept, find-kept, find-gone}
 use Rattle.tracing_tree_layer.proofs.Reading.Parts.{in_left, in_right, in_either, at_left, common-left, common-right, common-same, path-within, path-places}
@@ -26,10 +27,13 @@ use Rattle.tracing_tree_layer.proofs.Reading.Seen.{Opens, seen, seen-append, fre
 -- Of the forest, the last span and the rows so far: the forest is well-formed, the last span was given out, and the rows have
 -- an opening row for each span on the path of a printed span and on that of the last.
 pub record IsFollowed (forest : Forest) (last : Option Id) (rows : List Row) : Type 0 where
-  pub formed : IsForest forest
+  pub formed : IsGrownForest forest
   pub given : option_map_or (is_given forest) last true ≡ true
   pub shown : (i : Id) → is_printed forest i ≡ true → Opens rows (path_of forest i)
   pub reached : Opens rows (path_of_any forest last)
+
+pub well-formed : {forest : Forest} {last : Option Id} {rows : List Row} → IsFollowed forest last rows → IsForest forest
+well-formed {forest} f = as_forest forest f.formed
 
 -- where spans are not deferred all are printed
 abbrev pub IsAllShown : Settings → Forest → Type 0
@@ -223,7 +227,7 @@ followed-retrace settings context forest last rows i f live =
     let opens : Opens after (path_of forest i) = fresh-whole settings context forest last rows i f.reached in
     followed-marks fresh forest (Some i) after
     (followed-last forest last after i (followed-more forest last rows (fresh_rows settings context forest fresh) f) live opens)
-    (fresh-marks forest f.formed last after i opens)
+    (fresh-marks forest (well-formed f) last after i opens)
 
 -- the rows of the fresh spans are the latest of their levels, and those above stay
 pub latest-fresh : (settings : Settings) (context : Context) (forest : Forest) → IsForest forest → (last : Option Id) (rows : List Row) (i : Id) → IsLatest forest last rows →
@@ -262,15 +266,15 @@ latest-retrace settings context forest formed last rows i h =
 given-not : (forest : Forest) (s : Span) (i : Id) → forest.next ≡ Some s.id → is_given forest i ≡ true → has_id i s ≡ false
 given-not forest s i next h = given-other forest i s.id next h
 
-pub path_of_any-new : (forest : Forest) (s : Span) (last : Option Id) → forest.next ≡ Some s.id → option_map_or (is_given forest) last true ≡ true →
+pub path_of_any-new : (forest : Forest) (s : Span) → IsGrownForest (add_span s forest) → (last : Option Id) → forest.next ≡ Some s.id → option_map_or (is_given forest) last true ≡ true →
     path_of_any (add_span s forest) last ≡ path_of_any forest last
-path_of_any-new forest s None next h = refl
-path_of_any-new forest s (Some l) next h = path_of-other s forest l (given-not forest s l next h)
+path_of_any-new forest s new None next h = refl
+path_of_any-new forest s new (Some l) next h = path_of-other s forest new l (given-not forest s l next h)
 
 -- a span that is printed after was printed before, and has the path that it had
-printed-new : (forest : Forest) → IsForest forest → (s : Span) (i : Id) → forest.next ≡ Some s.id → s.kept.written ≡ false → is_printed (add_span s forest) i ≡ true →
+printed-new : (forest : Forest) → IsGrownForest forest → (s : Span) → IsGrownForest (add_span s forest) → (i : Id) → forest.next ≡ Some s.id → s.kept.written ≡ false → is_printed (add_span s forest) i ≡ true →
     (is_printed forest i ≡ true) × (path_of (add_span s forest) i ≡ path_of forest i)
-printed-new forest formed s i next plain h =
+printed-new forest formed s new i next plain h =
     by (span_at forest i) refl (sym (ap (λ (o : Option Span). option_map_or (λ t. t.kept.written) o false) (find-new s forest i)) ∙ h)
   where
     none : (b : Bool) → option_map_or (λ (t : Span). t.kept.written) (if b then Some s else None) false ≡ true → ⊥
@@ -283,7 +287,7 @@ printed-new forest formed s i next plain h =
     by (Some t) e k =
         let live : is_live forest i ≡ true = ap (λ (o : Option Span). is_some o) e in (
           ap (λ (o : Option Span). option_map_or (λ t. t.kept.written) o false) e ∙ k,
-          path_of-other s forest i (given-not forest s i next (live-given forest formed i live)),
+          path_of-other s forest new i (given-not forest s i next (live-given forest formed i live)),
         )
 
 given-any : (forest : Forest) (s : Span) (last : Option Id) → forest.next ≡ Some s.id → option_map_or (is_given forest) last true ≡ true →
@@ -294,21 +298,24 @@ given-any forest s (Some l) next h = given-more forest s s.id l next refl h
 pub followed-new : (forest : Forest) (last : Option Id) (rows : List Row) (s : Span) → IsFollowed forest last rows → forest.next ≡ Some s.id → s.kept.written ≡ false →
     any_unless_live forest s.parent ≡ None → IsFollowed (add_span s forest) last rows
 followed-new forest last rows s f next plain found = record {
-  formed = forest-grown forest s.id s f.formed next refl found;
+  formed = new;
   given = given-any forest s last next f.given;
   shown = λ i h.
-      let was = printed-new forest f.formed s i next plain h in
+      let was = printed-new forest f.formed s new i next plain h in
       opens-same rows (path_of forest i) (path_of (add_span s forest) i) was.1 (f.shown i was.0);
-  reached = opens-same rows (path_of_any forest last) (path_of_any (add_span s forest) last) (path_of_any-new forest s last next f.given) f.reached;
+  reached = opens-same rows (path_of_any forest last) (path_of_any (add_span s forest) last) (path_of_any-new forest s new last next f.given) f.reached;
 }
+  where
+    new : IsGrownForest (add_span s forest)
+    new = forest-grown forest s.id s f.formed next refl found
 
 pub latest-new : (forest : Forest) (last : Option Id) (rows : List Row) (s : Span) → IsFollowed forest last rows → forest.next ≡ Some s.id →
-    IsLatest forest last rows → IsLatest (add_span s forest) last rows
-latest-new forest last rows s f next h = latest-path rows forest (add_span s forest) last last (path_of_any-new forest s last next f.given) h
+    IsGrownForest (add_span s forest) → IsLatest forest last rows → IsLatest (add_span s forest) last rows
+latest-new forest last rows s f next new h = latest-path rows forest (add_span s forest) last last (path_of_any-new forest s new last next f.given) h
 
 -- the new span is live
-pub live-new : (forest : Forest) → IsForest forest → (s : Span) → forest.next ≡ Some s.id → is_live (add_span s forest) s.id ≡ true
-live-new forest formed s next =
+pub live-new : (forest : Forest) (s : Span) → forest.next ≡ Some s.id → is_live (add_span s forest) s.id ≡ true
+live-new forest s next =
     ap (λ (o : Option Span). is_some o) (find-new s forest s.id)
     ∙ by (span_at forest s.id)
   where
@@ -360,14 +367,14 @@ printed-live forest i = by (span_at forest i)
     by (Some t) e = refl
 
 -- the last path is as before, or empty
-path_of_any-left : {P : Type 0} (ids : List Id) (forest : Forest) → IsForest forest → Each (GoesAlong ids) forest.spans → (last : Option Id) →
+path_of_any-left : {P : Type 0} (ids : List Id) (forest : Forest) → IsGrownForest forest → Each (GoesAlong ids) forest.spans → (last : Option Id) →
     (path_of_any (without_spans ids forest) last ≡ path_of_any forest last → P) → (path_of_any (without_spans ids forest) last ≡ [] → P) → P
 path_of_any-left ids forest formed along None same none = same refl
 path_of_any-left {P} ids forest formed along (Some l) same none = by (is_gone ids l) refl
   where
     by : (b : Bool) → is_gone ids l ≡ b → P
-    by false e = same (path_of-kept ids forest along l e)
-    by true e = none (path_of-none (without_spans ids forest) (forest-left ids forest formed along) l (ap (λ (o : Option Span). is_some o) (find-gone ids l e forest.spans)))
+    by false e = same (path_of-kept ids forest formed along l e)
+    by true e = none (path_of-none (without_spans ids forest) l (ap (λ (o : Option Span). is_some o) (find-gone ids l e forest.spans)))
 
 pub followed-left : (ids : List Id) (forest : Forest) (last : Option Id) (rows : List Row) → Each (GoesAlong ids) forest.spans → IsFollowed forest last rows →
     IsFollowed (without_spans ids forest) last rows
@@ -376,14 +383,14 @@ followed-left ids forest last rows along f = record {
   given = f.given;
   shown = λ i h.
       let kept = is_left ids forest i (printed-live (without_spans ids forest) i h) in
-      opens-same rows (path_of forest i) (path_of (without_spans ids forest) i) (path_of-kept ids forest along i kept)
+      opens-same rows (path_of forest i) (path_of (without_spans ids forest) i) (path_of-kept ids forest f.formed along i kept)
       (f.shown i (sym (ap (λ (o : Option Span). option_map_or (λ t. t.kept.written) o false) (find-kept ids i kept forest.spans)) ∙ h));
   reached = path_of_any-left ids forest f.formed along last
       (λ e. opens-same rows (path_of_any forest last) (path_of_any (without_spans ids forest) last) e f.reached)
       (λ e j k. no_both (sym k ∙ ap (λ path. is_gone path j) e));
 }
 
-pub latest-left : (ids : List Id) (forest : Forest) → IsForest forest → (last : Option Id) (rows : List Row) → Each (GoesAlong ids) forest.spans → IsLatest forest last rows →
+pub latest-left : (ids : List Id) (forest : Forest) → IsGrownForest forest → (last : Option Id) (rows : List Row) → Each (GoesAlong ids) forest.spans → IsLatest forest last rows →
     IsLatest (without_spans ids forest) last rows
 latest-left ids forest formed last rows along h =
     path_of_any-left ids forest formed along last

@@ -18,7 +18,7 @@ use Rattle.tracing_tree_layer.proofs.Reading.Changes.{no_both}
 use Rattle.tracing_tree_layer.proofs.Reading.Left.{is_gone}
 use Rattle.tracing_tree_layer.proofs.Reading.Parts.{at_seam, contains-any}
 use Rattle.tracing_tree_layer.proofs.Reading.Seen.{seen, latest-seen, opened-left}
-use Rattle.tracing_tree_layer.proofs.Reading.Kept.{IsLatest, latest-fresh, fresh-whole}
+use Rattle.tracing_tree_layer.proofs.Reading.Kept.{well-formed, IsLatest, latest-fresh, fresh-whole}
 use Rattle.tracing_tree_layer.proofs.Reading.Turns.{current-live}
 use Rattle.tracing_tree_layer.proofs.Reading.Closes.{IsOnOrRetraced}
 use Rattle.tracing_tree_layer.proofs.Reading.Runs.{IsKeptState, kept-run, latest-run, on_path-front, kept-opening, latest-opening}
@@ -111,7 +111,7 @@ reading-law settings timer first calls on premise e i within level lt =
     let l = latest-at e on (or_cases settings.close_retrace (run_is_on_path settings timer (opening_state first) calls) premise) in
     latest-seen (rows_of settings timer first calls) (place_of e) level
     ∙ ap (seen None level) (take-before e ∙ retraced-rows e i within.0 on)
-    ∙ latest-fresh settings e.context state.forest kept.followed.formed state.last rows i l level lt
+    ∙ latest-fresh settings e.context state.forest (well-formed kept.followed) state.last rows i l level lt
 
 pub opened-before : (settings : Settings) (timer : Timer) (first : Option Id) (calls : List Call) → OpenedBefore settings timer first calls
 opened-before settings timer first calls e current i at contains =

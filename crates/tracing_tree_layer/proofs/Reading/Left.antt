@@ -6,11 +6,11 @@ use Rattle.std.proofs.lemmas.Bool.{not-true, and_parts, or_parts}
 use Rattle.std.proofs.lemmas.List.{reverse-append}
 use Rattle.tracing_tree_spans.specs.Registry.Ids.{same_id}
 use Rattle.tracing_tree_spans.specs.Registry.Spans.{Span}
-use Rattle.tracing_tree_spans.specs.Registry.Forest.{Forest, has_id, path_among, path_of, IsGrown, IsForest, is_child_of, goes_after, closing_of, take_handle, without_spans}
+use Rattle.tracing_tree_spans.specs.Registry.Forest.{Forest, has_id, path_of, IsGrown, IsGrownForest, is_child_of, goes_after, closing_of, take_handle, without_spans}
 use Rattle.tracing_tree_spans.specs.Registry.Registered.{going_after}
 use Rattle.tracing_tree_context.specs.declared.context.Id.{Id}
-use Rattle.tracing_tree_spans.proofs.ForestLaws.{same_id-eq, is_some-find}
-use Rattle.tracing_tree_spans.proofs.PathLaws.{path_above}
+use Rattle.tracing_tree_spans.proofs.ForestLaws.{path_among, same_id-eq, is_some-find}
+use Rattle.tracing_tree_spans.proofs.PathLaws.{path_above, path_of-among}
 use Rattle.tracing_tree_spans.proofs.ClosingLaws.{going-cons}
 use Rattle.tracing_tree_spans.proofs.RegistryLaws.{reverse-filter}
 use Rattle.tracing_tree_layer.proofs.Reading.Changes.{no_both}
@@ -203,7 +203,7 @@ next-filter p spans None h = refl
 next-filter p spans (Some next) h = all-filter (λ span. nat_lt span.id.0 next.0) p spans h
 
 -- what is left is well-formed
-pub forest-left : (ids : List Id) (forest : Forest) → IsForest forest → Each (GoesAlong ids) forest.spans → IsForest (without_spans ids forest)
+pub forest-left : (ids : List Id) (forest : Forest) → IsGrownForest forest → Each (GoesAlong ids) forest.spans → IsGrownForest (without_spans ids forest)
 forest-left ids forest formed along = record {
   grown = subst IsGrown (sym (reverse-filter (λ span. not (is_gone ids span.id)) forest.spans))
       (grown-left ids (reverse forest.spans) (each-reverse (GoesAlong ids) forest.spans along) formed.grown);
@@ -211,8 +211,10 @@ forest-left ids forest formed along = record {
 }
 
 -- what stays keeps its path
-pub path_of-kept : (ids : List Id) (forest : Forest) → Each (GoesAlong ids) forest.spans → (i : Id) → is_gone ids i ≡ false →
+pub path_of-kept : (ids : List Id) (forest : Forest) → IsGrownForest forest → Each (GoesAlong ids) forest.spans → (i : Id) → is_gone ids i ≡ false →
     path_of (without_spans ids forest) i ≡ path_of forest i
-path_of-kept ids forest along i here =
-    ap (λ xs. path_among xs i) (reverse-filter (λ span. not (is_gone ids span.id)) forest.spans)
+path_of-kept ids forest formed along i here =
+    path_of-among (without_spans ids forest) ((forest-left ids forest formed along).grown) i
+    ∙ ap (λ xs. path_among xs i) (reverse-filter (λ span. not (is_gone ids span.id)) forest.spans)
     ∙ path-left ids (reverse forest.spans) (each-reverse (GoesAlong ids) forest.spans along) i here
+    ∙ sym (path_of-among forest formed.grown i)

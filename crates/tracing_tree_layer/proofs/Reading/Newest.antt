@@ -1,30 +1,34 @@
 -- What a new span leaves of the paths, and its own path.
-use Rattle.std.proofs.Common.{◌≡◌, ℕ, nat_lt, ◌<◌, ◌+◌, ◌==◌, Bool, true, false, List, [], ◌∷◌, ◌++◌, reverse, find, Option, Some, None, is_some, if◌then◌else◌, arith, refl, sym, ap, ◌∙◌, subst}
+use Rattle.std.proofs.Common.{◌≡◌, ℕ, nat_lt, ◌<◌, ◌+◌, ◌==◌, Bool, true, false, List, [], ◌∷◌, ◌++◌, reverse, find, Option, option_map, Some, None, is_some, if◌then◌else◌, arith, refl, sym, ap, ◌∙◌, subst}
 use Rattle.std.specs.Option.{option_map_or, option_or}
 use Rattle.std.specs.List.{list_all, list_any}
 use Rattle.std.proofs.lemmas.Bool.{and_parts}
 use Rattle.std.proofs.lemmas.Bool.Decides.{nat_tests}
 use Rattle.std.proofs.lemmas.List.Folds.{find-append, list_all-append}
-use Rattle.std.proofs.lemmas.List.{reverse-append, reverse-reverse}
+use Rattle.std.proofs.lemmas.List.{reverse-append}
 use Rattle.tracing_tree_spans.specs.Registry.Ids.{id_of, same_id}
 use Rattle.tracing_tree_spans.specs.Registry.Spans.{Span}
-use Rattle.tracing_tree_spans.specs.Registry.Forest.{Forest, has_id, span_at, is_live, path_among, path_of, path_of_any, IsGrown, IsForest, id_after, add_span, any_unless_live}
+use Rattle.tracing_tree_spans.specs.Registry.Forest.{Forest, has_id, span_at, is_live, path_of, path_of_any, Descends, IsGrown, IsForest, IsGrownForest, id_after, add_span, any_unless_live}
 use Rattle.tracing_tree_context.specs.declared.context.Id.{Id}
-use Rattle.tracing_tree_spans.proofs.ForestLaws.{path-newest, path-older, is_some-find, look-reverse}
-use Rattle.tracing_tree_spans.proofs.PathLaws.{parent-among}
+use Rattle.tracing_tree_spans.proofs.ForestLaws.{is_some-find}
+use Rattle.tracing_tree_spans.proofs.PathLaws.{path_of-is_path, path_of-step, path_of-none}
+use Rattle.tracing_tree_spans.proofs.Ties.{path_of-more}
+use Rattle.tracing_tree_spans.proofs.Ties as tied
 use Rattle.tracing_tree_spans.proofs.RegistryLaws.{any-reverse, fresh-below, below-more, parent-live}
 
 -- ---- paths
 
+turned : (s : Span) (forest : Forest) → IsGrownForest (add_span s forest) → IsGrown (s ∷ reverse forest.spans)
+turned s forest new = subst IsGrown (reverse-append forest.spans (s ∷ [])) new.grown
+
 -- another span has the path that it had
-pub path_of-other : (s : Span) (forest : Forest) (j : Id) → has_id j s ≡ false → path_of (add_span s forest) j ≡ path_of forest j
-path_of-other s forest j e =
-    ap (λ xs. path_among xs j) (reverse-append forest.spans (s ∷ [])) ∙ path-older s (reverse forest.spans) j e
+pub path_of-other : (s : Span) (forest : Forest) → IsGrownForest (add_span s forest) → (j : Id) → has_id j s ≡ false → path_of (add_span s forest) j ≡ path_of forest j
+path_of-other s forest new j e = path_of-more forest.spans s (turned s forest new) j e
 
 -- the new span comes below its parent
-pub path_of-new : (s : Span) (forest : Forest) (i : Id) → has_id i s ≡ true → path_of (add_span s forest) i ≡ path_of_any forest s.parent ++ i ∷ []
-path_of-new s forest i e =
-    ap (λ xs. path_among xs i) (reverse-append forest.spans (s ∷ [])) ∙ path-newest s (reverse forest.spans) i e
+pub path_of-new : (s : Span) (forest : Forest) → IsGrownForest (add_span s forest) → (i : Id) → has_id i s ≡ true →
+    path_of (add_span s forest) i ≡ path_of_any forest s.parent ++ i ∷ []
+path_of-new s forest new i e = tied.path_of-new forest.spans s (turned s forest new) i e
 
 -- a span is found as before, or is the new one
 pub find-new : (s : Span) (forest : Forest) (j : Id) → span_at (add_span s forest) j ≡ option_or (span_at forest j) (if has_id j s then Some s else None)
@@ -49,7 +53,7 @@ below-found n (x ∷ spans) i h live =
     by ih first false e = ih (subst (λ b. is_some (if b then Some x else find (has_id i) spans) ≡ true) e live)
 
 -- a live span's id was given out
-pub live-given : (forest : Forest) → IsForest forest → (i : Id) → is_live forest i ≡ true → is_given forest i ≡ true
+pub live-given : (forest : Forest) → IsGrownForest forest → (i : Id) → is_live forest i ≡ true → is_given forest i ≡ true
 live-given forest formed i live = by forest.next formed.below_next
   where
     by : (o : Option Id) → option_map_or (λ (next : Id). list_all (λ (span : Span). nat_lt span.id.0 next.0) forest.spans) o true ≡ true →
@@ -97,8 +101,8 @@ parent-turned : (spans : List Span) (o : Option Id) → option_map_or (λ above.
 parent-turned spans None h = refl
 parent-turned spans (Some above) h = any-reverse (has_id above) spans ∙ sym (is_some-find (has_id above) spans) ∙ h
 
-pub forest-grown : (forest : Forest) (next : Id) (s : Span) → IsForest forest → forest.next ≡ Some next → s.id ≡ next →
-    any_unless_live forest s.parent ≡ None → IsForest (add_span s forest)
+pub forest-grown : (forest : Forest) (next : Id) (s : Span) → IsGrownForest forest → forest.next ≡ Some next → s.id ≡ next →
+    any_unless_live forest s.parent ≡ None → IsGrownForest (add_span s forest)
 forest-grown forest next s formed here same found =
     let below : list_all (λ (span : Span). nat_lt span.id.0 next.0) forest.spans ≡ true =
     subst (λ o. option_map_or (λ (n : Id). list_all (λ (span : Span). nat_lt span.id.0 n.0) forest.spans) o true ≡ true) here formed.below_next in
@@ -115,9 +119,15 @@ forest-grown forest next s formed here same found =
 
 -- the parent of a live span is live
 pub parent-is_live : (forest : Forest) → IsForest forest → (i above : Id) (s : Span) → span_at forest i ≡ Some s → s.parent ≡ Some above → is_live forest above ≡ true
-parent-is_live forest formed i above s at up =
-    let spans : List Span = reverse forest.spans in
-    let turned : find (has_id i) spans ≡ Some s = sym (look-reverse spans formed.grown i) ∙ ap (λ xs. find (has_id i) xs) (reverse-reverse forest.spans) ∙ at in
-    let live : list_any (has_id above) spans ≡ true =
-    subst (λ o. option_map_or (λ a. list_any (has_id a) spans) o true ≡ true) up (parent-among spans formed.grown i s turned) in
-    is_some-find (has_id above) forest.spans ∙ sym (any-reverse (has_id above) forest.spans) ∙ live
+parent-is_live forest formed i above s at up = by (is_live forest above) refl
+  where
+    by : (b : Bool) → is_live forest above ≡ b → b ≡ true
+    by true h = refl
+    by false h =
+        let own : path_of forest i ≡ i ∷ [] =
+        path_of-step forest formed i s at ∙ ap (λ o. path_of_any forest o ++ i ∷ []) up ∙ ap (λ (path : List Id). path ++ i ∷ []) (path_of-none forest above h) in
+        let whole = path_of-is_path forest formed i (ap (λ (o : Option Span). is_some o) at) in
+        let down : Descends forest None (i ∷ []) = subst (λ path. Descends forest None path) own whole.descends in
+        let root : Some (Some above) ≡ Some None =
+        ap (λ (o : Option Id). Some o) (sym up) ∙ sym (ap (λ (o : Option Span). option_map (λ (t : Span). t.parent) o) at) ∙ down.0 in
+        absurd cc

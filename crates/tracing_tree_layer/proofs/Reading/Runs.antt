@@ -17,7 +17,8 @@ use Rattle.tracing_tree_spans.specs.declared.registry.Attributes.{Attributes}
 use Rattle.tracing_tree_spans.proofs.RegistryLaws.{changed}
 use Rattle.tracing_tree_layer.specs.Layered.State.{State, opening_state}
 use Rattle.tracing_tree_layer.specs.Layer.Turns.{turn_of_new}
-use Rattle.tracing_tree_layer.specs.Layered.Refused.{cause_of, draws_too_wide}
+use Rattle.tracing_tree_layer.specs.Layer.Drawn.{draws_too_wide}
+use Rattle.tracing_tree_layer.specs.Layered.Refused.{cause_of}
 use Rattle.tracing_tree_layer.proofs.Causes.{first_cause}
 use Rattle.tracing_tree_layer.specs.Layered.Step.{new_id, turn_of, state_after}
 use Rattle.tracing_tree_layer.specs.Layered.Run.{Run, run, run_one, run_by_cause, after_refusal}
@@ -26,7 +27,7 @@ use Rattle.tracing_tree_layer.specs.declared.call.Call.{Call}
 use Rattle.tracing_tree_layer.specs.declared.call.Call.TheVariants as A
 use Rattle.tracing_tree_layer.proofs.Reading.Changes.{no_both}
 use Rattle.tracing_tree_layer.proofs.Reading.Newest.{forest-grown}
-use Rattle.tracing_tree_layer.proofs.Reading.Kept.{IsFollowed, IsAllShown, IsLatest, IsQuiet, followed-more, latest-more, followed-quiet, latest-same, all_shown-quiet}
+use Rattle.tracing_tree_layer.proofs.Reading.Kept.{IsFollowed, well-formed, IsAllShown, IsLatest, IsQuiet, followed-more, latest-more, followed-quiet, latest-same, all_shown-quiet}
 use Rattle.tracing_tree_layer.proofs.Reading.Turns.{IsKeptUp, kept-new, latest-new_turn, kept-event, latest-event}
 use Rattle.tracing_tree_layer.proofs.Reading.Closes.{quiet-one, followed-close_call, all_shown-close_call, latest-close_call, IsOnOrRetraced, first-on}
 
@@ -116,7 +117,7 @@ latest-call settings timer state rows (A.Record i record') k h on premise l =
     let quiet = quiet-one more (fields-quiet record'.fields) i in
     latest-same (changed more i) quiet.same state.forest state.last (rows ++ []) (latest-more state.forest state.last rows [] (λ o level. refl) l)
 latest-call settings timer state rows (A.Event event context) k h on premise l =
-    latest-event settings timer context state.forest state.last rows event k.followed.formed l
+    latest-event settings timer context state.forest state.last rows event (well-formed k.followed) l
 latest-call settings timer state rows (A.Close i context) k h on premise l =
     latest-close_call settings context i state.forest state.last rows k.followed k.all_shown on premise l
 

@@ -11,7 +11,8 @@ use Rattle.tracing_tree_context.specs.declared.context.Id.{Id}
 use Rattle.tracing_tree_context.specs.declared.context.Context.{Context}
 use Rattle.tracing_tree_drawing.specs.declared.format.SpanMode.{SpanMode}
 use Rattle.tracing_tree_drawing.specs.declared.format.SpanMode.TheVariants.{PreOpen, Open, Retrace}
-use Rattle.tracing_tree_layer.specs.Layer.Turns.{span_row, parent_rows, fresh_mode, fresh_row, fresh_rows}
+use Rattle.tracing_tree_layer.specs.Layer.Plan.{fresh_mode}
+use Rattle.tracing_tree_layer.specs.Layer.Turns.{span_row, parent_rows, fresh_row, fresh_rows}
 use Rattle.tracing_tree_layer.specs.Laws.Reading.{is_opening_mode, opens_at, opens_span, latest}
 use Rattle.tracing_tree_layer.proofs.Reading.Changes.{no_both, path-front}
 use Rattle.tracing_tree_layer.proofs.Reading.Left.{is_gone}

@@ -6,7 +6,7 @@ use Rattle.tracing_tree_drawing.specs.Format.Settings.{Settings, retraces}
 use Rattle.tracing_tree_spans.specs.Registry.Ids.{same_id}
 use Rattle.tracing_tree_time.specs.Clock.{Timer}
 use Rattle.tracing_tree_spans.specs.Registry.Spans.{Span, printed_span}
-use Rattle.tracing_tree_spans.specs.Registry.Forest.{Forest, span_at, if_live, is_live, is_printed, parent_of, path_of, path_of_any, IsForest, mark_all, mark_printed, fresh_ids, add_span, any_unless_live}
+use Rattle.tracing_tree_spans.specs.Registry.Forest.{Forest, span_at, if_live, is_live, is_printed, parent_of, path_of, path_of_any, IsForest, IsGrownForest, mark_all, mark_printed, fresh_ids, add_span, any_unless_live}
 use Rattle.tracing_tree_drawing.specs.Format.Picture.{Row}
 use Rattle.tracing_tree_context.specs.declared.context.Id.{Id}
 use Rattle.tracing_tree_context.specs.declared.context.Context.{Context}
@@ -14,6 +14,7 @@ use Rattle.tracing_tree_drawing.specs.declared.format.SpanMode.TheVariants.{PreO
 use Rattle.tracing_tree_spans.specs.declared.registry.Event.{Event}
 use Rattle.tracing_tree_spans.proofs.ForestLaws.{same_id-eq}
 use Rattle.tracing_tree_spans.proofs.PathLaws.{path_of-step}
+use Rattle.tracing_tree_spans.proofs.GrownForests.{as_forest}
 use Rattle.tracing_tree_spans.proofs.RegistryLaws.{IsSame, changed, changed-same, parent-live}
 use Rattle.tracing_tree_layer.specs.Layered.State.{Turn, quiet_turn}
 use Rattle.tracing_tree_layer.specs.Layer.Turns.{current_of, span_row, event_row, parent_rows, fresh_rows, retrace_to, then_turn, turn_of_new, turn_of_row, turn_before_event, turn_of_event, close_turn}
@@ -23,7 +24,7 @@ use Rattle.tracing_tree_layer.proofs.Reading.Newest.{path_of-new, parent-is_live
 use Rattle.tracing_tree_layer.proofs.Reading.Left.{is_gone}
 use Rattle.tracing_tree_layer.proofs.Reading.Parts.{in_left, in_either, own-path}
 use Rattle.tracing_tree_layer.proofs.Reading.Seen.{Opens, seen, seen-parent_rows, opened-left, opened-right}
-use Rattle.tracing_tree_layer.proofs.Reading.Kept.{IsFollowed, IsAllShown, IsLatest, followed-more, latest-more, followed-last, latest-last, opens-same, latest-same, marked, marked-same, followed-marks, all_shown-marks, mark_printed-all, fresh-whole, fresh-marks, followed-retrace, latest-retrace, followed-new, latest-new, live-new, all_shown-new}
+use Rattle.tracing_tree_layer.proofs.Reading.Kept.{IsFollowed, well-formed, IsAllShown, IsLatest, followed-more, latest-more, followed-last, latest-last, opens-same, latest-same, marked, marked-same, followed-marks, all_shown-marks, mark_printed-all, fresh-whole, fresh-marks, followed-retrace, latest-retrace, followed-new, latest-new, live-new, all_shown-new}
 
 -- what a run keeps, after a turn that comes behind these rows
 pub record IsKeptUp (settings : Settings) (rows : List Row) (turn : Turn) : Type 0 where
@@ -87,10 +88,10 @@ turn_by settings context forest last i deferred retraced =
     else record { rows = opened_alone settings context forest i; forest = mark_printed i forest; last = Some i })
 
 alone-opens : (settings : Settings) (context : Context) (forest : Forest) (last : Option Id) (rows : List Row) (s : Span) → IsFollowed forest last rows → IsAllShown settings forest →
-    settings.deferred_spans ≡ false → any_unless_live forest s.parent ≡ None → (new : Forest) →
+    settings.deferred_spans ≡ false → any_unless_live forest s.parent ≡ None → IsGrownForest (add_span s forest) → (new : Forest) →
     Opens (rows ++ opened_alone settings context new s.id) (path_of (add_span s forest) s.id)
-alone-opens settings context forest last rows s f all eager found new =
-    opens-same after (path_of_any forest s.parent ++ s.id ∷ []) (path_of (add_span s forest) s.id) (path_of-new s forest s.id (same-refl s.id))
+alone-opens settings context forest last rows s f all eager found grown new =
+    opens-same after (path_of_any forest s.parent ++ s.id ∷ []) (path_of (add_span s forest) s.id) (path_of-new s forest grown s.id (same-refl s.id))
     (λ j h. in_either (path_of_any forest s.parent) (s.id ∷ []) j h
     (λ k. opened-left rows own j (above s.parent refl j k))
     (λ k. opened-right rows own j (opened-right (parent_rows settings context new settings.verbose_entry PreOpen s.id) (row ∷ []) j
@@ -125,7 +126,7 @@ kept-new settings context forest last rows s f all next plain found = by setting
         IsFollowed (mark_all (s.id ∷ []) (add_span s forest)) (Some s.id) after
     marked-last after g opens =
         followed-marks (s.id ∷ []) (add_span s forest) (Some s.id) after
-        (followed-last (add_span s forest) last after s.id g (live-new forest f.formed s next) opens)
+        (followed-last (add_span s forest) last after s.id g (live-new forest s next) opens)
         (λ j h. subst (λ i. Opens after (path_of (add_span s forest) i)) (only-one s.id j h) opens)
 
     retraced : IsKeptUp settings rows (retrace_to settings context (mark_all (s.id ∷ []) (add_span s forest)) last s.id)
@@ -143,7 +144,7 @@ kept-new settings context forest last rows s f all next plain found = by setting
         opens-same after (path_of M s.id) (path_of G s.id) (sym (path_of-same (marked (s.id ∷ [])) same G s.id)) opens in
         let g : IsFollowed M (Some s.id) after = marked-last after (followed-more G last rows more fF) opensG in
         record {
-          followed = followed-marks fresh M (Some s.id) after g (fresh-marks M g.formed last after s.id opens);
+          followed = followed-marks fresh M (Some s.id) after g (fresh-marks M (well-formed g) last after s.id opens);
           all_shown = all_shown-marks settings fresh M (all_shown-new settings forest s all);
         }
 
@@ -152,7 +153,7 @@ kept-new settings context forest last rows s f all next plain found = by setting
     alone eager =
         marked-last (rows ++ opened_alone settings context (add_span s forest) s.id)
         (followed-more (add_span s forest) last rows (opened_alone settings context (add_span s forest) s.id) fF)
-        (alone-opens settings context forest last rows s f all eager found (add_span s forest))
+        (alone-opens settings context forest last rows s f all eager found fF.formed (add_span s forest))
 
     by : (d : Bool) → settings.deferred_spans ≡ d → (r : Bool) → IsKeptUp settings rows (turn_by settings context (add_span s forest) last s.id d r)
     by true e r = kept-quiet settings (add_span s forest) last rows fF (λ eager. no_both (sym e ∙ eager))
@@ -164,19 +165,19 @@ kept-new settings context forest last rows s f all next plain found = by setting
     }
 
 pub latest-new_turn : (settings : Settings) (context : Context) (forest : Forest) (last : Option Id) (rows : List Row) (s : Span) → IsFollowed forest last rows →
-    forest.next ≡ Some s.id → IsForest (add_span s forest) → retraces settings ≡ true → IsLatest forest last rows →
+    forest.next ≡ Some s.id → IsGrownForest (add_span s forest) → retraces settings ≡ true → IsLatest forest last rows →
     IsLatestAfter rows (turn_of_new settings context (add_span s forest) last s.id)
 latest-new_turn settings context forest last rows s f next formed on h = by settings.deferred_spans settings.span_retrace on
   where
     hF : IsLatest (add_span s forest) last rows
-    hF = latest-new forest last rows s f next h
+    hF = latest-new forest last rows s f next formed h
 
     by : (d r : Bool) → (r || d) ≡ true → IsLatestAfter rows (turn_by settings context (add_span s forest) last s.id d r)
     by true r e = latest-quiet (add_span s forest) last rows hF
     by false true e =
         let u : Span → Span = changed printed_span s.id in
         let same : IsSame (changed printed_span s.id) = changed-same printed_span s.id printed-same in
-        latest-retrace settings context (changed_all u (add_span s forest)) (forest-same u same (add_span s forest) formed) last rows s.id
+        latest-retrace settings context (changed_all u (add_span s forest)) (as_forest (changed_all u (add_span s forest)) (forest-same u same (add_span s forest) formed)) last rows s.id
         (latest-same u same (add_span s forest) last rows hF)
     by false false e = no_both (sym e)
 
@@ -266,9 +267,9 @@ kept-close_turn settings context i forest last rows f all shown = record { follo
     by None e = followed-more forest last rows (close_turn settings context i forest last).rows f
     by (Some above) e =
         let s = parent-found forest i above e in
-        let live : is_live forest above ≡ true = parent-is_live forest f.formed i above s.0 s.1 s.2 in
+        let live : is_live forest above ≡ true = parent-is_live forest (well-formed f) i above s.0 s.1 s.2 in
         let printed : is_printed forest i ≡ true = shown (ap (λ (o : Option Span). is_some o) s.1) in
-        let path : path_of forest i ≡ path_of forest above ++ i ∷ [] = path_of-step forest f.formed i s.0 s.1 ∙ ap (λ o. path_of_any forest o ++ i ∷ []) s.2 in
+        let path : path_of forest i ≡ path_of forest above ++ i ∷ [] = path_of-step forest (well-formed f) i s.0 s.1 ∙ ap (λ o. path_of_any forest o ++ i ∷ []) s.2 in
         let opens : Opens rows (path_of forest above) =
         (λ j k. f.shown i printed j (subst (λ ids. is_gone ids j ≡ true) (sym path) (in_left (path_of forest above) (i ∷ []) j k))) in
         followed-more forest (Some above) rows (close_turn settings context i forest last).rows (followed-last forest last rows above f live opens)

@@ -14,7 +14,8 @@ use Rattle.tracing_tree_spans.specs.declared.registry.Record.{Record}
 use Rattle.tracing_tree_layer.specs.Layered.State.{State, Turn, quiet_turn}
 use Rattle.tracing_tree_layer.specs.Layered.Seen.{Seen, seen_later}
 use Rattle.tracing_tree_layer.specs.Layer.Turns.{turn_of_new, turn_of_event, turn_of_close}
-use Rattle.tracing_tree_layer.specs.Layered.Refused.{first_of_all, draws_too_wide, timer_faults_at}
+use Rattle.tracing_tree_layer.specs.Layered.Refused.{first_of_all, timer_faults_at}
+use Rattle.tracing_tree_layer.specs.Layer.Drawn.{draws_too_wide}
 use Rattle.tracing_tree_layer.specs.Layered.Run.{IsRefusedFor, after_refusal}
 use Rattle.tracing_tree_layer.specs.Layered.Answered.{Writes}
 
@@ -96,8 +97,8 @@ bare_takes_no_memory state (on_close i context) = state.failed || not (is_live s
 abbrev pub BareMayAnswer : Settings → Timer → State → BareCall → Result (Unit {0}) Refusal → Type 0
 BareMayAnswer settings timer state call (Ok done) = bare_cause_of settings timer state call ≡ None
 BareMayAnswer settings timer state call (Err refusal) =
-    IsRefusedFor (bare_cause_of settings timer state call) (bare_takes_no_memory state call)
-    (bare_text settings timer state call) refusal
+    IsRefusedFor (bare_cause_of settings timer state call) (bare_text settings timer state call)
+    (bare_takes_no_memory state call) refusal
 
 -- the state after an answer
 abbrev pub bare_state_after_answer : Settings → Timer → State → BareCall → Result (Unit {0}) Refusal

@@ -16,22 +16,12 @@ abbrev pub spaced : List ℕ → List ℕ
 spaced [] = []
 spaced (first ∷ rest) = (first ∷ rest) ++ codes " "
 
--- The timer's text of the moment. An event at which the timer faults is refused, so nothing depends
--- on its text here.
-abbrev pub moment_part : Timer → Moment → List ℕ
-moment_part timer moment = spaced (unwrap_or (timer.moment_text moment) [])
-
 module _ (settings : Settings) where
   -- ---- spans
 
   -- the label, if labels are on
   abbrev pub shown_label : SpanMode → List ℕ
   shown_label mode = if settings.span_modes then label mode else []
-
-  -- the target and two colons, if targets are on
-  abbrev pub shown_target : List ℕ → List ℕ
-  shown_target target =
-      if settings.targets then styled settings.ansi Dimmed target ++ codes "::" else []
 
   -- a brace round the fields, or what stands in its place without braces
   abbrev pub shown_brace : List ℕ → List ℕ → List ℕ
@@ -41,7 +31,8 @@ module _ (settings : Settings) where
   -- target, name and fields of a span
   abbrev pub span_text : List ℕ → List ℕ → List Field → List ℕ
   span_text target name fields =
-      shown_target target ++ styled settings.ansi BoldGreen name
+      (if settings.targets then styled settings.ansi Dimmed target ++ codes "::" else [])
+      ++ styled settings.ansi BoldGreen name
       ++ shown_brace (codes "{") (codes " ") ++ span_fields fields ++ shown_brace (codes "}") []
 
   -- a label, and target, name and fields of a span; a plain close has its label alone
@@ -58,11 +49,14 @@ module _ (settings : Settings) where
       ++ (if settings.targets then 32 ∷ styled settings.ansi Dimmed event.target else [])
       ++ event_fields event.fields
 
-  -- the timer's text of the time since a start, if there is one, and a space
+  -- the timer's text of an elapsed time and a space, also where that text is empty; nothing where
+  -- there is no such time
   abbrev pub elapsed_part : Timer → Option ℕ → List ℕ
   elapsed_part timer None = []
   elapsed_part timer (Some nanos) = unwrap_or (timer.elapsed_text settings.ansi nanos) [] ++ 32 ∷ []
 
+  -- The timer's texts of the moment and of the time since a start, and then the event. An event at
+  -- which the timer faults is refused, so nothing depends on its text here.
   abbrev pub event_block : Timer → Moment → Option ℕ → Event → List ℕ
-  event_block timer moment since event =
-      moment_part timer moment ++ elapsed_part timer since ++ event_tail event
+  event_block timer at since event =
+      spaced (unwrap_or (timer.moment_text at) []) ++ elapsed_part timer since ++ event_tail event

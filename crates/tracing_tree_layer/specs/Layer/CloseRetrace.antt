@@ -1,4 +1,4 @@
--- A close off the last path retraces first, where `close_retrace` is on.
+-- Where `close_retrace` is on, a span whose parent is off the last path is retraced before it closes.
 use Rattle.std.specs.Prelude.{Bool, false, not, ◌&&◌, Option}
 use Rattle.std.specs.Option.{option_map_or}
 use Rattle.std.specs.List.{list_any}

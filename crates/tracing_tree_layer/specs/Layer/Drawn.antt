@@ -1,19 +1,23 @@
 -- Rows that are drawn one after another, and written once. No public contract names these.
-use Rattle.std.specs.Prelude.{◌≡◌, ◌⊎◌, ℕ, Bool, true, false, List, [], ◌∷◌, ◌++◌, Option, None, Some, Result, Ok, Err, string_bytes}
-use Rattle.std.specs.Option.{option_or}
+use Rattle.std.specs.Prelude.{◌≡◌, ◌⊎◌, ℕ, Bool, true, false, List, [], ◌∷◌, ◌++◌, Option, None, Some, is_none, Result, Ok, Err, string_bytes}
+use Rattle.std.specs.Option.{option_map_or, option_or}
 use Rattle.std.specs.Bool.{then_some}
+use Rattle.std.specs.List.{list_any}
 use Rattle.std.specs.Io.KnownBytes.{Appends}
 use Rattle.tracing_tree_drawing.specs.Format.Settings.{Settings}
-use Rattle.tracing_tree_drawing.specs.Format.Picture.{Row, draw}
+use Rattle.tracing_tree_time.specs.Clock.{Timer as Clock}
+use Rattle.tracing_tree_drawing.specs.Format.Picture.{Row, draw, is_too_wide}
 use Rattle.tracing_tree_spans.specs.Registry.Forest.{Forest}
 use Rattle.tracing_tree_output.specs.Writers.{LeavesCut, SeenWriter}
+use Rattle.tracing_tree_context.specs.declared.context.Context.{Context}
 use Rattle.tracing_tree_context.specs.declared.context.Id.{Id}
+use Rattle.tracing_tree_spans.specs.declared.registry.Event.{Event}
 use Rattle.tracing_tree_context.specs.declared.context.Refusal.{Refusal}
 use Rattle.tracing_tree_context.specs.declared.context.Refusal.TheVariants.{TooWide, Memory, Timer, Writer}
 use Rattle.tracing_tree_layer.specs.Layered.State.{Turn}
+use Rattle.tracing_tree_layer.specs.Layer.Turns.{event_row}
 use Rattle.tracing_tree_layer.specs.Layer.Layers.{LayerView}
 use Rattle.tracing_tree_layer.specs.Layer.Plan.{PlanView, marked_by}
-use Rattle.tracing_tree_layer.specs.Layered.Refused.{draws_too_wide}
 use Rattle.tracing_tree_layer.specs.Layered.Run.{IsRefusedFor}
 use Rattle.tracing_tree_layer.specs.Layered.Answered.{Writes}
 use Rattle.tracing_tree_layer.specs.declared.layer.page.Page.{Page}
@@ -37,6 +41,20 @@ AddsRow too_wide text (Ok done) old new =
 AddsRow too_wide text (Err TooWide) old new = (too_wide ≡ true) × KeepsPage old new
 AddsRow too_wide text (Err Memory) old new = (too_wide ≡ false) × KeepsPage old new
 AddsRow too_wide text (Err refusal) old new = ⊥
+
+-- one of these rows would be too wide
+abbrev pub draws_too_wide : Settings → List Row → Bool
+draws_too_wide settings rows = list_any (is_too_wide settings) rows
+
+-- the row of an event itself would be too wide
+abbrev pub is_event_too_wide : Settings → Clock → Forest → Event → Context → Bool
+is_event_too_wide settings timer forest event context =
+    is_too_wide settings (event_row settings timer forest event context)
+
+-- the timer has no text for this elapsed time, if there is one
+abbrev pub lacks_elapsed : Settings → Clock → Option ℕ → Bool
+lacks_elapsed settings timer since =
+    option_map_or (λ nanos. is_none (timer.elapsed_text settings.ansi nanos)) since false
 
 -- why rows are not drawn: one is too wide, or the timer has no text
 abbrev pub rows_cause : Settings → List Row → Bool → Option Refusal
@@ -117,7 +135,7 @@ Sends (Err cause) result old new before after =
 -- take none
 abbrev pub IsAllowed : Option Refusal → Bool → List ℕ → Result (Unit {0}) Refusal → Type 0
 IsAllowed cause quiet text (Ok done) = cause ≡ None
-IsAllowed cause quiet text (Err refusal) = IsRefusedFor cause quiet text refusal
+IsAllowed cause quiet text (Err refusal) = IsRefusedFor cause text quiet refusal
 
 -- rows were written, or refused for their cause
 pub record IsWritten (settings : Settings) (rows : List Row) (faults quiet : Bool)

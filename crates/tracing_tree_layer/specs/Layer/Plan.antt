@@ -8,9 +8,9 @@ use Rattle.tracing_tree_drawing.specs.Format.Picture.{Row}
 use Rattle.tracing_tree_context.specs.declared.context.Id.{Id}
 use Rattle.tracing_tree_context.specs.declared.context.Context.{Context}
 use Rattle.tracing_tree_drawing.specs.declared.format.SpanMode.{SpanMode}
-use Rattle.tracing_tree_drawing.specs.declared.format.SpanMode.TheVariants.{PreOpen, Open, Close, PostClose}
+use Rattle.tracing_tree_drawing.specs.declared.format.SpanMode.TheVariants.{PreOpen, Open, Close, Retrace, PostClose}
 use Rattle.tracing_tree_layer.specs.Layered.State.{Turn}
-use Rattle.tracing_tree_layer.specs.Layer.Turns.{block_of, fresh_mode}
+use Rattle.tracing_tree_layer.specs.Layer.Turns.{block_of}
 use Rattle.tracing_tree_layer.specs.Layer.CloseRetrace.{retraces_before_close}
 use Rattle.tracing_tree_layer.specs.declared.layer.path.Path.{Path}
 use Rattle.tracing_tree_layer.specs.declared.layer.path.Path.TheVariants.{Kept, Walked}
@@ -77,6 +77,10 @@ abbrev pub with_rows : List PlannedRow → PlanView → PlanView
 with_rows rows plan = record plan { rows = plan.rows ++ rows }
 
 -- ---- retracing
+
+-- a span that was printed before is retraced, and another opens
+abbrev pub fresh_mode : Forest → Id → Bool → SpanMode
+fresh_mode forest i verbose = if is_printed forest i then Retrace verbose else Open verbose
 
 -- a row about a fresh span; the first forest has the marks, and both the same spans
 abbrev pub planned_fresh : Forest → Forest → Bool → Id → PlannedRow

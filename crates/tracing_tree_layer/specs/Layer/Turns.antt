@@ -55,10 +55,6 @@ event_row settings timer forest event context = record {
   prefix = prefix_text settings context;
 }
 
--- a span that was printed before is retraced, and another opens
-abbrev pub fresh_mode : Forest → Id → Bool → SpanMode
-fresh_mode forest i verbose = if is_printed forest i then Retrace verbose else Open verbose
-
 -- one turn and then another, which begins where the first ends
 abbrev pub then_turn : Turn → (Forest → Option Id → Turn) → Turn
 then_turn first next =
@@ -87,8 +83,9 @@ module _ (settings : Settings) (context : Context) (forest : Forest) where
 
   -- ---- retracing
 
+  -- a span that was printed before is retraced, and any other opens
   abbrev pub fresh_row : Bool → Id → Row
-  fresh_row verbose i = span_row (fresh_mode forest i verbose) i
+  fresh_row verbose i = span_row (if is_printed forest i then Retrace verbose else Open verbose) i
 
   -- the rows of fresh spans: the first is verbose if its parent is shown before it
   abbrev pub fresh_rows : List Id → List Row
@@ -98,7 +95,8 @@ module _ (settings : Settings) (context : Context) (forest : Forest) where
       ++ fresh_row (settings.verbose_entry && is_some (parent_of forest first)) first
       ∷ map (fresh_row false) others
 
-  -- to a span: the rows of the fresh spans, which are printed from now on, and the span is the last
+  -- the way to a span is shown: the rows of the fresh spans, which are printed from now on, and the
+  -- span is the last
   abbrev pub retrace_to : Option Id → Id → Turn
   retrace_to last i =
       let fresh = fresh_ids forest last i in
@@ -114,7 +112,7 @@ module _ (settings : Settings) (context : Context) (forest : Forest) where
 -- ---- calls
 
 -- a new span, which the forest has already; where it is retraced to, it counts as printed before, so
--- that its own row is a retrace row, as in the Rust crate
+-- that its own row is a retrace row, as tracing-tree has it
 abbrev pub turn_of_new : Settings → Context → Forest → Option Id → Id → Turn
 turn_of_new settings context forest last i =
     let above = parent_rows settings context forest settings.verbose_entry PreOpen i in
@@ -128,15 +126,16 @@ turn_of_event settings timer context forest last event =
     then_turn (turn_before_event settings context forest last (current_of forest context))
     (turn_of_row (event_row settings timer forest event context))
 
--- a span that closes, and its parent, which is the last span from then on
+-- a span that closes, and its parent, which is the last span from then on; after a root the last
+-- span stays, even if it is gone
 abbrev pub close_turn : Settings → Context → Id → Forest → Option Id → Turn
 close_turn settings context i forest last =
     let row = span_row settings context forest (Close settings.verbose_exit) i in
     let above = parent_rows settings context forest settings.verbose_exit PostClose i in
     record { rows = row ∷ above; forest = forest; last = option_or (parent_of forest i) last }
 
--- the close of one span, on the forest before the call: nothing if the span was deferred and never
--- printed
+-- the close of one span, while all that closes is still live: nothing if the span was deferred and
+-- never printed
 abbrev pub turn_of_close : Settings → Context → Forest → Option Id → Id → Turn
 turn_of_close settings context forest last i =
     if settings.deferred_spans && not (is_printed forest i) then quiet_turn forest last

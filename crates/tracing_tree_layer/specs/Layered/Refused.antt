@@ -1,16 +1,15 @@
 -- When a call is refused, and which refusal comes first.
-use Rattle.std.specs.Prelude.{ℕ, ◌==◌, Bool, true, false, not, ◌||◌, List, [], ◌∷◌, Option, None, is_none, is_some, length, option_map}
+use Rattle.std.specs.Prelude.{◌==◌, ◌-◌, ◌^◌, Bool, true, false, not, ◌||◌, List, [], ◌∷◌, Option, None, is_none, is_some, length, option_map}
 use Rattle.std.specs.Option.{option_map_or, option_or}
 use Rattle.std.specs.Bool.{then_some}
 use Rattle.std.specs.List.{list_any}
 use Rattle.tracing_tree_drawing.specs.Format.Settings.{Settings}
 use Rattle.tracing_tree_time.specs.Clock.{Timer}
-use Rattle.tracing_tree_drawing.specs.Format.Picture.{Row, is_too_wide}
-use Rattle.tracing_tree_spans.specs.Registry.Forest.{Forest, is_live, handles_of, closing_of, named_parent, unless_live, any_unless_live, unless_handle, has_all_handles}
+use Rattle.tracing_tree_drawing.specs.Format.Picture.{is_too_wide}
+use Rattle.tracing_tree_spans.specs.Registry.Forest.{Forest, is_live, handles_of, closing_of, named_parent, unless_live, any_unless_live}
 use Rattle.tracing_tree_context.specs.declared.context.Id.{Id}
 use Rattle.tracing_tree_context.specs.declared.context.Context.{Context}
 use Rattle.tracing_tree_context.specs.declared.context.Refusal.{Refusal}
-use Rattle.tracing_tree_spans.specs.declared.registry.Event.{Event as Told}
 use Rattle.tracing_tree_context.specs.declared.context.Refusal.TheVariants.{NotHeld, TooWide, TooMany, Timer as TimerFault, Failed}
 use Rattle.tracing_tree_layer.specs.Layered.State.{State}
 use Rattle.tracing_tree_layer.specs.Layer.Turns.{time_in_current, event_row}
@@ -24,18 +23,14 @@ abbrev pub id_not_held : Forest → Call → Option Id
 id_not_held forest (New attributes context) =
     any_unless_live forest (named_parent attributes.parent context.current)
 id_not_held forest (Clone i) = unless_live forest i
-id_not_held forest (Close i context) = unless_handle forest i
+id_not_held forest (Close i context) = then_some (handles_of forest i == 0) i
 id_not_held forest call = None
 
 -- no id is left for a new span, or no further handle can be counted
 abbrev pub is_too_many : Forest → Call → Bool
 is_too_many forest (New attributes context) = is_none forest.next
-is_too_many forest (Clone i) = has_all_handles forest i
+is_too_many forest (Clone i) = handles_of forest i == (2 ^ 64 - 1)
 is_too_many forest call = false
-
--- one of these rows would be too wide
-abbrev pub draws_too_wide : Settings → List Row → Bool
-draws_too_wide settings rows = list_any (is_too_wide settings) rows
 
 -- the first of several
 abbrev pub first_of_all : List (Option Refusal) → Option Refusal
@@ -43,15 +38,12 @@ first_of_all [] = None
 first_of_all (o ∷ others) = option_or o (first_of_all others)
 
 module _ (settings : Settings) (timer : Timer) where
-  -- the timer has no text for this elapsed time, if there is one
-  abbrev pub lacks_elapsed : Option ℕ → Bool
-  lacks_elapsed since =
-      option_map_or (λ nanos. is_none (timer.elapsed_text settings.ansi nanos)) since false
-
   -- the timer has no text for the moment of an event, or for the time in its current span
   abbrev pub timer_faults_at : Forest → Context → Bool
   timer_faults_at forest context =
-      is_none (timer.moment_text context.moment) || lacks_elapsed (time_in_current forest context)
+      is_none (timer.moment_text context.moment)
+      || option_map_or (λ nanos. is_none (timer.elapsed_text settings.ansi nanos))
+      (time_in_current forest context) false
 
   -- the timer has no text for an event
   abbrev pub timer_faults : Forest → Call → Bool
@@ -66,27 +58,19 @@ module _ (settings : Settings) (timer : Timer) where
       then_some state.failed Failed
       ∷ option_map NotHeld (id_not_held state.forest call)
       ∷ then_some (is_too_many state.forest call) TooMany
-      ∷ then_some (draws_too_wide settings rows) TooWide
+      ∷ then_some (list_any (is_too_wide settings) rows) TooWide
       ∷ then_some (timer_faults state.forest call) TimerFault
       ∷ [])
 
-  -- the row of an event itself would be too wide
-  abbrev pub is_event_too_wide : Forest → Told → Context → Bool
-  is_event_too_wide forest event context =
-      is_too_wide settings (event_row settings timer forest event context)
-
-  -- A call that grows nothing, or that is refused before it grows anything: a new span whose parent
-  -- is not held or for which no id is left, a clone, a record of a span that is not live, an event
-  -- whose own row is too wide, and a close with which no span goes.
-  abbrev pub is_without_memory : Forest → Call → Bool
-  is_without_memory forest (New attributes context) =
+  -- A call that is never refused for want of memory: it grows nothing, or is refused before. It is a
+  -- new span whose parent is not held or for which no id is left, a clone, a record of a span that
+  -- is not live, an event whose own row is too wide, or a close with which no span goes.
+  abbrev pub takes_no_memory : Forest → Call → Bool
+  takes_no_memory forest (New attributes context) =
       is_some (id_not_held forest (New attributes context)) || is_none forest.next
-  is_without_memory forest (Clone i) = true
-  is_without_memory forest (Record i record') = not (is_live forest i)
-  is_without_memory forest (Event event context) = is_event_too_wide forest event context
-  is_without_memory forest (Close i context) =
+  takes_no_memory forest (Clone i) = true
+  takes_no_memory forest (Record i record') = not (is_live forest i)
+  takes_no_memory forest (Event event context) =
+      is_too_wide settings (event_row settings timer forest event context)
+  takes_no_memory forest (Close i context) =
       not (handles_of forest i == 1) || (length (closing_of forest i) == 0)
-
-  -- a call that is never refused for want of memory; each call on a layer that has failed is one
-  abbrev pub takes_no_memory : State → Call → Bool
-  takes_no_memory state call = state.failed || is_without_memory state.forest call

@@ -1,5 +1,5 @@
 -- Runs of calls.
-use Rattle.std.specs.Prelude.{◌≡◌, ◌≢◌, Bool, false, ℕ, true, List, [], ◌∷◌, ◌++◌, Option, Some, None, Result, Ok, Err}
+use Rattle.std.specs.Prelude.{◌≡◌, ◌≢◌, Bool, false, ℕ, true, ◌||◌, List, [], ◌∷◌, ◌++◌, Option, Some, None, Result, Ok, Err}
 use Rattle.tracing_tree_drawing.specs.Format.Settings.{Settings}
 use Rattle.tracing_tree_time.specs.Clock.{Timer}
 use Rattle.tracing_tree_drawing.specs.Format.Picture.{Row, draw}
@@ -29,11 +29,9 @@ after_refusal state refusal = state
 
 -- one run and then another, which begins where the first ends
 abbrev pub then_run : Run → (State → Run) → Run
-then_run first next = record {
-  state = (next first.state).state;
-  rows = first.rows ++ (next first.state).rows;
-  replies = first.replies ++ (next first.state).replies;
-}
+then_run first next =
+    let rest = next first.state in
+    record rest { rows = first.rows ++ rest.rows; replies = first.replies ++ rest.replies }
 
 -- the calls that were answered with a reply
 abbrev pub accepted_calls : List Call → List (Result Reply Refusal) → List Call
@@ -54,10 +52,10 @@ answer_by_cause state call (Some refusal) = Err refusal
 
 -- a refusal is for the first cause, or for want of memory where the call takes some; that for the
 -- writer comes only where there is no cause and a text to be written
-abbrev pub IsRefusedFor : Option Refusal → Bool → List ℕ → Refusal → Type 0
-IsRefusedFor cause without_memory text Memory = without_memory ≡ false
-IsRefusedFor cause without_memory text Writer = (cause ≡ None) × (text ≢ [])
-IsRefusedFor cause without_memory text refusal = cause ≡ Some refusal
+abbrev pub IsRefusedFor : Option Refusal → List ℕ → Bool → Refusal → Type 0
+IsRefusedFor cause text without_memory Memory = without_memory ≡ false
+IsRefusedFor cause text without_memory Writer = (cause ≡ None) × (text ≢ [])
+IsRefusedFor cause text without_memory refusal = cause ≡ Some refusal
 
 module _ (settings : Settings) (timer : Timer) where
   -- ---- runs
@@ -103,13 +101,13 @@ module _ (settings : Settings) (timer : Timer) where
   abbrev pub call_text : State → Call → List ℕ
   call_text state call = draw settings (turn_of settings timer state.forest state.last call).rows
 
-  -- an answer that a call may get
+  -- an answer that a call may get; a layer that has failed refuses each call and takes no memory
   abbrev pub MayAnswer : State → Call → Result Reply Refusal → Type 0
   MayAnswer state call (Ok reply) =
       (cause_of settings timer state call ≡ None) × (reply ≡ reply_of state.forest call)
   MayAnswer state call (Err refusal) =
-      IsRefusedFor (cause_of settings timer state call) (takes_no_memory settings timer state call)
-      (call_text state call) refusal
+      IsRefusedFor (cause_of settings timer state call) (call_text state call)
+      (state.failed || takes_no_memory settings timer state.forest call) refusal
 
   -- the state after an answer
   abbrev pub state_after_answer : State → Call → Result Reply Refusal → State

@@ -17,7 +17,8 @@ abbrev pub opening_state : Option Id → State
 opening_state first =
     record { forest = record { spans = []; next = first }; last = None; failed = false }
 
--- what a call draws, and the printed marks and the last span after it
+-- the rows of a call, the forest with its new span and the printed marks that it made, and the last
+-- span
 pub record Turn : Type 0 where
   pub rows : List Row
   pub forest : Forest

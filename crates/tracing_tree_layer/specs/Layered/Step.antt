@@ -5,8 +5,6 @@ use Rattle.tracing_tree_spans.specs.Registry.Ids.{id_of}
 use Rattle.tracing_tree_time.specs.Clock.{Timer}
 use Rattle.tracing_tree_spans.specs.Registry.Forest.{Forest, new_span, add_span, add_handle, add_fields, closing_of, take_handle, without_spans}
 use Rattle.tracing_tree_context.specs.declared.context.Id.{Id}
-use Rattle.tracing_tree_context.specs.declared.context.Context.{Context}
-use Rattle.tracing_tree_spans.specs.declared.registry.Attributes.{Attributes}
 use Rattle.tracing_tree_layer.specs.Layered.State.{State, Turn, quiet_turn}
 use Rattle.tracing_tree_layer.specs.Layer.Turns.{turn_of_new, turn_of_event, turn_of_closes}
 use Rattle.tracing_tree_layer.specs.declared.call.Call.{Call}
@@ -19,11 +17,6 @@ use Rattle.tracing_tree_layer.specs.declared.call.Reply.TheVariants.{Span, Clone
 abbrev pub new_id : Forest → Id
 new_id forest = unwrap_or forest.next (id_of 0)
 
--- the forest with the new span
-abbrev pub with_new_span : Attributes → Context → Forest → Forest
-with_new_span attributes context forest =
-    add_span (new_span (new_id forest) attributes context.current context.moment.mono) forest
-
 -- what an accepted call answers
 abbrev pub reply_of : Forest → Call → Reply
 reply_of forest (New attributes context) = Span (new_id forest)
@@ -35,13 +28,14 @@ module _ (settings : Settings) (timer : Timer) (forest : Forest) where
   -- the rows of an accepted call, and the printed marks and the last span after it
   abbrev pub turn_of : Option Id → Call → Turn
   turn_of last (New attributes context) =
-      turn_of_new settings context (with_new_span attributes context forest) last (new_id forest)
+      let made = new_span (new_id forest) attributes context.current context.moment.mono in
+      turn_of_new settings context (add_span made forest) last (new_id forest)
   turn_of last (Event event context) = turn_of_event settings timer context forest last event
   turn_of last (Close i context) = turn_of_closes settings context (closing_of forest i) forest last
   turn_of last call = quiet_turn forest last
 
--- what else an accepted call changes in the forest, once its marks are made; the first forest is
--- the one before the call
+-- what else an accepted call changes in the forest, once its marks are made (a new span is there
+-- already); the first forest is the one before the call
 abbrev pub changed_forest : Forest → Call → Forest → Forest
 changed_forest old (Clone i) forest = add_handle i forest
 changed_forest old (Record i record') forest = add_fields record'.fields i forest

@@ -1,17 +1,16 @@
 //! The blocks of text of rows, before they are drawn.
 
-ghost use Rattle.std.specs.Prelude.{◌≡◌, ◌++◌, true, OnOk, OnErr, string_bytes};
-ghost use Rattle.tracing_tree_text.specs.declared.style.Style.TheVariants.{BoldGreen};
+ghost use Rattle.std.specs.Prelude.{◌≡◌, ◌++◌, ◌∷◌, true, false, OnOk, OnErr, codes, string_bytes};
 ghost use Rattle.tracing_tree_drawing.specs.Format.Texts.{label, named_value, shown_field, span_fields};
-ghost use Rattle.tracing_tree_text.specs.Style.{styled};
-ghost use Rattle.tracing_tree_layer.specs.Layer.Block.{shown_target, span_text, span_block, event_tail};
+ghost use Rattle.tracing_tree_layer.specs.Layer.Block.{shown_brace, span_text, span_block, event_tail};
+ghost use Rattle.tracing_tree_layer.specs.Layer.Heads.{shown_target, span_head};
 
 use crate::told::ToldEvent;
 use std::alloc::AllocError;
 use tracing_tree_drawing::format::{Config, SpanMode, push_named, push_shown, write_span_mode};
 use tracing_tree_spans::registry::SpanRef;
 use tracing_tree_text::field::Field;
-use tracing_tree_text::style::{Style, push_level, push_styled};
+use tracing_tree_text::style::push_level;
 
 // The fields of a span. Only in the first place is a message shown alone.
 fn push_span_fields(out: &mut String, fields: &[Field]) -> Result<(), AllocError>
@@ -34,45 +33,75 @@ fn push_span_text(out: &mut String, config: &Config, span: &SpanRef) -> Result<(
         (string_bytes out.new ≡ string_bytes out.old
         ++ span_text config.now span.now.target span.now.name span.now.kept.fields) }
 {
-    push_span_target(out, config, span)?;
-    push_styled(out, config.ansi(), Style::BoldGreen, span.name())?;
-    let fields = span.data().fields.as_slice();
-    if !config.bracketed_fields() {
-        out.push_str(" ")?;
-        return push_span_fields(out, fields);
+    if config.ansi() {
+        push_painted_head(out, config, span)?;
+    } else {
+        push_plain_head(out, config, span)?;
     }
-    push_brace(out, config, "{", "\x1b[1;32m{\x1b[0m")?;
-    push_span_fields(out, fields)?;
-    push_brace(out, config, "}", "\x1b[1;32m}\x1b[0m")
+    push_span_fields(out, span.data().fields.as_slice())?;
+    match (config.bracketed_fields(), config.ansi()) {
+        (true, true) => out.push_str("\x1b[1;32m}\x1b[0m"),
+        (true, false) => out.push_str("}"),
+        (false, _) => Ok(()),
+    }
 }
 
-// The target of a span, if targets are on.
-fn push_span_target(out: &mut String, config: &Config, span: &SpanRef) -> Result<(), AllocError>
+// What stands before the fields of a span, with ansi. Codes that follow each other are one piece.
+fn push_painted_head(out: &mut String, config: &Config, span: &SpanRef) -> Result<(), AllocError>
+    requires { config.now.ansi ≡ true }
     ensures { OnOk result
-        (string_bytes out.new ≡ string_bytes out.old ++ shown_target config.now span.now.target) }
+        (string_bytes out.new ≡ string_bytes out.old
+        ++ span_head config.now span.now.target span.now.name) }
+{
+    push_painted_target(out, config, span)?;
+    out.push_str(span.name())?;
+    push_painted_brace(out, config)
+}
+
+// The target of a span, if targets are on, and the code that starts its name, with ansi.
+fn push_painted_target(out: &mut String, config: &Config, span: &SpanRef) -> Result<(), AllocError>
+    requires { config.now.ansi ≡ true }
+    ensures { OnOk result
+        (string_bytes out.new ≡ string_bytes out.old
+        ++ shown_target config.now span.now.target ++ 27 ∷ codes "[1;32m") }
 {
     if !config.targets() {
-        return Ok(());
+        return out.push_str("\x1b[1;32m");
     }
-    push_styled(out, config.ansi(), Style::Dimmed, span.target())?;
-    out.push_str("::")
+    out.push_str("\x1b[2m")?;
+    out.push_str(span.target())?;
+    out.push_str("\x1b[0m::\x1b[1;32m")
 }
 
-// A brace round the fields of a span, painted with ansi.
-fn push_brace(
-    out: &mut String,
-    config: &Config,
-    brace: &str,
-    painted: &str,
-) -> Result<(), AllocError>
-    requires { painted.now ≡ styled true BoldGreen brace.now }
-    ensures { OnOk result (string_bytes out.new
-        ≡ string_bytes out.old ++ styled config.now.ansi BoldGreen brace.now) }
+// The code that ends a name, and the brace before the fields or a space, with ansi.
+fn push_painted_brace(out: &mut String, config: &Config) -> Result<(), AllocError>
+    requires { config.now.ansi ≡ true }
+    ensures { let brace = shown_brace config.now (codes "{") (codes " ") in
+        OnOk result (string_bytes out.new ≡ string_bytes out.old ++ 27 ∷ codes "[0m" ++ brace) }
 {
-    if config.ansi() {
-        out.push_str(painted)
+    if config.bracketed_fields() {
+        out.push_str("\x1b[0m\x1b[1;32m{\x1b[0m")
     } else {
-        out.push_str(brace)
+        out.push_str("\x1b[0m ")
+    }
+}
+
+// What stands before the fields of a span, without ansi.
+fn push_plain_head(out: &mut String, config: &Config, span: &SpanRef) -> Result<(), AllocError>
+    requires { config.now.ansi ≡ false }
+    ensures { OnOk result
+        (string_bytes out.new ≡ string_bytes out.old
+        ++ span_head config.now span.now.target span.now.name) }
+{
+    if config.targets() {
+        out.push_str(span.target())?;
+        out.push_str("::")?;
+    }
+    out.push_str(span.name())?;
+    if config.bracketed_fields() {
+        out.push_str("{")
+    } else {
+        out.push_str(" ")
     }
 }
 
@@ -108,9 +137,13 @@ pub fn push_event_tail<E: ToldEvent>(
         (string_bytes out.new ≡ string_bytes out.old ++ event_tail config.now (E.told event.now)) }
 {
     push_level(out, config.ansi(), event.level())?;
-    if config.targets() {
+    if config.targets() && config.ansi() {
+        out.push_str(" \x1b[2m")?;
+        out.push_str(event.target())?;
+        out.push_str("\x1b[0m")?;
+    } else if config.targets() {
         out.push_str(" ")?;
-        push_styled(out, config.ansi(), Style::Dimmed, event.target())?;
+        out.push_str(event.target())?;
     }
     event.push_fields(out)
 }

@@ -1,12 +1,12 @@
 //! The rows of a call, planned and then drawn one after another.
 
-ghost use Rattle.std.specs.Prelude.{◌≡◌, ◌++◌, ◌∷◌, ◌-◌, [], false, if◌then◌else◌, OnOk, IfOk, IfErr, IfSome, is_none, length, string_bytes};
+ghost use Rattle.std.specs.Prelude.{◌≡◌, ◌++◌, ◌∷◌, ◌-◌, [], false, if◌then◌else◌, OnOk, IfOk, IfErr, IfSome, is_none, length, string_bytes, unwrap_or};
 ghost use Rattle.tracing_tree_spans.specs.Registry.Forest.{if_live, path_of_any};
-ghost use Rattle.tracing_tree_layer.specs.Layer.Block.{moment_part, elapsed_part, event_block, event_tail};
+ghost use Rattle.tracing_tree_layer.specs.Layer.Block.{elapsed_part, event_block, event_tail, spaced};
 ghost use Rattle.tracing_tree_layer.specs.Layer.Turns.{block_of, event_row, event_depth, event_level, event_parent, time_in_current, turn_of_new, turn_of_event, turn_of_closes};
 ghost use Rattle.tracing_tree_layer.specs.Layer.Plan.{row_of_planned, rows_of_planned};
-ghost use Rattle.tracing_tree_layer.specs.Layered.Refused.{is_event_too_wide, timer_faults_at, lacks_elapsed};
-ghost use Rattle.tracing_tree_layer.specs.Layer.Drawn.{DrawsRows, Drafts, IsBlank, IsUntimed, has_no_id};
+ghost use Rattle.tracing_tree_layer.specs.Layered.Refused.{timer_faults_at};
+ghost use Rattle.tracing_tree_layer.specs.Layer.Drawn.{DrawsRows, Drafts, IsBlank, IsUntimed, has_no_id, is_event_too_wide, lacks_elapsed};
 
 use super::block::{push_event_tail, push_span_block};
 use super::page::Page;
@@ -153,6 +153,10 @@ impl<'a, S: LookupSpan> CallDrawing<'a, S> {
             let block = block_of self.now.config.now forest mode id in
             OnOk result (string_bytes out.new ≡ string_bytes out.old ++ block) }
     {
+        // A plain close without labels shows nothing of its span.
+        if mode == (SpanMode::Close { verbose: false }) && !self.config.span_modes() {
+            return Ok(());
+        }
         match self.spans.span(id) {
             Some(span) => push_span_block(out, self.config, mode, &span),
             None => Ok(()),
@@ -233,8 +237,9 @@ impl<'a, S: LookupSpan> CallDrawing<'a, S> {
 
     // The timer's text of the moment, and a space if it has one.
     fn moment<FT: FormatTime>(&self, out: &mut String, timer: &FT) -> Result<(), Refusal>
-        ensures ok { let text = moment_part (FT.timer timer.now) self.now.context.now.moment in
-            OnOk result (string_bytes out.new ≡ string_bytes out.old ++ text) }
+        ensures ok { let shown = (FT.timer timer.now).moment_text self.now.context.now.moment in
+            OnOk result
+            (string_bytes out.new ≡ string_bytes out.old ++ spaced (unwrap_or shown [])) }
         ensures has { let moment = self.now.context.now.moment in
             OnOk result (is_none ((FT.timer timer.now).moment_text moment) ≡ false) }
         ensures refusal { let moment = self.now.context.now.moment in

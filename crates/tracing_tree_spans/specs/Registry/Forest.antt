@@ -1,8 +1,8 @@
 -- The live spans, their paths, and what closes with a span.
-use Rattle.std.specs.Prelude.{◌≡◌, ℕ, ◌+◌, ◌-◌, nat_lt, ◌==◌, ◌&&◌, Bool, true, false, not, if◌then◌else◌, IsTrue, List, [], ◌∷◌, ◌++◌, length, map, reverse, drop, filter, find, take_while, zip, Option, Some, None, is_some, option_map, option_and_then, ⊤, ◌^◌}
+use Rattle.std.specs.Prelude.{◌≡◌, ℕ, zero, suc, ◌+◌, ◌-◌, nat_lt, ◌==◌, ◌&&◌, Bool, true, false, not, if◌then◌else◌, IsTrue, List, [], ◌∷◌, ◌++◌, length, map, reverse, drop, filter, find, take_while, zip, Option, Some, None, is_some, option_map, option_and_then, ⊤, ◌^◌}
 use Rattle.std.specs.Option.{option_map_or}
 use Rattle.std.specs.Bool.{then_some}
-use Rattle.std.specs.List.{list_all, list_any, last_or, common_prefix_len}
+use Rattle.std.specs.List.{list_all, list_any, last_or, common_prefix_len, IsDistinct}
 use Rattle.tracing_tree_spans.specs.Registry.Ids.{id_of, same_id}
 use Rattle.tracing_tree_spans.specs.Registry.Spans.{Span, printed_span}
 use Rattle.tracing_tree_context.specs.declared.context.Id.{Id}
@@ -11,7 +11,8 @@ use Rattle.tracing_tree_spans.specs.declared.registry.Parent.{Parent}
 use Rattle.tracing_tree_spans.specs.declared.registry.Parent.TheVariants.{Root, Current, Of}
 use Rattle.tracing_tree_spans.specs.declared.registry.Attributes.{Attributes}
 
--- the live spans, the oldest first, and the next id, which is none once the greatest was given out
+-- the live spans, which a `Registry` lists the oldest first, and the next id, which is none once
+-- the greatest was given out
 pub record Forest : Type 0 where
   pub spans : List Span
   pub next : Option Id
@@ -72,17 +73,18 @@ children_of forest i = filter (is_child_of i) forest.spans
 
 -- ---- paths
 
--- the path of a span among these, the newest first: the path of its parent among the older ones,
--- and the span
-abbrev pub path_among : List Span → Id → List Id
-path_among [] i = []
-path_among (span ∷ older) i =
-    if has_id i span then option_map_or (λ above. path_among older above) span.parent [] ++ i ∷ []
-    else path_among older i
+-- The ids that are met in at most this many steps up from a span, the topmost first: the span's,
+-- before it its parent's, and so on to its root.
+abbrev pub path_up : ℕ → List Span → Id → List Id
+path_up zero spans i = []
+path_up (suc steps) spans i =
+    option_map_or (λ span. option_map_or (λ above. path_up steps spans above) span.parent []
+    ++ i ∷ []) (find (has_id i) spans) []
 
--- from the root down to the span; empty if it isn't live
+-- From the root down to the span; empty if it isn't live. As many steps as there are spans are
+-- enough, since no id comes twice on the way.
 abbrev pub path_of : Forest → Id → List Id
-path_of forest i = path_among (reverse forest.spans) i
+path_of forest i = path_up (length forest.spans) forest.spans i
 
 -- the path of an id that may be missing
 abbrev pub path_of_any : Forest → Option Id → List Id
@@ -125,7 +127,21 @@ IsBelowNext forest =
     IsTrue (option_map_or (λ next. list_all (λ span. nat_lt span.id.0 next.0) forest.spans)
     forest.next true)
 
+-- the first is above the second: a way down from a child of the first leads to the second
+abbrev pub IsAncestor : Forest → Id → Id → Type 0
+IsAncestor forest above i =
+    (way : List Id) × Descends forest (Some above) way × (last_or None way ≡ Some i)
+
+-- Each span has an id of its own, each parent is live, and nobody is their own ancestor. Nothing is
+-- asked of the order of the list, nor of the next id.
 pub record IsForest (forest : Forest) : Type 0 where
+  pub distinct : IsDistinct same_id (map (λ span. span.id) forest.spans)
+  pub parents : (i above : Id) → parent_of forest i ≡ Some above → IsTrue (is_live forest above)
+  pub loopless : (i : Id) → IsAncestor forest i i → ⊥
+
+-- a forest whose spans stand in the order in which they were made: each after its parent, and all
+-- below the next id
+pub record IsGrownForest (forest : Forest) : Type 0 where
   pub grown : IsGrown (reverse forest.spans)
   pub below_next : IsBelowNext forest
 
@@ -220,14 +236,14 @@ pub record IsLongestGoing (forest : Forest) (ids going : List Id) : Type 0 where
   pub each : IsTrue (list_all (λ step. goes_after forest step.0 step.1) (with_previous going))
   pub longest : FirstStays forest (last_or None going) rest
 
--- of a span, its parent, and so on upward, the longest beginning in which each goes after the one
--- before it
+-- the span, its parent and so on upward, as far as each goes after the one before it
 abbrev pub going_up : Forest → Id → List Id
 going_up forest i =
     let steps = with_previous (reverse (path_of forest i)) in
     map (λ step. step.1) (take_while (λ step. goes_after forest step.0 step.1) steps)
 
--- what leaves the forest when one handle of a span is taken away, the lowest first
+-- what leaves the forest when one handle of a span is taken away: the span first, then its parent,
+-- and so on upward
 abbrev pub closing_of : Forest → Id → List Id
 closing_of forest i = going_up (take_handle i forest) i
 

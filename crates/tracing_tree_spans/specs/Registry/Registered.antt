@@ -5,7 +5,7 @@ use Rattle.std.specs.List.{list_all}
 use Rattle.std.specs.Option.{option_map_or}
 use Rattle.tracing_tree_spans.specs.Registry.Ids.{same_id}
 use Rattle.tracing_tree_spans.specs.Registry.Spans.{Span}
-use Rattle.tracing_tree_spans.specs.Registry.Forest.{Forest, named_parent, any_unless_live, unless_live, unless_handle, has_all_handles, add_handle, is_live, handles_of, is_child_of, children_of, IsForest, id_after, new_span, add_span, goes_after, closing_of, after_close}
+use Rattle.tracing_tree_spans.specs.Registry.Forest.{Forest, named_parent, any_unless_live, unless_live, unless_handle, has_all_handles, add_handle, is_live, handles_of, is_child_of, children_of, IsGrownForest, id_after, new_span, add_span, goes_after, closing_of, after_close}
 use Rattle.tracing_tree_context.specs.declared.context.Id.{Id}
 use Rattle.tracing_tree_context.specs.declared.context.Context.{Context}
 use Rattle.tracing_tree_context.specs.declared.context.Refusal.{Refusal}
@@ -29,7 +29,7 @@ alone spans = record { spans = spans; next = None }
 -- what a registry keeps of its spans and the next id
 abbrev pub IsKept : List Span → Option Id → Type 0
 IsKept spans next =
-    IsForest (record { spans = spans; next = next }) × IsRising spans × IsInRange spans
+    IsGrownForest (record { spans = spans; next = next }) × IsRising spans × IsInRange spans
 
 -- a child of this span, and not the one that closes before it
 abbrev pub is_other_child : Id → Option Id → Span → Bool

@@ -11,8 +11,14 @@ use tracing_tree_context::Id;
 use tracing_tree_text::field::Fields;
 
 /// Live spans that a layer looks at and marks. (`LookupSpan` of the Rust crate's registry.)
+///
+/// A registry of one's own keeps three things: no two live spans have the same id, the parent of each live span is live, and no
+/// span is its own ancestor. In which order its spans are listed, and which ids it gives out, is its own affair. ([`Registry`]
+/// lists them in the order in which they were made, and its ids rise.)
+///
+/// [`Registry`]: crate::registry::Registry
 pub trait LookupSpan {
-    /// The live spans and the next id: each parent is live, and no span is its own ancestor.
+    /// The live spans, in any order. The forest has a next id too, of which no clause here says anything.
     ghost forest: { Self → Forest };
 
     /// A look at a live span; none of an id that isn't live.

@@ -2,10 +2,12 @@
 
 mod surface;
 
-ghost use Rattle.std.specs.Prelude.{◌≡◌, ◌<◌, ◌++◌, [], ◌∷◌, None, Some, Ok, IfOk, IfSome, IsSome, OnOk, OnErr, Option, reverse, length, false, IsTrue, ◌↔◌};
+ghost use Rattle.std.specs.Prelude.{◌≡◌, ◌<◌, ◌++◌, [], ◌∷◌, None, Some, Ok, IfOk, IfSome, IsSome, OnOk, OnErr, Option, option_map, option_copied, reverse, length, false, IsTrue, ◌↔◌};
 ghost use Rattle.std.specs.List.{list_any};
 ghost use Rattle.tracing_tree_spans.specs.Registry.Ids.{id_of};
-ghost use Rattle.tracing_tree_spans.specs.Registry.Forest.{IsForest, IsPathIfLive, IsClosing, empty_forest, span_at, is_live, is_child_of, parent_of, any_unless_live, path_of, id_after, closing_of, going_up, without_spans, take_back, unless_handle};
+ghost use Rattle.tracing_tree_spans.specs.Registry.Forest.{IsForest, IsGrownForest, IsPathIfLive, IsClosing, empty_forest, span_at, is_live, is_child_of, parent_of, any_unless_live, path_of, id_after, closing_of, going_up, without_spans, take_back, unless_handle};
+ghost use Rattle.tracing_tree_spans.specs.Registry.Spans.{shown_span};
+ghost use Rattle.tracing_tree_spans.specs.Registry.Lookup.{data_at};
 ghost use Rattle.tracing_tree_spans.specs.Registry.Registered.{IsNewSpan, IsCloned, IsClosed, ListsClosing, AsksLastHandle, listed, IsNewest, IsKept, alone};
 ghost use Rattle.tracing_tree_spans.specs.Registry.Kept.{spans_of, kept_at, kept_path, with_child, without_span, AreBelow, IsTied};
 
@@ -321,15 +323,29 @@ fn remove_upward(nodes: &mut Nodes, id: Id, count: usize)
 impl LookupSpan for Registry {
     ghost forest = { λ r. r };
 
-    fn span(&self, id: Id) -> Option<SpanRef<'_>> {
+    fn span(&self, id: Id) -> Option<SpanRef<'_>>
+        ensures shown { result ≡ option_map shown_span (span_at self.now id) }
+        ensures formed { IsForest self.now }
+        ensures grown { IsGrownForest self.now }
+    {
         Some(self.nodes.get(id)?.look())
     }
 
-    fn parent(&self, id: Id) -> Option<Id> {
+    fn parent(&self, id: Id) -> Option<Id>
+        ensures parent { result ≡ parent_of self.now id }
+        ensures formed { IsForest self.now }
+        ensures grown { IsGrownForest self.now }
+    {
         self.nodes.get(id)?.parent()
     }
 
-    fn path(&self, alloc: Global, id: Id) -> Result<Vec<Id>, AllocError> {
+    fn path(&self, alloc: Global, id: Id) -> Result<Vec<Id>, AllocError>
+        ensures path { IfOk result (λ path. path.items ≡ path_of self.now id) }
+        ensures whole { IfOk result (λ path. IsPathIfLive self.now id path.items) }
+        ensures live { OnErr result (span_at self.now id ≡ None → ⊥) }
+        ensures formed { IsForest self.now }
+        ensures grown { IsGrownForest self.now }
+    {
         match self.nodes.get(id) {
             Some(node) => node.path().to_vec(alloc),
             None => Ok(Vec::new(alloc)),
@@ -341,11 +357,16 @@ impl LookupSpan for Registry {
         ensures kept { IfSome result (λ path. path.now ≡ path_of self.now id) }
         ensures live { IsSome result ↔ IsTrue (is_live self.now id) }
         ensures formed { IsForest self.now }
+        ensures grown { IsGrownForest self.now }
     {
         Some(self.nodes.get(id)?.path())
     }
 
-    fn data(&self, id: Id) -> Option<&Data> {
+    fn data(&self, id: Id) -> Option<&Data>
+        ensures kept { option_copied result ≡ data_at self.now id }
+        ensures formed { IsForest self.now }
+        ensures grown { IsGrownForest self.now }
+    {
         Some(self.nodes.get(id)?.data())
     }
 

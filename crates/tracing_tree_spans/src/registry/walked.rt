@@ -1,8 +1,10 @@
 //! Live spans whose paths are walked.
 
-ghost use Rattle.std.specs.Prelude.{◌≡◌, None, IfOk, OnErr, reverse};
+ghost use Rattle.std.specs.Prelude.{◌≡◌, None, IfOk, OnErr, option_map, option_copied, reverse};
 ghost use Rattle.tracing_tree_spans.specs.Registry.Ids.{id_of};
-ghost use Rattle.tracing_tree_spans.specs.Registry.Forest.{IsForest, IsPathIfLive, IsClosing, empty_forest, span_at, path_of, take_back};
+ghost use Rattle.tracing_tree_spans.specs.Registry.Forest.{IsForest, IsGrownForest, IsPathIfLive, IsClosing, empty_forest, span_at, parent_of, path_of, take_back};
+ghost use Rattle.tracing_tree_spans.specs.Registry.Spans.{shown_span};
+ghost use Rattle.tracing_tree_spans.specs.Registry.Lookup.{data_at};
 ghost use Rattle.tracing_tree_spans.specs.Registry.Registered.{IsNewSpan, IsCloned, IsClosed, ListsClosing, AsksLastHandle, listed, IsNewest};
 
 use super::{Attributes, Context, Data, LookupSpan, Registry, SpanRef};
@@ -91,7 +93,7 @@ impl Walked {
         ensures scope { IfOk result (λ scope. scope.items ≡ reverse (path_of self.now id)) }
         ensures whole { IfOk result (λ scope. IsPathIfLive self.now id (reverse scope.items)) }
         ensures live { OnErr result (span_at self.now id ≡ None → ⊥) }
-        ensures formed { IsForest self.now }
+        ensures formed { IsGrownForest self.now }
     {
         let mut scope = Vec::new(alloc);
         let mut span = self.spans.span(id);
@@ -117,15 +119,29 @@ impl Walked {
 impl LookupSpan for Walked {
     ghost forest = { λ w. w };
 
-    fn span(&self, id: Id) -> Option<SpanRef<'_>> {
+    fn span(&self, id: Id) -> Option<SpanRef<'_>>
+        ensures shown { result ≡ option_map shown_span (span_at self.now id) }
+        ensures formed { IsForest self.now }
+        ensures grown { IsGrownForest self.now }
+    {
         self.spans.span(id)
     }
 
-    fn parent(&self, id: Id) -> Option<Id> {
+    fn parent(&self, id: Id) -> Option<Id>
+        ensures parent { result ≡ parent_of self.now id }
+        ensures formed { IsForest self.now }
+        ensures grown { IsGrownForest self.now }
+    {
         self.spans.parent(id)
     }
 
-    fn path(&self, alloc: Global, id: Id) -> Result<Vec<Id>, AllocError> {
+    fn path(&self, alloc: Global, id: Id) -> Result<Vec<Id>, AllocError>
+        ensures path { IfOk result (λ path. path.items ≡ path_of self.now id) }
+        ensures whole { IfOk result (λ path. IsPathIfLive self.now id path.items) }
+        ensures live { OnErr result (span_at self.now id ≡ None → ⊥) }
+        ensures formed { IsForest self.now }
+        ensures grown { IsGrownForest self.now }
+    {
         let mut path = self.scope(alloc, id)?;
         path.reverse();
         Ok(path)
@@ -135,12 +151,17 @@ impl LookupSpan for Walked {
     fn kept_path(&self, id: Id) -> Option<&[Id]>
         ensures none { result ≡ None }
         ensures formed { IsForest self.now }
+        ensures grown { IsGrownForest self.now }
     {
         let _span = self.spans.span(id);
         None
     }
 
-    fn data(&self, id: Id) -> Option<&Data> {
+    fn data(&self, id: Id) -> Option<&Data>
+        ensures kept { option_copied result ≡ data_at self.now id }
+        ensures formed { IsForest self.now }
+        ensures grown { IsGrownForest self.now }
+    {
         self.spans.data(id)
     }
 

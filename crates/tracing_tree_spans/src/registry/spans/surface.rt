@@ -1,7 +1,7 @@
 //! What the Rust crates have besides, and no call of the layer uses: lists of spans made anew, and data by themselves.
 
 ghost use Rattle.std.specs.Prelude.{◌≡◌, None, IfOk, OnErr, reverse};
-ghost use Rattle.tracing_tree_spans.specs.Registry.Forest.{IsClosing, IsForest, IsPathIfLive, path_of, span_at};
+ghost use Rattle.tracing_tree_spans.specs.Registry.Forest.{IsClosing, IsGrownForest, IsPathIfLive, path_of, span_at};
 ghost use Rattle.tracing_tree_spans.specs.Registry.Registered.{AsksLastHandle, ListsClosing};
 
 use super::{Attributes, Data, Registry};
@@ -31,7 +31,7 @@ impl Registry {
         ensures scope { IfOk result (λ scope. scope.items ≡ reverse (path_of self.now id)) }
         ensures whole { IfOk result (λ scope. IsPathIfLive self.now id (reverse scope.items)) }
         ensures live { OnErr result (span_at self.now id ≡ None → ⊥) }
-        ensures formed { IsForest self.now }
+        ensures formed { IsGrownForest self.now }
     {
         match self.nodes.get(id) {
             Some(node) => node.path().iter().rev().copied().collect(alloc),

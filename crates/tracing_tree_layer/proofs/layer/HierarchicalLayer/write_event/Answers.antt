@@ -1,7 +1,7 @@
 use Rattle.std.proofs.Common.{ap, sym, subst, ◌∙◌}
-use Rattle.tracing_tree_layer.specs.Layer.Drawn.{Drafts}
+use Rattle.tracing_tree_layer.specs.Layer.Drawn.{Drafts, is_event_too_wide}
 use Rattle.tracing_tree_layer.specs.Layer.Turns.{turn_of_event}
-use Rattle.tracing_tree_layer.specs.Layered.Refused.{is_event_too_wide, timer_faults_at}
+use Rattle.tracing_tree_layer.specs.Layered.Refused.{timer_faults_at}
 use Rattle.tracing_tree_layer.proofs.DrawnLaws.{gives_up}
 use Rattle.tracing_tree_layer.proofs.layer.HierarchicalLayer.write_event.Goals as goal
 

@@ -2,7 +2,8 @@ use Rattle.std.proofs.Common.{◌≡◌, false, refl, ap, ◌∙◌}
 use Rattle.std.proofs.lemmas.Result.{err_from_is_err_and}
 use Rattle.tracing_tree_layer.specs.Layer.Layers.{seen}
 use Rattle.tracing_tree_layer.specs.Layer.Turns.{turn_of_event}
-use Rattle.tracing_tree_layer.specs.Layered.Refused.{is_event_too_wide, timer_faults_at}
+use Rattle.tracing_tree_layer.specs.Layer.Drawn.{is_event_too_wide}
+use Rattle.tracing_tree_layer.specs.Layered.Refused.{timer_faults_at}
 use Rattle.tracing_tree_layer.specs.declared.call.Call.TheVariants.{Event}
 use Rattle.tracing_tree_layer.proofs.TurnLaws.{cause-turn, turn_refused}
 use Rattle.tracing_tree_layer.proofs.layered.Layered.event.Goals as goal

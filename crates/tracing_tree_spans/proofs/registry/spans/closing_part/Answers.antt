@@ -1,6 +1,7 @@
 use Rattle.std.proofs.Common.{◌≡◌, [], Some, arith, sym, ◌∙◌}
 use Rattle.tracing_tree_spans.specs.Registry.Registered.{alone, going_after}
 use Rattle.tracing_tree_spans.specs.Registry.Kept.{spans_of}
+use Rattle.tracing_tree_spans.proofs.GrownForests.{as_forest}
 use Rattle.tracing_tree_spans.proofs.ClosingWalk.{way_up, path-falls}
 use Rattle.tracing_tree_spans.proofs.ClosingParts.{kept-found, part-begins, part-none, part-child, part-more, part-cut, part-empty, rest-root, rest-missing, rest-kept, stays-handle, stays-child}
 use Rattle.tracing_tree_spans.proofs.registry.spans.closing_part.Goals as goal
@@ -28,7 +29,7 @@ loop-above-init c =
 pub loop-above-smaller : goal.loop-above-smaller
 loop-above-smaller c =
     let h = kept-found c.args.nodes.now c.in-Some.id c.in-Some-get.parent.now c.requires.tied (sym c.in-Some-get.ensures) in
-    rw (c.parent-above-in-Some.ensures, c.in-Some.is) (path-falls (alone (spans_of c.args.nodes.now)) c.requires.kept.0 _ _ h.found)
+    rw (c.parent-above-in-Some.ensures, c.in-Some.is) (path-falls (alone (spans_of c.args.nodes.now)) (as_forest (alone (spans_of c.args.nodes.now)) c.requires.kept.0) _ _ h.found)
 
 pub loop-above-preserved : goal.loop-above-preserved
 loop-above-preserved c =

@@ -23,7 +23,7 @@ returns-in_err-parent-clause-spans c = ap spans_of c.remove.ensures ∙ spans-le
 
 pub returns-in_err-parent-clause-tied : goal.returns-in_err-parent-clause-tied
 returns-in_err-parent-clause-tied c =
-    tied-root c.args.nodes.now c.remove.new.self c.args.id c.in_ok-get.field-0.now c.requires.kept.1 c.requires.tied (sym c.in_ok-get.ensures)
+    tied-root c.args.nodes.now c.remove.new.self c.args.id c.in_ok-get.field-0.now c.requires.kept.0.grown c.requires.kept.1 c.requires.tied (sym c.in_ok-get.ensures)
     c.requires.childless (sym c.parent-parent.ensures ∙ c.in_err-parent.was) c.remove.ensures
 
 -- a span with a parent
@@ -42,5 +42,5 @@ returns-clause-spans c =
 
 pub returns-clause-tied : goal.returns-clause-tied
 returns-clause-tied c =
-    tied-leaf c.args.nodes.now c.remove.new.self _ c.args.id c.in_ok-parent.parent c.in_ok-get.field-0.now c.requires.kept.1 c.requires.tied
+    tied-leaf c.args.nodes.now c.remove.new.self _ c.args.id c.in_ok-parent.parent c.in_ok-get.field-0.now c.requires.kept.0.grown c.requires.kept.1 c.requires.tied
     (sym c.in_ok-get.ensures) c.requires.childless (sym c.parent-parent.ensures ∙ c.in_ok-parent.was) c.remove.ensures c.take_child.ensures

@@ -19,7 +19,7 @@ returns-in-None-Some g c = λ gone.
     let dead : is_live forest c.in-None-Some.last ≡ false = search rules in
     let above : path_of_any forest c.in-Some.span.parent ≡ path_of_any forest c.args.plan.now.last =
     ap (λ o. path_of_any forest o) (sym c.parent.ensures ∙ c.in-None-Some.is-0)
-    ∙ sym (ap (λ o. path_of_any forest o) (sym c.last.ensures ∙ c.in-None-Some.is-1) ∙ path_of-none forest c.in-Some.ensures.formed c.in-None-Some.last dead) in
+    ∙ sym (ap (λ o. path_of_any forest o) (sym c.last.ensures ∙ c.in-None-Some.is-1) ∙ path_of-none forest c.in-None-Some.last dead) in
     fresh-below forest c.in-Some.ensures.formed c.args.id c.in-Some.span c.args.plan.now.last c.in-Some.ensures.shown above
 
 pub returns-in-None-None : goal.returns-in-None-None

@@ -1,6 +1,6 @@
 use Rattle.std.proofs.Common.{◌≡◌, ◌≢◌, length, reverse, rules, sym, ◌∙◌, subst}
 use Rattle.std.proofs.lemmas.Result.{err_from_is_err_and}
-use Rattle.tracing_tree_spans.specs.Registry.Forest.{IsForest, closing_of}
+use Rattle.tracing_tree_spans.specs.Registry.Forest.{IsGrownForest, closing_of}
 use Rattle.tracing_tree_spans.proofs.KeptLists.{kept-id}
 use Rattle.tracing_tree_spans.proofs.Registers.{seen, no-handle, zero-handles, some-handles, kept-own, closing-one, closing-whole, closing-whole-is, empty-part, some-part}
 use Rattle.tracing_tree_spans.proofs.registry.spans.Registry.closing_into.Goals as goal
@@ -32,7 +32,7 @@ returns-then-is_empty-clause-lists c =
 pub returns-then-is_empty-clause-longest : goal.returns-then-is_empty-clause-longest
 returns-then-is_empty-clause-longest c =
     let here = seen c.self.inside.nodes _ _ c.args.id _ c.self.view_is (sym c.in-Some.ensures) in
-    closing-whole-is c.args.self.now (subst IsForest c.self.view_is c.self.invariant.0.0) c.args.id _ _ here (returns-then-is_empty-clause-lists c).1
+    closing-whole-is c.args.self.now (subst IsGrownForest c.self.view_is c.self.invariant.0.0) c.args.id _ _ here (returns-then-is_empty-clause-lists c).1
 
 -- no memory for what closes
 pub returns-in_err-extend_from_slice-clause-lists : goal.returns-in_err-extend_from_slice-clause-lists
@@ -56,7 +56,7 @@ returns-in_err-extend_from_slice-clause-last c =
     c.in-Some.node.now.span.id part c.self.view_is (kept-id c.self.inside.nodes c.args.id c.in-Some.node.now (sym c.in-Some.ensures)) c.closing_part-part.ensures in
     let some : length part ≢ 0 = search rules in
     let p = err_from_is_err_and c.from_residual.result c.from_residual.ensures.1 in
-    rw (p.1, p.2) (closing-one c.args.self.now (subst IsForest c.self.view_is c.self.invariant.0.0) c.args.id _ here
+    rw (p.1, p.2) (closing-one c.args.self.now (subst IsGrownForest c.self.view_is c.self.invariant.0.0) c.args.id _ here
     (λ none. c.if-handles-eq0.false (c.handles.ensures ∙ none)) (some-part part _ some whole))
 
 -- what closes
@@ -74,10 +74,10 @@ returns-clause-lists c =
 pub returns-clause-longest : goal.returns-clause-longest
 returns-clause-longest c =
     let here = seen c.self.inside.nodes _ _ c.args.id _ c.self.view_is (sym c.in-Some.ensures) in
-    closing-whole-is c.args.self.now (subst IsForest c.self.view_is c.self.invariant.0.0) c.args.id _ _ here (returns-clause-lists c).1
+    closing-whole-is c.args.self.now (subst IsGrownForest c.self.view_is c.self.invariant.0.0) c.args.id _ _ here (returns-clause-lists c).1
 
 pub returns-clause-last : goal.returns-clause-last
 returns-clause-last c =
     let here = seen c.self.inside.nodes _ _ c.args.id _ c.self.view_is (sym c.in-Some.ensures) in
-    λ some. closing-one c.args.self.now (subst IsForest c.self.view_is c.self.invariant.0.0) c.args.id _ here
+    λ some. closing-one c.args.self.now (subst IsGrownForest c.self.view_is c.self.invariant.0.0) c.args.id _ here
     (λ none. c.if-handles-eq0.false (c.handles.ensures ∙ none)) (λ none. some ((returns-clause-lists c).1 ∙ none))

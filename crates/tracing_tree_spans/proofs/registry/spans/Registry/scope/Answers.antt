@@ -1,7 +1,8 @@
 use Rattle.std.proofs.Common.{List, reverse, rules, sym, ap, ◌∙◌, subst}
 use Rattle.std.proofs.lemmas.List.{reverse-reverse}
-use Rattle.tracing_tree_spans.specs.Registry.Forest.{IsForest, path_of}
+use Rattle.tracing_tree_spans.specs.Registry.Forest.{IsGrownForest, path_of}
 use Rattle.tracing_tree_context.specs.declared.context.Id.{Id}
+use Rattle.tracing_tree_spans.proofs.GrownForests.{as_forest}
 use Rattle.tracing_tree_spans.proofs.PathLaws.{path_of-whole}
 use Rattle.tracing_tree_spans.proofs.Registers.{seen, error-live, path-gone, if-turned}
 use Rattle.tracing_tree_spans.proofs.registry.spans.Registry.scope.Goals as goal
@@ -11,7 +12,7 @@ returns-in-Some-clause-scope c = search rules
 
 pub returns-in-Some-clause-whole : goal.returns-in-Some-clause-whole
 returns-in-Some-clause-whole c =
-    if-turned c.args.self.now (subst IsForest c.self.view_is c.self.invariant.0.0) c.args.id c.collect.result (returns-in-Some-clause-scope c)
+    if-turned c.args.self.now (subst IsGrownForest c.self.view_is c.self.invariant.0.0) c.args.id c.collect.result (returns-in-Some-clause-scope c)
 
 pub returns-in-Some-clause-live : goal.returns-in-Some-clause-live
 returns-in-Some-clause-live c =
@@ -20,10 +21,10 @@ returns-in-Some-clause-live c =
 pub returns-in-None-clause-scope : goal.returns-in-None-clause-scope
 returns-in-None-clause-scope c =
     let none = seen c.self.inside.nodes _ c.args.self.now c.args.id _ c.self.view_is (sym c.in-None.ensures) in
-    let gone = path-gone c.args.self.now (subst IsForest c.self.view_is c.self.invariant.0.0) c.args.id none in
+    let gone = path-gone c.args.self.now c.args.id none in
     c.new.ensures.items ∙ sym (ap (λ (ids : List Id). reverse ids) gone)
 
 pub returns-in-None-clause-whole : goal.returns-in-None-clause-whole
 returns-in-None-clause-whole c =
-    path_of-whole c.args.self.now (subst IsForest c.self.view_is c.self.invariant.0.0) c.args.id _
+    path_of-whole c.args.self.now (as_forest c.args.self.now (subst IsGrownForest c.self.view_is c.self.invariant.0.0)) c.args.id _
     (ap (λ (ids : List Id). reverse ids) (returns-in-None-clause-scope c) ∙ reverse-reverse (path_of c.args.self.now c.args.id))

@@ -1,5 +1,7 @@
-use Rattle.std.proofs.Common.{refl, sym, ap, ◌∙◌}
+use Rattle.std.proofs.Common.{refl, sym, ap, ◌∙◌, subst}
 use Rattle.std.specs.Option.{is_some}
+use Rattle.tracing_tree_spans.specs.Registry.Forest.{IsGrownForest}
+use Rattle.tracing_tree_spans.proofs.GrownForests.{as_forest}
 use Rattle.tracing_tree_spans.proofs.Registers.{seen}
 use Rattle.tracing_tree_spans.proofs.registry.spans.RegistryLookupSpan.kept_path.Goals as goal
 
@@ -13,3 +15,9 @@ pub returns-clause-live : goal.returns-clause-live
 returns-clause-live c =
     let here = ap is_some (seen c.self.inside.nodes _ c.args.self.now c.args.id _ c.self.view_is (sym c.in_ok-get.ensures)) in
     ((λ h. here), (λ h. refl))
+
+pub returns-in_err-get-clause-formed : goal.returns-in_err-get-clause-formed
+returns-in_err-get-clause-formed c = as_forest c.args.self.now (subst IsGrownForest c.self.view_is c.self.invariant.0.0)
+
+pub returns-clause-formed : goal.returns-clause-formed
+returns-clause-formed c = as_forest c.args.self.now (subst IsGrownForest c.self.view_is c.self.invariant.0.0)

@@ -1,5 +1,6 @@
 use Rattle.std.proofs.Common.{rules, sym, ◌∙◌, subst}
-use Rattle.tracing_tree_spans.specs.Registry.Forest.{IsForest}
+use Rattle.tracing_tree_spans.specs.Registry.Forest.{IsGrownForest}
+use Rattle.tracing_tree_spans.proofs.GrownForests.{as_forest}
 use Rattle.tracing_tree_spans.proofs.PathLaws.{path_of-whole}
 use Rattle.tracing_tree_spans.proofs.Registers.{seen, error-live, path-gone, if-whole}
 use Rattle.tracing_tree_spans.proofs.registry.spans.RegistryLookupSpan.path.Goals as goal
@@ -9,7 +10,7 @@ returns-in-Some-clause-path c = search rules
 
 pub returns-in-Some-clause-whole : goal.returns-in-Some-clause-whole
 returns-in-Some-clause-whole c =
-    if-whole c.args.self.now (subst IsForest c.self.view_is c.self.invariant.0.0) c.args.id c.to_vec.result (returns-in-Some-clause-path c)
+    if-whole c.args.self.now (subst IsGrownForest c.self.view_is c.self.invariant.0.0) c.args.id c.to_vec.result (returns-in-Some-clause-path c)
 
 pub returns-in-Some-clause-live : goal.returns-in-Some-clause-live
 returns-in-Some-clause-live c =
@@ -18,8 +19,14 @@ returns-in-Some-clause-live c =
 pub returns-in-None-clause-path : goal.returns-in-None-clause-path
 returns-in-None-clause-path c =
     let none = seen c.self.inside.nodes _ c.args.self.now c.args.id _ c.self.view_is (sym c.in-None.ensures) in
-    c.new.ensures.items ∙ sym (path-gone c.args.self.now (subst IsForest c.self.view_is c.self.invariant.0.0) c.args.id none)
+    c.new.ensures.items ∙ sym (path-gone c.args.self.now c.args.id none)
 
 pub returns-in-None-clause-whole : goal.returns-in-None-clause-whole
 returns-in-None-clause-whole c =
-    path_of-whole c.args.self.now (subst IsForest c.self.view_is c.self.invariant.0.0) c.args.id _ (returns-in-None-clause-path c)
+    path_of-whole c.args.self.now (as_forest c.args.self.now (subst IsGrownForest c.self.view_is c.self.invariant.0.0)) c.args.id _ (returns-in-None-clause-path c)
+
+pub returns-in-Some-clause-formed : goal.returns-in-Some-clause-formed
+returns-in-Some-clause-formed c = as_forest c.args.self.now (subst IsGrownForest c.self.view_is c.self.invariant.0.0)
+
+pub returns-in-None-clause-formed : goal.returns-in-None-clause-formed
+returns-in-None-clause-formed c = as_forest c.args.self.now (subst IsGrownForest c.self.view_is c.self.invariant.0.0)
