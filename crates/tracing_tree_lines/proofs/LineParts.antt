@@ -18,7 +18,7 @@ use Rattle.tracing_tree_lines.proofs.BorrowedTrees.{neither}
 use Rattle.tracing_tree_lines.proofs.Choices.{apart}
 use Rattle.tracing_tree_lines.proofs.SpelledLines.{line_spells, value_spells}
 use Rattle.tracing_tree_lines.specs.Lines.Parts.{fields_data, readable_number, readable_fields, readable, part_data, parts_members, parts_data, with_key, readable_at, readable_members, call_members, HasParts}
-use Rattle.tracing_tree_lines.specs.Lines.Spelled.{◌>>=◌, unless_null, value_at, required, whole_value, signed_value, id_value, level_value, parent_value, item_fields, fields_value, IsMomentIn, SpellsCall, context_in, current_in, thread_in, thread_name_in, mono_in, wall_in, target_in, parent_in, fields_in, id_in, attributes_in, record_in, event_in, call_named, object_call}
+use Rattle.tracing_tree_lines.specs.Lines.Spelled.{◌>>=◌, unless_null, read_or, whole_value, signed_value, id_value, parent_value, item_fields, fields_value, IsMomentIn, SpellsCall, context_in, id_in, attributes_in, record_in, event_in, call_named, object_call}
 use Rattle.tracing_tree_lines.specs.Lines.Values.{ValueSpells}
 use Rattle.tracing_tree_lines.specs.Lines.Steps.{MakesSpelled}
 use Rattle.tracing_tree_lines.proofs.MadeCalls.{spelled_as}
@@ -31,40 +31,40 @@ use Rattle.tracing_tree_lines.specs.declared.lines.parts.Parts.{Parts}
 
 -- ---- the value at each key
 
-pub at_call : (p : Parts) → value_at (codes "call") (parts_data p) ≡ unless_null (part_data p.call)
+pub at_call : (p : Parts) → option_and_then unless_null (get (codes "call") (parts_data p)) ≡ unless_null (part_data p.call)
 at_call p = refl
 
-pub at_id : (p : Parts) → value_at (codes "id") (parts_data p) ≡ unless_null (part_data p.id)
+pub at_id : (p : Parts) → option_and_then unless_null (get (codes "id") (parts_data p)) ≡ unless_null (part_data p.id)
 at_id p = refl
 
-pub at_name : (p : Parts) → value_at (codes "name") (parts_data p) ≡ unless_null (part_data p.name)
+pub at_name : (p : Parts) → option_and_then unless_null (get (codes "name") (parts_data p)) ≡ unless_null (part_data p.name)
 at_name p = refl
 
-pub at_level : (p : Parts) → value_at (codes "level") (parts_data p) ≡ unless_null (part_data p.level)
+pub at_level : (p : Parts) → option_and_then unless_null (get (codes "level") (parts_data p)) ≡ unless_null (part_data p.level)
 at_level p = refl
 
-pub at_target : (p : Parts) → value_at (codes "target") (parts_data p) ≡ unless_null (part_data p.target)
+pub at_target : (p : Parts) → option_and_then unless_null (get (codes "target") (parts_data p)) ≡ unless_null (part_data p.target)
 at_target p = refl
 
-pub at_parent : (p : Parts) → value_at (codes "parent") (parts_data p) ≡ unless_null (part_data p.parent)
+pub at_parent : (p : Parts) → option_and_then unless_null (get (codes "parent") (parts_data p)) ≡ unless_null (part_data p.parent)
 at_parent p = refl
 
-pub at_fields : (p : Parts) → value_at (codes "fields") (parts_data p) ≡ unless_null (part_data p.fields)
+pub at_fields : (p : Parts) → option_and_then unless_null (get (codes "fields") (parts_data p)) ≡ unless_null (part_data p.fields)
 at_fields p = refl
 
-pub at_current : (p : Parts) → value_at (codes "current") (parts_data p) ≡ unless_null (part_data p.current)
+pub at_current : (p : Parts) → option_and_then unless_null (get (codes "current") (parts_data p)) ≡ unless_null (part_data p.current)
 at_current p = refl
 
-pub at_thread : (p : Parts) → value_at (codes "thread") (parts_data p) ≡ unless_null (part_data p.thread)
+pub at_thread : (p : Parts) → option_and_then unless_null (get (codes "thread") (parts_data p)) ≡ unless_null (part_data p.thread)
 at_thread p = refl
 
-pub at_thread_name : (p : Parts) → value_at (codes "thread_name") (parts_data p) ≡ unless_null (part_data p.thread_name)
+pub at_thread_name : (p : Parts) → option_and_then unless_null (get (codes "thread_name") (parts_data p)) ≡ unless_null (part_data p.thread_name)
 at_thread_name p = refl
 
-pub at_mono : (p : Parts) → value_at (codes "mono") (parts_data p) ≡ unless_null (part_data p.mono)
+pub at_mono : (p : Parts) → option_and_then unless_null (get (codes "mono") (parts_data p)) ≡ unless_null (part_data p.mono)
 at_mono p = refl
 
-pub at_wall : (p : Parts) → value_at (codes "wall") (parts_data p) ≡ unless_null (part_data p.wall)
+pub at_wall : (p : Parts) → option_and_then unless_null (get (codes "wall") (parts_data p)) ≡ unless_null (part_data p.wall)
 at_wall p = refl
 
 -- ---- fields
@@ -239,7 +239,7 @@ found_same f (Some d) absent same = ap (λ o. option_map_or f o absent) (readabl
 
 -- the value at a key, as it is read
 pub same_at : {A : Type 0} (f : Data → A) (key : List ℕ) (value : Data) (absent : A) → ((d : Data) → f (readable d) ≡ f d)
-    → option_map_or f (unless_null (readable_at key value)) absent ≡ option_map_or f (value_at key value) absent
+    → option_map_or f (unless_null (readable_at key value)) absent ≡ option_map_or f (option_and_then unless_null (get key value)) absent
 same_at f key value absent same = found_same f (get key value) absent same
 
 -- ---- the object that holds what is read spells what the object spells
@@ -247,43 +247,47 @@ same_at f key value absent same = found_same f (get key value) absent same
 abbrev kept : Data → Data
 kept value = object (call_members value)
 
+-- this is read of both
+abbrev IsKept : {A : Type 0} → (Data → A) → Data → Type 0
+IsKept reader value = reader (kept value) ≡ reader value
+
 same_id : (d : Data) → id_value (readable d) ≡ id_value d
 same_id d = ap (option_map id_of) (readable_whole d)
 
-same_current : (value : Data) → current_in (kept value) ≡ current_in value
+same_current : (value : Data) → IsKept (read_or (Some None) (λ v. option_map Some (id_value v)) (codes "current")) value
 same_current value = same_at (λ v. option_map Some (id_value v)) (codes "current") value (Some None) (λ d. ap (option_map Some) (same_id d))
 
-same_thread : (value : Data) → thread_in (kept value) ≡ thread_in value
+same_thread : (value : Data) → IsKept (read_or (Some 1) whole_value (codes "thread")) value
 same_thread value = same_at whole_value (codes "thread") value (Some 1) readable_whole
 
-same_thread_name : (value : Data) → thread_name_in (kept value) ≡ thread_name_in value
+same_thread_name : (value : Data) → IsKept (read_or (Some None) (λ v. option_map Some (as_str v)) (codes "thread_name")) value
 same_thread_name value = same_at (λ v. option_map Some (as_str v)) (codes "thread_name") value (Some None) (λ d. ap (option_map Some) (readable_str d))
 
-same_mono : (value : Data) → mono_in (kept value) ≡ mono_in value
+same_mono : (value : Data) → IsKept (read_or (Some 0) whole_value (codes "mono")) value
 same_mono value = same_at whole_value (codes "mono") value (Some 0) readable_whole
 
-same_wall : (value : Data) → wall_in (kept value) ≡ wall_in value
+same_wall : (value : Data) → IsKept (read_or (Some (pos 0)) signed_value (codes "wall")) value
 same_wall value = same_at signed_value (codes "wall") value (Some (pos 0)) readable_signed
 
-same_target : (value : Data) → target_in (kept value) ≡ target_in value
+same_target : (value : Data) → IsKept (read_or (Some []) as_str (codes "target")) value
 same_target value = same_at as_str (codes "target") value (Some []) readable_str
 
-same_parent : (value : Data) → parent_in (kept value) ≡ parent_in value
+same_parent : (value : Data) → IsKept (read_or (Some Current) parent_value (codes "parent")) value
 same_parent value = same_at parent_value (codes "parent") value (Some Current) readable_parent
 
-same_fields : (value : Data) → fields_in (kept value) ≡ fields_in value
+same_fields : (value : Data) → IsKept (read_or (Some []) fields_value (codes "fields")) value
 same_fields value = same_at fields_value (codes "fields") value (Some []) readable_fields_value
 
 same_id_in : (value : Data) → id_in (kept value) ≡ id_in value
 same_id_in value = same_at id_value (codes "id") value None same_id
 
-same_name : (value : Data) → required as_str (codes "name") (kept value) ≡ required as_str (codes "name") value
+same_name : (value : Data) → read_or None as_str (codes "name") (kept value) ≡ read_or None as_str (codes "name") value
 same_name value = same_at as_str (codes "name") value None readable_str
 
-same_level : (value : Data) → required level_value (codes "level") (kept value) ≡ required level_value (codes "level") value
-same_level value = same_at level_value (codes "level") value None (λ d. ap (option_and_then level_named) (readable_str d))
+same_level : (value : Data) → IsKept (read_or None (λ v. as_str v >>= level_named) (codes "level")) value
+same_level value = same_at (λ v. as_str v >>= level_named) (codes "level") value None (λ d. ap (option_and_then level_named) (readable_str d))
 
-same_word : (value : Data) → required as_str (codes "call") (kept value) ≡ required as_str (codes "call") value
+same_word : (value : Data) → read_or None as_str (codes "call") (kept value) ≡ read_or None as_str (codes "call") value
 same_word value = same_at as_str (codes "call") value None readable_str
 
 same_context : (value : Data) (moment : Moment) → context_in (kept value) moment ≡ context_in value moment
@@ -310,7 +314,7 @@ then_same (Some context) (Some name) f g same = same context name
 same_call : (value : Data) (moment : Moment) → object_call (kept value) moment ≡ object_call value moment
 same_call value moment =
     ap₂ (λ context word. context >>= (λ c. word >>= (λ name. call_named name (kept value) c))) (same_context value moment) (same_word value)
-    ∙ then_same (context_in value moment) (required as_str (codes "call") value) (λ context name. call_named name (kept value) context)
+    ∙ then_same (context_in value moment) (read_or None as_str (codes "call") value) (λ context name. call_named name (kept value) context)
     (λ context name. call_named name value context) (λ context name. same_named name value context)
 
 same_moment : (value : Data) (moment : Moment) → IsMomentIn (kept value) moment → IsMomentIn value moment

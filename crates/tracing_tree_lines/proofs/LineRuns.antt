@@ -1,6 +1,8 @@
 -- Runs over lines: one line more, and what the run leaves at its end.
-use Rattle.std.proofs.Common.{◌≡◌, Result, ℕ, ◌+◌, ◌<◌, ◌≤◌, true, false, not, List, [], ◌∷◌, ◌++◌, length, take, Option, Some, None, IfSome, Ok, Err, refl, sym, ap, subst, ◌∙◌, arith, append_assoc, append-nil, length-append, MatchBool}
-use Rattle.std.specs.Prelude.{slice_get, IsSomeAnd, ⊤}
+use Rattle.std.proofs.Common.{◌≡◌, Result, ℕ, ◌+◌, ◌<◌, ◌≤◌, true, false, not, List, [], ◌∷◌, ◌++◌, length, take, Option, Some, None, IfSome, Ok, Err, refl, sym, ap, subst, ◌∙◌, arith, append_assoc, append-nil, length-append}
+use Rattle.std.specs.Prelude.{slice_get, Bool, ⊤, filter}
+use Rattle.std.specs.List.{AllZip}
+use Rattle.std.proofs.lemmas.List.Elements.{filter-append}
 use Rattle.std.specs.Io.KnownBytes.{Appends}
 use Rattle.std.proofs.KnownBytes.{Appends-nil, Appends-trans, Appends-kept}
 use Rattle.std.proofs.Math.Seq.{take-append_seam}
@@ -16,17 +18,16 @@ use Rattle.tracing_tree_layer.specs.Layered.Run.{Run, run_by_cause, no_call, the
 use Rattle.tracing_tree_layer.specs.Layered.Answered.{IsAnswered, Writes}
 use Rattle.tracing_tree_layer.specs.Layered.Headline.{run_from}
 use Rattle.tracing_tree_lines.specs.Lines.Spelled.{input_lines, is_skipped, SpellsCall, SpellCalls}
-use Rattle.tracing_tree_lines.specs.Lines.Runs.{EndsRun, IsLeftAfter, IsLeftByFault, is_from_outside, last_number, CountsCause}
-use Rattle.tracing_tree_lines.specs.Lines.Reads.{TakesLine, HasNoLine}
+use Rattle.tracing_tree_lines.specs.Lines.Runs.{EndsRun, IsLeft, last_number, RunsOver, CountsEnd}
+use Rattle.tracing_tree_lines.specs.Lines.Reads.{TakesLine, HasNoLine, is_from_outside}
 use Rattle.tracing_tree_layer.specs.Layer.Layers.{Flushes}
-use Rattle.tracing_tree_lines.specs.Lines.Steps.{MakesCall, MakesSpelled, SkipsLine, FailsLine, JudgesLine, ShowsAndJudges, RunsOver, EndsLines}
+use Rattle.tracing_tree_lines.specs.Lines.Steps.{MakesCall, MakesSpelled, SkipsLine, FailsLine, JudgesLine, ShowsAndJudges, EndsLines}
 use Rattle.tracing_tree_layer.specs.declared.call.Call.{Call}
 use Rattle.tracing_tree_layer.specs.declared.call.Reply.{Reply}
 use Rattle.tracing_tree_lines.specs.declared.lines.Judged.{Judged}
 use Rattle.tracing_tree_lines.specs.declared.lines.Judged.TheVariants.{End, Skipped, Accepted}
 use Rattle.tracing_tree_lines.specs.declared.lines.LineCause.{LineCause}
 use Rattle.tracing_tree_lines.specs.declared.lines.LineCause.TheVariants.{Settings as NoSettings, NotACall, Read, Memory, Refused}
-use Rattle.tracing_tree_lines.specs.declared.lines.LineFault.{LineFault}
 use Rattle.tracing_tree_layer.proofs.DrawnLaws.{draw-append}
 use Rattle.tracing_tree_layer.proofs.RunLaws.{run-append}
 
@@ -55,7 +56,7 @@ calm_line known left Accepted old new h = h.1.made.answered.written.1
 
 -- the same after one that ends the run
 pub counts_line : (known left : Option (List ℕ)) (cause : LineCause) (old new : Seen) → JudgesLine known left (Err cause) old new →
-    CountsCause cause old.writer.faults new.writer.faults
+    CountsEnd (Some cause) old.writer.faults new.writer.faults
 counts_line known left NoSettings old new h = absurd h
 counts_line known left NotACall old new h = ap (λ (s : Seen). s.writer.faults) h.1
 counts_line known left Read old new h = ap (λ (s : Seen). s.writer.faults) h
@@ -70,30 +71,28 @@ counts_line known left (Refused Refusals.Failed) old new h = h.made.answered.wri
 
 -- ---- spelled calls
 
+abbrev is_judged : List ℕ → Bool
+is_judged line = not (is_skipped line)
+
+-- what is judged of these lines and one more
+judged_more : (lines : List (List ℕ)) (line : List ℕ) → filter is_judged (lines ++ line ∷ []) ≡ filter is_judged lines ++ filter is_judged (line ∷ [])
+judged_more lines line = filter-append is_judged lines (line ∷ [])
+
 -- a skipped line more
 spells_blank : (lines : List (List ℕ)) (calls : List Call) (line : List ℕ) → SpellCalls lines calls → is_skipped line ≡ true → SpellCalls (lines ++ line ∷ []) calls
-spells_blank [] [] line h blank = (blank, tt)
-spells_blank [] (call ∷ calls) line h blank = absurd h
-spells_blank (other ∷ lines) [] line h blank = (h.0, spells_blank lines [] line h.1 blank)
-spells_blank (other ∷ lines) (call ∷ calls) line h blank =
-    elim (is_skipped other) as (λ b. MatchBool b (SpellCalls lines (call ∷ calls)) (SpellsCall other call × SpellCalls lines calls)
-    → MatchBool b (SpellCalls (lines ++ line ∷ []) (call ∷ calls)) (SpellsCall other call × SpellCalls (lines ++ line ∷ []) calls)) [
-      | true ↦ (λ k. spells_blank lines (call ∷ calls) line k blank)
-      | false ↦ (λ k. (k.0, spells_blank lines calls line k.1 blank))
-    ] h
+spells_blank lines calls line h blank = rw (judged_more lines line, blank, append-nil (filter is_judged lines)) h
+
+-- one pair more
+zip_more : {A B : Type 0} (R : A → B → Type 0) (xs : List A) (ys : List B) (x : A) (y : B) → AllZip R xs ys → R x y → AllZip R (xs ++ x ∷ []) (ys ++ y ∷ [])
+zip_more R [] [] x y all one = (one, tt)
+zip_more R [] (z ∷ ys) x y all one = absurd all
+zip_more R (w ∷ xs) [] x y all one = absurd all
+zip_more R (w ∷ xs) (z ∷ ys) x y all one = (all.0, zip_more R xs ys x y all.1 one)
 
 -- a line more that spells a call
 spells_call : (lines : List (List ℕ)) (calls : List Call) (line : List ℕ) (last : Call) → SpellCalls lines calls → is_skipped line ≡ false → SpellsCall line last →
     SpellCalls (lines ++ line ∷ []) (calls ++ last ∷ [])
-spells_call [] [] line last h judged spelled = rw judged (spelled, tt)
-spells_call [] (call ∷ calls) line last h judged spelled = absurd h
-spells_call (other ∷ lines) [] line last h judged spelled = rw h.0 (spells_call lines [] line last h.1 judged spelled)
-spells_call (other ∷ lines) (call ∷ calls) line last h judged spelled =
-    elim (is_skipped other) as (λ b. MatchBool b (SpellCalls lines (call ∷ calls)) (SpellsCall other call × SpellCalls lines calls)
-    → MatchBool b (SpellCalls (lines ++ line ∷ []) (call ∷ calls ++ last ∷ [])) (SpellsCall other call × SpellCalls (lines ++ line ∷ []) (calls ++ last ∷ []))) [
-      | true ↦ (λ k. spells_call lines (call ∷ calls) line last k judged spelled)
-      | false ↦ (λ k. (k.0, spells_call lines calls line last k.1 judged spelled))
-    ] h
+spells_call lines calls line last h judged spelled = rw (judged_more lines line, judged) (zip_more SpellsCall (filter is_judged lines) calls line last h spelled)
 
 -- ---- the run so far
 
@@ -242,14 +241,21 @@ module _ (first : Seen) where
   line_behind (other ∷ done) after line = line_behind done after line
 
   -- a fault from outside leaves nothing, whatever the line is
-  left_outside : (state : State) (line : Option (List ℕ)) (number : ℕ) (cause : LineCause) → is_from_outside cause ≡ true →
-      IsLeftByFault first.writer.whole first.settings first.timer state line (Some (record { line = number; cause = cause })) []
-  left_outside state None number cause outside = refl
-  left_outside state (Some line) number NoSettings outside = refl
-  left_outside state (Some line) number NotACall outside = refl
-  left_outside state (Some line) number Read outside = refl
-  left_outside state (Some line) number Memory outside = refl
-  left_outside state (Some line) number (Refused refusal) outside = cc
+  left_outside : (state : State) (line : Option (List ℕ)) (cause : LineCause) → is_from_outside cause ≡ true →
+      IsLeft first.settings first.timer state first.writer.whole (Some cause) line []
+  left_outside state line NoSettings outside = refl
+  left_outside state line NotACall outside = refl
+  left_outside state line Read outside = refl
+  left_outside state line Memory outside = refl
+  left_outside state line (Refused refusal) outside = cc
+
+  -- it may end a run at any line
+  ends_outside : (state : State) (line : Option (List ℕ)) (cause : LineCause) → is_from_outside cause ≡ true → EndsRun first.settings first.timer state line cause
+  ends_outside state line NoSettings outside = cc
+  ends_outside state line NotACall outside = cc
+  ends_outside state line Read outside = tt
+  ends_outside state line Memory outside = tt
+  ends_outside state line (Refused refusal) outside = cc
 
   -- what was written stays where nothing has changed
   kept : (now next : Seen) (text : List ℕ) → next ≡ now → Appends first.writer.bytes now.writer.bytes text →
@@ -261,7 +267,7 @@ module _ (first : Seen) where
   -- the end of the input
   pub finishes : (known middle : Option (List ℕ)) (accepted number : ℕ) (now next : Seen) → number < last_number →
       IsKnownSoFar known middle accepted number now → HasNoLine middle × (next ≡ now) →
-      IfSome known (λ input. RunsOver (input_lines input) accepted None first next)
+      IfSome known (λ input. RunsOver (input_lines input) accepted None first next.writer)
   finishes None middle accepted number now next below so_far h = tt
   finishes (Some x) None accepted number now next below so_far h = absurd so_far
   finishes (Some x) (Some y) accepted number now next below so_far h =
@@ -270,13 +276,16 @@ module _ (first : Seen) where
       record {
         judged = length so_far.done;
         within = omega (arith, ap length all);
-        counted = (omega (arith, so_far.number_is, below), tt);
+        cause = None;
+        blamed = refl;
+        counted = omega (arith, so_far.number_is, below);
+        unjudged = λ last. tt;
         calls = so_far.calls;
         spelled = subst (λ front. SpellCalls front so_far.calls) (sym (ap (take (length so_far.done)) so_far.apart ∙ take-append_seam so_far.done _)) so_far.spelled;
         count = so_far.count;
         taken = so_far.taken;
         all = λ none. sym (ap length all);
-        blamed = tt;
+        ends = tt;
         front = [];
         left = refl;
         appends = kept now next _ h.1 so_far.appends;
@@ -285,58 +294,60 @@ module _ (first : Seen) where
   -- a fault from outside
   pub breaks : (known middle : Option (List ℕ)) (accepted number : ℕ) (now next : Seen) (cause : LineCause) → is_from_outside cause ≡ true →
       MayEndAt number cause → IsKnownSoFar known middle accepted number now → next ≡ now →
-      IfSome known (λ input. RunsOver (input_lines input) accepted (Some (record { line = number; cause = cause })) first next)
+      IfSome known (λ input. RunsOver (input_lines input) accepted (Some (record { line = number; cause = cause })) first next.writer)
   breaks None middle accepted number now next cause outside reached so_far same = tt
   breaks (Some x) None accepted number now next cause outside reached so_far same = absurd so_far
   breaks (Some x) (Some y) accepted number now next cause outside reached so_far same = record {
     judged = length so_far.done;
     within = omega (arith, ap length so_far.apart, length-append so_far.done (input_lines y));
-    counted = (omega (arith, so_far.number_is, reached.0), reached.1);
+    cause = Some cause;
+    blamed = ap (λ line. Some (record { line = line; cause = cause })) so_far.number_is;
+    counted = omega (arith, so_far.number_is, reached.0);
+    unjudged = λ last. reached.1 (so_far.number_is ∙ last);
     calls = so_far.calls;
     spelled = subst (λ front. SpellCalls front so_far.calls) (sym (ap (take (length so_far.done)) so_far.apart ∙ take-append_seam so_far.done _)) so_far.spelled;
     count = so_far.count;
     taken = so_far.taken;
     all = λ none. cc;
-    blamed = (so_far.number_is, λ inside. cc);
+    ends = ends_outside (run_from first so_far.calls).state _ cause outside;
     front = [];
-    left = left_outside (run_from first so_far.calls).state _ number cause outside;
+    left = left_outside (run_from first so_far.calls).state _ cause outside;
     appends = kept now next _ same so_far.appends;
   }
 
   -- a line that was read whole is to blame
   blames : (lines others after : List (List ℕ)) (line : List ℕ) (accepted number : ℕ) (now next : Seen) (cause : LineCause) (front : List ℕ) →
       number < last_number → (so_far : IsSoFar lines others accepted number now) → others ≡ line ∷ after →
-      EndsRun first.settings first.timer (run_from first so_far.calls).state line cause →
-      IsLeftAfter first.writer.whole first.settings first.timer (run_from first so_far.calls).state line cause front →
-      Appends now.writer.bytes next.writer.bytes front → RunsOver lines accepted (Some (record { line = number; cause = cause })) first next
+      EndsRun first.settings first.timer (run_from first so_far.calls).state (Some line) cause →
+      IsLeft first.settings first.timer (run_from first so_far.calls).state first.writer.whole (Some cause) (Some line) front →
+      Appends now.writer.bytes next.writer.bytes front → RunsOver lines accepted (Some (record { line = number; cause = cause })) first next.writer
   blames lines others after line accepted number now next cause front below so_far e ends left appends =
       let r : Run = run_from first so_far.calls in
-      let fault : LineFault = record { line = number; cause = cause } in
       let apart : lines ≡ so_far.done ++ line ∷ after = so_far.apart ∙ ap (λ rest. so_far.done ++ rest) e in
       let at : slice_get lines (length so_far.done) ≡ Some line =
       ap (λ whole. slice_get whole (length so_far.done)) apart ∙ line_behind so_far.done after line in
       record {
         judged = length so_far.done;
         within = omega (arith, ap length so_far.apart, length-append so_far.done others);
-        counted = (omega (arith, so_far.number_is, below), λ last. absurd (omega (arith, below, last)));
+        cause = Some cause;
+        blamed = ap (λ line. Some (record { line = line; cause = cause })) so_far.number_is;
+        counted = omega (arith, so_far.number_is, below);
+        unjudged = λ last. absurd (omega (arith, so_far.number_is, below, last));
         calls = so_far.calls;
         spelled = subst (λ front. SpellCalls front so_far.calls) (sym (ap (take (length so_far.done)) so_far.apart ∙ take-append_seam so_far.done _)) so_far.spelled;
         count = so_far.count;
         taken = so_far.taken;
         all = λ none. cc;
-        blamed = (
-          so_far.number_is,
-          λ inside. subst (λ o. IsSomeAnd o (λ line. EndsRun first.settings first.timer r.state line cause)) (sym at) ends,
-        );
+        ends = subst (λ o. EndsRun first.settings first.timer r.state o cause) (sym at) ends;
         front = front;
-        left = subst (λ o. IsLeftByFault first.writer.whole first.settings first.timer r.state o (Some fault) front) (sym at) left;
+        left = subst (λ o. IsLeft first.settings first.timer r.state first.writer.whole (Some cause) o front) (sym at) left;
         appends = Appends-trans first.writer.bytes now.writer.bytes next.writer.bytes _ front so_far.appends appends;
       }
 
   -- what a refused call leaves behind the text
   leaves : (state : State) (line : List ℕ) (call : Call) (refusal : Refusal) (old new : SeenWriter) → SpellsCall line call →
       Writes {A = Reply} (call_text first.settings first.timer state call) (Err refusal) old new →
-      (front : List ℕ) × IsLeftAfter old.whole first.settings first.timer state line (Refused refusal) front × Appends old.bytes new.bytes front
+      (front : List ℕ) × IsLeft first.settings first.timer state old.whole (Some (Refused refusal)) (Some line) front × Appends old.bytes new.bytes front
   leaves state line call Refusals.Writer old new spelled h = (h.front, (call, spelled, h.cut, h.nothing), h.appends)
   leaves state line call (Refusals.NotHeld j) old new spelled h = ([], refl, Appends-kept old.bytes old.bytes new.bytes [] (Appends-nil old.bytes) h.0)
   leaves state line call Refusals.TooWide old new spelled h = ([], refl, Appends-kept old.bytes old.bytes new.bytes [] (Appends-nil old.bytes) h.0)
@@ -348,7 +359,7 @@ module _ (first : Seen) where
   -- a line that spells nothing
   fails : (known middle left : Option (List ℕ)) (accepted number : ℕ) (now next : Seen) → number < last_number →
       IsKnownSoFar known middle accepted number now → FailsLine middle left × (next ≡ now) →
-      IfSome known (λ input. RunsOver (input_lines input) accepted (Some (record { line = number; cause = NotACall })) first next)
+      IfSome known (λ input. RunsOver (input_lines input) accepted (Some (record { line = number; cause = NotACall })) first next.writer)
   fails None middle left accepted number now next below so_far h = tt
   fails (Some x) None left accepted number now next below so_far h = absurd so_far
   fails (Some x) (Some y) None accepted number now next below so_far h = absurd h.0.first
@@ -360,7 +371,7 @@ module _ (first : Seen) where
   -- a line whose call is refused
   refuses : (known middle left : Option (List ℕ)) (accepted number : ℕ) (now next : Seen) (refusal : Refusal) → number < last_number →
       IsKnownSoFar known middle accepted number now → MakesCall middle left (Err refusal) now next →
-      IfSome known (λ input. RunsOver (input_lines input) accepted (Some (record { line = number; cause = Refused refusal })) first next)
+      IfSome known (λ input. RunsOver (input_lines input) accepted (Some (record { line = number; cause = Refused refusal })) first next.writer)
   refuses None middle left accepted number now next refusal below so_far m = tt
   refuses (Some x) None left accepted number now next refusal below so_far m = absurd so_far
   refuses (Some x) (Some y) None accepted number now next refusal below so_far m = absurd m.first
@@ -375,7 +386,7 @@ module _ (first : Seen) where
   -- a line that ends the run
   pub stops : (known middle left : Option (List ℕ)) (accepted number : ℕ) (now next : Seen) (cause : LineCause) → number < last_number →
       IsKnownSoFar known middle accepted number now → JudgesLine middle left (Err cause) now next →
-      IfSome known (λ input. RunsOver (input_lines input) accepted (Some (record { line = number; cause = cause })) first next)
+      IfSome known (λ input. RunsOver (input_lines input) accepted (Some (record { line = number; cause = cause })) first next.writer)
   stops known middle left accepted number now next NoSettings below so_far h = absurd h
   stops known middle left accepted number now next NotACall below so_far h = fails known middle left accepted number now next below so_far h
   stops known middle left accepted number now next Read below so_far h =
@@ -434,7 +445,7 @@ pub ends_at : (known middle left : Option (List ℕ)) (accepted number : ℕ) (c
     GoesOver known middle accepted number first now → JudgesLine middle left (Err cause) now next →
     EndsLines known accepted (Some (record { line = number; cause = cause })) first next
 ends_at known middle left accepted number cause below first now next h k =
-    let P : ℕ → Type 0 = λ faults. CountsCause cause faults next.writer.faults in
+    let P : ℕ → Type 0 = λ faults. CountsEnd (Some cause) faults next.writer.faults in
     record {
       ran = stops first known middle left accepted number now next cause below h.so_far k;
       counted = subst P h.calm (counts_line middle left cause now next k);

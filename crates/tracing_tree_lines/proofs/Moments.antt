@@ -17,7 +17,7 @@ use Rattle.tracing_tree_lines.proofs.MadeCalls.{spelled_as}
 use Rattle.tracing_tree_layer.specs.Layered.Seen.{Seen}
 use Rattle.tracing_tree_layer.specs.declared.call.Reply.{Reply}
 use Rattle.tracing_tree_lines.specs.Lines.CallKinds.{IsKindIn}
-use Rattle.tracing_tree_lines.specs.Lines.Spelled.{◌>>=◌, IsMomentIn, context_in, required, call_named, object_call}
+use Rattle.tracing_tree_lines.specs.Lines.Spelled.{◌>>=◌, IsMomentIn, context_in, read_or, call_named, object_call}
 use Rattle.tracing_tree_layer.specs.declared.call.Call.{Call}
 use Rattle.tracing_tree_lines.specs.declared.lines.LineCause.{LineCause}
 
@@ -43,11 +43,11 @@ absent_then (Some x) next none = none x
 -- where no kind of call is named there is no call
 pub no_kind : (value : Data) (moment : Moment) → IsKindIn value None → object_call value moment ≡ None
 no_kind value moment none =
-    absent_then (context_in value moment) (λ context. required as_str (codes "call") value >>= (λ name. call_named name value context)) none
+    absent_then (context_in value moment) (λ context. read_or None as_str (codes "call") value >>= (λ name. call_named name value context)) none
 
 -- the call of a value, once its context and its word are known
 pub object_call_at : (value : Data) (context : Context) (word : List ℕ) → context_in value context.moment ≡ Some context
-    → required as_str (codes "call") value ≡ Some word → object_call value context.moment ≡ call_named word value context
+    → read_or None as_str (codes "call") value ≡ Some word → object_call value context.moment ≡ call_named word value context
 object_call_at value context word spelled named = rw (spelled, named)
 
 no_call : (value : Data) (absent : Option Call) (call : Call) → absent ≡ None → absent ≡ Some call → ⊥
@@ -58,7 +58,7 @@ reads_none value nothing call s = none-some call (sym (nothing s.moment s.timed)
 
 -- the call of a value is that with its word
 pub made_named : (value : Data) (context : Context) (word : List ℕ) (result : Result Reply LineCause) (old new : Seen) → has_float value ≡ false
-    → IsMomentIn value context.moment → context_in value context.moment ≡ Some context → required as_str (codes "call") value ≡ Some word
+    → IsMomentIn value context.moment → context_in value context.moment ≡ Some context → read_or None as_str (codes "call") value ≡ Some word
     → MakesNamed word value context result old new → MakesSpelled (ValueSpells value) result old new
 made_named value context word result old new whole timed spelled named made =
     let at = object_call_at value context word spelled named in

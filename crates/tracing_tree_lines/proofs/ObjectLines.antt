@@ -10,22 +10,39 @@ use Rattle.json.specs.Token as spec
 use Rattle.json.specs.declared.token.Token.{Token}
 use Rattle.json.specs.declared.token.Token.TheVariants.{BeginObject, EndObject, BeginArray, EndArray, Key, String, Number, Bool, Null, Bad}
 use Rattle.json.proofs.Grammar.{value_is, value-begin_array, value-begin_object}
-use Rattle.serde_json.specs.Data.{Num, Data, number, array, Items}
+use Rattle.serde_json.specs.Data.{Num, Data, null, boolean, number, string, array, object, Items}
 use Rattle.serde_json.specs.Read.{number_of, of_json, of_items, read}
 use Rattle.tracing_tree_layer.specs.declared.call.Call.{Call}
 use Rattle.tracing_tree_lines.proofs.BorrowedTrees.{tree_read, tree_and_more, no_tree}
 use Rattle.tracing_tree_lines.proofs.LineTokens.{unless_memory}
 use Rattle.tracing_tree_lines.specs.Lines.Parts.{opens_object, ArePartsTaken, IsObjectLine, ReadsObject, TakesParts}
-use Rattle.serde_json.specs.Find.{as_str}
+use Rattle.serde_json.specs.Find.{as_object, as_str}
 use Rattle.tracing_tree_context.specs.declared.context.Moment.{Moment}
 use Rattle.tracing_tree_lines.proofs.Moments.{reads_none}
 use Rattle.tracing_tree_lines.specs.Lines.Values.{IsUnlessMemory, ValueSpells}
 use Rattle.tracing_tree_lines.specs.declared.lines.LineCause.TheVariants.{NotACall}
-use Rattle.tracing_tree_lines.specs.Lines.Spelled.{◌>>=◌, only_object, required, context_in, call_named, IsMomentIn, SpellsCall}
+use Rattle.tracing_tree_lines.specs.Lines.Spelled.{◌>>=◌, object_call, read_or, context_in, call_named, IsMomentIn, SpellsCall}
 use Rattle.tracing_tree_lines.specs.declared.lines.LineCause.{LineCause}
 use Rattle.tracing_tree_lines.specs.declared.lines.parts.Parts.{Parts}
 
 -- ---- what a call is spelled by
+
+-- the object that a value is, if it is one
+abbrev only_object : Data → Option Data
+only_object value = option_map object (as_object value)
+
+-- what spells a call is an object
+spelled_object : (value : Data) (moment : Moment) (call : Call) → object_call value moment ≡ Some call → only_object value ≡ Some value
+spelled_object null moment call e = absurd (none-some call e)
+spelled_object (boolean b) moment call e = absurd (none-some call e)
+spelled_object (number n) moment call e = absurd (none-some call e)
+spelled_object (string s) moment call e = absurd (none-some call e)
+spelled_object (array ds) moment call e = absurd (none-some call e)
+spelled_object (object ms) moment call e = refl
+
+-- a line that spells a call is one
+read_object : (line : List ℕ) (call : Call) (s : SpellsCall line call) → (read line >>= only_object) ≡ Some s.value
+read_object line call s = rw s.reads (spelled_object s.value s.moment call s.spelled)
 
 no_number : (o : Option Num) (value : Data) → (option_map number o >>= only_object) ≡ Some value → ⊥
 no_number None value e = none-some value e
@@ -55,11 +72,11 @@ no_value (Some (j, t ∷ more)) value never e = none-some value e
 
 -- a line that begins with no object
 pub no_object_call : (line : List ℕ) → IsNoObject (json.value 127 (tokens line)) → (call : Call) → ¬ SpellsCall line call
-no_object_call line never call s = no_value (json.value 127 (tokens line)) s.value never s.object
+no_object_call line never call s = no_value (json.value 127 (tokens line)) s.value never (read_object line call s)
 
 -- a line that doesn't read
 unread_call : (line : List ℕ) → read line ≡ None → (call : Call) → ¬ SpellsCall line call
-unread_call line none call s = none-some s.value (sym (ap (λ o. o >>= only_object) none) ∙ s.object)
+unread_call line none call s = none-some s.value (sym none ∙ s.reads)
 
 -- ---- the first token
 
@@ -151,4 +168,4 @@ pub no_context : (value : Data) (cause : LineCause) → IsUnlessMemory NotACall 
     → IsUnlessMemory NotACall ((call : Call) → ¬ ValueSpells value call) cause
 no_context value cause failed =
     unless_memory _ _ cause
-    (λ none. reads_none value (λ moment timed. ap (λ context. context >>= (λ c. required as_str (codes "call") value >>= (λ name. call_named name value c))) (none moment timed))) failed
+    (λ none. reads_none value (λ moment timed. ap (λ context. context >>= (λ c. read_or None as_str (codes "call") value >>= (λ name. call_named name value c))) (none moment timed))) failed

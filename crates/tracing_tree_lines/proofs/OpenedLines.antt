@@ -8,15 +8,13 @@ use Rattle.std.proofs.KnownBytes.{prepend_known-nil}
 use Rattle.serde_json.specs.Data.{Data, null, boolean, number, string, array, object}
 use Rattle.serde_json.specs.Find.{as_null}
 use Rattle.tracing_tree_drawing.specs.Format.Settings.{Settings}
-use Rattle.tracing_tree_spans.specs.Registry.Ids.{id_of}
-use Rattle.tracing_tree_lines.specs.Lines.Runs.{EndsAtFirst, CountsCause, LeavesRun}
+use Rattle.tracing_tree_time.specs.Clock.{Timer}
+use Rattle.tracing_tree_lines.specs.Lines.Runs.{EndsAtFirst, CountsEnd, RunsOver, LeavesRun, opened_with}
 use Rattle.tracing_tree_lines.specs.Lines.Reads.{TakesLine, IsBeforeCalls, OpensWith}
-use Rattle.tracing_tree_lines.specs.Lines.Steps.{RunsOver}
-use Rattle.tracing_tree_layer.specs.Layered.State.{opening_state}
 use Rattle.tracing_tree_output.specs.Writers.{SeenWriter}
-use Rattle.tracing_tree_layer.specs.Layered.Seen.{Seen}
-use Rattle.tracing_tree_lines.specs.Lines.Values.{IsUnlessMemory}
-use Rattle.tracing_tree_lines.specs.Lines.Spelled.{TimerChoice, SpellsSettings, chosen_timer, input_lines, unless_null}
+use Rattle.tracing_tree_lines.specs.Lines.Values.{IsUnlessMemory, asked_timer}
+use Rattle.tracing_tree_lines.specs.declared.lines.settings.timer.Timer.{Timer as AskedTimer}
+use Rattle.tracing_tree_lines.specs.Lines.Spelled.{SpellsSettings, input_lines, unless_null}
 use Rattle.tracing_tree_lines.specs.declared.lines.LineCause.{LineCause}
 use Rattle.tracing_tree_lines.specs.declared.lines.LineCause.TheVariants.{Settings as NoSettings, NotACall, Read, Memory, Refused}
 use Rattle.tracing_tree_lines.specs.declared.lines.LineFault.{LineFault}
@@ -56,12 +54,12 @@ opened_known remaining lines reader inner empty capacity =
 
 -- a first line that no settings were read of
 pub ends_first : (known left : Option (List ℕ)) (line : List ℕ) (cause : LineCause) → TakesLine known left line →
-    IsUnlessMemory NoSettings ((settings : Settings) (timer : TimerChoice) → ¬ SpellsSettings line settings timer) cause → IfSome known (λ input. EndsAtFirst input cause)
+    IsUnlessMemory NoSettings ((settings : Settings) (timer : Timer) → ¬ SpellsSettings line settings timer) cause → IfSome known (λ input. EndsAtFirst input cause)
 ends_first None left line cause first reads = tt
 ends_first (Some input) None line cause first reads = absurd first
 ends_first (Some input) (Some rest) line NoSettings first reads = λ settings timer others begins.
-    let same : begins.line ≡ line = first_same begins.line line others (input_lines rest) (sym begins.lines ∙ first) in
-    reads.1 settings timer (subst (λ l. SpellsSettings l settings timer) same begins.spelled)
+    let same : begins.0 ≡ line = first_same begins.0 line others (input_lines rest) (sym begins.1 ∙ first) in
+    reads.1 settings timer (subst (λ l. SpellsSettings l settings timer) same begins.2)
   where
     first_same : (a b : List ℕ) (more others : List (List ℕ)) → a ∷ more ≡ b ∷ others → a ≡ b
     first_same a b more others e = cc
@@ -71,7 +69,7 @@ ends_first (Some input) (Some rest) line Memory first reads = tt
 ends_first (Some input) (Some rest) line (Refused refusal) first reads = absurd reads
 
 -- no call was made, and no write refused
-pub calm_early : (cause : LineCause) (faults : ℕ) → IsBeforeCalls cause → CountsCause cause faults faults
+pub calm_early : (cause : LineCause) (faults : ℕ) → IsBeforeCalls cause → CountsEnd (Some cause) faults faults
 calm_early NoSettings faults early = refl
 calm_early NotACall faults early = refl
 calm_early Read faults early = refl
@@ -80,42 +78,12 @@ calm_early (Refused refusal) faults early = absurd early
 
 -- ---- the whole run
 
--- what is seen of a new layered with these settings and this timer
-abbrev pub opened_with : Settings × TimerChoice → SeenWriter → Seen
-opened_with asked writer = record {
-  settings = asked.0;
-  timer = chosen_timer asked.1;
-  state = opening_state (Some (id_of 1));
-  writer = writer;
-}
-
 -- the first line spells settings that can be set, and the run over the others is the whole run
-pub concludes : (known left : Option (List ℕ)) (asked : Settings × TimerChoice) (accepted : ℕ) (fault : Option LineFault)
-    (old : SeenWriter) (after : Seen) → OpensWith known left asked →
-    IfSome left (λ rest. RunsOver (input_lines rest) accepted fault (opened_with asked old) after) →
-    IfSome known (λ input. LeavesRun input accepted fault old after.writer)
-concludes None left asked accepted fault old after opened r = tt
-concludes (Some input) None asked accepted fault old after opened r = absurd opened.first
-concludes (Some input) (Some rest) asked accepted fault old after opened r =
-    inr (
-      record {
-        settings = asked.0;
-        timer = asked.1;
-        others = input_lines rest;
-        begins = record {
-          line = opened.line;
-          lines = opened.first;
-          spelled = opened.spelled;
-        };
-        judged = r.judged;
-        within = r.within;
-        counted = r.counted;
-        calls = r.calls;
-        spelled = r.spelled;
-        count = r.count;
-        taken = r.taken;
-        all = r.all;
-        blamed = r.blamed;
-      },
-      record { front = r.front; left = r.left; appends = r.appends },
-    )
+pub concludes : (known left : Option (List ℕ)) (setup : Settings × AskedTimer) (accepted : ℕ) (fault : Option LineFault)
+    (old new : SeenWriter) → OpensWith known left setup →
+    IfSome left (λ rest. RunsOver (input_lines rest) accepted fault (opened_with setup.0 (asked_timer setup.1) old) new) →
+    IfSome known (λ input. LeavesRun input accepted fault old new)
+concludes None left setup accepted fault old new opened r = tt
+concludes (Some input) None setup accepted fault old new opened r = absurd opened.first
+concludes (Some input) (Some rest) setup accepted fault old new opened r =
+    inr (setup.0, asked_timer setup.1, input_lines rest, (opened.line, opened.first, opened.spelled), r)

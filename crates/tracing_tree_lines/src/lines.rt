@@ -11,7 +11,7 @@ mod settings;
 mod skip;
 mod value;
 
-ghost use Rattle.std.specs.Prelude.{◌≡◌, ℕ, List, Option, IfErr, IfSome, MatchResult};
+ghost use Rattle.std.specs.Prelude.{◌≡◌, ℕ, List, Option, IfErr, IfSome, MatchResult, option_map};
 ghost use Rattle.std.specs.Io.Buffered.{reader_remaining};
 ghost use Rattle.tracing_tree_layer.specs.Layer.Layers.{seen, Changes};
 ghost use Rattle.tracing_tree_lines.specs.Lines.Reads.{IsBeforeCalls, OpensWith, TakesLine};
@@ -152,12 +152,16 @@ pub struct LinesRun<W: Output> {
 /// Runs the calls that the input's lines spell, under the settings that its first line spells, and draws them into the writer.
 /// The caller must ensure that the writer has no faults.
 ///
-/// The run ends after the first line that spells no call or whose call is refused: that line's number and the cause are the
-/// fault. A line of spaces, tabs and carriage returns alone is counted and skipped. An interrupted read is tried again at most
-/// eight times in a row; `Read` is the cause of another error, of 2^64 - 1 reads of a line that doesn't end, and of line number
+/// Where line 1 spells no settings, or there is no line, the fault is line 1 and `Settings`. Else the run ends after the first line
+/// that spells no call or whose call is refused: that line's number and the cause are the fault. From line 2 on, a line of spaces,
+/// tabs and carriage returns alone is counted and skipped. An interrupted read is tried again at most eight times in a row; `Read`
+/// is the cause of a ninth interruption and of another error, of 2^64 - 1 reads of a line that doesn't end, and of line number
 /// 2^64 - 1, which isn't judged. `Memory` is the cause where memory is refused before a line's call is made, of line 1 where the
 /// buffer of the input can't be made; where it is refused to the call, the cause is `Refused(Memory)`. The writer is flushed before
-/// each read of the input from line 2 on, and not elsewhere.
+/// each read of the input from line 2 on, and not elsewhere: where a fault ends the run, the caller flushes what was drawn last.
+///
+/// What was run and written is promised where a contract can name the reader's bytes, as those of a slice; of any reader, that
+/// `Refused(Writer)` is the cause exactly where the writer counted a fault.
 pub fn run_lines<R: Read, W: Output>(alloc: Global, reader: R, writer: W) -> LinesRun<W>
 where
     R: Drop,
@@ -166,7 +170,8 @@ where
     ensures ran { IfSome (R.remaining reader) (λ input.
         LeavesRun input result.accepted result.fault
         (seen_writer W.Output writer) (seen_writer W.Output result.writer)) }
-    ensures counted { CountsEnd result.fault (W.fault_count writer) (W.fault_count result.writer) }
+    ensures counted { CountsEnd (option_map (λ fault. fault.cause) result.fault)
+        (W.fault_count writer) (W.fault_count result.writer) }
 {
     let opened = open(alloc, reader);
     let (mut lines, setup) = match opened {

@@ -4,61 +4,67 @@ use Rattle.std.proofs.Common.{inl, inr, arith}
 use Rattle.std.specs.Char.{encode_utf8}
 use Rattle.serde_json.proofs.OnLiterals.{serde_json_on_literals}
 use Rattle.serde_json.specs.Data.{string, object, member, no_members}
+use Rattle.serde_json.specs.Read.{read}
 use Rattle.serde_json.specs.Written.{has_float}
+use Rattle.tracing_tree_time.specs.Clock.{no_timer, local_timer, uptime_timer}
 use Rattle.tracing_tree_context.specs.declared.context.Moment.{Moment}
 use Rattle.tracing_tree_layer.specs.declared.call.Call.{Call}
 use Rattle.tracing_tree_lines.specs.Lines.Runs.{LeavesRun}
 use Rattle.tracing_tree_lines.specs.declared.lines.LineCause.TheVariants.{Settings as NoSettings, NotACall}
-use Rattle.tracing_tree_lines.specs.Lines.Spelled.{line_settings, line_object, object_call, SpellsCall, SpellsNothing, input_lines, is_skipped, ◌>>=◌, no_clock, local_clock, uptime_clock}
+use Rattle.tracing_tree_lines.specs.Lines.Spelled.{Asked, object_settings, object_call, SpellsCall, SpellsNothing, input_lines, is_skipped, ◌>>=◌}
 use Rattle.tracing_tree_layer.proofs.Calls.{plain, lined, start_of_1970, outside, inside, made, warned, closed, holding}
 
+-- what a first line asks for
+abbrev settings_of : List ℕ → Option Asked
+settings_of line = read line >>= object_settings
+
 -- lines alone
-pub lines_on : line_settings (codes "{\"indent_lines\":true}") ≡ Some (record lined { ansi = false }, no_clock)
+pub lines_on : settings_of (codes "{\"indent_lines\":true}") ≡ Some (record lined { ansi = false }, no_timer)
 unfolding serde_json_on_literals
 lines_on = refl
 
 -- all settings as they are
-pub no_settings : line_settings (codes "{}") ≡ Some (plain, no_clock)
+pub no_settings : settings_of (codes "{}") ≡ Some (plain, no_timer)
 unfolding serde_json_on_literals
 no_settings = refl
 
 -- a null counts as absent
-pub null_setting : line_settings (codes "{\"indent_lines\":null}") ≡ Some (plain, no_clock)
+pub null_setting : settings_of (codes "{\"indent_lines\":null}") ≡ Some (plain, no_timer)
 unfolding serde_json_on_literals
 null_setting = refl
 
 -- a wraparound of 0
-pub no_wraparound : line_settings (codes "{\"wraparound\":0}") ≡ None
+pub no_wraparound : settings_of (codes "{\"wraparound\":0}") ≡ None
 unfolding serde_json_on_literals
 no_wraparound = refl
 
 -- an unknown key
-pub unknown_setting : line_settings (codes "{\"colour\":true}") ≡ None
+pub unknown_setting : settings_of (codes "{\"colour\":true}") ≡ None
 unfolding serde_json_on_literals
 unknown_setting = refl
 
 -- no object
-pub array_settings : line_settings (codes "[]") ≡ None
+pub array_settings : settings_of (codes "[]") ≡ None
 unfolding serde_json_on_literals
 array_settings = refl
 
 -- no text
-pub nothing_at_all : line_settings (codes "") ≡ None
+pub nothing_at_all : settings_of (codes "") ≡ None
 unfolding serde_json_on_literals
 nothing_at_all = refl
 
 -- a timer
-pub local_setting : line_settings (codes "{\"timer\":{\"kind\":\"local\",\"offset\":19800}}") ≡ Some (plain, local_clock (pos 19800) false)
+pub local_setting : settings_of (codes "{\"timer\":{\"kind\":\"local\",\"offset\":19800}}") ≡ Some (plain, local_timer false (λ nanos. pos 19800))
 unfolding serde_json_on_literals
 local_setting = refl
 
 -- another timer, with decimals
-pub late_epoch : line_settings (codes "{\"timer\":{\"kind\":\"uptime\",\"epoch\":5,\"higher_precision\":true}}") ≡ Some (plain, uptime_clock 5 true)
+pub late_epoch : settings_of (codes "{\"timer\":{\"kind\":\"uptime\",\"epoch\":5,\"higher_precision\":true}}") ≡ Some (plain, uptime_timer true 5)
 unfolding serde_json_on_literals
 late_epoch = refl
 
 -- a key that doesn't go with the timer
-pub needless_precision : line_settings (codes "{\"timer\":{\"kind\":\"none\",\"higher_precision\":true}}") ≡ None
+pub needless_precision : settings_of (codes "{\"timer\":{\"kind\":\"none\",\"higher_precision\":true}}") ≡ None
 unfolding serde_json_on_literals
 needless_precision = refl
 
@@ -68,7 +74,7 @@ no_moment = record { mono = 0; wall = start_of_1970 }
 
 -- what a line spells at that moment
 abbrev pub spelled_at_start : List ℕ → Option Call
-spelled_at_start line = line_object line >>= (λ value. object_call value no_moment)
+spelled_at_start line = read line >>= (λ value. object_call value no_moment)
 
 -- a new root
 pub new_root : spelled_at_start (codes "{\"call\":\"new\",\"name\":\"a\"}") ≡ Some (made (codes "a") outside)
@@ -116,7 +122,7 @@ unfolding serde_json_on_literals
 unused_key = refl
 
 -- a float under any key spells no call
-pub float_anywhere : option_map has_float (line_object (codes "{\"call\":\"new\",\"name\":\"a\",\"x\":1.5}")) ≡ Some true
+pub float_anywhere : option_map has_float (read (codes "{\"call\":\"new\",\"name\":\"a\",\"x\":1.5}")) ≡ Some true
 unfolding serde_json_on_literals
 float_anywhere = refl
 
@@ -127,7 +133,7 @@ first_line = record {
   text = (codes "{\"call\":\"new\",\"name\":\"a\"}", (refl, refl));
   value = object (member (codes "call") (string (codes "new")) (member (codes "name") (string (codes "a")) no_members));
   moment = no_moment;
-  object = refl;
+  reads = refl;
   no_float = refl;
   timed = record { mono = refl; wall = refl };
   spelled = refl;
@@ -145,10 +151,7 @@ no_first_line : {A : Type 0} {x : A} {xs : List A} → [] ≡ x ∷ xs → ⊥
 no_first_line e = cc
 
 pub empty_input : LeavesRun [] 0 (Some (record { line = 1; cause = NoSettings })) (holding []) (holding [])
-empty_input = inl (
-  record { cause = NoSettings; ends = λ settings timer others begins. no_first_line begins.lines; blamed = refl; none = refl },
-  refl,
-)
+empty_input = inl (NoSettings, (λ settings timer others begins. no_first_line begins.1), refl, refl, refl)
 
 -- ---- whole inputs
 
@@ -156,22 +159,27 @@ empty_input = inl (
 pub settings_alone : LeavesRun (codes "{}") 0 None (holding []) (holding [])
 unfolding serde_json_on_literals encode_utf8
 settings_alone = inr (
+  plain,
+  no_timer,
+  [],
+  (codes "{}", refl, ((codes "{}", (refl, refl)), refl)),
   record {
-    settings = plain;
-    timer = no_clock;
-    others = [];
-    begins = record { line = codes "{}"; lines = refl; spelled = ((codes "{}", (refl, refl)), refl) };
     judged = 0;
     within = omega arith;
-    counted = (omega arith, tt);
+    cause = None;
+    blamed = refl;
+    counted = omega arith;
+    unjudged = λ last. tt;
     calls = [];
     spelled = tt;
     count = refl;
     taken = refl;
     all = λ none. refl;
-    blamed = tt;
+    ends = tt;
+    front = [];
+    left = refl;
+    appends = refl;
   },
-  record { front = []; left = refl; appends = refl },
 )
 
 not_some : {A B : Type 0} {x : A} → Some x ≡ None → B
@@ -183,31 +191,32 @@ not_none e = cc
 -- a line that ends early spells nothing
 pub cut_short_spells_nothing : SpellsNothing (codes "{\"call\":")
 unfolding serde_json_on_literals
-cut_short_spells_nothing = (refl, λ call spelled. not_none spelled.object)
+cut_short_spells_nothing = (refl, λ call spelled. not_none spelled.reads)
 
 -- the run ends at such a line, with what was drawn before it
 pub ended_early : LeavesRun (codes "{\"indent_lines\":true}\n{\"call\":\"new\",\"name\":\"a\"}\n{\"call\":") 1
     (Some (record { line = 3; cause = NotACall })) (holding []) (holding (encode_utf8_all (codes "┐a \n")))
 unfolding serde_json_on_literals encode_utf8
 ended_early = inr (
+  lined,
+  no_timer,
+  codes "{\"call\":\"new\",\"name\":\"a\"}" ∷ codes "{\"call\":" ∷ [],
+  (codes "{\"indent_lines\":true}", refl, ((codes "{\"indent_lines\":true}", (refl, refl)), refl)),
   record {
-    settings = lined;
-    timer = no_clock;
-    others = codes "{\"call\":\"new\",\"name\":\"a\"}" ∷ codes "{\"call\":" ∷ [];
-    begins = record {
-      line = codes "{\"indent_lines\":true}";
-      lines = refl;
-      spelled = ((codes "{\"indent_lines\":true}", (refl, refl)), refl);
-    };
     judged = 1;
     within = omega arith;
-    counted = (omega arith, λ last. absurd (omega (arith, last)));
+    cause = Some NotACall;
+    blamed = refl;
+    counted = omega arith;
+    unjudged = λ last. absurd (omega (arith, last));
     calls = made (codes "a") outside ∷ [];
     spelled = (first_line, tt);
     count = refl;
     taken = refl;
     all = λ none. not_some none;
-    blamed = (refl, λ inside. cut_short_spells_nothing);
+    ends = cut_short_spells_nothing;
+    front = [];
+    left = refl;
+    appends = refl;
   },
-  record { front = []; left = refl; appends = refl },
 )

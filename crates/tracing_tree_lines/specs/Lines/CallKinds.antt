@@ -3,7 +3,7 @@ use Rattle.std.specs.Prelude.{◌≡◌, ℕ, List, Option, Some, None, codes}
 use Rattle.serde_json.specs.Data.{Data}
 use Rattle.serde_json.specs.Find.{as_str}
 use Rattle.tracing_tree_context.specs.declared.context.Context.{Context}
-use Rattle.tracing_tree_lines.specs.Lines.Spelled.{required, ◌>>=◌, call_named}
+use Rattle.tracing_tree_lines.specs.Lines.Spelled.{read_or, ◌>>=◌, call_named}
 use Rattle.tracing_tree_lines.specs.declared.lines.call.Kind.{Kind}
 use Rattle.tracing_tree_lines.specs.declared.lines.call.Kind.TheVariants.{New, Clone, Record, Event, Close}
 
@@ -17,7 +17,7 @@ word_of Close = codes "close"
 
 -- the kind that a value names; where it names none, no call has its word
 abbrev pub IsKindIn : Data → Option Kind → Type 0
-IsKindIn value (Some kind) = required as_str (codes "call") value ≡ Some (word_of kind)
+IsKindIn value (Some kind) = read_or None as_str (codes "call") value ≡ Some (word_of kind)
 IsKindIn value None =
     (context : Context)
-    → (required as_str (codes "call") value >>= (λ word. call_named word value context)) ≡ None
+    → (read_or None as_str (codes "call") value >>= (λ word. call_named word value context)) ≡ None

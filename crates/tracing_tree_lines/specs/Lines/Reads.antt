@@ -2,10 +2,11 @@
 use Rattle.std.specs.Prelude.{◌≡◌, ℕ, ◌==◌, ◌++◌, Bool, true, false, List, [], ◌∷◌, Option, Some, None, Result, Ok, Err, ⊤, All}
 use Rattle.std.specs.Io.KnownBytes.{Consumes, Keeps, IsAtEnd}
 use Rattle.tracing_tree_drawing.specs.Format.Settings.{Settings}
-use Rattle.tracing_tree_lines.specs.Lines.Spelled.{TimerChoice, SpellsSettings, input_lines}
-use Rattle.tracing_tree_lines.specs.Lines.Runs.{is_from_outside}
+use Rattle.tracing_tree_lines.specs.Lines.Spelled.{SpellsSettings, input_lines}
+use Rattle.tracing_tree_lines.specs.Lines.Values.{asked_timer}
+use Rattle.tracing_tree_lines.specs.declared.lines.settings.timer.Timer.{Timer as AskedTimer}
 use Rattle.tracing_tree_lines.specs.declared.lines.LineCause.{LineCause}
-use Rattle.tracing_tree_lines.specs.declared.lines.LineCause.TheVariants.{Refused}
+use Rattle.tracing_tree_lines.specs.declared.lines.LineCause.TheVariants.{Read, Memory, Refused}
 use Rattle.tracing_tree_lines.specs.declared.lines.read.Part.{Part}
 use Rattle.tracing_tree_lines.specs.declared.lines.read.Part.TheVariants.{Line, Input, Inside, Interrupted}
 
@@ -25,6 +26,12 @@ pub record TakesPart (end : List ℕ) (known left : Option (List ℕ)) (old new 
 pub record TakesNothing (known left : Option (List ℕ)) (old new : List ℕ) : Type 0 where
   pub same : new ≡ old
   pub kept : Keeps known left
+
+-- a cause that comes from outside: it may be of a line that was not read whole
+abbrev pub is_from_outside : LineCause → Bool
+is_from_outside Read = true
+is_from_outside Memory = true
+is_from_outside cause = false
 
 -- what one look at the reader took
 abbrev pub ReadsPart : Option (List ℕ) → Option (List ℕ) → List ℕ → List ℕ → Result Part LineCause
@@ -76,7 +83,7 @@ IsBeforeCalls (Refused refusal) = ⊥
 IsBeforeCalls cause = ⊤
 
 -- the first line spells these settings and this timer
-pub record OpensWith (known left : Option (List ℕ)) (asked : Settings × TimerChoice) : Type 0 where
+pub record OpensWith (known left : Option (List ℕ)) (setup : Settings × AskedTimer) : Type 0 where
   pub line : List ℕ
   pub first : TakesLine known left line
-  pub spelled : SpellsSettings line asked.0 asked.1
+  pub spelled : SpellsSettings line setup.0 (asked_timer setup.1)

@@ -1,23 +1,21 @@
 -- Which settings and which calls the program's lines spell.
-use Rattle.std.specs.Prelude.{◌≡◌, ℕ, ◌==◌, ◌&&◌, ◌||◌, Bool, false, not, IsTrue, if◌then◌else◌, ℤ, pos, neg_ℤ, int_le, List, [], ◌∷◌, length, Option, Some, None, is_some, option_map, option_and_then, codes, bytes_eq, IsUtf8, MatchBool, ⊤}
-use Rattle.std.specs.Option.{option_map_or}
+use Rattle.std.specs.Prelude.{◌≡◌, ℕ, ◌==◌, ◌&&◌, ◌||◌, Bool, false, not, IsTrue, if◌then◌else◌, ℤ, pos, neg_ℤ, int_le, List, [], ◌∷◌, length, Option, Some, None, is_some, option_map, option_and_then, codes, bytes_eq, filter, IsUtf8}
+use Rattle.std.specs.Option.{option_map_or, option_flatten}
 use Rattle.std.specs.Bool.{then_some}
-use Rattle.std.specs.List.{list_any, list_all}
-use Rattle.serde_json.specs.Data.{Data, null, number, string, object, Items, no_items, item, Members, no_members, member}
+use Rattle.std.specs.List.{list_any, list_all, slice_split, AllZip}
+use Rattle.serde_json.specs.Data.{Data, null, number, string, Items, no_items, item, Members, no_members, member}
 use Rattle.serde_json.specs.Find.{get, as_bool, as_str, as_number, as_u64, as_i64, as_array, as_object}
 use Rattle.serde_json.specs.Read.{read}
 use Rattle.serde_json.specs.Written.{has_float}
 use Rattle.tracing_tree_drawing.specs.Format.Settings.{Settings, default_settings}
 use Rattle.tracing_tree_text.specs.Style.{level_named}
 use Rattle.tracing_tree_spans.specs.Registry.Ids.{id_of}
-use Rattle.tracing_tree_drawing.specs.Format.Picture.{parts_of}
 use Rattle.tracing_tree_time.specs.Clock.{Timer, no_timer, utc_timer, local_timer, uptime_timer}
 use Rattle.tracing_tree_context.specs.declared.context.Id.{Id}
 use Rattle.tracing_tree_context.specs.declared.context.Context.{Context}
 use Rattle.tracing_tree_text.specs.declared.field.Field.{Field}
 use Rattle.tracing_tree_spans.specs.declared.registry.Parent.{Parent}
 use Rattle.tracing_tree_spans.specs.declared.registry.Parent.TheVariants.{Root, Current, Of}
-use Rattle.tracing_tree_text.specs.declared.style.Level.{Level}
 use Rattle.tracing_tree_context.specs.declared.context.Moment.{Moment}
 use Rattle.tracing_tree_layer.specs.declared.call.Call.{Call}
 use Rattle.tracing_tree_layer.specs.declared.call.Call.TheVariants.{New, Clone, Record, Event, Close}
@@ -39,18 +37,11 @@ without_empty_last (line ∷ []) = if length line == 0 then [] else line ∷ []
 without_empty_last (line ∷ next ∷ more) = line ∷ without_empty_last (next ∷ more)
 
 abbrev pub input_lines : List ℕ → List (List ℕ)
-input_lines text = without_empty_last (parts_of text)
+input_lines text = without_empty_last (slice_split (λ byte. byte == 10) text)
 
 -- a line of spaces, tabs and carriage returns alone
 abbrev pub is_skipped : List ℕ → Bool
 is_skipped line = list_all (λ byte. (byte == 32) || (byte == 9) || (byte == 13)) line
-
--- the object that a line is, if it is one
-abbrev pub only_object : Data → Option Data
-only_object value = option_map object (as_object value)
-
-abbrev pub line_object : List ℕ → Option Data
-line_object line = read line >>= only_object
 
 -- ---- keys
 
@@ -59,19 +50,12 @@ abbrev pub unless_null : Data → Option Data
 unless_null null = None
 unless_null value = Some value
 
--- the value of a key, if it is there
-abbrev pub value_at : List ℕ → Data → Option Data
-value_at key value = option_and_then unless_null (get key value)
-
 -- the value of a key as it is read, or else `absent` where the key is absent; `None` is a value
--- that can't be read
+-- that can't be read, or a key that is lacking
 abbrev pub read_or : {A : Type 0} → Option A → (Data → Option A) → List ℕ → Data → Option A
-read_or absent reader key value = option_map_or reader (value_at key value) absent
+read_or absent reader key value = option_map_or reader (get key value >>= unless_null) absent
 
-abbrev pub required : {A : Type 0} → (Data → Option A) → List ℕ → Data → Option A
-required reader key value = read_or None reader key value
-
--- the keys of an object that have a value
+-- the keys of an object whose value isn't null
 abbrev pub present_keys : Members → List (List ℕ)
 present_keys no_members = []
 present_keys (member key value others) =
@@ -88,118 +72,80 @@ has_only_keys keys value =
 abbrev pub whole_value : Data → Option ℕ
 whole_value value = option_and_then as_u64 (as_number value)
 
--- a whole number within 64 bits with a sign
+-- a whole number from -2^63 to 2^63 - 1
 abbrev pub signed_value : Data → Option ℤ
 signed_value value = option_and_then as_i64 (as_number value)
 
 abbrev pub id_value : Data → Option Id
 id_value value = option_map id_of (whole_value value)
 
--- one of these texts, with what it stands for
+-- what the first of these choices stands for that has this text
 abbrev pub chosen : {A : Type 0} → List (List ℕ × A) → List ℕ → Option A
 chosen [] text = None
 chosen (choice ∷ others) text = if bytes_eq choice.0 text then Some choice.1 else chosen others text
 
 -- ---- settings
 
--- the timer that a settings line asks for
-pub data TimerChoice : Type 0 where
-  no_clock : TimerChoice
-  utc_clock : Bool → TimerChoice
-  local_clock : ℤ → Bool → TimerChoice
-  uptime_clock : ℕ → Bool → TimerChoice
-
 -- what a settings line asks for
 abbrev pub Asked : Type 0
-Asked = Settings × TimerChoice
-
-abbrev pub chosen_timer : TimerChoice → Timer
-chosen_timer no_clock = no_timer
-chosen_timer (utc_clock higher) = utc_timer higher
-chosen_timer (local_clock offset higher) = local_timer higher (λ nanos. offset)
-chosen_timer (uptime_clock epoch higher) = uptime_timer higher epoch
+Asked = Settings × Timer
 
 -- a whole number that is not 0
 abbrev pub positive_value : Data → Option ℕ
 positive_value value = option_and_then (λ n. then_some (not (n == 0)) n) (whole_value value)
 
--- seconds of an offset
+-- the seconds of an offset, from -25:59:59 to 25:59:59
 abbrev pub offset_value : Data → Option ℤ
 offset_value value =
     option_and_then (λ z. then_some (int_le (neg_ℤ (pos 93_599)) z && int_le z (pos 93_599)) z)
     (signed_value value)
 
-abbrev pub flag : List ℕ → Data → Option Bool
-flag key value = read_or (Some false) as_bool key value
+-- a timer, where the object has no other key than `kind` and these
+abbrev pub under_keys : List (List ℕ) → Data → Option Timer → Option Timer
+under_keys keys value timer = if has_only_keys (codes "kind" ∷ keys) value then timer else None
 
--- a value, where the object has these keys alone
-abbrev pub under_keys : {A : Type 0} → List (List ℕ) → Data → Option A → Option A
-under_keys keys value read = if has_only_keys keys value then read else None
+-- the timers by their kinds, as an object spells them
+abbrev pub timers_in : Data → List (List ℕ × Option Timer)
+timers_in value =
+    let higher = read_or (Some false) as_bool (codes "higher_precision") value in
+    let offset = read_or None offset_value (codes "offset") value in
+    let epoch = read_or (Some 0) whole_value (codes "epoch") value in
+    let local = offset >>= (λ z. option_map (λ high. local_timer high (λ nanos. z)) higher) in
+    let uptime = epoch >>= (λ n. option_map (λ high. uptime_timer high n) higher) in
+    (codes "none", under_keys [] value (Some no_timer))
+    ∷ (codes "utc", under_keys (codes "higher_precision" ∷ []) value (option_map utc_timer higher))
+    ∷ (codes "local", under_keys (codes "higher_precision" ∷ codes "offset" ∷ []) value local)
+    ∷ (codes "uptime", under_keys (codes "higher_precision" ∷ codes "epoch" ∷ []) value uptime)
+    ∷ []
 
--- the timer of each kind
-abbrev pub none_value : Data → Option TimerChoice
-none_value value = under_keys (codes "kind" ∷ []) value (Some no_clock)
-
-abbrev pub utc_value : Data → Option TimerChoice
-utc_value value = under_keys (codes "kind" ∷ codes "higher_precision" ∷ []) value
-    (option_map utc_clock (flag (codes "higher_precision") value))
-
-abbrev pub local_value : Data → Option TimerChoice
-local_value value =
-    under_keys (codes "kind" ∷ codes "higher_precision" ∷ codes "offset" ∷ []) value (do
-      offset ← required offset_value (codes "offset") value
-      higher ← flag (codes "higher_precision") value
-      Some (local_clock offset higher))
-
-abbrev pub uptime_value : Data → Option TimerChoice
-uptime_value value =
-    under_keys (codes "kind" ∷ codes "higher_precision" ∷ codes "epoch" ∷ []) value (do
-      epoch ← read_or (Some 0) whole_value (codes "epoch") value
-      higher ← flag (codes "higher_precision") value
-      Some (uptime_clock epoch higher))
-
-abbrev pub timer_of_kind : List ℕ → Data → Option TimerChoice
-timer_of_kind kind value =
-    if bytes_eq kind (codes "none") then none_value value
-    else (if bytes_eq kind (codes "utc") then utc_value value
-    else (if bytes_eq kind (codes "local") then local_value value
-    else (if bytes_eq kind (codes "uptime") then uptime_value value
-    else None)))
-
-abbrev pub timer_value : Data → Option TimerChoice
-timer_value value = required as_str (codes "kind") value >>= (λ kind. timer_of_kind kind value)
+abbrev pub timer_value : Data → Option Timer
+timer_value value = do
+  kind ← read_or None as_str (codes "kind") value
+  option_flatten (chosen (timers_in value) kind)
 
 -- what a value that is read so changes in the settings
 abbrev pub sets : {A : Type 0} → (Data → Option A) → (A → Settings → Settings) → Data → Asked
     → Option Asked
 sets reader change value asked = option_map (λ read. (change read asked.0, asked.1)) (reader value)
 
--- a truth value changes the settings so
-abbrev pub switches : (Bool → Settings → Settings) → Data → Asked → Option Asked
-switches change = sets as_bool change
-
--- a timer takes the place of the one before
-abbrev pub sets_timer : Data → Asked → Option Asked
-sets_timer value asked = option_map (λ timer. (asked.0, timer)) (timer_value value)
-
 -- all settings: each key, and what its value sets
 abbrev pub all_settings : List (List ℕ × (Data → Asked → Option Asked))
 all_settings =
     (codes "indent_amount", sets whole_value (λ n s. record s { indent_amount = n }))
     ∷ (codes "wraparound", sets positive_value (λ n s. record s { wraparound = n }))
-    ∷ (codes "timer", sets_timer)
-    ∷ (codes "ansi", switches (λ on s. record s { ansi = on }))
-    ∷ (codes "indent_lines", switches (λ on s. record s { indent_lines = on }))
-    ∷ (codes "targets", switches (λ on s. record s { targets = on }))
-    ∷ (codes "thread_ids", switches (λ on s. record s { render_thread_ids = on }))
-    ∷ (codes "thread_names", switches (λ on s. record s { render_thread_names = on }))
-    ∷ (codes "verbose_entry", switches (λ on s. record s { verbose_entry = on }))
-    ∷ (codes "verbose_exit", switches (λ on s. record s { verbose_exit = on }))
-    ∷ (codes "span_retrace", switches (λ on s. record s { span_retrace = on }))
-    ∷ (codes "deferred_spans", switches (λ on s. record s { deferred_spans = on }))
-    ∷ (codes "close_retrace", switches (λ on s. record s { close_retrace = on }))
-    ∷ (codes "span_modes", switches (λ on s. record s { span_modes = on }))
-    ∷ (codes "bracketed_fields", switches (λ on s. record s { bracketed_fields = on }))
+    ∷ (codes "timer", λ value asked. option_map (λ timer. (asked.0, timer)) (timer_value value))
+    ∷ (codes "ansi", sets as_bool (λ on s. record s { ansi = on }))
+    ∷ (codes "indent_lines", sets as_bool (λ on s. record s { indent_lines = on }))
+    ∷ (codes "targets", sets as_bool (λ on s. record s { targets = on }))
+    ∷ (codes "thread_ids", sets as_bool (λ on s. record s { render_thread_ids = on }))
+    ∷ (codes "thread_names", sets as_bool (λ on s. record s { render_thread_names = on }))
+    ∷ (codes "verbose_entry", sets as_bool (λ on s. record s { verbose_entry = on }))
+    ∷ (codes "verbose_exit", sets as_bool (λ on s. record s { verbose_exit = on }))
+    ∷ (codes "span_retrace", sets as_bool (λ on s. record s { span_retrace = on }))
+    ∷ (codes "deferred_spans", sets as_bool (λ on s. record s { deferred_spans = on }))
+    ∷ (codes "close_retrace", sets as_bool (λ on s. record s { close_retrace = on }))
+    ∷ (codes "span_modes", sets as_bool (λ on s. record s { span_modes = on }))
+    ∷ (codes "bracketed_fields", sets as_bool (λ on s. record s { bracketed_fields = on }))
     ∷ []
 
 -- what a key with a value makes of the settings; `None` where no setting has the key, or where the
@@ -207,7 +153,7 @@ all_settings =
 abbrev pub with_setting : List ℕ → Data → Asked → Option Asked
 with_setting key value asked = chosen all_settings key >>= (λ setting. setting value asked)
 
--- the same, where a null counts as absent
+-- what a member makes of the settings: a null changes nothing, whatever its key
 abbrev pub with_member : List ℕ → Data → Asked → Option Asked
 with_member key value asked =
     option_map_or (λ present. with_setting key present asked) (unless_null value) (Some asked)
@@ -217,27 +163,21 @@ abbrev pub with_members : Members → Asked → Option Asked
 with_members no_members asked = Some asked
 with_members (member key value others) asked = with_member key value asked >>= with_members others
 
--- the settings of a line that names none
+-- the settings of a line that names none: those of a layer, but without colours, and no timer
 abbrev pub unnamed_settings : Asked
-unnamed_settings = (record default_settings { ansi = false }, no_clock)
+unnamed_settings = (record default_settings { ansi = false }, no_timer)
 
 -- what a settings object spells: each key that is there is that of a setting and can be read, and
--- one that is absent stands for its default
+-- one that is absent stands for its default; `read` keeps the last of members with one key
 abbrev pub object_settings : Data → Option Asked
 object_settings value = as_object value >>= (λ members. with_members members unnamed_settings)
 
--- what the object of a line spells
-abbrev pub line_settings : List ℕ → Option Asked
-line_settings line = line_object line >>= object_settings
-
 -- the first line is a text, and spells these settings and this timer
-abbrev pub SpellsSettings : List ℕ → Settings → TimerChoice → Type 0
-SpellsSettings line settings timer = IsUtf8 line × (line_settings line ≡ Some (settings, timer))
+abbrev pub SpellsSettings : List ℕ → Settings → Timer → Type 0
+SpellsSettings line settings timer =
+    IsUtf8 line × ((read line >>= object_settings) ≡ Some (settings, timer))
 
 -- ---- calls
-
-abbrev pub level_value : Data → Option Level
-level_value value = option_and_then level_named (as_str value)
 
 -- `"root"`, `"current"` or an id
 abbrev pub parent_value : Data → Option Parent
@@ -255,7 +195,7 @@ pair_field items = None
 abbrev pub field_value : Data → Option Field
 field_value value = option_and_then pair_field (as_array value)
 
--- all of them, or none
+-- the fields that the items spell; `None` if one of them spells none
 abbrev pub item_fields : Items → Option (List Field)
 item_fields no_items = Some []
 item_fields (item first others) = do
@@ -266,68 +206,43 @@ item_fields (item first others) = do
 abbrev pub fields_value : Data → Option (List Field)
 fields_value value = option_and_then item_fields (as_array value)
 
--- an id that may be absent; the outer `None` is a value that can't be read
-abbrev pub current_in : Data → Option (Option Id)
-current_in value = read_or (Some None) (λ v. option_map Some (id_value v)) (codes "current") value
-
-abbrev pub thread_name_in : Data → Option (Option (List ℕ))
-thread_name_in value =
-    read_or (Some None) (λ v. option_map Some (as_str v)) (codes "thread_name") value
-
-abbrev pub thread_in : Data → Option ℕ
-thread_in value = read_or (Some 1) whole_value (codes "thread") value
-
-abbrev pub mono_in : Data → Option ℕ
-mono_in value = read_or (Some 0) whole_value (codes "mono") value
-
-abbrev pub wall_in : Data → Option ℤ
-wall_in value = read_or (Some (pos 0)) signed_value (codes "wall") value
-
 -- the moment has the parts that the object spells
 pub record IsMomentIn (value : Data) (moment : Moment) : Type 0 where
-  pub mono : mono_in value ≡ Some moment.mono
-  pub wall : wall_in value ≡ Some moment.wall.nanosecond
+  pub mono : read_or (Some 0) whole_value (codes "mono") value ≡ Some moment.mono
+  pub wall : read_or (Some (pos 0)) signed_value (codes "wall") value ≡ Some moment.wall.nanosecond
 
--- the context that goes with each call, at the moment spelled
+-- The context that goes with each call, at the moment spelled. A current span and a name may be
+-- absent; the outer `None` is a value that can't be read.
 abbrev pub context_in : Data → Moment → Option Context
 context_in value moment = do
-  current ← current_in value
-  thread ← thread_in value
-  name ← thread_name_in value
+  current ← read_or (Some None) (λ v. option_map Some (id_value v)) (codes "current") value
+  thread ← read_or (Some 1) whole_value (codes "thread") value
+  name ← read_or (Some None) (λ v. option_map Some (as_str v)) (codes "thread_name") value
   Some (record { current = current; thread_id = thread; thread_name = name; moment = moment })
 
-abbrev pub target_in : Data → Option (List ℕ)
-target_in value = read_or (Some []) as_str (codes "target") value
-
-abbrev pub parent_in : Data → Option Parent
-parent_in value = read_or (Some Current) parent_value (codes "parent") value
-
-abbrev pub fields_in : Data → Option (List Field)
-fields_in value = read_or (Some []) fields_value (codes "fields") value
-
 abbrev pub id_in : Data → Option Id
-id_in value = required id_value (codes "id") value
+id_in value = read_or None id_value (codes "id") value
 
 abbrev pub attributes_in : Data → Option Attributes
 attributes_in value = do
-  name ← required as_str (codes "name") value
-  target ← target_in value
-  parent ← parent_in value
-  fields ← fields_in value
+  name ← read_or None as_str (codes "name") value
+  target ← read_or (Some []) as_str (codes "target") value
+  parent ← read_or (Some Current) parent_value (codes "parent") value
+  fields ← read_or (Some []) fields_value (codes "fields") value
   Some (record { name = name; target = target; parent = parent; fields = fields })
 
 abbrev pub record_in : Data → Option Call
 record_in value = do
   i ← id_in value
-  fields ← fields_in value
+  fields ← read_or (Some []) fields_value (codes "fields") value
   Some (Record i (record { fields = fields }))
 
 abbrev pub event_in : Data → Option MadeEvent
 event_in value = do
-  level ← required level_value (codes "level") value
-  target ← target_in value
-  parent ← parent_in value
-  fields ← fields_in value
+  level ← read_or None (λ v. as_str v >>= level_named) (codes "level") value
+  target ← read_or (Some []) as_str (codes "target") value
+  parent ← read_or (Some Current) parent_value (codes "parent") value
+  fields ← read_or (Some []) fields_value (codes "fields") value
   Some (record { level = level; target = target; parent = parent; fields = fields })
 
 -- the call of this name
@@ -340,11 +255,12 @@ call_named name value context =
     else (if bytes_eq name (codes "close") then option_map (λ i. Close i context) (id_in value)
     else None))))
 
--- what an object without floats spells, at the moment spelled; the context is read for each call
+-- What an object without floats spells, at the moment spelled. The context must be readable also
+-- where the call takes none. Keys that the call doesn't have are ignored.
 abbrev pub object_call : Data → Moment → Option Call
 object_call value moment = do
   context ← context_in value moment
-  name ← required as_str (codes "call") value
+  name ← read_or None as_str (codes "call") value
   call_named name value context
 
 -- the line is a text, and spells this call
@@ -352,19 +268,14 @@ pub record SpellsCall (line : List ℕ) (call : Call) : Type 0 where
   pub text : IsUtf8 line
   pub value : Data
   pub moment : Moment
-  pub object : line_object line ≡ Some value
+  pub reads : read line ≡ Some value
   pub no_float : has_float value ≡ false
   pub timed : IsMomentIn value moment
   pub spelled : object_call value moment ≡ Some call
 
 -- these lines spell these calls, in order, and each other line is skipped
 abbrev pub SpellCalls : List (List ℕ) → List Call → Type 0
-SpellCalls [] [] = ⊤
-SpellCalls [] (call ∷ calls) = ⊥
-SpellCalls (line ∷ lines) [] = IsTrue (is_skipped line) × SpellCalls lines []
-SpellCalls (line ∷ lines) (call ∷ calls) =
-    MatchBool (is_skipped line) (SpellCalls lines (call ∷ calls))
-    (SpellsCall line call × SpellCalls lines calls)
+SpellCalls lines calls = AllZip SpellsCall (filter (λ line. not (is_skipped line)) lines) calls
 
 -- a line that spells no call, and isn't skipped
 abbrev pub SpellsNothing : List ℕ → Type 0

@@ -1,16 +1,13 @@
 -- What one line does to a layer, and what lines do to it one after another.
-use Rattle.std.specs.Prelude.{◌≡◌, ℕ, ◌≤◌, true, false, List, ◌++◌, length, take, slice_get, Option, Some, None, IfSome, Result, Ok, Err}
-use Rattle.std.specs.Io.KnownBytes.{Appends}
+use Rattle.std.specs.Prelude.{◌≡◌, ℕ, true, false, List, Option, Some, option_map, IfSome, Result, Ok, Err}
 use Rattle.serde_json.specs.Data.{Data}
-use Rattle.tracing_tree_drawing.specs.Format.Picture.{draw}
 use Rattle.tracing_tree_context.specs.declared.context.Context.{Context}
 use Rattle.tracing_tree_context.specs.declared.context.Refusal.{Refusal}
 use Rattle.tracing_tree_layer.specs.Layered.Seen.{Seen}
 use Rattle.tracing_tree_layer.specs.Layer.Layers.{Flushes}
-use Rattle.tracing_tree_layer.specs.Layered.Headline.{run_from}
 use Rattle.tracing_tree_layer.specs.Layered.Answered.{IsAnswered}
-use Rattle.tracing_tree_lines.specs.Lines.Spelled.{input_lines, is_skipped, call_named, SpellsCall, SpellCalls, SpellsNothing}
-use Rattle.tracing_tree_lines.specs.Lines.Runs.{IsCounted, IsFaultAfter, IsLeftByFault, CountsEnd}
+use Rattle.tracing_tree_lines.specs.Lines.Spelled.{input_lines, is_skipped, call_named, SpellsCall, SpellsNothing}
+use Rattle.tracing_tree_lines.specs.Lines.Runs.{RunsOver, CountsEnd}
 use Rattle.tracing_tree_lines.specs.Lines.Reads.{TakesLine, HasNoLine}
 use Rattle.tracing_tree_layer.specs.declared.call.Call.{Call}
 use Rattle.tracing_tree_layer.specs.declared.call.Reply.{Reply}
@@ -81,30 +78,9 @@ pub record ShowsAndJudges (known left : Option (List ℕ)) (result : Result Judg
   pub flushed : Flushes old shown
   pub judged : JudgesLine known left result shown new
 
--- A run over lines: the calls that these lines spell are accepted, the others are skipped, and the
--- next line is to blame. What is written is the drawing of the run of these calls, and what the
--- fault leaves.
-pub record RunsOver (lines : List (List ℕ)) (accepted : ℕ) (fault : Option LineFault)
-    (old new : Seen) : Type 0 where
-  pub judged : ℕ
-  pub within : judged ≤ length lines
-  pub counted : IsCounted judged fault
-  pub calls : List Call
-  pub spelled : SpellCalls (take judged lines) calls
-  pub count : accepted ≡ length calls
-  pub taken : length (run_from old calls).replies ≡ length calls
-  pub all : fault ≡ None → judged ≡ length lines
-  pub blamed : IfSome fault
-      (IsFaultAfter old.settings old.timer (run_from old calls).state lines judged)
-  pub front : List ℕ
-  pub left : IsLeftByFault old.writer.whole old.settings old.timer (run_from old calls).state
-      (slice_get lines judged) fault front
-  pub appends : Appends old.writer.bytes new.writer.bytes
-      (draw old.settings (run_from old calls).rows ++ front)
-
--- the same over what is left of the input, where that is known, and the count of the writer's
--- faults
+-- a run over what is left of the input, where that is known, and the count of the writer's faults
 pub record EndsLines (known : Option (List ℕ)) (accepted : ℕ) (fault : Option LineFault)
     (old new : Seen) : Type 0 where
-  pub ran : IfSome known (λ input. RunsOver (input_lines input) accepted fault old new)
-  pub counted : CountsEnd fault old.writer.faults new.writer.faults
+  pub ran : IfSome known (λ input. RunsOver (input_lines input) accepted fault old new.writer)
+  pub counted : CountsEnd (option_map (λ fault. fault.cause) fault) old.writer.faults
+      new.writer.faults

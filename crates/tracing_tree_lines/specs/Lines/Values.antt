@@ -5,9 +5,10 @@ use Rattle.serde_json.specs.Written.{has_float}
 use Rattle.tracing_tree_drawing.specs.Format.Settings.{Settings}
 use Rattle.tracing_tree_context.specs.declared.context.Context.{Context}
 use Rattle.tracing_tree_context.specs.declared.context.Moment.{Moment}
-use Rattle.tracing_tree_lines.specs.Lines.Spelled.{TimerChoice, no_clock, utc_clock, local_clock, uptime_clock, SpellsSettings, IsMomentIn, context_in, object_call}
+use Rattle.tracing_tree_time.specs.Clock.{Timer, no_timer, utc_timer, local_timer, uptime_timer}
+use Rattle.tracing_tree_lines.specs.Lines.Spelled.{Asked, SpellsSettings, IsMomentIn, context_in, object_call}
 use Rattle.tracing_tree_layer.specs.declared.call.Call.{Call}
-use Rattle.tracing_tree_lines.specs.declared.lines.settings.timer.Timer.{Timer as Asked}
+use Rattle.tracing_tree_lines.specs.declared.lines.settings.timer.Timer.{Timer as AskedTimer}
 use Rattle.tracing_tree_lines.specs.declared.lines.settings.timer.Timer.TheVariants as Ask
 use Rattle.tracing_tree_lines.specs.declared.lines.LineCause.{LineCause}
 use Rattle.tracing_tree_lines.specs.declared.lines.LineCause.TheVariants.{Settings as NoSettings, NotACall, Read, Memory, Refused}
@@ -25,19 +26,23 @@ abbrev pub IsReadAs : {A : Type 0} → Option A → Result A LineCause → Type 
 IsReadAs spelled (Ok value) = spelled ≡ Some value
 IsReadAs spelled (Err cause) = IsUnlessMemory NotACall (spelled ≡ None) cause
 
--- the choice that a line asks for
-abbrev pub choice_of : Asked → TimerChoice
-choice_of Ask.None = no_clock
-choice_of (Ask.Utc clock) = utc_clock clock.higher_precision
-choice_of (Ask.Local offset higher) = local_clock offset.seconds higher
-choice_of (Ask.Uptime clock) = uptime_clock clock.epoch clock.higher_precision
+-- the timer that a line asks for
+abbrev pub asked_timer : AskedTimer → Timer
+asked_timer Ask.None = no_timer
+asked_timer (Ask.Utc clock) = utc_timer clock.higher_precision
+asked_timer (Ask.Local offset higher) = local_timer higher (λ nanos. offset.seconds)
+asked_timer (Ask.Uptime clock) = uptime_timer clock.higher_precision clock.epoch
+
+-- what a line asks for
+abbrev pub asked_of : Settings × AskedTimer → Asked
+asked_of setup = (setup.0, asked_timer setup.1)
 
 -- the settings and the timer that the first line spells
-abbrev pub ReadsFirst : List ℕ → Result (Settings × TimerChoice) LineCause → Type 0
-ReadsFirst line (Ok asked) = SpellsSettings line asked.0 asked.1
+abbrev pub ReadsFirst : List ℕ → Result (Settings × AskedTimer) LineCause → Type 0
+ReadsFirst line (Ok setup) = SpellsSettings line setup.0 (asked_timer setup.1)
 ReadsFirst line (Err cause) =
     IsUnlessMemory NoSettings
-    ((settings : Settings) (timer : TimerChoice) → ¬ SpellsSettings line settings timer) cause
+    ((settings : Settings) (timer : Timer) → ¬ SpellsSettings line settings timer) cause
 
 -- the moment that a value spells, if it spells one
 abbrev pub ReadsMoment : Data → Option Moment → Type 0

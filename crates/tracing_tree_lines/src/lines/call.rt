@@ -1,12 +1,14 @@
 //! The call that a line spells.
 
-ghost use Rattle.std.specs.Prelude.{◌≡◌, codes, option_map, IfOk};
+ghost use Rattle.std.specs.Prelude.{◌≡◌, [], Some, codes, option_and_then, option_map, IfOk};
 ghost use Rattle.serde_json.specs.Find.{as_str};
 ghost use Rattle.tracing_tree_lines.specs.Lines.Parts.{part_data, parts_data};
 ghost use Rattle.tracing_tree_layer.specs.Layer.Layers.{seen, Changes};
 ghost use Rattle.tracing_tree_lines.specs.Lines.Values.{IsReadAs, ValueSpells};
 ghost use Rattle.tracing_tree_lines.specs.Lines.CallKinds.{word_of, IsKindIn};
-ghost use Rattle.tracing_tree_lines.specs.Lines.Spelled.{attributes_in, event_in, id_in, target_in, parent_in, fields_in, level_value, parent_value, required, SpellsCall};
+ghost use Rattle.tracing_tree_lines.specs.Lines.Spelled.{attributes_in, event_in, fields_value, id_in, parent_value, read_or, SpellsCall};
+ghost use Rattle.tracing_tree_spans.specs.declared.registry.Parent.TheVariants.{Current};
+ghost use Rattle.tracing_tree_text.specs.Style.{level_named};
 ghost use Rattle.tracing_tree_lines.specs.Lines.Steps.{MakesNamed, MakesSpelled};
 
 use super::LineCause;
@@ -156,7 +158,7 @@ fn id_in(parts: &Parts<'_>) -> Option<Id>
 #[tactic(auto, using(crate::proofs::LineParts::at_name))]
 fn name_in<'a>(parts: &Parts<'a>) -> Option<&'a str>
     ensures { option_map (λ name. name.now) result
-        ≡ required as_str (codes "name") (parts_data parts.now) }
+        ≡ read_or None as_str (codes "name") (parts_data parts.now) }
 {
     parts.name.unless_null()?.as_str()
 }
@@ -164,7 +166,8 @@ fn name_in<'a>(parts: &Parts<'a>) -> Option<&'a str>
 // The level of an event. None where it isn't there or can't be read.
 #[tactic(auto, using(crate::proofs::LineParts::at_level))]
 fn level_in(parts: &Parts<'_>) -> Option<Level>
-    ensures { result ≡ required level_value (codes "level") (parts_data parts.now) }
+    ensures { result ≡ read_or None (λ v. option_and_then level_named (as_str v)) (codes "level")
+        (parts_data parts.now) }
 {
     level_value(parts.level.unless_null()?)
 }
@@ -172,7 +175,8 @@ fn level_in(parts: &Parts<'_>) -> Option<Level>
 // A target, empty where it isn't there. None where it can't be read.
 #[tactic(auto, using(crate::proofs::LineParts::at_target))]
 fn target_in<'a>(parts: &Parts<'a>) -> Option<&'a str>
-    ensures { option_map (λ target. target.now) result ≡ target_in (parts_data parts.now) }
+    ensures { option_map (λ target. target.now) result
+        ≡ read_or (Some []) as_str (codes "target") (parts_data parts.now) }
 {
     match parts.target.unless_null() {
         Some(target) => target.as_str(),
@@ -183,7 +187,7 @@ fn target_in<'a>(parts: &Parts<'a>) -> Option<&'a str>
 // A parent; the current span where it isn't there. None where it can't be read.
 #[tactic(auto, using(crate::proofs::LineParts::at_parent))]
 fn parent_in(parts: &Parts<'_>) -> Option<Parent>
-    ensures { result ≡ parent_in (parts_data parts.now) }
+    ensures { result ≡ read_or (Some Current) parent_value (codes "parent") (parts_data parts.now) }
 {
     match parts.parent.unless_null() {
         Some(parent) => parent_value(parent),
@@ -194,7 +198,8 @@ fn parent_in(parts: &Parts<'_>) -> Option<Parent>
 // The fields; none where they aren't there. None where they can't be read.
 #[tactic(auto, using(crate::proofs::LineParts::at_fields))]
 fn fields_in<'a>(parts: &'a Parts<'a>) -> Option<&'a [FieldTexts<'a>]>
-    ensures { option_map (λ fields. fields.now) result ≡ fields_in (parts_data parts.now) }
+    ensures { option_map (λ fields. fields.now) result
+        ≡ read_or (Some []) fields_value (codes "fields") (parts_data parts.now) }
 {
     match parts.fields.unless_null() {
         Some(fields) => fields.as_fields(),
@@ -219,7 +224,7 @@ fn copied(alloc: Global, fields: &[FieldTexts<'_>]) -> Result<Fields, AllocError
 
 // A level by its name. None where the part names none.
 fn level_value(part: &Part<'_>) -> Option<Level>
-    ensures { result ≡ level_value (part_data part.now) }
+    ensures { result ≡ option_and_then level_named (as_str (part_data part.now)) }
 {
     part.as_str()?.parse().ok()
 }

@@ -1,10 +1,11 @@
 //! What goes with each call.
 
-ghost use Rattle.std.specs.Prelude.{◌≡◌, Some, option_map};
+ghost use Rattle.std.specs.Prelude.{◌≡◌, None, Some, codes, option_map, pos};
 ghost use Rattle.std.specs.Option.{option_map_or};
+ghost use Rattle.serde_json.specs.Find.{as_str};
 ghost use Rattle.tracing_tree_lines.specs.Lines.Parts.{part_data, parts_data};
 ghost use Rattle.tracing_tree_lines.specs.Lines.Values.{ReadsMoment, ReadsContext};
-ghost use Rattle.tracing_tree_lines.specs.Lines.Spelled.{id_value, current_in, mono_in, thread_in, thread_name_in, unless_null, wall_in, whole_value};
+ghost use Rattle.tracing_tree_lines.specs.Lines.Spelled.{id_value, read_or, signed_value, unless_null, whole_value};
 
 use super::LineCause;
 use super::part::Part;
@@ -37,7 +38,8 @@ pub(super) fn context_in(alloc: Global, parts: &Parts<'_>) -> Result<Context, Li
 // The current span, if there is one. None where it can't be read.
 #[tactic(auto, using(crate::proofs::LineParts::at_current))]
 fn current_in(parts: &Parts<'_>) -> Option<Option<Id>>
-    ensures { result ≡ current_in (parts_data parts.now) }
+    ensures { result ≡ read_or (Some None) (λ v. option_map Some (id_value v)) (codes "current")
+        (parts_data parts.now) }
 {
     match parts.current.unless_null() {
         Some(current) => Some(Some(id_value(current)?)),
@@ -48,7 +50,7 @@ fn current_in(parts: &Parts<'_>) -> Option<Option<Id>>
 // The number of the thread, 1 where it isn't there. None where it can't be read.
 #[tactic(auto, using(crate::proofs::LineParts::at_thread))]
 fn thread_in(parts: &Parts<'_>) -> Option<u64>
-    ensures { result ≡ thread_in (parts_data parts.now) }
+    ensures { result ≡ read_or (Some 1) whole_value (codes "thread") (parts_data parts.now) }
 {
     whole_or(1, &parts.thread)
 }
@@ -57,7 +59,8 @@ fn thread_in(parts: &Parts<'_>) -> Option<u64>
 #[tactic(auto, using(crate::proofs::LineParts::at_thread_name))]
 fn thread_name_in<'a>(parts: &Parts<'a>) -> Option<Option<&'a str>>
     ensures { option_map (option_map (λ name. name.now)) result
-        ≡ thread_name_in (parts_data parts.now) }
+        ≡ read_or (Some None) (λ v. option_map Some (as_str v)) (codes "thread_name")
+        (parts_data parts.now) }
 {
     match parts.thread_name.unless_null() {
         Some(name) => Some(Some(name.as_str()?)),
@@ -78,7 +81,7 @@ fn moment_in(parts: &Parts<'_>) -> Option<Moment>
 // Nanoseconds on the monotonic clock. None where they can't be read.
 #[tactic(auto, using(crate::proofs::LineParts::at_mono))]
 fn mono_in(parts: &Parts<'_>) -> Option<u64>
-    ensures { result ≡ mono_in (parts_data parts.now) }
+    ensures { result ≡ read_or (Some 0) whole_value (codes "mono") (parts_data parts.now) }
 {
     whole_or(0, &parts.mono)
 }
@@ -86,7 +89,7 @@ fn mono_in(parts: &Parts<'_>) -> Option<u64>
 // Nanoseconds on the wall's clock since 1970. None where they can't be read.
 #[tactic(auto, using(crate::proofs::LineParts::at_wall))]
 fn wall_in(parts: &Parts<'_>) -> Option<i64>
-    ensures { result ≡ wall_in (parts_data parts.now) }
+    ensures { result ≡ read_or (Some (pos 0)) signed_value (codes "wall") (parts_data parts.now) }
 {
     match parts.wall.unless_null() {
         Some(wall) => wall.as_signed(),

@@ -2,11 +2,11 @@
 
 mod timer;
 
-ghost use Rattle.std.specs.Prelude.{◌≡◌, ◌<◌, IfSome};
+ghost use Rattle.std.specs.Prelude.{◌≡◌, ◌<◌, IfSome, option_map};
 ghost use Rattle.serde_json.specs.View.{view};
 ghost use Rattle.tracing_tree_time.specs.Clock.{clock_timer};
-ghost use Rattle.tracing_tree_lines.specs.Lines.Values.{ReadsFirst};
-ghost use Rattle.tracing_tree_lines.specs.Lines.Spelled.{chosen_timer, object_settings, positive_value, unnamed_settings, with_member, with_setting};
+ghost use Rattle.tracing_tree_lines.specs.Lines.Values.{asked_of, asked_timer, ReadsFirst};
+ghost use Rattle.tracing_tree_lines.specs.Lines.Spelled.{object_settings, positive_value, unnamed_settings, with_member, with_setting};
 
 use super::LineCause;
 use super::value::unless_null;
@@ -26,18 +26,17 @@ pub(super) struct Setup {
 
 impl Model for Setup {
     ghost use Rattle.tracing_tree_drawing.specs.Format.Settings.{Settings};
-    ghost use Rattle.tracing_tree_lines.specs.Lines.Values.{choice_of};
-    ghost use Rattle.tracing_tree_lines.specs.Lines.Spelled.{TimerChoice};
+    ghost use Rattle.tracing_tree_lines.specs.declared.lines.settings.timer.Timer.{Timer};
 
-    ghost Value = { Settings × TimerChoice };
+    ghost Value = { Settings × Timer };
 
-    ghost view = { λ s. (s.config, choice_of s.timer) };
+    ghost view = { λ s. (s.config, s.timer) };
 }
 
 impl Setup {
     // What a line asks for that names no setting.
     fn unnamed() -> Setup
-        ensures { result ≡ unnamed_settings }
+        ensures { asked_of result ≡ unnamed_settings }
     {
         Setup {
             config: Config::new(2, false),
@@ -48,7 +47,8 @@ impl Setup {
     // The same with one more setting: each key, what reads its value, and what it sets. None where no setting has the key, or
     // its value can't be read.
     fn with(self, key: &str, value: &Value) -> Option<Setup>
-        ensures { result ≡ with_setting key.now (view value.now) self }
+        ensures { option_map asked_of result
+            ≡ with_setting key.now (view value.now) (asked_of self) }
     {
         let Setup { config, timer } = self;
         let config = match key {
@@ -77,7 +77,8 @@ impl Setup {
 
     // The same with a member of the object.
     fn with_member(self, key: &str, value: &Value) -> Option<Setup>
-        ensures { result ≡ with_member key.now (view value.now) self }
+        ensures { option_map asked_of result
+            ≡ with_member key.now (view value.now) (asked_of self) }
     {
         match unless_null(value) {
             Some(value) => self.with(key, value),
@@ -88,7 +89,7 @@ impl Setup {
     // The settings and the timer by themselves.
     pub(super) fn into_parts(self) -> (Config, Clock<'static>)
         ensures settings { result.0 ≡ self.0 }
-        ensures timer { clock_timer result.1 ≡ chosen_timer self.1 }
+        ensures timer { clock_timer result.1 ≡ asked_timer self.1 }
     {
         let Setup { config, timer } = self;
         (config, timer.clock())
@@ -108,7 +109,7 @@ pub(super) fn settings_of_line(alloc: Global, line: &[u8]) -> Result<Setup, Line
 
 // What an object asks for.
 fn settings_of(value: &Value) -> Option<Setup>
-    ensures { result ≡ object_settings (view value.now) }
+    ensures { option_map asked_of result ≡ object_settings (view value.now) }
 {
     let mut setup = Setup::unnamed();
     for (key, member) in value.as_object()?.iter() {

@@ -1,9 +1,10 @@
 //! Values of the keys of a JSON object.
 
-ghost use Rattle.std.specs.Prelude.{◌≡◌, Some, option_map};
+ghost use Rattle.std.specs.Prelude.{◌≡◌, Some, false, option_and_then, option_map};
+ghost use Rattle.serde_json.specs.Find.{as_bool, get};
 ghost use Rattle.serde_json.specs.View.{view, items_view, members_view};
 ghost use Rattle.serde_json.specs.Written.{has_float, items_have_float, members_have_float};
-ghost use Rattle.tracing_tree_lines.specs.Lines.Spelled.{value_at, flag, read_or, unless_null, whole_value};
+ghost use Rattle.tracing_tree_lines.specs.Lines.Spelled.{read_or, unless_null, whole_value};
 
 use serde_json::{Map, Value};
 
@@ -19,14 +20,15 @@ pub(super) fn unless_null(value: &Value) -> Option<&Value>
 
 // The value of a key.
 pub(super) fn value_at<'v>(value: &'v Value, key: &str) -> Option<&'v Value>
-    ensures { option_map (λ found. view found.now) result ≡ value_at key.now (view value.now) }
+    ensures { option_map (λ found. view found.now) result
+        ≡ option_and_then unless_null (get key.now (view value.now)) }
 {
     unless_null(value.get(key)?)
 }
 
 // A truth value, false where the key is absent. None where it can't be read.
 pub(super) fn flag(value: &Value, key: &str) -> Option<bool>
-    ensures { result ≡ flag key.now (view value.now) }
+    ensures { result ≡ read_or (Some false) as_bool key.now (view value.now) }
 {
     match value_at(value, key) {
         Some(found) => found.as_bool(),

@@ -1,7 +1,5 @@
 use Rattle.std.proofs.Common.{◌≡◌, ap, ◌∙◌}
 use Rattle.std.specs.Io.Buffered.{reader_remaining}
-use Rattle.tracing_tree_time.specs.Clock.{clock_timer}
-use Rattle.tracing_tree_layer.specs.Layer.Layers.{seen}
 use Rattle.tracing_tree_output.specs.Writers.{seen_writer}
 use Rattle.tracing_tree_lines.proofs.OpenedLines.{concludes, calm_early}
 use Rattle.tracing_tree_lines.proofs.lines.run_lines.Goals as goal
@@ -15,7 +13,7 @@ returns-clause-ran g c =
     let runs = rw (c.new-layered.ensures, c.with_timer-layer.ensures, c.with_config.ensures, setup.settings) at c.run_calls-accepted.ensures in
     let ran = rw setup.timer at runs.changed.ran in
     rw writer (concludes (remaining c.args.reader) (reader_remaining remaining opened.0) opened.1 c.run_calls-accepted.result.0 c.run_calls-accepted.result.1
-    (seen_writer g.W.Output c.args.writer) (seen (record { timer = clock_timer }) g.W.Output c.run_calls-accepted.new.layered) c.in-Ok.ensures.opened
+    (seen_writer g.W.Output c.args.writer) (seen_writer g.W.Output c.run_calls-accepted.new.layered.layer.writer) c.in-Ok.ensures.opened
     ran)
 
 pub returns-clause-counted : goal.returns-clause-counted

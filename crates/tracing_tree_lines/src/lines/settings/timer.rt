@@ -1,11 +1,12 @@
 //! The timer that a settings line asks for.
 
-ghost use Rattle.std.specs.Prelude.{◌≡◌, map, option_map, bytes_eq};
+ghost use Rattle.std.specs.Prelude.{◌≡◌, map, option_map, bytes_eq, codes};
+ghost use Rattle.std.specs.Option.{option_flatten};
 ghost use Rattle.std.specs.List.{list_any, list_all};
 ghost use Rattle.serde_json.specs.View.{view, members_view};
 ghost use Rattle.tracing_tree_time.specs.Clock.{clock_timer};
-ghost use Rattle.tracing_tree_lines.specs.Lines.Values.{choice_of};
-ghost use Rattle.tracing_tree_lines.specs.Lines.Spelled.{chosen_timer, has_only_keys, offset_value, present_keys, timer_value, none_value, utc_value, local_value, uptime_value};
+ghost use Rattle.tracing_tree_lines.specs.Lines.Values.{asked_timer};
+ghost use Rattle.tracing_tree_lines.specs.Lines.Spelled.{chosen, has_only_keys, offset_value, present_keys, timer_value, timers_in};
 
 use crate::lines::value::{flag, unless_null, value_at, whole_or};
 use jiff::tz::Offset;
@@ -27,7 +28,7 @@ pub(super) enum Timer {
 impl Timer {
     // The clock that it is.
     pub(super) fn clock(self) -> Clock<'static>
-        ensures { clock_timer result ≡ chosen_timer (choice_of self) }
+        ensures { clock_timer result ≡ asked_timer self }
     {
         match self {
             Timer::None => Clock::None,
@@ -43,7 +44,7 @@ impl Timer {
 
 // The timer that an object asks for. None where it asks for none.
 pub(super) fn timer_value(value: &Value) -> Option<Timer>
-    ensures { option_map choice_of result ≡ timer_value (view value.now) }
+    ensures { option_map asked_timer result ≡ timer_value (view value.now) }
 {
     match value_at(value, "kind")?.as_str()? {
         "none" => none_value(value),
@@ -55,7 +56,8 @@ pub(super) fn timer_value(value: &Value) -> Option<Timer>
 }
 
 fn none_value(value: &Value) -> Option<Timer>
-    ensures { option_map choice_of result ≡ none_value (view value.now) }
+    ensures { option_map asked_timer result
+        ≡ option_flatten (chosen (timers_in (view value.now)) (codes "none")) }
 {
     if !has_only_keys(value, &["kind"]) {
         return None;
@@ -64,7 +66,8 @@ fn none_value(value: &Value) -> Option<Timer>
 }
 
 fn utc_value(value: &Value) -> Option<Timer>
-    ensures { option_map choice_of result ≡ utc_value (view value.now) }
+    ensures { option_map asked_timer result
+        ≡ option_flatten (chosen (timers_in (view value.now)) (codes "utc")) }
 {
     if !has_only_keys(value, &["kind", "higher_precision"]) {
         return None;
@@ -74,7 +77,8 @@ fn utc_value(value: &Value) -> Option<Timer>
 }
 
 fn local_value(value: &Value) -> Option<Timer>
-    ensures { option_map choice_of result ≡ local_value (view value.now) }
+    ensures { option_map asked_timer result
+        ≡ option_flatten (chosen (timers_in (view value.now)) (codes "local")) }
 {
     if !has_only_keys(value, &["kind", "higher_precision", "offset"]) {
         return None;
@@ -88,7 +92,8 @@ fn local_value(value: &Value) -> Option<Timer>
 }
 
 fn uptime_value(value: &Value) -> Option<Timer>
-    ensures { option_map choice_of result ≡ uptime_value (view value.now) }
+    ensures { option_map asked_timer result
+        ≡ option_flatten (chosen (timers_in (view value.now)) (codes "uptime")) }
 {
     if !has_only_keys(value, &["kind", "higher_precision", "epoch"]) {
         return None;

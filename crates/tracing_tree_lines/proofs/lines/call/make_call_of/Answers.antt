@@ -2,7 +2,7 @@ use Rattle.std.proofs.Common.{◌≡◌, None, Some, Err, codes, rules, refl}
 use Rattle.serde_json.specs.Find.{as_str}
 use Rattle.tracing_tree_lines.specs.Lines.CallKinds.{word_of}
 use Rattle.tracing_tree_lines.specs.Lines.Parts.{parts_data}
-use Rattle.tracing_tree_lines.specs.Lines.Spelled.{required}
+use Rattle.tracing_tree_lines.specs.Lines.Spelled.{read_or}
 use Rattle.tracing_tree_lines.specs.Lines.Values.{ValueSpells}
 use Rattle.tracing_tree_lines.specs.declared.lines.LineCause.TheVariants.{NotACall}
 use Rattle.tracing_tree_lines.proofs.LineParts.{no_float_parts}
@@ -31,7 +31,7 @@ pub returns : goal.returns
 returns g c =
     let value = parts_data c.args.parts.now in
     let some : c.kind_in.result ≡ Some c.in_ok-kind.kind = search rules in
-    let word : required as_str (codes "call") value ≡ Some (word_of c.in_ok-kind.kind) = rw some at c.kind_in.ensures in
+    let word : read_or None as_str (codes "call") value ≡ Some (word_of c.in_ok-kind.kind) = rw some at c.kind_in.ensures in
     let context = c.in_ok-context.ensures in
     let made = c.make_call_of_kind.ensures in
     record {
