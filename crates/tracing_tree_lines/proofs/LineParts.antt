@@ -17,7 +17,7 @@ use Rattle.tracing_tree_layer.specs.declared.call.Call.{Call}
 use Rattle.tracing_tree_lines.proofs.BorrowedTrees.{neither}
 use Rattle.tracing_tree_lines.proofs.Choices.{apart}
 use Rattle.tracing_tree_lines.proofs.SpelledLines.{line_spells, value_spells}
-use Rattle.tracing_tree_lines.specs.Lines.Parts.{fields_data, readable_number, readable_fields, readable, part_data, parts_members, parts_data, with_key, readable_at, readable_members, call_members, HasParts}
+use Rattle.tracing_tree_lines.specs.Lines.Parts.{fields_data, readable_number, readable_fields, readable_word, readable_list, readable, part_data, listed_data, parts_members, parts_data, with_key, readable_at, readable_members, call_members, HasParts}
 use Rattle.tracing_tree_lines.specs.Lines.Spelled.{◌>>=◌, unless_null, read_or, whole_value, signed_value, id_value, parent_value, item_fields, fields_value, IsMomentIn, SpellsCall, context_in, id_in, attributes_in, record_in, event_in, call_named, object_call}
 use Rattle.tracing_tree_lines.specs.Lines.Values.{ValueSpells}
 use Rattle.tracing_tree_lines.specs.Lines.Steps.{MakesSpelled}
@@ -26,7 +26,9 @@ use Rattle.tracing_tree_layer.specs.Layered.Seen.{Seen}
 use Rattle.tracing_tree_layer.specs.declared.call.Reply.{Reply}
 use Rattle.tracing_tree_lines.specs.declared.lines.LineCause.{LineCause}
 use Rattle.tracing_tree_lines.specs.declared.lines.part.Part.{Part}
-use Rattle.tracing_tree_lines.specs.declared.lines.part.Part.TheVariants.{Absent, Text, Whole, Negative, Fields, Other}
+use Rattle.tracing_tree_lines.specs.declared.lines.part.Part.TheVariants.{Absent, Text, Whole, Negative, Other}
+use Rattle.tracing_tree_lines.specs.declared.lines.part.FieldsPart.{FieldsPart}
+use Rattle.tracing_tree_lines.specs.declared.lines.part.FieldsPart.TheVariants as Listed
 use Rattle.tracing_tree_lines.specs.declared.lines.parts.Parts.{Parts}
 
 -- ---- the value at each key
@@ -49,7 +51,7 @@ at_target p = refl
 pub at_parent : (p : Parts) → option_and_then unless_null (get (codes "parent") (parts_data p)) ≡ unless_null (part_data p.parent)
 at_parent p = refl
 
-pub at_fields : (p : Parts) → option_and_then unless_null (get (codes "fields") (parts_data p)) ≡ unless_null (part_data p.fields)
+pub at_fields : (p : Parts) → option_and_then unless_null (get (codes "fields") (parts_data p)) ≡ unless_null (listed_data p.fields)
 at_fields p = refl
 
 pub at_current : (p : Parts) → option_and_then unless_null (get (codes "current") (parts_data p)) ≡ unless_null (part_data p.current)
@@ -76,29 +78,30 @@ fields_read (field ∷ others) = rw (fields_read others)
 -- ---- a member more
 
 at_put : (key other : List ℕ) (d : Data) (found : Members) (b : Bool) → bytes_eq key other ≡ b
-    → (if b then readable d else readable_at other (object found)) ≡ readable_at other (object (put key d found))
+    → (if b then readable key d else readable_at other (object found)) ≡ readable_at other (object (put key d found))
 at_put key other d found true is =
     let same : key ≡ other = (bytes_eq-Decides key other).0 is in
-    sym (ap (λ o. option_map_or readable o null) (ap (λ k. get_member k (put key d found)) (sym same) ∙ get_member-put key d found))
+    ap (λ k. readable k d) same
+    ∙ sym (ap (λ o. option_map_or (readable other) o null) (ap (λ k. get_member k (put key d found)) (sym same) ∙ get_member-put key d found))
 at_put key other d found false is =
-    sym (ap (λ o. option_map_or readable o null) (get_member-put_other other key d found (λ same. true≢false (sym ((bytes_eq-Decides key other).1 (sym same)) ∙ is))))
+    sym (ap (λ o. option_map_or (readable other) o null) (get_member-put_other other key d found (λ same. true≢false (sym ((bytes_eq-Decides key other).1 (sym same)) ∙ is))))
 
 pub with_put : (keys : Members) (key : List ℕ) (d : Data) (found : Members)
-    → with_key key (readable d) (readable_members keys (object found)) ≡ readable_members keys (object (put key d found))
+    → with_key key (readable key d) (readable_members keys (object found)) ≡ readable_members keys (object (put key d found))
 with_put no_members key d found = refl
 with_put (member other old ms) key d found =
-    ap (λ x. member other x (with_key key (readable d) (readable_members ms (object found)))) (at_put key other d found (bytes_eq key other) refl)
+    ap (λ x. member other x (with_key key (readable key d) (readable_members ms (object found)))) (at_put key other d found (bytes_eq key other) refl)
     ∙ ap (member other (readable_at other (object (put key d found)))) (with_put ms key d found)
 
 -- the object has no such key
 abbrev pub HasNoKey : Members → List ℕ → Type 0
 HasNoKey no_members key = Unit {0}
-HasNoKey (member other d ms) key = (key ≡ other → ⊥) × HasNoKey ms key
+HasNoKey (member other d ms) key = (bytes_eq key other ≡ false) × HasNoKey ms key
 
 no_key : (ms : Members) (key : List ℕ) (d : Data) → HasNoKey ms key → with_key key d ms ≡ ms
 no_key no_members key d none = refl
 no_key (member other old ms) key d none =
-    ap (λ b. member other (if b then d else old) (with_key key d ms)) (apart key other none.0) ∙ ap (member other old) (no_key ms key d none.1)
+    ap (λ b. member other (if b then d else old) (with_key key d ms)) none.0 ∙ ap (member other old) (no_key ms key d none.1)
 
 -- a key of no call changes nothing
 pub other_key : (key : List ℕ) (d : Data) (p : Parts) → HasNoKey (parts_members p) key → with_key key d (parts_members p) ≡ parts_members p
@@ -115,32 +118,36 @@ no_float_part Absent = refl
 no_float_part (Text text) = refl
 no_float_part (Whole n) = refl
 no_float_part (Negative z) = refl
-no_float_part (Fields fields) = no_float_fields fields.items
 no_float_part Other = refl
+
+no_float_list : (list : FieldsPart) → has_float (listed_data list) ≡ false
+no_float_list Listed.Absent = refl
+no_float_list (Listed.Fields fields) = no_float_fields fields.items
+no_float_list Listed.Other = refl
 
 pub no_float_parts : (p : Parts) → has_float (parts_data p) ≡ false
 no_float_parts p =
     neither _ _ (no_float_part p.call) (neither _ _ (no_float_part p.id) (neither _ _ (no_float_part p.name) (neither _ _ (no_float_part p.level)
-    (neither _ _ (no_float_part p.target) (neither _ _ (no_float_part p.parent) (neither _ _ (no_float_part p.fields) (neither _ _ (no_float_part p.current)
+    (neither _ _ (no_float_part p.target) (neither _ _ (no_float_part p.parent) (neither _ _ (no_float_list p.fields) (neither _ _ (no_float_part p.current)
     (neither _ _ (no_float_part p.thread) (neither _ _ (no_float_part p.thread_name) (neither _ _ (no_float_part p.mono) (neither _ _ (no_float_part p.wall) refl)))))))))))
 
 -- ---- what is read of a value says what the value says
+
+-- another key than that of the fields
+pub word_read : (key : List ℕ) (d : Data) → (key ≡ codes "fields" → ⊥) → readable key d ≡ readable_word d
+word_read key d other = ap (λ b. if b then readable_list d else readable_word d) (apart key (codes "fields") other)
 
 number_str : (n : Num) → as_str (readable_number n) ≡ None
 number_str (unsigned n) = refl
 number_str (negative z) = refl
 number_str (float x) = refl
 
-fields_str : (o : Option (List Field)) → as_str (readable_fields o) ≡ None
-fields_str None = refl
-fields_str (Some fields) = refl
-
-readable_str : (d : Data) → as_str (readable d) ≡ as_str d
+readable_str : (d : Data) → as_str (readable_word d) ≡ as_str d
 readable_str null = refl
 readable_str (boolean b) = refl
 readable_str (number n) = number_str n
 readable_str (string s) = refl
-readable_str (array ds) = fields_str (item_fields ds)
+readable_str (array ds) = refl
 readable_str (object ms) = refl
 
 number_whole : (n : Num) → whole_value (readable_number n) ≡ as_u64 n
@@ -148,16 +155,12 @@ number_whole (unsigned n) = refl
 number_whole (negative z) = refl
 number_whole (float x) = refl
 
-fields_whole : (o : Option (List Field)) → whole_value (readable_fields o) ≡ None
-fields_whole None = refl
-fields_whole (Some fields) = refl
-
-readable_whole : (d : Data) → whole_value (readable d) ≡ whole_value d
+readable_whole : (d : Data) → whole_value (readable_word d) ≡ whole_value d
 readable_whole null = refl
 readable_whole (boolean b) = refl
 readable_whole (number n) = number_whole n
 readable_whole (string s) = refl
-readable_whole (array ds) = fields_whole (item_fields ds)
+readable_whole (array ds) = refl
 readable_whole (object ms) = refl
 
 number_signed : (n : Num) → signed_value (readable_number n) ≡ as_i64 n
@@ -165,16 +168,12 @@ number_signed (unsigned n) = refl
 number_signed (negative z) = refl
 number_signed (float x) = refl
 
-fields_signed : (o : Option (List Field)) → signed_value (readable_fields o) ≡ None
-fields_signed None = refl
-fields_signed (Some fields) = refl
-
-readable_signed : (d : Data) → signed_value (readable d) ≡ signed_value d
+readable_signed : (d : Data) → signed_value (readable_word d) ≡ signed_value d
 readable_signed null = refl
 readable_signed (boolean b) = refl
 readable_signed (number n) = number_signed n
 readable_signed (string s) = refl
-readable_signed (array ds) = fields_signed (item_fields ds)
+readable_signed (array ds) = refl
 readable_signed (object ms) = refl
 
 number_parent : (n : Num) → parent_value (readable_number n) ≡ parent_value (number n)
@@ -182,31 +181,22 @@ number_parent (unsigned n) = refl
 number_parent (negative z) = refl
 number_parent (float x) = refl
 
-fields_parent : (o : Option (List Field)) → parent_value (readable_fields o) ≡ None
-fields_parent None = refl
-fields_parent (Some fields) = refl
-
-readable_parent : (d : Data) → parent_value (readable d) ≡ parent_value d
+readable_parent : (d : Data) → parent_value (readable_word d) ≡ parent_value d
 readable_parent null = refl
 readable_parent (boolean b) = refl
 readable_parent (number n) = number_parent n
 readable_parent (string s) = refl
-readable_parent (array ds) = fields_parent (item_fields ds)
+readable_parent (array ds) = refl
 readable_parent (object ms) = refl
-
-number_fields : (n : Num) → fields_value (readable_number n) ≡ None
-number_fields (unsigned n) = refl
-number_fields (negative z) = refl
-number_fields (float x) = refl
 
 array_fields : (o : Option (List Field)) → fields_value (readable_fields o) ≡ o
 array_fields None = refl
 array_fields (Some fields) = fields_read fields
 
-readable_fields_value : (d : Data) → fields_value (readable d) ≡ fields_value d
+readable_fields_value : (d : Data) → fields_value (readable_list d) ≡ fields_value d
 readable_fields_value null = refl
 readable_fields_value (boolean b) = refl
-readable_fields_value (number n) = number_fields n
+readable_fields_value (number n) = refl
 readable_fields_value (string s) = refl
 readable_fields_value (array ds) = array_fields (item_fields ds)
 readable_fields_value (object ms) = refl
@@ -216,31 +206,47 @@ number_there (unsigned n) = refl
 number_there (negative z) = refl
 number_there (float x) = refl
 
+word_there : (d : Data) → unless_null (readable_word d) ≡ option_map readable_word (unless_null d)
+word_there null = refl
+word_there (boolean b) = refl
+word_there (number n) = number_there n
+word_there (string s) = refl
+word_there (array ds) = refl
+word_there (object ms) = refl
+
 fields_there : (o : Option (List Field)) → unless_null (readable_fields o) ≡ Some (readable_fields o)
 fields_there None = refl
 fields_there (Some fields) = refl
 
-readable_there : (d : Data) → unless_null (readable d) ≡ option_map readable (unless_null d)
-readable_there null = refl
-readable_there (boolean b) = refl
-readable_there (number n) = number_there n
-readable_there (string s) = refl
-readable_there (array ds) = fields_there (item_fields ds)
-readable_there (object ms) = refl
+list_there : (d : Data) → unless_null (readable_list d) ≡ option_map readable_list (unless_null d)
+list_there null = refl
+list_there (boolean b) = refl
+list_there (number n) = refl
+list_there (string s) = refl
+list_there (array ds) = fields_there (item_fields ds)
+list_there (object ms) = refl
 
-read_mapped : {A : Type 0} (f : Data → A) (o : Option Data) (absent : A) → ((d : Data) → f (readable d) ≡ f d) → option_map_or f (option_map readable o) absent ≡ option_map_or f o absent
-read_mapped f None absent same = refl
-read_mapped f (Some d) absent same = same d
+either_there : (b : Bool) (d : Data) → unless_null (if b then readable_list d else readable_word d) ≡ option_map (λ v. if b then readable_list v else readable_word v) (unless_null d)
+either_there true d = list_there d
+either_there false d = word_there d
 
-found_same : {A : Type 0} (f : Data → A) (o : Option Data) (absent : A) → ((d : Data) → f (readable d) ≡ f d)
-    → option_map_or f (unless_null (option_map_or readable o null)) absent ≡ option_map_or f (option_and_then unless_null o) absent
-found_same f None absent same = refl
-found_same f (Some d) absent same = ap (λ o. option_map_or f o absent) (readable_there d) ∙ read_mapped f (unless_null d) absent same
+readable_there : (key : List ℕ) (d : Data) → unless_null (readable key d) ≡ option_map (readable key) (unless_null d)
+readable_there key d = either_there (bytes_eq key (codes "fields")) d
+
+read_mapped : {A : Type 0} (f : Data → A) (kept : Data → Data) (o : Option Data) (absent : A) → ((d : Data) → f (kept d) ≡ f d)
+    → option_map_or f (option_map kept o) absent ≡ option_map_or f o absent
+read_mapped f kept None absent same = refl
+read_mapped f kept (Some d) absent same = same d
+
+found_same : {A : Type 0} (f : Data → A) (key : List ℕ) (o : Option Data) (absent : A) → ((d : Data) → f (readable key d) ≡ f d)
+    → option_map_or f (unless_null (option_map_or (readable key) o null)) absent ≡ option_map_or f (option_and_then unless_null o) absent
+found_same f key None absent same = refl
+found_same f key (Some d) absent same = ap (λ o. option_map_or f o absent) (readable_there key d) ∙ read_mapped f (readable key) (unless_null d) absent same
 
 -- the value at a key, as it is read
-pub same_at : {A : Type 0} (f : Data → A) (key : List ℕ) (value : Data) (absent : A) → ((d : Data) → f (readable d) ≡ f d)
+pub same_at : {A : Type 0} (f : Data → A) (key : List ℕ) (value : Data) (absent : A) → ((d : Data) → f (readable key d) ≡ f d)
     → option_map_or f (unless_null (readable_at key value)) absent ≡ option_map_or f (option_and_then unless_null (get key value)) absent
-same_at f key value absent same = found_same f (get key value) absent same
+same_at f key value absent same = found_same f key (get key value) absent same
 
 -- ---- the object that holds what is read spells what the object spells
 
@@ -251,7 +257,7 @@ kept value = object (call_members value)
 abbrev IsKept : {A : Type 0} → (Data → A) → Data → Type 0
 IsKept reader value = reader (kept value) ≡ reader value
 
-same_id : (d : Data) → id_value (readable d) ≡ id_value d
+same_id : (d : Data) → id_value (readable_word d) ≡ id_value d
 same_id d = ap (option_map id_of) (readable_whole d)
 
 same_current : (value : Data) → IsKept (read_or (Some None) (λ v. option_map Some (id_value v)) (codes "current")) value

@@ -1,23 +1,25 @@
 -- Reading an object, a token at a time.
-use Rattle.std.specs.Prelude.{◌≡◌, ℕ, ◌≤◌, ◌-◌, ◌&&◌, ◌||◌, Bool, true, false, List, [], ◌∷◌, ◌++◌, length, Option, Some, None, refl, Result, Ok, Err}
-use Rattle.std.proofs.Common.{sym, ap, ◌∙◌, append-nil, arith, true≢false}
+use Rattle.std.specs.Prelude.{◌≡◌, ℕ, ◌≤◌, ◌-◌, ◌&&◌, ◌||◌, Bool, true, false, List, [], ◌∷◌, ◌++◌, length, Option, Some, None, codes, refl, Result, Ok, Err}
+use Rattle.std.proofs.Common.{sym, ap, ◌∙◌, subst, append-nil, arith, true≢false}
 use Rattle.std.proofs.lemmas.Option.{none-some}
 use Rattle.std.specs.Borrow.{Bor}
 use Rattle.std.specs.Prelude.{Vec}
 use Rattle.std.specs.declared.alloc.Global.{Global}
 use Rattle.std.specs.Result.{IsErr, IsErrAnd}
-use Rattle.json.specs.Reads.{skip_members}
+use Rattle.json.specs.Reads.{token_of}
+use Rattle.json.specs.declared.token.Token.{Token as ReadToken}
+use Rattle.json.specs.declared.token.Token.TheVariants as Read
 use Rattle.json.specs.Token.{Token}
 use Rattle.json.specs.Json as json
-use Rattle.json.specs.Json.{Parse, parse_map, after_end_array, read_key}
+use Rattle.json.specs.Json.{Parse, parse_map, after_end_array, read_key, skip_value}
 use Rattle.json.proofs.Grammar.{left, left_some, left_none, value_is, value-begin_array, value-begin_object, read_key-shorter, skip_value-shorter, items_end, items_fail, items_more, members_end, members_no_key, members_fail, members_more}
-use Rattle.serde_json.specs.Data.{Data, object, Items, no_items, item, Members, no_members, put}
+use Rattle.serde_json.specs.Data.{Num, Data, boolean, object, Items, no_items, item, Members, no_members, put}
 use Rattle.serde_json.specs.Find.{as_str}
 use Rattle.tracing_tree_text.specs.declared.field.Field.{Field}
-use Rattle.tracing_tree_lines.specs.Lines.Borrowed.{data_of, items_data, members_data, is_whole, items_are_whole, members_are_whole}
-use Rattle.tracing_tree_lines.specs.Lines.Parts.{part_data, parts_members, no_parts, call_members, is_other, with_key, readable, readable_fields, IsPartOf, AreFieldsTaken, ArePartsTaken, IsTaken, TakesFields, TakesPart, TakesParts}
+use Rattle.tracing_tree_lines.specs.Lines.Borrowed.{number_data, data_of, items_data, members_data, is_whole, items_are_whole, members_are_whole}
+use Rattle.tracing_tree_lines.specs.Lines.Parts.{part_data, parts_members, no_parts, call_members, is_other, with_key, readable, readable_word, readable_list, readable_fields, IsPartOf, AreFieldsTaken, ArePartsTaken, IsTaken, IsListTaken, IsMemberTaken, TakesFields, TakesList, TakesParts}
 use Rattle.tracing_tree_lines.specs.Lines.Spelled.{field_value, item_fields, pair_field}
-use Rattle.tracing_tree_lines.proofs.LineParts.{with_put}
+use Rattle.tracing_tree_lines.proofs.LineParts.{with_put, word_read}
 use Rattle.serde_json.specs.Read.{number_of}
 use Rattle.tracing_tree_lines.proofs.BorrowedTrees.{no_str, no_field}
 use Rattle.tracing_tree_lines.proofs.Pairs.{behind, behind_more, one_item, three_items, pair_texts}
@@ -25,7 +27,9 @@ use Rattle.tracing_tree_lines.specs.Lines.Values.{IsUnlessMemory}
 use Rattle.tracing_tree_lines.specs.declared.lines.LineCause.{LineCause}
 use Rattle.tracing_tree_lines.specs.declared.lines.LineCause.TheVariants.{Settings as NoSettings, NotACall, Read, Memory, Refused}
 use Rattle.tracing_tree_lines.specs.declared.lines.part.Part.{Part}
-use Rattle.tracing_tree_lines.specs.declared.lines.part.Part.TheVariants.{Absent, Text, Fields, Other}
+use Rattle.tracing_tree_lines.specs.declared.lines.part.Part.TheVariants.{Absent, Text, Other}
+use Rattle.tracing_tree_lines.specs.declared.lines.part.FieldsPart.{FieldsPart}
+use Rattle.tracing_tree_lines.specs.declared.lines.part.FieldsPart.TheVariants as Listed
 use Rattle.tracing_tree_lines.specs.declared.lines.parts.Parts.{Parts}
 
 -- ---- members
@@ -68,23 +72,34 @@ neither_other : (a b : Bool) → (a || b) ≡ false → (a ≡ false) × (b ≡ 
 neither_other true b e = cc
 neither_other false b e = (refl, e)
 
+-- what stands at another key than that of the fields
+pub word_member : (key : List ℕ) (old new : List Token) (part : Part) (before after : Parts) → (key ≡ codes "fields" → ⊥) → IsTaken old new part
+    → parts_members after ≡ with_key key (part_data part) (parts_members before) → after.has_other ≡ (is_other part || before.has_other) → IsMemberTaken key old new before after
+word_member key old new part before after other_key is set other = record {
+  value = is.value;
+  taken = is.taken;
+  put = set ∙ ap (λ d. with_key key d (parts_members before)) (is.kept.kept ∙ sym (word_read key (data_of is.value) other_key));
+  whole = λ none.
+      let neither = neither_other (is_other part) before.has_other (sym other ∙ none) in
+      (neither.1, is.kept.whole neither.0);
+}
+
 -- a member more
-pub member_read : (first now s r : List Token) (parts new : Parts) (key : List ℕ) (part : Part) (value : json.Json) → ReadsMembers first now parts
-    → read_key now ≡ Some (Some key, s) → json.value 126 s ≡ Some (value, r) → IsPartOf value part
-    → parts_members new ≡ with_key key (part_data part) (parts_members parts) → new.has_other ≡ (is_other part || parts.has_other) → ReadsMembers first r new
-member_read first now s r parts new key part value read at taken holds set other = record {
+pub member_read : (first now s r : List Token) (parts new : Parts) (key : List ℕ) → ReadsMembers first now parts → read_key now ≡ Some (Some key, s) → IsMemberTaken key s r parts new
+    → ReadsMembers first r new
+member_read first now s r parts new key read at is = record {
   turns = read.turns - 1;
-  room = omega (arith, read.room, read_key-shorter now (Some key) s at, skip_value-shorter 126 s r (ap left taken));
-  before = λ rest. read.before (json.member key value rest);
-  found = put key (data_of value) read.found;
-  parsed = read.parsed ∙ ap (parse_map read.before) (members_more (json.value 126) read.turns key now s r value (omega (arith, read.room, read_key-shorter now (Some key) s at)) at taken)
-      ∙ parsed_twice read.before (json.member key value) (json.members (json.value 126) (read.turns - 1) r);
-  stands = λ rest. read.stands (json.member key value rest);
+  room = omega (arith, read.room, read_key-shorter now (Some key) s at, skip_value-shorter 126 s r (ap left is.taken));
+  before = λ rest. read.before (json.member key is.value rest);
+  found = put key (data_of is.value) read.found;
+  parsed = read.parsed
+      ∙ ap (parse_map read.before) (members_more (json.value 126) read.turns key now s r is.value (omega (arith, read.room, read_key-shorter now (Some key) s at)) at is.taken)
+      ∙ parsed_twice read.before (json.member key is.value) (json.members (json.value 126) (read.turns - 1) r);
+  stands = λ rest. read.stands (json.member key is.value rest);
   whole = λ none rest all.
-      let neither = neither_other (is_other part) parts.has_other (sym other ∙ none) in
-      read.whole neither.1 (json.member key value rest) (both_whole (is_whole value) (members_are_whole rest) (holds.whole neither.0) all);
-  kept = set ∙ ap (λ d. with_key key d (parts_members parts)) holds.kept ∙ ap (with_key key (readable (data_of value))) read.kept
-      ∙ with_put no_parts key (data_of value) read.found;
+      let both = is.whole none in
+      read.whole both.0 (json.member key is.value rest) (both_whole (is_whole is.value) (members_are_whole rest) both.1 all);
+  kept = is.put ∙ ap (with_key key (readable key (data_of is.value))) read.kept ∙ with_put no_parts key (data_of is.value) read.found;
 }
 
 -- ---- fields
@@ -190,7 +205,7 @@ pub items_end_read : (first now r : List Token) (fields : List Field) (are_field
 items_end_read first now r fields are_fields read end = read.parsed ∙ ap (parse_map read.before) (items_end (json.value 125) read.turns now r read.room end)
 
 pub fields_part : (first now r : List Token) (fields : Vec Field Global) (are_fields : Bool) → ReadsItems first now fields.items are_fields → are_fields ≡ true → after_end_array now ≡ Some r
-    → AreFieldsTaken first r (Fields fields)
+    → AreFieldsTaken first r (Listed.Fields fields)
 fields_part first now r fields are_fields read all end =
     let found = read.all all json.no_items ∙ ap Some (append-nil fields.items) in
     record {
@@ -200,7 +215,7 @@ fields_part first now r fields are_fields read all end =
     }
 
 pub other_fields_part : (first now r : List Token) (fields : List Field) (are_fields : Bool) → ReadsItems first now fields are_fields → are_fields ≡ false → after_end_array now ≡ Some r
-    → AreFieldsTaken first r Other
+    → AreFieldsTaken first r Listed.Other
 other_fields_part first now r fields are_fields read not_all end = record {
   items = read.before json.no_items;
   taken = items_end_read first now r fields are_fields read end;
@@ -257,27 +272,82 @@ text_taken old new text is = record { value = json.string text.now; taken = ap (
 pub number_taken : (old new : List Token) (s : List ℕ) (part : Part) → old ≡ Token.number s ∷ new → IsPartOf (json.number s) part → IsTaken old new part
 number_taken old new s part is kept = record { value = json.number s; taken = ap (json.value 126) is ∙ value_is 126 (Token.number s ∷ new); kept = kept }
 
-pub truth_taken : (old new : List Token) (b : Bool) → old ≡ Token.boolean b ∷ new → IsTaken old new Other
-truth_taken old new b is = record { value = json.boolean b; taken = ap (json.value 126) is ∙ value_is 126 (Token.boolean b ∷ new); kept = record { kept = refl; whole = λ e. refl } }
+-- ---- another value
 
-pub array_taken : (old ts new : List Token) (result : Result Part LineCause) → old ≡ Token.begin_array ∷ ts → TakesFields ts new result → TakesPart old new result
-array_taken old ts new (Ok part) is taken = record {
+-- of this value, if it is one, `false` is read
+abbrev IsFalse : (Data → Data) → Option (json.Json × List Token) → Type 0
+IsFalse f None = Unit {0}
+IsFalse f (Some p) = f (data_of p.0) ≡ boolean false
+
+false_wrapped : {A : Type 0} (f : Data → Data) (wrap : A → json.Json) (o : Option (A × List Token)) → ((a : A) → f (data_of (wrap a)) ≡ boolean false) → IsFalse f (parse_map wrap o)
+false_wrapped f wrap None holds = tt
+false_wrapped f wrap (Some p) holds = holds p.0
+
+word_is_false : (first : ReadToken) (ts : List Token) → (first ≡ Read.Null → ⊥) → ((s : Bor (List ℕ)) → first ≡ Read.String s → ⊥) → ((s : Bor (List ℕ)) → first ≡ Read.Number s → ⊥)
+    → IsFalse readable_word (json.value 126 (token_of first ∷ ts))
+word_is_false Read.BeginObject ts no_null no_text no_number =
+    subst (IsFalse readable_word) (sym (value-begin_object 126 ts (omega arith))) (false_wrapped readable_word json.object _ (λ ms. refl))
+word_is_false Read.EndObject ts no_null no_text no_number = subst (IsFalse readable_word) (sym (value_is 126 (Token.end_object ∷ ts))) tt
+word_is_false Read.BeginArray ts no_null no_text no_number =
+    subst (IsFalse readable_word) (sym (value-begin_array 126 ts (omega arith))) (false_wrapped readable_word json.array _ (λ js. refl))
+word_is_false Read.EndArray ts no_null no_text no_number = subst (IsFalse readable_word) (sym (value_is 126 (Token.end_array ∷ ts))) tt
+word_is_false (Read.Key s) ts no_null no_text no_number = subst (IsFalse readable_word) (sym (value_is 126 (Token.key s.now ∷ ts))) tt
+word_is_false (Read.String s) ts no_null no_text no_number = absurd (no_text s refl)
+word_is_false (Read.Number s) ts no_null no_text no_number = absurd (no_number s refl)
+word_is_false (Read.Bool b) ts no_null no_text no_number = subst (IsFalse readable_word) (sym (value_is 126 (Token.boolean b ∷ ts))) refl
+word_is_false Read.Null ts no_null no_text no_number = absurd (no_null refl)
+word_is_false Read.Bad ts no_null no_text no_number = subst (IsFalse readable_word) (sym (value_is 126 (Token.bad ∷ ts))) tt
+
+number_is_false : (o : Option Num) → readable_list (number_data o) ≡ boolean false
+number_is_false None = refl
+number_is_false (Some n) = refl
+
+list_is_false : (first : ReadToken) (ts : List Token) → (first ≡ Read.Null → ⊥) → (first ≡ Read.BeginArray → ⊥) → IsFalse readable_list (json.value 126 (token_of first ∷ ts))
+list_is_false Read.BeginObject ts no_null no_array =
+    subst (IsFalse readable_list) (sym (value-begin_object 126 ts (omega arith))) (false_wrapped readable_list json.object _ (λ ms. refl))
+list_is_false Read.EndObject ts no_null no_array = subst (IsFalse readable_list) (sym (value_is 126 (Token.end_object ∷ ts))) tt
+list_is_false Read.BeginArray ts no_null no_array = absurd (no_array refl)
+list_is_false Read.EndArray ts no_null no_array = subst (IsFalse readable_list) (sym (value_is 126 (Token.end_array ∷ ts))) tt
+list_is_false (Read.Key s) ts no_null no_array = subst (IsFalse readable_list) (sym (value_is 126 (Token.key s.now ∷ ts))) tt
+list_is_false (Read.String s) ts no_null no_array = subst (IsFalse readable_list) (sym (value_is 126 (Token.string s.now ∷ ts))) refl
+list_is_false (Read.Number s) ts no_null no_array = subst (IsFalse readable_list) (sym (value_is 126 (Token.number s.now ∷ ts))) (number_is_false (number_of s.now))
+list_is_false (Read.Bool b) ts no_null no_array = subst (IsFalse readable_list) (sym (value_is 126 (Token.boolean b ∷ ts))) refl
+list_is_false Read.Null ts no_null no_array = absurd (no_null refl)
+list_is_false Read.Bad ts no_null no_array = subst (IsFalse readable_list) (sym (value_is 126 (Token.bad ∷ ts))) tt
+
+pub other_taken : (first : ReadToken) (old ts new : List Token) → old ≡ token_of first ∷ ts → (first ≡ Read.Null → ⊥) → ((s : Bor (List ℕ)) → first ≡ Read.String s → ⊥)
+    → ((s : Bor (List ℕ)) → first ≡ Read.Number s → ⊥) → skip_value 126 (token_of first ∷ ts) ≡ Some new → IsTaken old new Other
+other_taken first old ts new is no_null no_text no_number skipped =
+    let value = left_some (json.value 126 (token_of first ∷ ts)) new skipped in
+    record {
+      value = value.0;
+      taken = ap (json.value 126) is ∙ value.1;
+      kept = record { kept = sym (subst (IsFalse readable_word) value.1 (word_is_false first ts no_null no_text no_number)); whole = λ e. cc };
+    }
+
+pub other_list_taken : (first : ReadToken) (old ts new : List Token) → old ≡ token_of first ∷ ts → (first ≡ Read.Null → ⊥) → (first ≡ Read.BeginArray → ⊥)
+    → skip_value 126 (token_of first ∷ ts) ≡ Some new → IsListTaken old new Listed.Other
+other_list_taken first old ts new is no_null no_array skipped =
+    let value = left_some (json.value 126 (token_of first ∷ ts)) new skipped in
+    record {
+      value = value.0;
+      taken = ap (json.value 126) is ∙ value.1;
+      kept = record { kept = sym (subst (IsFalse readable_list) value.1 (list_is_false first ts no_null no_array)); whole = λ e. cc };
+    }
+
+pub skip_failed : (first : ReadToken) (old ts : List Token) → old ≡ token_of first ∷ ts → skip_value 126 (token_of first ∷ ts) ≡ None → json.value 126 old ≡ None
+skip_failed first old ts is failed = ap (json.value 126) is ∙ left_none (json.value 126 (token_of first ∷ ts)) failed
+
+-- ---- the fields
+
+pub no_list_taken : (old new : List Token) → old ≡ Token.null ∷ new → IsListTaken old new Listed.Absent
+no_list_taken old new is = record { value = json.null; taken = ap (json.value 126) is ∙ value_is 126 (Token.null ∷ new); kept = record { kept = refl; whole = λ e. refl } }
+
+pub array_taken : (old ts new : List Token) (result : Result FieldsPart LineCause) → old ≡ Token.begin_array ∷ ts → TakesFields ts new result → TakesList old new result
+array_taken old ts new (Ok list) is taken = record {
   value = json.array taken.items;
   taken = ap (json.value 126) is ∙ value-begin_array 126 ts (omega arith) ∙ ap (parse_map json.array) taken.taken;
   kept = taken.kept;
 }
 array_taken old ts new (Err cause) is failed =
     unless_memory _ _ cause (λ none. ap (json.value 126) is ∙ value-begin_array 126 ts (omega arith) ∙ ap (parse_map json.array) none) failed
-
-pub object_taken : (old ts new : List Token) → old ≡ Token.begin_object ∷ ts → skip_members 125 ts ≡ Some new → IsTaken old new Other
-object_taken old ts new is skipped =
-    let found = left_some (json.members (json.value 125) (length ts) ts) new skipped in
-    record {
-      value = json.object found.0;
-      taken = ap (json.value 126) is ∙ value-begin_object 126 ts (omega arith) ∙ ap (parse_map json.object) found.1;
-      kept = record { kept = refl; whole = λ e. cc };
-    }
-
-pub object_failed : (old ts : List Token) → old ≡ Token.begin_object ∷ ts → skip_members 125 ts ≡ None → json.value 126 old ≡ None
-object_failed old ts is failed =
-    ap (json.value 126) is ∙ value-begin_object 126 ts (omega arith) ∙ ap (parse_map json.object) (left_none (json.members (json.value 125) (length ts) ts) failed)

@@ -19,7 +19,9 @@ use Rattle.tracing_tree_layer.specs.declared.call.Call.{Call}
 use Rattle.tracing_tree_lines.specs.declared.lines.LineCause.{LineCause}
 use Rattle.tracing_tree_lines.specs.declared.lines.LineCause.TheVariants.{NotACall, Memory}
 use Rattle.tracing_tree_lines.specs.declared.lines.part.Part.{Part}
-use Rattle.tracing_tree_lines.specs.declared.lines.part.Part.TheVariants.{Absent, Text, Whole, Negative, Fields, Other}
+use Rattle.tracing_tree_lines.specs.declared.lines.part.Part.TheVariants.{Absent, Text, Whole, Negative, Other}
+use Rattle.tracing_tree_lines.specs.declared.lines.part.FieldsPart.{FieldsPart}
+use Rattle.tracing_tree_lines.specs.declared.lines.part.FieldsPart.TheVariants as Listed
 use Rattle.tracing_tree_lines.specs.declared.lines.parts.Parts.{Parts}
 use Rattle.tracing_tree_lines.specs.declared.lines.pair.Texts.{Texts}
 use Rattle.tracing_tree_lines.specs.declared.lines.pair.Texts.TheVariants.{None as NoText, One, Two, Other as OtherItems}
@@ -38,7 +40,8 @@ abbrev pub fields_data : List Field → Items
 fields_data [] = no_items
 fields_data (field ∷ others) = item (field_data field) (fields_data others)
 
--- a call is read from nulls, texts, whole numbers and fields; each other value counts as `false`
+-- A call is read from nulls, texts, whole numbers and, at the key `fields`, arrays of pairs of
+-- texts. Each other value counts as `false`.
 abbrev pub readable_number : Num → Data
 readable_number (unsigned n) = number (unsigned n)
 readable_number (negative z) = number (negative z)
@@ -48,13 +51,28 @@ abbrev pub readable_fields : Option (List Field) → Data
 readable_fields None = boolean false
 readable_fields (Some fields) = array (fields_data fields)
 
-abbrev pub readable : Data → Data
-readable null = null
-readable (boolean b) = boolean false
-readable (number n) = readable_number n
-readable (string s) = string s
-readable (array ds) = readable_fields (item_fields ds)
-readable (object ms) = boolean false
+-- what is read of a value at another key than `fields`
+abbrev pub readable_word : Data → Data
+readable_word null = null
+readable_word (boolean b) = boolean false
+readable_word (number n) = readable_number n
+readable_word (string s) = string s
+readable_word (array ds) = boolean false
+readable_word (object ms) = boolean false
+
+-- what is read of the value at `fields`
+abbrev pub readable_list : Data → Data
+readable_list null = null
+readable_list (boolean b) = boolean false
+readable_list (number n) = boolean false
+readable_list (string s) = boolean false
+readable_list (array ds) = readable_fields (item_fields ds)
+readable_list (object ms) = boolean false
+
+-- what is read of a value at this key
+abbrev pub readable : List ℕ → Data → Data
+readable key value =
+    if bytes_eq key (codes "fields") then readable_list value else readable_word value
 
 -- the data of a part
 abbrev pub part_data : Part → Data
@@ -62,21 +80,34 @@ part_data Absent = null
 part_data (Text text) = string text.now
 part_data (Whole n) = number (unsigned n)
 part_data (Negative z) = number (negative z)
-part_data (Fields fields) = array (fields_data fields.items)
 part_data Other = boolean false
+
+abbrev pub listed_data : FieldsPart → Data
+listed_data Listed.Absent = null
+listed_data (Listed.Fields fields) = array (fields_data fields.items)
+listed_data Listed.Other = boolean false
 
 abbrev pub is_other : Part → Bool
 is_other Absent = false
 is_other (Text text) = false
 is_other (Whole n) = false
 is_other (Negative z) = false
-is_other (Fields fields) = false
 is_other Other = true
+
+abbrev pub are_other : FieldsPart → Bool
+are_other Listed.Absent = false
+are_other (Listed.Fields fields) = false
+are_other Listed.Other = true
 
 -- the part holds what is read of the value, and only another value may hold a float
 pub record IsPartOf (value : json.Json) (part : Part) : Type 0 where
-  pub kept : part_data part ≡ readable (data_of value)
+  pub kept : part_data part ≡ readable_word (data_of value)
   pub whole : is_other part ≡ false → is_whole value ≡ true
+
+-- the same of the value at `fields`
+pub record IsListOf (value : json.Json) (list : FieldsPart) : Type 0 where
+  pub kept : listed_data list ≡ readable_list (data_of value)
+  pub whole : are_other list ≡ false → is_whole value ≡ true
 
 -- ---- what stands at the keys of calls
 
@@ -92,7 +123,7 @@ keyed call i name level target parent fields current thread thread_name mono wal
 abbrev pub parts_members : Parts → Members
 parts_members p =
     keyed (part_data p.call) (part_data p.id) (part_data p.name) (part_data p.level)
-    (part_data p.target) (part_data p.parent) (part_data p.fields) (part_data p.current)
+    (part_data p.target) (part_data p.parent) (listed_data p.fields) (part_data p.current)
     (part_data p.thread) (part_data p.thread_name) (part_data p.mono) (part_data p.wall)
 
 abbrev pub parts_data : Parts → Data
@@ -110,7 +141,7 @@ with_key key value (member other old ms) =
 
 -- what is read of the value at a key
 abbrev pub readable_at : List ℕ → Data → Data
-readable_at key value = option_map_or readable (get key value) null
+readable_at key value = option_map_or (readable key) (get key value) null
 
 -- what is read of an object, for these keys
 abbrev pub readable_members : Members → Data → Members
@@ -143,9 +174,28 @@ pub record IsTaken (old new : List Token) (part : Part) : Type 0 where
   pub taken : json.value 126 old ≡ Some (value, new)
   pub kept : IsPartOf value part
 
-abbrev pub TakesPart : List Token → List Token → Result Part LineCause → Type 0
-TakesPart old new (Ok part) = IsTaken old new part
-TakesPart old new (Err cause) = IsUnlessMemory NotACall (json.value 126 old ≡ None) cause
+pub record IsListTaken (old new : List Token) (list : FieldsPart) : Type 0 where
+  pub value : json.Json
+  pub taken : json.value 126 old ≡ Some (value, new)
+  pub kept : IsListOf value list
+
+abbrev pub TakesList : List Token → List Token → Result FieldsPart LineCause → Type 0
+TakesList old new (Ok list) = IsListTaken old new list
+TakesList old new (Err cause) = IsUnlessMemory NotACall (json.value 126 old ≡ None) cause
+
+-- the tokens of the value at this key were taken, and what is read of it is put there
+pub record IsMemberTaken (key : List ℕ) (old new : List Token) (before after : Parts) : Type 0 where
+  pub value : json.Json
+  pub taken : json.value 126 old ≡ Some (value, new)
+  pub put : parts_members after
+      ≡ with_key key (readable key (data_of value)) (parts_members before)
+  pub whole : after.has_other ≡ false → (before.has_other ≡ false) × (is_whole value ≡ true)
+
+abbrev pub TakesMember : {A : Type 0} → List ℕ → List Token → List Token → Parts → Parts
+    → Result A LineCause → Type 0
+TakesMember key old new before after (Ok done) = IsMemberTaken key old new before after
+TakesMember key old new before after (Err cause) =
+    IsUnlessMemory NotACall (json.value 126 old ≡ None) cause
 
 -- the tokens of a value were taken, and this is its field, if it is one
 pub record IsItemTaken (old new : List Token) (field : Option Field) : Type 0 where
@@ -173,13 +223,13 @@ pub record IsPairTaken (old new : List Token) (field : Option Field) : Type 0 wh
   pub is : field ≡ pair_field (items_data items)
 
 -- the tokens of an array after its bracket were taken
-pub record AreFieldsTaken (old new : List Token) (part : Part) : Type 0 where
+pub record AreFieldsTaken (old new : List Token) (list : FieldsPart) : Type 0 where
   pub items : json.Items
   pub taken : json.items (json.value 125) (length old) old ≡ Some (items, new)
-  pub kept : IsPartOf (json.array items) part
+  pub kept : IsListOf (json.array items) list
 
-abbrev pub TakesFields : List Token → List Token → Result Part LineCause → Type 0
-TakesFields old new (Ok part) = AreFieldsTaken old new part
+abbrev pub TakesFields : List Token → List Token → Result FieldsPart LineCause → Type 0
+TakesFields old new (Ok list) = AreFieldsTaken old new list
 TakesFields old new (Err cause) =
     IsUnlessMemory NotACall (json.items (json.value 125) (length old) old ≡ None) cause
 

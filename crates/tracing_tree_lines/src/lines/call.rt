@@ -3,6 +3,7 @@
 ghost use Rattle.std.specs.Prelude.{◌≡◌, [], Some, codes, option_and_then, option_map, IfOk};
 ghost use Rattle.serde_json.specs.Find.{as_str};
 ghost use Rattle.tracing_tree_lines.specs.Lines.Parts.{part_data, parts_data};
+ghost use Rattle.tracing_tree_context.specs.declared.context.Context.{Context};
 ghost use Rattle.tracing_tree_layer.specs.Layer.Layers.{seen, Changes};
 ghost use Rattle.tracing_tree_lines.specs.Lines.Values.{IsReadAs, ValueSpells};
 ghost use Rattle.tracing_tree_lines.specs.Lines.CallKinds.{word_of, IsKindIn};
@@ -98,15 +99,8 @@ fn make_call_of_kind<W: Output, FT: FormatTime>(
             let attributes = attributes_in(alloc, parts)?;
             Ok(layered.call_new_span(attributes, context)?)
         }
-        Kind::Clone => {
-            let id = id_in(parts).ok_or(LineCause::NotACall)?;
-            Ok(layered.call(Call::Clone(id))?)
-        }
-        Kind::Record => {
-            let id = id_in(parts).ok_or(LineCause::NotACall)?;
-            let fields = copied(alloc, fields_in(parts).ok_or(LineCause::NotACall)?)?;
-            Ok(layered.call(Call::Record(id, Record { fields }))?)
-        }
+        Kind::Clone => make_clone(parts, layered),
+        Kind::Record => make_record(alloc, parts, layered),
         Kind::Event => {
             let event = event_in(parts).ok_or(LineCause::NotACall)?;
             Ok(layered.call_told(&event, context)?)
@@ -116,6 +110,36 @@ fn make_call_of_kind<W: Output, FT: FormatTime>(
             Ok(layered.call_close(id, context)?)
         }
     }
+}
+
+// Makes a new handle of a span. This and the next are rare, and no part of their caller: there each line would set their room to zero.
+#[inline(never)]
+fn make_clone<W: Output, FT: FormatTime>(
+    parts: &Parts<'_>,
+    layered: &mut Layered<W, FT>,
+) -> Result<Reply, LineCause>
+    ensures { (context : Context) → Changes (seen FT.FormatTime W.Output)
+        (MakesNamed (codes "clone") (parts_data parts.now) context result)
+        layered.old layered.new }
+{
+    let id = id_in(parts).ok_or(LineCause::NotACall)?;
+    Ok(layered.call(Call::Clone(id))?)
+}
+
+// Records fields of a span.
+#[inline(never)]
+fn make_record<W: Output, FT: FormatTime>(
+    alloc: Global,
+    parts: &Parts<'_>,
+    layered: &mut Layered<W, FT>,
+) -> Result<Reply, LineCause>
+    ensures { (context : Context) → Changes (seen FT.FormatTime W.Output)
+        (MakesNamed (codes "record") (parts_data parts.now) context result)
+        layered.old layered.new }
+{
+    let id = id_in(parts).ok_or(LineCause::NotACall)?;
+    let fields = copied(alloc, fields_in(parts).ok_or(LineCause::NotACall)?)?;
+    Ok(layered.call(Call::Record(id, Record { fields }))?)
 }
 
 // What a new span is made of. `NotACall` where it can't be read, `Memory` where memory is refused.
@@ -201,10 +225,7 @@ fn fields_in<'a>(parts: &'a Parts<'a>) -> Option<&'a [FieldTexts<'a>]>
     ensures { option_map (λ fields. fields.now) result
         ≡ read_or (Some []) fields_value (codes "fields") (parts_data parts.now) }
 {
-    match parts.fields.unless_null() {
-        Some(fields) => fields.as_fields(),
-        None => Some(&[]),
-    }
+    parts.fields.as_fields()
 }
 
 // A copy of fields.

@@ -10,6 +10,7 @@ use super::part::Part;
 use fast_float::Numeral;
 
 // The part of a number with this text.
+#[inline(always)]
 pub(super) fn number_part<'a>(text: &str) -> Part<'a>
     ensures { IsPartOf (json.number text.now) result }
 {

@@ -1,14 +1,15 @@
 //! What stands at a key of a line's object.
 
-ghost use Rattle.std.specs.Prelude.{◌≡◌, option_map};
+ghost use Rattle.std.specs.Prelude.{◌≡◌, [], Some, option_map};
+ghost use Rattle.std.specs.Option.{option_map_or};
 ghost use Rattle.serde_json.specs.Find.{as_str};
-ghost use Rattle.tracing_tree_lines.specs.Lines.Parts.{is_other, part_data};
+ghost use Rattle.tracing_tree_lines.specs.Lines.Parts.{are_other, is_other, listed_data, part_data};
 ghost use Rattle.tracing_tree_lines.specs.Lines.Spelled.{fields_value, signed_value, unless_null, whole_value};
 
 use tracing_tree_layer::told::FieldTexts;
 
-// What a call is read from.
-#[derive(Drop)]
+// What a call is read from, but for its fields.
+#[derive(Clone, Copy, Drop)]
 pub(super) enum Part<'a> {
     // Nothing, or a null.
     Absent,
@@ -17,8 +18,6 @@ pub(super) enum Part<'a> {
     Whole(u64),
     // A whole number of 64 bits below zero.
     Negative(i64),
-    // An array of pairs of texts.
-    Fields(Vec<FieldTexts<'a>>),
     // Another value. No part of a call is read from it.
     Other,
 }
@@ -50,17 +49,6 @@ impl<'a> Part<'a> {
         }
     }
 
-    // The fields. None where it is none.
-    #[tactic(auto, using(crate::proofs::LineParts::fields_read))]
-    pub(super) fn as_fields(&self) -> Option<&[FieldTexts<'a>]>
-        ensures { option_map (λ fields. fields.now) result ≡ fields_value (part_data self.now) }
-    {
-        match self {
-            Part::Fields(fields) => Some(fields.as_slice()),
-            _ => None,
-        }
-    }
-
     // The whole number of 64 bits. None where it is none.
     pub(super) fn as_whole(&self) -> Option<u64>
         ensures { result ≡ whole_value (part_data self.now) }
@@ -79,6 +67,38 @@ impl<'a> Part<'a> {
             Part::Whole(number) => i64::try_from(*number).ok(),
             Part::Negative(number) => Some(*number),
             _ => None,
+        }
+    }
+}
+
+// What the fields of a call are read from.
+#[derive(Drop)]
+pub(super) enum FieldsPart<'a> {
+    // Nothing, or a null.
+    Absent,
+    // An array of pairs of texts.
+    Fields(Vec<FieldTexts<'a>>),
+    // Another value. No fields are read from it.
+    Other,
+}
+
+impl<'a> FieldsPart<'a> {
+    pub(super) fn are_other(&self) -> bool
+        ensures { result ≡ are_other self.now }
+    {
+        matches!(self, FieldsPart::Other)
+    }
+
+    // The fields, none of them where nothing stands there. None where they can't be read.
+    #[tactic(auto, using(crate::proofs::LineParts::fields_read))]
+    pub(super) fn as_fields(&'a self) -> Option<&'a [FieldTexts<'a>]>
+        ensures { option_map (λ fields. fields.now) result
+            ≡ option_map_or fields_value (unless_null (listed_data self.now)) (Some []) }
+    {
+        match self {
+            FieldsPart::Absent => Some(&[]),
+            FieldsPart::Fields(fields) => Some(fields.as_slice()),
+            FieldsPart::Other => None,
         }
     }
 }

@@ -1,16 +1,17 @@
 //! What a line's object has at the keys of a call, read in one pass.
 
-ghost use Rattle.std.specs.Prelude.{◌≡◌, ◌||◌, false};
+ghost use Rattle.std.specs.Prelude.{◌≡◌, ◌||◌, codes, false, None, MatchResult};
+ghost use Rattle.json.specs.Json as json;
 ghost use Rattle.tracing_tree_lines.specs.Lines.Borrowed.{RefusesFloat};
-ghost use Rattle.tracing_tree_lines.specs.Lines.Parts.{is_other, no_parts, opens_object, part_data, parts_members, with_key, ReadsObject, ReadsParts, TakesFields, TakesPart, TakesParts};
+ghost use Rattle.tracing_tree_lines.specs.Lines.Parts.{are_other, is_other, listed_data, no_parts, opens_object, part_data, parts_members, with_key, IsTaken, ReadsObject, ReadsParts, TakesFields, TakesList, TakesMember, TakesParts};
 
 use super::LineCause;
 use super::number::number_part;
 use super::pair::read_pair;
-use super::part::Part;
-use super::skip::{ITEM_DEPTH, skip_members};
+use super::part::{FieldsPart, Part};
+use super::skip::{MEMBER_DEPTH, skip_rest};
 use super::value::has_float;
-use json::{Reader, Scratch, Token};
+use json::{Invalid, Reader, Scratch, Token};
 use simdutf8::basic::from_utf8;
 use std::alloc::Global;
 
@@ -23,7 +24,7 @@ pub(super) struct Parts<'a> {
     pub(super) level: Part<'a>,
     pub(super) target: Part<'a>,
     pub(super) parent: Part<'a>,
-    pub(super) fields: Part<'a>,
+    pub(super) fields: FieldsPart<'a>,
     pub(super) current: Part<'a>,
     pub(super) thread: Part<'a>,
     pub(super) thread_name: Part<'a>,
@@ -45,7 +46,7 @@ impl<'a> Parts<'a> {
             level: Part::Absent,
             target: Part::Absent,
             parent: Part::Absent,
-            fields: Part::Absent,
+            fields: FieldsPart::Absent,
             current: Part::Absent,
             thread: Part::Absent,
             thread_name: Part::Absent,
@@ -55,8 +56,39 @@ impl<'a> Parts<'a> {
         }
     }
 
-    // Puts a part at its key. A key of no call is passed over.
+    // Fills in what stands at a key, whose value is next. It is part of its caller, as is `read_part`: so the reader's state stays in
+    // registers from a key to its value.
+    #[inline(always)]
+    fn read_member(
+        &mut self,
+        alloc: Global,
+        reader: &mut Reader<'a>,
+        key: &str,
+    ) -> Result<(), LineCause>
+        ensures { TakesMember key.now reader.old reader.new self.old self.new result }
+    {
+        match key {
+            "fields" => self.set_fields(read_list(alloc, reader)?),
+            _ => self.set(key, read_part(reader)?),
+        }
+        Ok(())
+    }
+
+    // Puts the fields at their key.
+    fn set_fields(&mut self, list: FieldsPart<'a>)
+        ensures put { parts_members self.new
+            ≡ with_key (codes "fields") (listed_data list.entry) (parts_members self.old) }
+        ensures other { self.new.has_other ≡ (are_other list.entry || self.old.has_other) }
+    {
+        if list.are_other() {
+            self.has_other = true;
+        }
+        self.fields = list;
+    }
+
+    // Puts a part at its key, which isn't that of the fields. A key of no call is passed over.
     fn set(&mut self, key: &str, part: Part<'a>)
+        requires { key.now ≡ codes "fields" → ⊥ }
         ensures put { parts_members self.new
             ≡ with_key key.now (part_data part.entry) (parts_members self.old) }
         ensures other { self.new.has_other ≡ (is_other part.entry || self.old.has_other) }
@@ -71,7 +103,6 @@ impl<'a> Parts<'a> {
             "level" => self.level = part,
             "target" => self.target = part,
             "parent" => self.parent = part,
-            "fields" => self.fields = part,
             "current" => self.current = part,
             "thread" => self.thread = part,
             "thread_name" => self.thread_name = part,
@@ -154,32 +185,44 @@ fn read_members<'a>(
     ensures { TakesParts reader.old reader.new parts.new result }
 {
     while let Some(key) = reader.next_key()? {
-        let part = read_part(alloc, reader)?;
-        parts.set(key, part);
+        parts.read_member(alloc, reader, key)?;
     }
     Ok(())
 }
 
 // The next value.
-fn read_part<'a>(alloc: Global, reader: &mut Reader<'a>) -> Result<Part<'a>, LineCause>
-    ensures { TakesPart reader.old reader.new result }
+#[inline(always)]
+fn read_part<'a>(reader: &mut Reader<'a>) -> Result<Part<'a>, Invalid>
+    ensures { MatchResult result (IsTaken reader.old reader.new)
+        (λ _. json.value 126 reader.old ≡ None) }
 {
-    match reader.next().ok_or(LineCause::NotACall)? {
+    match reader.next().ok_or(Invalid)? {
         Token::Null => Ok(Part::Absent),
         Token::String(text) => Ok(Part::Text(text)),
         Token::Number(text) => Ok(number_part(text)),
-        Token::Bool(_) => Ok(Part::Other),
-        Token::BeginArray => read_fields(alloc, reader),
-        Token::BeginObject => {
-            skip_members(reader, ITEM_DEPTH)?;
+        first => {
+            skip_rest(reader, first, MEMBER_DEPTH)?;
             Ok(Part::Other)
         }
-        Token::EndObject | Token::EndArray | Token::Key(_) | Token::Bad => Err(LineCause::NotACall),
+    }
+}
+
+// The next value, from which fields are read.
+fn read_list<'a>(alloc: Global, reader: &mut Reader<'a>) -> Result<FieldsPart<'a>, LineCause>
+    ensures { TakesList reader.old reader.new result }
+{
+    match reader.next().ok_or(LineCause::NotACall)? {
+        Token::Null => Ok(FieldsPart::Absent),
+        Token::BeginArray => read_fields(alloc, reader),
+        first => {
+            skip_rest(reader, first, MEMBER_DEPTH)?;
+            Ok(FieldsPart::Other)
+        }
     }
 }
 
 // The fields of an array whose `[` was read.
-fn read_fields<'a>(alloc: Global, reader: &mut Reader<'a>) -> Result<Part<'a>, LineCause>
+fn read_fields<'a>(alloc: Global, reader: &mut Reader<'a>) -> Result<FieldsPart<'a>, LineCause>
     ensures { TakesFields reader.old reader.new result }
 {
     let mut fields = Vec::new(alloc);
@@ -192,7 +235,7 @@ fn read_fields<'a>(alloc: Global, reader: &mut Reader<'a>) -> Result<Part<'a>, L
         fields.push(field)?;
     }
     if !are_fields {
-        return Ok(Part::Other);
+        return Ok(FieldsPart::Other);
     }
-    Ok(Part::Fields(fields))
+    Ok(FieldsPart::Fields(fields))
 }

@@ -10,7 +10,7 @@ use memchr::memchr;
 use std::io::{BufRead, BufReader, ErrorKind, Read};
 use tracing_tree_output::TRIES;
 
-/// The bytes that are asked of a reader at a time.
+/// The bytes that are asked of a reader at a time. The programs' writers hold back as many.
 pub const BLOCK: usize = 64 * 1024;
 
 // Where a part of a line ends.

@@ -6,7 +6,10 @@ ghost use Rattle.json.specs.Reads.{token_of, skip_items, skip_members};
 
 use json::{Invalid, Reader, Token};
 
-// How deep arrays and objects may nest in an item of an array that stands at a key. A line may nest 127 deep.
+// How deep arrays and objects may nest in what stands at a key. A line may nest 127 deep.
+pub(super) const MEMBER_DEPTH: usize = 126;
+
+// How deep they may nest in an item of an array that stands at a key.
 pub(super) const ITEM_DEPTH: usize = 125;
 
 // Passes over what is left of a value whose first token was read. Arrays and objects nest no deeper in it than this, itself among them.
@@ -41,7 +44,7 @@ fn skip_items(reader: &mut Reader<'_>, depth: usize) -> Result<(), Invalid>
 }
 
 // Passes over the members of an object whose `{` was read, in which arrays and objects nest no deeper than this.
-pub(super) fn skip_members(reader: &mut Reader<'_>, depth: usize) -> Result<(), Invalid>
+fn skip_members(reader: &mut Reader<'_>, depth: usize) -> Result<(), Invalid>
     ensures { MatchResult result
         (λ _. skip_members depth reader.old ≡ Some reader.new)
         (λ _. skip_members depth reader.old ≡ None) }

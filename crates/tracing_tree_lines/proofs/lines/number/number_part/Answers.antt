@@ -5,7 +5,7 @@ use Rattle.serde_json.specs.Read.{number_from, number_of}
 use Rattle.tracing_tree_lines.proofs.BorrowedTrees.{minus_text, plain_text}
 use Rattle.tracing_tree_lines.proofs.NumberParts.{negative_read, whole_read, negative_unread, whole_unread, negative_part, whole_part, other_part}
 use Rattle.tracing_tree_lines.specs.Lines.Borrowed.{number_data}
-use Rattle.tracing_tree_lines.specs.Lines.Parts.{readable}
+use Rattle.tracing_tree_lines.specs.Lines.Parts.{readable_word}
 use Rattle.tracing_tree_lines.proofs.lines.number.number_part.Goals as goal
 
 pub returns-in-Some : goal.returns-in-Some
@@ -23,7 +23,7 @@ returns-in-None c =
     let minus : (slice_index s 0 == 45) ≡ true = sym c.if-has_minus.ensures.value in
     let parts : c.scan.result ≡ scan (drop 1 s) = c.scan.ensures.parts ∙ ap scan (take_all _ (drop 1 s) (omega (arith, length-drop 1 s))) in
     let none : option_and_then as_i64 (number_from true c.scan.result) ≡ None = search rules in
-    let unread = ap (λ o. readable (number_data o)) (minus_text s minus ∙ ap (number_from true) (sym parts)) ∙ negative_unread c.scan.result none in
+    let unread = ap (λ o. readable_word (number_data o)) (minus_text s minus ∙ ap (number_from true) (sym parts)) ∙ negative_unread c.scan.result none in
     search (rules, other_part, unread)
 
 pub returns-in-Some-whole_number : goal.returns-in-Some-whole_number
@@ -39,5 +39,5 @@ returns-in-None-whole_number c =
     let s = c.as_bytes-bytes.result.now in
     let plain : (slice_index s 0 == 45) ≡ false = sym c.if-has_minus.ensures.value in
     let none : option_and_then as_u64 (number_from false c.scan-2.result) ≡ None = search rules in
-    let unread = ap (λ o. readable (number_data o)) (plain_text s plain ∙ ap (number_from false) (sym c.scan-2.ensures.parts)) ∙ whole_unread c.scan-2.result none in
+    let unread = ap (λ o. readable_word (number_data o)) (plain_text s plain ∙ ap (number_from false) (sym c.scan-2.ensures.parts)) ∙ whole_unread c.scan-2.result none in
     search (rules, other_part, unread)

@@ -15,16 +15,16 @@ returns-in_err-key c =
     let refused = fault_is c.from_residual.result NotACall c.from_residual.ensures.0 c.from_residual.ensures.1 in
     subst (TakesParts c.args.reader.now c.next_key.new.self l.parts) (sym refused) (refl, key_failed c.args.reader.now l.reader l.parts l.invariant c.in_err-key.ensures.value)
 
-pub returns-in_err-part : goal.returns-in_err-part
-returns-in_err-part c =
+pub returns-in_err-read_member : goal.returns-in_err-read_member
+returns-in_err-read_member c =
     let l = c.loop-key in
     let k = c.in-Some.key.now in
     let s = c.next_key.new.self in
     let key : read_key l.reader ≡ Some (Some k, s) = grind arith in
-    let cause = c.in_err-part.field-0.0 in
-    let refused = fault_is c.from_residual-in_err-part.result cause c.from_residual-in_err-part.ensures.0 c.from_residual-in_err-part.ensures.1 in
-    subst (TakesParts c.args.reader.now c.read_part.new.reader l.parts) (sym refused)
-    (parts_failed (Unit {0}) c.args.reader.now l.reader s c.read_part.new.reader l.parts l.parts k cause l.invariant key c.in_err-part.ensures)
+    let cause = c.in_err-read_member.field-0.0 in
+    let refused = fault_is c.from_residual-in_err-read_member.result cause c.from_residual-in_err-read_member.ensures.0 c.from_residual-in_err-read_member.ensures.1 in
+    subst (TakesParts c.args.reader.now c.read_member.new.reader c.read_member.new.self) (sym refused)
+    (parts_failed (Unit {0}) c.args.reader.now l.reader s c.read_member.new.reader l.parts c.read_member.new.self k cause l.invariant key c.in_err-read_member.ensures)
 
 pub loop-key-smaller : goal.loop-key-smaller
 loop-key-smaller c =
@@ -33,8 +33,8 @@ loop-key-smaller c =
     let s = c.next_key.new.self in
     let key : read_key l.reader ≡ Some (Some k, s) = grind arith in
     let less = read_key-shorter l.reader (Some k) s key in
-    let lesser = skip_value-shorter 126 _ _ (ap left c.in_ok-part.ensures.taken) in
-    let both : length c.read_part.new.reader < length l.reader = omega arith in
+    let lesser = skip_value-shorter 126 _ _ (ap left c.in_ok-read_member.ensures.taken) in
+    let both : length c.read_member.new.reader < length l.reader = omega arith in
     both
 
 pub loop-key-preserved : goal.loop-key-preserved
@@ -43,9 +43,7 @@ loop-key-preserved c =
     let k = c.in-Some.key.now in
     let s = c.next_key.new.self in
     let key : read_key l.reader ≡ Some (Some k, s) = grind arith in
-    let found = c.in_ok-part.ensures in
-    member_read c.args.reader.now l.reader s c.read_part.new.reader l.parts c.set.new.self k c.in_ok-part.part found.value l.invariant key found.taken found.kept
-    c.set.ensures.put c.set.ensures.other
+    member_read c.args.reader.now l.reader s c.read_member.new.reader l.parts c.read_member.new.self k l.invariant key c.in_ok-read_member.ensures
 
 pub returns : goal.returns
 returns c =

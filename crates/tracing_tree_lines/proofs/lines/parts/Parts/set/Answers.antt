@@ -1,14 +1,28 @@
-use Rattle.std.proofs.Common.{sym}
+use Rattle.std.proofs.Common.{◌≡◌, sym, rules, codes, false}
+use Rattle.std.specs.Prelude.{bytes_eq}
 use Rattle.tracing_tree_lines.specs.Lines.Parts.{part_data}
+use Rattle.tracing_tree_lines.proofs.Choices.{apart}
 use Rattle.tracing_tree_lines.proofs.LineParts.{other_key}
 use Rattle.tracing_tree_lines.proofs.lines.parts.Parts.set.Goals.{then-is_other, else-is_other}
 use Rattle.tracing_tree_lines.proofs.lines.parts.Parts.set.Goals as goal
 
-pub returns-in_default-clause-put : goal.returns-in_default-clause-put
-returns-in_default-clause-put c =
-    let other = c.in_default in
-    let same = other_key c.args.key.now (part_data c.args.part) c.args.self.now
-    (other.not-call, (other.not-id, (other.not-name, (other.not-level, (other.not-target, (other.not-parent, (other.not-fields, (other.not-current, (other.not-thread, (other.not-thread_name, (other.not-mono, (other.not-wall, tt)))))))))))) in
+pub returns-else-str_eq-11-clause-put : goal.returns-else-str_eq-11-clause-put
+returns-else-str_eq-11-clause-put c =
+    let key = c.args.key.now in
+    let call : bytes_eq key (codes "call") ≡ false = search rules in
+    let id : bytes_eq key (codes "id") ≡ false = search rules in
+    let name : bytes_eq key (codes "name") ≡ false = search rules in
+    let level : bytes_eq key (codes "level") ≡ false = search rules in
+    let target : bytes_eq key (codes "target") ≡ false = search rules in
+    let parent : bytes_eq key (codes "parent") ≡ false = search rules in
+    let current : bytes_eq key (codes "current") ≡ false = search rules in
+    let thread : bytes_eq key (codes "thread") ≡ false = search rules in
+    let thread_name : bytes_eq key (codes "thread_name") ≡ false = search rules in
+    let mono : bytes_eq key (codes "mono") ≡ false = search rules in
+    let wall : bytes_eq key (codes "wall") ≡ false = search rules in
+    let fields = apart key (codes "fields") c.requires in
+    let same = other_key key (part_data c.args.part) c.args.self.now
+    (call, (id, (name, (level, (target, (parent, (fields, (current, (thread, (thread_name, (mono, (wall, tt)))))))))))) in
     elim c.if-is_other.branch [
       | then-is_other w ↦ rw w.self-is (sym same)
       | else-is_other w ↦ rw w.self-is (sym same)
