@@ -5,6 +5,7 @@ use std::io;
 use std::io::{BufWriter, Write};
 use std::process::ExitCode;
 use tracing_tree::format::Wrap;
+use tracing_tree::lines::BLOCK;
 use tracing_tree::{LineCause, LineFault, LinesRun, run_lines, status};
 
 fn main(rt: HostRuntime) -> ExitCode {
@@ -17,7 +18,7 @@ fn main(rt: HostRuntime) -> ExitCode {
 // and no flush was refused before.
 fn draw<R: AllocGlobal + Input + Print>(rt: &R) -> (Option<LineFault>, bool) {
     let alloc = rt.alloc();
-    let Ok(writer) = BufWriter::new(alloc, io::writer(rt)) else {
+    let Ok(writer) = BufWriter::with_capacity(alloc, BLOCK, io::writer(rt)) else {
         let fault = LineFault {
             line: 1,
             cause: LineCause::Memory,

@@ -10,6 +10,7 @@ use std::io;
 use std::io::{BufWriter, Write};
 use std::process::ExitCode;
 use std::rt::Env;
+use tracing_tree::lines::BLOCK;
 use tracing_tree::rows::{RowCause, RowFault, rows_to_json};
 
 // The amount without an argument.
@@ -88,7 +89,7 @@ fn read<R: AllocGlobal + Eprint + Input + Print>(rt: &R, amount: usize) -> ExitC
     requires { 2 ≤ amount }
 {
     let alloc = rt.alloc();
-    let Ok(mut writer) = BufWriter::new(alloc, io::writer(rt)) else {
+    let Ok(mut writer) = BufWriter::with_capacity(alloc, BLOCK, io::writer(rt)) else {
         return end(rt, Err(NO_MEMORY), true);
     };
     let run = rows_to_json(alloc, rt.reader(), &mut writer, amount);

@@ -347,7 +347,7 @@ fn draw_lines<R: AllocGlobal + Eprint + Print, I: Read + Drop>(
     input: I,
 ) -> Result<ExitCode, AllocError> {
     let alloc = rt.alloc();
-    let Ok(writer) = BufWriter::new(alloc, io::writer(rt)) else {
+    let Ok(writer) = BufWriter::with_capacity(alloc, BLOCK, io::writer(rt)) else {
         return Err(AllocError);
     };
     let run = run_lines(alloc, input, Wrap::new(writer));
@@ -436,7 +436,7 @@ fn draw_trace<R: AllocGlobal + Eprint + Print, I: Read + Drop>(
         let _ = eprintln!(rt; "ttree: {}", Lack::Utf8);
         return Ok(ExitCode::FAILURE);
     };
-    let Ok(writer) = BufWriter::new(alloc, io::writer(rt)) else {
+    let Ok(writer) = BufWriter::with_capacity(alloc, BLOCK, io::writer(rt)) else {
         return Err(AllocError);
     };
     let config = options.config.with_deferred_spans(false);
@@ -508,7 +508,7 @@ fn draw_source<R: AllocGlobal + Eprint + Print, I: Read + Drop, S: Source>(
     let Ok(mut lines) = BufReader::with_capacity(alloc, BLOCK, input) else {
         return Err(AllocError);
     };
-    let Ok(writer) = BufWriter::new(alloc, io::writer(rt)) else {
+    let Ok(writer) = BufWriter::with_capacity(alloc, BLOCK, io::writer(rt)) else {
         return Err(AllocError);
     };
     let mut layered = layered(alloc, options.config, clock(options.is_timed), writer);
