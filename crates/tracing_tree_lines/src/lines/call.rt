@@ -112,7 +112,8 @@ fn make_call_of_kind<W: Output, FT: FormatTime>(
     }
 }
 
-// Makes a new handle of a span. This and the next are rare, and no part of their caller: there each line would set their room to zero.
+// Makes a new handle of a span. Clones and records are rare. As functions of their own they keep their values out of the caller's frame,
+// which is set to zero for each line.
 #[inline(never)]
 fn make_clone<W: Output, FT: FormatTime>(
     parts: &Parts<'_>,
