@@ -3,6 +3,7 @@ use Rattle.std.specs.Prelude.{◌≡◌, ℕ, pos, Bool, true, false, List, [], 
 use Rattle.std.specs.Option.{option_map_or}
 use Rattle.std.proofs.Common.{sym, ap, ap₂, ◌∙◌, subst, true≢false}
 use Rattle.std.proofs.lemmas.Slice.Eq.{bytes_eq-Decides}
+use Rattle.json.specs.Json as json
 use Rattle.serde_json.specs.Data.{Num, unsigned, negative, float, Data, null, boolean, number, string, array, object, Members, no_members, member, put}
 use Rattle.serde_json.specs.Find.{get, get_member, as_str, as_u64, as_i64}
 use Rattle.serde_json.specs.Written.{has_float, items_have_float}
@@ -14,10 +15,11 @@ use Rattle.tracing_tree_text.specs.declared.field.Field.{Field}
 use Rattle.tracing_tree_spans.specs.Registry.Ids.{id_of}
 use Rattle.tracing_tree_spans.specs.declared.registry.Parent.TheVariants.{Current}
 use Rattle.tracing_tree_layer.specs.declared.call.Call.{Call}
-use Rattle.tracing_tree_lines.proofs.BorrowedTrees.{neither}
+use Rattle.tracing_tree_lines.proofs.BorrowedTrees.{neither, whole_settled, float_settled}
 use Rattle.tracing_tree_lines.proofs.Choices.{apart}
 use Rattle.tracing_tree_lines.proofs.SpelledLines.{line_spells, value_spells}
-use Rattle.tracing_tree_lines.specs.Lines.Parts.{fields_data, readable_number, readable_fields, readable_word, readable_list, readable, part_data, listed_data, parts_members, parts_data, with_key, readable_at, readable_members, call_members, HasParts}
+use Rattle.tracing_tree_lines.specs.Lines.Parts.{fields_data, readable_number, readable_fields, readable_word, readable_list, readable, part_data, listed_data, parts_members, parts_data, with_key, readable_at, readable_members, call_members, HasParts, IsObjectLine}
+use Rattle.tracing_tree_lines.specs.Lines.Borrowed.{data_of, HasNoFloat}
 use Rattle.tracing_tree_lines.specs.Lines.Spelled.{◌>>=◌, unless_null, read_or, whole_value, signed_value, id_value, parent_value, item_fields, fields_value, IsMomentIn, SpellsCall, context_in, id_in, attributes_in, record_in, event_in, call_named, object_call}
 use Rattle.tracing_tree_lines.specs.Lines.Values.{ValueSpells}
 use Rattle.tracing_tree_lines.specs.Lines.Steps.{MakesSpelled}
@@ -348,6 +350,20 @@ parts_spelled p value call same s =
       timed = subst (λ (v : Data). IsMomentIn v s.moment) is (kept_moment value s.moment s.timed);
       spelled = sym (ap (λ v. object_call v s.moment) is) ∙ same_call value s.moment ∙ s.spelled;
     }
+
+-- an object without other values has no float
+pub without_other : (line : List ℕ) (p : Parts) → IsObjectLine line p → p.has_other ≡ false → HasParts line p
+without_other line p found none =
+    let tree = json.object found.members in
+    let settled = whole_settled line tree found.reads (found.kept.whole none) in
+    record { text = found.text; value = data_of tree; reads = settled.0; no_float = settled.1; kept = found.kept.kept }
+
+-- the same of an object in which none is
+pub without_float : (line : List ℕ) (p : Parts) → IsObjectLine line p → HasNoFloat line → HasParts line p
+without_float line p found none =
+    let tree = json.object found.members in
+    let settled = float_settled line tree found.reads none in
+    record { text = found.text; value = data_of tree; reads = settled.0; no_float = settled.1; kept = found.kept.kept }
 
 -- the call of a line is that of its parts
 pub made_of_parts : (line : List ℕ) (p : Parts) (result : Result Reply LineCause) (old new : Seen) → HasParts line p → MakesSpelled (ValueSpells (parts_data p)) result old new

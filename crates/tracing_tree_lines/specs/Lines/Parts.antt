@@ -274,11 +274,6 @@ pub record HasParts (line : List ℕ) (parts : Parts) : Type 0 where
   pub no_float : has_float value ≡ false
   pub kept : parts_members parts ≡ call_members value
 
-abbrev pub ReadsParts : {A : Type 0} → List ℕ → Parts → Result A LineCause → Type 0
-ReadsParts line parts (Ok done) = HasParts line parts
-ReadsParts line parts (Err cause) =
-    IsUnlessMemory NotACall ((call : Call) → ¬ SpellsCall line call) cause
-
 -- the cause that an error of the reader is
 abbrev pub cause_of : Error → LineCause
 cause_of Invalid = NotACall

@@ -15,7 +15,7 @@ ghost use Rattle.tracing_tree_lines.specs.Lines.Steps.{MakesNamed, MakesSpelled}
 use super::LineCause;
 use super::context::{context_in, id_value};
 use super::part::Part;
-use super::parts::{Parts, read_line_parts};
+use super::parts::{Parts, read_object, refuse_float};
 use json::Scratch;
 use std::alloc::{AllocError, Global};
 use tracing_tree_context::{Context, Id};
@@ -40,7 +40,30 @@ pub(super) fn make_call<W: Output, FT: FormatTime>(
         layered.old layered.new }
 {
     let mut parts = Parts::new();
-    read_line_parts(alloc, line, scratch, &mut parts)?;
+    read_object(alloc, line, scratch, &mut parts)?;
+    if parts.has_other {
+        drop(parts);
+        return make_call_unless_float(alloc, line, scratch, layered);
+    }
+    make_call_of(alloc, &parts, layered)
+}
+
+// The same of a line that may have a float. All its values are read first, while the room for unescaped texts, which is as long as the
+// line, is given back.
+#[inline(never)]
+fn make_call_unless_float<W: Output, FT: FormatTime>(
+    alloc: Global,
+    line: &[u8],
+    scratch: &mut Scratch,
+    layered: &mut Layered<W, FT>,
+) -> Result<Reply, LineCause>
+    ensures { Changes (seen FT.FormatTime W.Output) (MakesSpelled (SpellsCall line.now) result)
+        layered.old layered.new }
+{
+    *scratch = Scratch::new(alloc);
+    refuse_float(alloc, line)?;
+    let mut parts = Parts::new();
+    read_object(alloc, line, scratch, &mut parts)?;
     make_call_of(alloc, &parts, layered)
 }
 

@@ -3,7 +3,7 @@
 ghost use Rattle.std.specs.Prelude.{◌≡◌, ◌||◌, codes, false, None, MatchResult};
 ghost use Rattle.json.specs.Json as json;
 ghost use Rattle.tracing_tree_lines.specs.Lines.Borrowed.{RefusesFloat};
-ghost use Rattle.tracing_tree_lines.specs.Lines.Parts.{are_other, is_other, listed_data, no_parts, opens_object, part_data, parts_members, with_key, IsTaken, ReadsObject, ReadsParts, TakesFields, TakesList, TakesMember, TakesParts};
+ghost use Rattle.tracing_tree_lines.specs.Lines.Parts.{are_other, is_other, listed_data, no_parts, opens_object, part_data, parts_members, with_key, IsTaken, ReadsObject, TakesFields, TakesList, TakesMember, TakesParts};
 
 use super::LineCause;
 use super::number::number_part;
@@ -31,7 +31,7 @@ pub(super) struct Parts<'a> {
     pub(super) mono: Part<'a>,
     pub(super) wall: Part<'a>,
     // Whether a member had another value. It may hold a float.
-    has_other: bool,
+    pub(super) has_other: bool,
 }
 
 impl<'a> Parts<'a> {
@@ -113,26 +113,8 @@ impl<'a> Parts<'a> {
     }
 }
 
-// Fills in the parts of a line that has no float. `NotACall` where the line has one, or is no object of JSON; `Memory` where memory is
-// refused.
-pub(super) fn read_line_parts<'a>(
-    alloc: Global,
-    line: &'a [u8],
-    scratch: &'a mut Scratch,
-    parts: &mut Parts<'a>,
-) -> Result<(), LineCause>
-    requires { parts_members parts.old ≡ no_parts }
-    ensures { ReadsParts line.now parts.new result }
-{
-    read_object(alloc, line, scratch, parts)?;
-    if parts.has_other {
-        refuse_float(alloc, line)?;
-    }
-    Ok(())
-}
-
 // Fills in the parts of a line. `NotACall` where the line is no object of JSON, `Memory` where memory is refused.
-fn read_object<'a>(
+pub(super) fn read_object<'a>(
     alloc: Global,
     line: &'a [u8],
     scratch: &'a mut Scratch,
@@ -164,7 +146,7 @@ fn opens_object(token: &Token<'_>) -> bool
 }
 
 // Refuses a line with a float: a number that isn't whole, or not of 64 bits, and whose key doesn't come again in its object.
-fn refuse_float(alloc: Global, line: &[u8]) -> Result<(), LineCause>
+pub(super) fn refuse_float(alloc: Global, line: &[u8]) -> Result<(), LineCause>
     ensures { RefusesFloat line.now result }
 {
     match serde_json::Value::from_slice(alloc, line) {
