@@ -1,5 +1,7 @@
 -- Calls that are answered one after another are a run.
-use Rattle.std.proofs.Common.{◌≡◌, false, List, [], ◌∷◌, ◌++◌, Result, Ok, Err, refl, sym, ap, subst, ◌∙◌, append-nil}
+use Rattle.std.proofs.Common.{◌≡◌, ◌<◌, ℕ, false, List, [], ◌∷◌, ◌++◌, length, slice_index_or, slice_set, Result, Ok, Err, refl, sym, ap, subst, ◌∙◌, append-nil, append_assoc, arith}
+use Rattle.std.proofs.Math.Seq.{get_or-append_seam, set-append_seam}
+use Rattle.std.proofs.lemmas.List.{length-append}
 use Rattle.std.specs.Io.KnownBytes.{Appends, Keeps}
 use Rattle.std.proofs.KnownBytes.{Appends-nil, Appends-trans, Appends-kept}
 use Rattle.tracing_tree_drawing.specs.Format.Settings.{Settings}
@@ -196,3 +198,20 @@ module _ {W FT : Type 0} (see : LayeredView W FT → Seen) where
     changed = join (see old) (see between) (see new) h.changed k.changed;
     fixed = k.fixed ∙ (λ i. record (h.fixed i) { writer = new.layer.writer; last = new.layer.last; failed = new.layer.failed });
   }
+
+-- ---- calls that are answered where they lie
+
+-- the first of the items that are left lies at the place that is reached, and another may be put there
+pub next_item : {A : Type 0} (items taken rest : List A) (place : ℕ) (d : A) → items ≡ taken ++ rest → length taken ≡ place → place < length items
+    → (others : List A) × (rest ≡ slice_index_or items place d ∷ others)
+    × ((left : A) → slice_set items place left ≡ (taken ++ left ∷ []) ++ others)
+next_item items taken [] place d split is less = absurd (omega (arith, is, less, ap length split, length-append taken []))
+next_item items taken (item ∷ others) place d split is less = (
+  others,
+  rw (← is, split) (ap (λ first. first ∷ others) (sym (get_or-append_seam taken item others d))),
+  λ left. rw (← is, split) (set-append_seam taken item others left ∙ sym (append_assoc taken (left ∷ []) others)),
+)
+
+pub none_left : {A : Type 0} (items : List A) → length items ≡ 0 → items ≡ []
+none_left [] e = refl
+none_left (item ∷ others) e = cc

@@ -15,10 +15,12 @@ use crate::layer::HierarchicalLayer;
 use crate::told::ToldEvent;
 use std::alloc::{AllocError, Global};
 use std::marker::Model;
+use std::mem;
 use tracing_tree_context::{Context, Id, Refusal};
 use tracing_tree_output::Output;
-use tracing_tree_spans::registry::{Attributes, Event, LookupSpan, Record, Registry};
+use tracing_tree_spans::registry::{Attributes, Event, LookupSpan, Parent, Record, Registry};
 use tracing_tree_text::field::Fields;
+use tracing_tree_text::text::Text;
 use tracing_tree_time::FormatTime;
 
 /// A registry with a layer. An accepted call changes both and writes its text. A refused one leaves the spans, their marks and the
@@ -153,18 +155,8 @@ impl<W: Output, FT: FormatTime> Layered<W, FT> {
         ensures answered { Changes (seen FT.FormatTime W.Output) (IsAnswered call result)
             self.old self.new }
     {
-        if self.layer.failed() {
-            // As one value, so that the proof needn't follow each of its parts.
-            drop(call);
-            return Err(Refusal::Failed);
-        }
-        match call {
-            Call::New(attributes, context) => self.new_span(attributes, &context),
-            Call::Clone(id) => self.clone_span(id),
-            Call::Record(id, Record { fields }) => self.record(id, fields),
-            Call::Event(event, context) => self.event(&event, &context, None),
-            Call::Close(id, context) => self.close(id, &context),
-        }
+        let mut call = call;
+        self.take_call(&mut call)
     }
 
     /// Makes the call of an event that stays the caller's, as `call` does. Level, target and fields may be drawn before by
@@ -199,12 +191,37 @@ impl<W: Output, FT: FormatTime> Layered<W, FT> {
         ensures err { OnErr result (self.new ≡ self.old) }
         ensures room { OnErr result (calls.items ≢ []) }
     {
+        let mut calls = calls;
         let mut answers = Vec::with_capacity(alloc, calls.len())?;
-        for call in calls {
-            let answer = self.call(call);
+        for call in calls.iter_mut() {
+            let answer = self.take_call(call);
             answers.push_reserved(answer);
         }
         Ok(answers)
+    }
+
+    // Makes a call where it lies, since it is large and each move of it costs. What a span keeps is taken out of it.
+    fn take_call(&mut self, call: &mut Call) -> Result<Reply, Refusal>
+        ensures { Changes (seen FT.FormatTime W.Output) (IsAnswered call.old result)
+            self.old self.new }
+    {
+        if self.layer.failed() {
+            return Err(Refusal::Failed);
+        }
+        let alloc = *self.closing.allocator();
+        match call {
+            Call::New(attributes, context) => {
+                let attributes = mem::replace(attributes, no_attributes(alloc));
+                self.new_span(attributes, context)
+            }
+            Call::Clone(id) => self.clone_span(*id),
+            Call::Record(id, Record { fields }) => {
+                let fields = mem::replace(fields, Fields::new(alloc));
+                self.record(*id, fields)
+            }
+            Call::Event(event, context) => self.event(&*event, context, None),
+            Call::Close(id, context) => self.close(*id, context),
+        }
     }
 
     // A refusal of the layer takes the new span and its id back.
@@ -268,6 +285,16 @@ impl<W: Output, FT: FormatTime> Layered<W, FT> {
         let spans = &mut self.registry;
         self.layer.write_event(event, tail, depth, spans, context)?;
         Ok(Reply::Done)
+    }
+}
+
+// What is left of attributes that were taken. Takes no memory.
+fn no_attributes(alloc: Global) -> Attributes {
+    Attributes {
+        name: Text::from(String::new(alloc)),
+        target: Text::from(String::new(alloc)),
+        parent: Parent::Root,
+        fields: Fields::new(alloc),
     }
 }
 
