@@ -141,7 +141,7 @@ run_live() {
     count "while its input waits" "$room/opened" "$room/none" 0
 }
 
-# A first line padded with spaces, a long name, and a value of many parts under a key that no call has.
+# A first line padded with spaces, a long name, and a value of many parts under a key that no call has, without and with a float.
 run_large() {
     { printf '{"indent_lines":'; head -c "$large_parts" /dev/zero | tr '\0' ' '; echo 'true}'
       printf '{"call":"new","name":"'; head -c "$large_bytes" /dev/zero | tr '\0' n; echo '"}'
@@ -149,6 +149,11 @@ run_large() {
     { printf '┐'; head -c "$large_bytes" /dev/zero | tr '\0' n; printf ' \n┘\n'; } > "$room/large"
     run < "$room/large.in" > "$room/out" 2> "$room/err"
     count "on long lines" "$room/large" "$room/none" 0
+    # A float among these values makes the line no call.
+    sed -i '3s/1]}$/1.5]}/' "$room/large.in"
+    head -n 1 "$room/large" > "$room/large_opened"
+    run < "$room/large.in" > "$room/out" 2> "$room/err"
+    count "on a long line with a float" "$room/large_opened" "$room/no_call" 1
 }
 
 # A line that is longer than the memory that the program may take.

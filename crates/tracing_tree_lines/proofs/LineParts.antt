@@ -1,5 +1,5 @@
 -- What is read of an object at the keys of calls spells what the object spells.
-use Rattle.std.specs.Prelude.{◌≡◌, ℕ, pos, Bool, true, false, List, [], ◌∷◌, Option, Some, None, codes, bytes_eq, if◌then◌else◌, option_map, option_and_then, refl, Result}
+use Rattle.std.specs.Prelude.{◌≡◌, ℕ, pos, Bool, true, false, List, [], ◌∷◌, Option, Some, None, codes, bytes_eq, if◌then◌else◌, option_map, option_and_then, refl, Result, Ok, Err}
 use Rattle.std.specs.Option.{option_map_or}
 use Rattle.std.proofs.Common.{sym, ap, ap₂, ◌∙◌, subst, true≢false}
 use Rattle.std.proofs.lemmas.Slice.Eq.{bytes_eq-Decides}
@@ -18,8 +18,8 @@ use Rattle.tracing_tree_layer.specs.declared.call.Call.{Call}
 use Rattle.tracing_tree_lines.proofs.BorrowedTrees.{neither, whole_settled, float_settled}
 use Rattle.tracing_tree_lines.proofs.Choices.{apart}
 use Rattle.tracing_tree_lines.proofs.SpelledLines.{line_spells, value_spells}
-use Rattle.tracing_tree_lines.specs.Lines.Parts.{fields_data, readable_number, readable_fields, readable_word, readable_list, readable, part_data, listed_data, parts_members, parts_data, with_key, readable_at, readable_members, call_members, HasParts, IsObjectLine}
-use Rattle.tracing_tree_lines.specs.Lines.Borrowed.{data_of, HasNoFloat}
+use Rattle.tracing_tree_lines.specs.Lines.Parts.{fields_data, readable_number, readable_fields, readable_word, readable_list, readable, part_data, listed_data, parts_members, parts_data, with_key, readable_at, readable_members, call_members, HasParts, IsObjectLine, ReadsParts}
+use Rattle.tracing_tree_lines.specs.Lines.Borrowed.{data_of, HasNoFloat, RefusesFloat}
 use Rattle.tracing_tree_lines.specs.Lines.Spelled.{◌>>=◌, unless_null, read_or, whole_value, signed_value, id_value, parent_value, item_fields, fields_value, IsMomentIn, SpellsCall, context_in, id_in, attributes_in, record_in, event_in, call_named, object_call}
 use Rattle.tracing_tree_lines.specs.Lines.Values.{ValueSpells}
 use Rattle.tracing_tree_lines.specs.Lines.Steps.{MakesSpelled}
@@ -28,7 +28,7 @@ use Rattle.tracing_tree_layer.specs.Layered.Seen.{Seen}
 use Rattle.tracing_tree_layer.specs.declared.call.Reply.{Reply}
 use Rattle.tracing_tree_lines.specs.declared.lines.LineCause.{LineCause}
 use Rattle.tracing_tree_lines.specs.declared.lines.part.Part.{Part}
-use Rattle.tracing_tree_lines.specs.declared.lines.part.Part.TheVariants.{Absent, Text, Whole, Negative, Other}
+use Rattle.tracing_tree_lines.specs.declared.lines.part.Part.TheVariants.{Absent, Text, Whole, Negative, Truth, Other}
 use Rattle.tracing_tree_lines.specs.declared.lines.part.FieldsPart.{FieldsPart}
 use Rattle.tracing_tree_lines.specs.declared.lines.part.FieldsPart.TheVariants as Listed
 use Rattle.tracing_tree_lines.specs.declared.lines.parts.Parts.{Parts}
@@ -120,11 +120,12 @@ no_float_part Absent = refl
 no_float_part (Text text) = refl
 no_float_part (Whole n) = refl
 no_float_part (Negative z) = refl
+no_float_part Truth = refl
 no_float_part Other = refl
 
 no_float_list : (list : FieldsPart) → has_float (listed_data list) ≡ false
 no_float_list Listed.Absent = refl
-no_float_list (Listed.Fields fields) = no_float_fields fields.items
+no_float_list (Listed.Fields fields) = no_float_fields fields
 no_float_list Listed.Other = refl
 
 pub no_float_parts : (p : Parts) → has_float (parts_data p) ≡ false
@@ -364,6 +365,10 @@ without_float line p found none =
     let tree = json.object found.members in
     let settled = float_settled line tree found.reads none in
     record { text = found.text; value = data_of tree; reads = settled.0; no_float = settled.1; kept = found.kept.kept }
+
+pub floats_refused : {A : Type 0} (line : List ℕ) (p : Parts) (result : Result A LineCause) → IsObjectLine line p → RefusesFloat line result → ReadsParts line p result
+floats_refused line p (Ok done) found none = without_float line p found none
+floats_refused line p (Err cause) found refused = refused
 
 -- the call of a line is that of its parts
 pub made_of_parts : (line : List ℕ) (p : Parts) (result : Result Reply LineCause) (old new : Seen) → HasParts line p → MakesSpelled (ValueSpells (parts_data p)) result old new

@@ -3,8 +3,6 @@ use Rattle.std.specs.Prelude.{◌≡◌, ℕ, ◌≤◌, ◌-◌, ◌&&◌, ◌|
 use Rattle.std.proofs.Common.{sym, ap, ◌∙◌, subst, append-nil, arith, true≢false}
 use Rattle.std.proofs.lemmas.Option.{none-some}
 use Rattle.std.specs.Borrow.{Bor}
-use Rattle.std.specs.Prelude.{Vec}
-use Rattle.std.specs.declared.alloc.Global.{Global}
 use Rattle.std.specs.Result.{IsErr, IsErrAnd}
 use Rattle.json.specs.Reads.{token_of}
 use Rattle.json.specs.declared.token.Token.{Token as ReadToken}
@@ -27,7 +25,7 @@ use Rattle.tracing_tree_lines.specs.Lines.Values.{IsUnlessMemory}
 use Rattle.tracing_tree_lines.specs.declared.lines.LineCause.{LineCause}
 use Rattle.tracing_tree_lines.specs.declared.lines.LineCause.TheVariants.{Settings as NoSettings, NotACall, Read, Memory, Refused}
 use Rattle.tracing_tree_lines.specs.declared.lines.part.Part.{Part}
-use Rattle.tracing_tree_lines.specs.declared.lines.part.Part.TheVariants.{Absent, Text, Other}
+use Rattle.tracing_tree_lines.specs.declared.lines.part.Part.TheVariants.{Absent, Text, Truth, Other}
 use Rattle.tracing_tree_lines.specs.declared.lines.part.FieldsPart.{FieldsPart}
 use Rattle.tracing_tree_lines.specs.declared.lines.part.FieldsPart.TheVariants as Listed
 use Rattle.tracing_tree_lines.specs.declared.lines.parts.Parts.{Parts}
@@ -204,13 +202,13 @@ pub items_end_read : (first now r : List Token) (fields : List Field) (are_field
     → json.items (json.value 125) (length first) first ≡ Some (read.before json.no_items, r)
 items_end_read first now r fields are_fields read end = read.parsed ∙ ap (parse_map read.before) (items_end (json.value 125) read.turns now r read.room end)
 
-pub fields_part : (first now r : List Token) (fields : Vec Field Global) (are_fields : Bool) → ReadsItems first now fields.items are_fields → are_fields ≡ true → after_end_array now ≡ Some r
+pub fields_part : (first now r : List Token) (fields : List Field) (are_fields : Bool) → ReadsItems first now fields are_fields → are_fields ≡ true → after_end_array now ≡ Some r
     → AreFieldsTaken first r (Listed.Fields fields)
 fields_part first now r fields are_fields read all end =
-    let found = read.all all json.no_items ∙ ap Some (append-nil fields.items) in
+    let found = read.all all json.no_items ∙ ap Some (append-nil fields) in
     record {
       items = read.before json.no_items;
-      taken = items_end_read first now r fields.items are_fields read end;
+      taken = items_end_read first now r fields are_fields read end;
       kept = record { kept = sym (ap readable_fields found); whole = λ none. read.whole all json.no_items refl };
     }
 
@@ -268,6 +266,9 @@ null_taken old new is = record { value = json.null; taken = ap (json.value 126) 
 
 pub text_taken : (old new : List Token) (text : Bor (List ℕ)) → old ≡ Token.string text.now ∷ new → IsTaken old new (Text text)
 text_taken old new text is = record { value = json.string text.now; taken = ap (json.value 126) is ∙ value_is 126 (Token.string text.now ∷ new); kept = record { kept = refl; whole = λ e. refl } }
+
+pub truth_taken : (old new : List Token) (b : Bool) → old ≡ Token.boolean b ∷ new → IsTaken old new Truth
+truth_taken old new b is = record { value = json.boolean b; taken = ap (json.value 126) is ∙ value_is 126 (Token.boolean b ∷ new); kept = record { kept = refl; whole = λ e. refl } }
 
 pub number_taken : (old new : List Token) (s : List ℕ) (part : Part) → old ≡ Token.number s ∷ new → IsPartOf (json.number s) part → IsTaken old new part
 number_taken old new s part is kept = record { value = json.number s; taken = ap (json.value 126) is ∙ value_is 126 (Token.number s ∷ new); kept = kept }

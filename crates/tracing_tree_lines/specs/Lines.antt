@@ -6,4 +6,5 @@ pub mod Reads
 pub mod Steps
 pub mod CallKinds
 pub mod Borrowed
+pub mod FieldList
 pub mod Parts

@@ -2,6 +2,7 @@
 
 mod call;
 mod context;
+mod field_list;
 mod number;
 mod pair;
 mod part;

@@ -19,7 +19,7 @@ use Rattle.tracing_tree_layer.specs.declared.call.Call.{Call}
 use Rattle.tracing_tree_lines.specs.declared.lines.LineCause.{LineCause}
 use Rattle.tracing_tree_lines.specs.declared.lines.LineCause.TheVariants.{NotACall, Memory}
 use Rattle.tracing_tree_lines.specs.declared.lines.part.Part.{Part}
-use Rattle.tracing_tree_lines.specs.declared.lines.part.Part.TheVariants.{Absent, Text, Whole, Negative, Other}
+use Rattle.tracing_tree_lines.specs.declared.lines.part.Part.TheVariants.{Absent, Text, Whole, Negative, Truth, Other}
 use Rattle.tracing_tree_lines.specs.declared.lines.part.FieldsPart.{FieldsPart}
 use Rattle.tracing_tree_lines.specs.declared.lines.part.FieldsPart.TheVariants as Listed
 use Rattle.tracing_tree_lines.specs.declared.lines.parts.Parts.{Parts}
@@ -80,11 +80,12 @@ part_data Absent = null
 part_data (Text text) = string text.now
 part_data (Whole n) = number (unsigned n)
 part_data (Negative z) = number (negative z)
+part_data Truth = boolean false
 part_data Other = boolean false
 
 abbrev pub listed_data : FieldsPart → Data
 listed_data Listed.Absent = null
-listed_data (Listed.Fields fields) = array (fields_data fields.items)
+listed_data (Listed.Fields fields) = array (fields_data fields)
 listed_data Listed.Other = boolean false
 
 abbrev pub is_other : Part → Bool
@@ -92,6 +93,7 @@ is_other Absent = false
 is_other (Text text) = false
 is_other (Whole n) = false
 is_other (Negative z) = false
+is_other Truth = false
 is_other Other = true
 
 abbrev pub are_other : FieldsPart → Bool
@@ -273,6 +275,11 @@ pub record HasParts (line : List ℕ) (parts : Parts) : Type 0 where
   pub reads : read line ≡ Some value
   pub no_float : has_float value ≡ false
   pub kept : parts_members parts ≡ call_members value
+
+abbrev pub ReadsParts : {A : Type 0} → List ℕ → Parts → Result A LineCause → Type 0
+ReadsParts line parts (Ok done) = HasParts line parts
+ReadsParts line parts (Err cause) =
+    IsUnlessMemory NotACall ((call : Call) → ¬ SpellsCall line call) cause
 
 -- the cause that an error of the reader is
 abbrev pub cause_of : Error → LineCause

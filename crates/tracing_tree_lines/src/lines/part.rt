@@ -6,6 +6,7 @@ ghost use Rattle.serde_json.specs.Find.{as_str};
 ghost use Rattle.tracing_tree_lines.specs.Lines.Parts.{are_other, is_other, listed_data, part_data};
 ghost use Rattle.tracing_tree_lines.specs.Lines.Spelled.{fields_value, signed_value, unless_null, whole_value};
 
+use super::field_list::FieldList;
 use tracing_tree_layer::told::FieldTexts;
 
 // What a call is read from, but for its fields.
@@ -18,7 +19,9 @@ pub(super) enum Part<'a> {
     Whole(u64),
     // A whole number of 64 bits below zero.
     Negative(i64),
-    // Another value. No part of a call is read from it.
+    // A truth value. No part of a call is read from it.
+    Truth,
+    // Another value, which may hold a float. No part of a call is read from it.
     Other,
 }
 
@@ -77,7 +80,7 @@ pub(super) enum FieldsPart<'a> {
     // Nothing, or a null.
     Absent,
     // An array of pairs of texts.
-    Fields(Vec<FieldTexts<'a>>),
+    Fields(FieldList<'a>),
     // Another value. No fields are read from it.
     Other,
 }

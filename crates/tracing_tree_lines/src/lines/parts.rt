@@ -3,9 +3,10 @@
 ghost use Rattle.std.specs.Prelude.{◌≡◌, ◌||◌, codes, false, None, MatchResult};
 ghost use Rattle.json.specs.Json as json;
 ghost use Rattle.tracing_tree_lines.specs.Lines.Borrowed.{RefusesFloat};
-ghost use Rattle.tracing_tree_lines.specs.Lines.Parts.{are_other, is_other, listed_data, no_parts, opens_object, part_data, parts_members, with_key, IsTaken, ReadsObject, TakesFields, TakesList, TakesMember, TakesParts};
+ghost use Rattle.tracing_tree_lines.specs.Lines.Parts.{are_other, is_other, listed_data, no_parts, opens_object, part_data, parts_members, with_key, IsObjectLine, IsTaken, ReadsObject, ReadsParts, TakesFields, TakesList, TakesMember, TakesParts};
 
 use super::LineCause;
+use super::field_list::FieldList;
 use super::number::number_part;
 use super::pair::read_pair;
 use super::part::{FieldsPart, Part};
@@ -113,7 +114,9 @@ impl<'a> Parts<'a> {
     }
 }
 
-// Fills in the parts of a line. `NotACall` where the line is no object of JSON, `Memory` where memory is refused.
+// Fills in the parts of a line. `NotACall` where the line is no object of JSON, `Memory` where memory is refused. It is part of both
+// callers, since each line would pay for a call of it.
+#[inline(always)]
 pub(super) fn read_object<'a>(
     alloc: Global,
     line: &'a [u8],
@@ -143,6 +146,18 @@ fn opens_object(token: &Token<'_>) -> bool
     ensures { result ≡ opens_object token.now }
 {
     matches!(token, Token::BeginObject)
+}
+
+// Refuses the line of these parts where it has a float, which only another value may hold. `NotACall` then, `Memory` where memory is
+// refused.
+pub(super) fn refuse_floats(alloc: Global, line: &[u8], parts: &Parts<'_>) -> Result<(), LineCause>
+    requires { IsObjectLine line.now parts.now }
+    ensures { ReadsParts line.now parts.now result }
+{
+    if parts.has_other {
+        return refuse_float(alloc, line);
+    }
+    Ok(())
 }
 
 // Refuses a line with a float: a number that isn't whole, or not of 64 bits, and whose key doesn't come again in its object.
@@ -182,6 +197,7 @@ fn read_part<'a>(reader: &mut Reader<'a>) -> Result<Part<'a>, Invalid>
         Token::Null => Ok(Part::Absent),
         Token::String(text) => Ok(Part::Text(text)),
         Token::Number(text) => Ok(number_part(text)),
+        Token::Bool(_) => Ok(Part::Truth),
         first => {
             skip_rest(reader, first, MEMBER_DEPTH)?;
             Ok(Part::Other)
@@ -207,14 +223,14 @@ fn read_list<'a>(alloc: Global, reader: &mut Reader<'a>) -> Result<FieldsPart<'a
 fn read_fields<'a>(alloc: Global, reader: &mut Reader<'a>) -> Result<FieldsPart<'a>, LineCause>
     ensures { TakesFields reader.old reader.new result }
 {
-    let mut fields = Vec::new(alloc);
+    let mut fields = FieldList::new();
     let mut are_fields = true;
     while !reader.take_end_array() {
         let Some(field) = read_pair(reader)? else {
             are_fields = false;
             continue;
         };
-        fields.push(field)?;
+        fields.push(alloc, field)?;
     }
     if !are_fields {
         return Ok(FieldsPart::Other);

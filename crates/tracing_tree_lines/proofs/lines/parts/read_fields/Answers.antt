@@ -7,59 +7,59 @@ use Rattle.tracing_tree_lines.specs.declared.lines.LineCause.TheVariants.{NotACa
 use Rattle.tracing_tree_lines.proofs.LineTokens.{ReadsItems, no_items_read, field_item_read, other_item_read, item_failed, fields_part, other_fields_part}
 use Rattle.tracing_tree_lines.proofs.lines.parts.read_fields.Goals as goal
 
-pub loop-reader-init : goal.loop-reader-init
-loop-reader-init c = subst (λ fields. ReadsItems c.args.reader.now c.args.reader.now fields true) (sym c.new-fields.ensures.items) (no_items_read c.args.reader.now)
+pub loop-alloc-init : goal.loop-alloc-init
+loop-alloc-init c = subst (λ fields. ReadsItems c.args.reader.now c.args.reader.now fields true) (sym c.new-fields.ensures) (no_items_read c.args.reader.now)
 
 pub returns-in_err-field : goal.returns-in_err-field
 returns-in_err-field c =
-    let l = c.loop-reader in
+    let l = c.loop-alloc in
     let going : (after_end_array l.reader ≡ None) × (c.take_end_array.new.self ≡ l.reader) = grind arith in
     let failed : value 125 l.reader ≡ None = rw (← going.1) c.in_err-field.ensures in
     let refused : c.from_residual.result ≡ Err NotACall = search rules in
-    rw refused (refl, item_failed c.args.reader.now l.reader l.fields.items l.are_fields l.invariant going.0 failed)
+    rw refused (refl, item_failed c.args.reader.now l.reader l.fields l.are_fields l.invariant going.0 failed)
 
-pub loop-reader-smaller : goal.loop-reader-smaller
-loop-reader-smaller c =
-    let l = c.loop-reader in
+pub loop-alloc-smaller : goal.loop-alloc-smaller
+loop-alloc-smaller c =
+    let l = c.loop-alloc in
     let going : (after_end_array l.reader ≡ None) × (c.take_end_array.new.self ≡ l.reader) = grind arith in
     let item = c.in_ok-field.ensures in
     let less : length c.read_pair.new.reader < length l.reader = rw (← going.1) (skip_value-shorter 125 _ _ (ap left item.taken)) in
     less
 
-pub loop-reader-preserved : goal.loop-reader-preserved
-loop-reader-preserved c =
-    let l = c.loop-reader in
+pub loop-alloc-preserved : goal.loop-alloc-preserved
+loop-alloc-preserved c =
+    let l = c.loop-alloc in
     let going : (after_end_array l.reader ≡ None) × (c.take_end_array.new.self ≡ l.reader) = grind arith in
     let item = c.in_ok-field.ensures in
     let taken : value 125 l.reader ≡ Some (item.value, c.read_pair.new.reader) = rw (← going.1) item.taken in
     let is : Some c.in-Some.field ≡ field_value (data_of item.value) = search rules in
-    let pushed : c.push.new.self.items ≡ l.fields.items ++ c.in-Some.field ∷ [] = search rules in
-    field_item_read c.args.reader.now l.reader c.read_pair.new.reader l.fields.items c.push.new.self.items l.are_fields c.in-Some.field item.value l.invariant going.0 taken is pushed
+    let pushed : c.push.new.self ≡ l.fields ++ c.in-Some.field ∷ [] = search rules in
+    field_item_read c.args.reader.now l.reader c.read_pair.new.reader l.fields c.push.new.self l.are_fields c.in-Some.field item.value l.invariant going.0 taken is pushed
 
-pub loop-reader-smaller-in_default : goal.loop-reader-smaller-in_default
-loop-reader-smaller-in_default c =
-    let l = c.loop-reader in
+pub loop-alloc-smaller-in_default : goal.loop-alloc-smaller-in_default
+loop-alloc-smaller-in_default c =
+    let l = c.loop-alloc in
     let going : (after_end_array l.reader ≡ None) × (c.take_end_array.new.self ≡ l.reader) = grind arith in
     let item = c.in_ok-field.ensures in
     let less : length c.read_pair.new.reader < length l.reader = rw (← going.1) (skip_value-shorter 125 _ _ (ap left item.taken)) in
     less
 
-pub loop-reader-preserved-in_default : goal.loop-reader-preserved-in_default
-loop-reader-preserved-in_default c =
-    let l = c.loop-reader in
+pub loop-alloc-preserved-in_default : goal.loop-alloc-preserved-in_default
+loop-alloc-preserved-in_default c =
+    let l = c.loop-alloc in
     let going : (after_end_array l.reader ≡ None) × (c.take_end_array.new.self ≡ l.reader) = grind arith in
     let item = c.in_ok-field.ensures in
     let taken : value 125 l.reader ≡ Some (item.value, c.read_pair.new.reader) = rw (← going.1) item.taken in
-    other_item_read c.args.reader.now l.reader c.read_pair.new.reader l.fields.items l.are_fields item.value l.invariant going.0 taken (search rules)
+    other_item_read c.args.reader.now l.reader c.read_pair.new.reader l.fields l.are_fields item.value l.invariant going.0 taken (search rules)
 
 pub returns-then-not-are_fields : goal.returns-then-not-are_fields
 returns-then-not-are_fields c =
-    let l = c.loop-reader in
+    let l = c.loop-alloc in
     let not_all : l.are_fields ≡ false = search rules in
-    other_fields_part c.args.reader.now l.reader c.take_end_array.new.self l.fields.items l.are_fields l.invariant not_all (grind arith)
+    other_fields_part c.args.reader.now l.reader c.take_end_array.new.self l.fields l.are_fields l.invariant not_all (grind arith)
 
 pub returns : goal.returns
 returns c =
-    let l = c.loop-reader in
+    let l = c.loop-alloc in
     let all : l.are_fields ≡ true = search rules in
     fields_part c.args.reader.now l.reader c.take_end_array.new.self l.fields l.are_fields l.invariant all (grind arith)

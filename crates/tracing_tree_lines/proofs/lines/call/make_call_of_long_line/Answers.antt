@@ -1,5 +1,5 @@
 use Rattle.tracing_tree_lines.proofs.LineParts.{made_of_parts, without_float}
-use Rattle.tracing_tree_lines.proofs.lines.call.make_call_unless_float.Goals as goal
+use Rattle.tracing_tree_lines.proofs.lines.call.make_call_of_long_line.Goals as goal
 
 pub returns : goal.returns
 returns g c =

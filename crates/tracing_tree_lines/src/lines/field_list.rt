@@ -1,0 +1,80 @@
+//! The fields of a line, which contracts see as a list.
+
+ghost use Rattle.std.specs.Prelude.{◌≡◌, ◌++◌, ◌∷◌, [], OnErr, OnOk};
+
+use std::alloc::{AllocError, Global};
+use std::marker::Model;
+use std::slice;
+use tracing_tree_layer::told::FieldTexts;
+
+// A list of more than one field begins with room for four.
+const ROOM: usize = 4;
+
+// The fields of a line, in order. Most lines have one, which lies in the value itself and takes no memory.
+#[derive(Drop)]
+pub(super) struct FieldList<'a> {
+    kept: Kept<'a>,
+}
+
+// Where fields lie.
+#[derive(Drop)]
+enum Kept<'a> {
+    None,
+    One(FieldTexts<'a>),
+    Many(Vec<FieldTexts<'a>>),
+}
+
+impl<'a> Model for FieldList<'a> {
+    ghost use Rattle.std.specs.Prelude.{List};
+    ghost use Rattle.tracing_tree_lines.specs.Lines.FieldList.{kept_fields};
+    ghost use Rattle.tracing_tree_text.specs.declared.field.Field.{Field};
+
+    ghost Value = { List Field };
+
+    ghost view = { λ f. kept_fields f.kept };
+}
+
+impl<'a> FieldList<'a> {
+    // No fields.
+    #[inline(always)]
+    pub(super) fn new() -> FieldList<'a>
+        ensures { result ≡ [] }
+    {
+        FieldList { kept: Kept::None }
+    }
+
+    // Puts a field at the end. A first one takes no memory. `AllocError` where memory is refused; the list is then as it was.
+    #[inline(always)]
+    pub(super) fn push(&mut self, alloc: Global, field: FieldTexts<'a>) -> Result<(), AllocError>
+        ensures ok { OnOk result (self.new ≡ self.old ++ field.entry ∷ []) }
+        ensures err { OnErr result (self.new ≡ self.old) }
+    {
+        match &mut self.kept {
+            Kept::None => self.kept = Kept::One(field),
+            Kept::One(first) => {
+                let mut list = Vec::with_capacity(alloc, ROOM)?;
+                // It only lends its texts, so it is made again from them.
+                list.push_reserved(FieldTexts {
+                    name: first.name,
+                    value: first.value,
+                });
+                list.push_reserved(field);
+                self.kept = Kept::Many(list);
+            }
+            Kept::Many(list) => list.push(field)?,
+        }
+        Ok(())
+    }
+
+    // The fields.
+    #[inline(always)]
+    pub(super) fn as_slice(&self) -> &[FieldTexts<'a>]
+        ensures { result.now ≡ self.now }
+    {
+        match &self.kept {
+            Kept::None => &[],
+            Kept::One(field) => slice::from_ref(field),
+            Kept::Many(list) => list.as_slice(),
+        }
+    }
+}
