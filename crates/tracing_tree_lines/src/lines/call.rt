@@ -68,7 +68,8 @@ fn make_call_of_long_line<W: Output, FT: FormatTime>(
     make_call_of(alloc, &parts, layered)
 }
 
-// Makes the call that the parts of a line spell. It is part of both callers, since each line would pay for a call of it.
+// Makes the call that the parts of a line spell. It is part of both callers, and so is what it calls for a kind: each line would pay for
+// a call of them.
 #[inline(always)]
 fn make_call_of<W: Output, FT: FormatTime>(
     alloc: Global,
@@ -108,6 +109,7 @@ fn kind_in(parts: &Parts<'_>) -> Option<Kind>
 }
 
 // Makes the call of this kind.
+#[inline(always)]
 fn make_call_of_kind<W: Output, FT: FormatTime>(
     alloc: Global,
     kind: Kind,

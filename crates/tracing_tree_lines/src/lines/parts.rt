@@ -114,9 +114,7 @@ impl<'a> Parts<'a> {
     }
 }
 
-// Fills in the parts of a line. `NotACall` where the line is no object of JSON, `Memory` where memory is refused. It is part of both
-// callers, since each line would pay for a call of it.
-#[inline(always)]
+// Fills in the parts of a line. `NotACall` where the line is no object of JSON, `Memory` where memory is refused.
 pub(super) fn read_object<'a>(
     alloc: Global,
     line: &'a [u8],
