@@ -5,6 +5,7 @@ pub mod Moments
 pub mod BorrowedTrees
 pub mod NumberParts
 pub mod LineParts
+pub mod Taken
 pub mod LineTokens
 pub mod PairTokens
 pub mod ObjectLines

@@ -28,7 +28,7 @@ use Rattle.tracing_tree_layer.specs.Layered.Seen.{Seen}
 use Rattle.tracing_tree_layer.specs.declared.call.Reply.{Reply}
 use Rattle.tracing_tree_lines.specs.declared.lines.LineCause.{LineCause}
 use Rattle.tracing_tree_lines.specs.declared.lines.part.Part.{Part}
-use Rattle.tracing_tree_lines.specs.declared.lines.part.Part.TheVariants.{Absent, Text, Whole, Negative, Truth, Other}
+use Rattle.tracing_tree_lines.specs.declared.lines.part.Part.TheVariants.{Absent, Text, Whole, Negative, Other}
 use Rattle.tracing_tree_lines.specs.declared.lines.part.FieldsPart.{FieldsPart}
 use Rattle.tracing_tree_lines.specs.declared.lines.part.FieldsPart.TheVariants as Listed
 use Rattle.tracing_tree_lines.specs.declared.lines.parts.Parts.{Parts}
@@ -120,7 +120,6 @@ no_float_part Absent = refl
 no_float_part (Text text) = refl
 no_float_part (Whole n) = refl
 no_float_part (Negative z) = refl
-no_float_part Truth = refl
 no_float_part Other = refl
 
 no_float_list : (list : FieldsPart) → has_float (listed_data list) ≡ false
@@ -352,15 +351,15 @@ parts_spelled p value call same s =
       spelled = sym (ap (λ v. object_call v s.moment) is) ∙ same_call value s.moment ∙ s.spelled;
     }
 
--- an object without other values has no float
-pub without_other : (line : List ℕ) (p : Parts) → IsObjectLine line p → p.has_other ≡ false → HasParts line p
-without_other line p found none =
+-- an object of whole numbers has no float
+pub whole_parts : (line : List ℕ) (p : Parts) → IsObjectLine line p → p.is_whole ≡ true → HasParts line p
+whole_parts line p found whole =
     let tree = json.object found.members in
-    let settled = whole_settled line tree found.reads (found.kept.whole none) in
+    let settled = whole_settled line tree found.reads (sym found.kept.whole ∙ whole) in
     record { text = found.text; value = data_of tree; reads = settled.0; no_float = settled.1; kept = found.kept.kept }
 
 -- the same of an object in which none is
-pub without_float : (line : List ℕ) (p : Parts) → IsObjectLine line p → HasNoFloat line → HasParts line p
+without_float : (line : List ℕ) (p : Parts) → IsObjectLine line p → HasNoFloat line → HasParts line p
 without_float line p found none =
     let tree = json.object found.members in
     let settled = float_settled line tree found.reads none in

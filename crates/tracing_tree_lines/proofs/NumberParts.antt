@@ -4,14 +4,13 @@ use Rattle.std.specs.Float.{binary64, float_is_finite}
 use Rattle.std.proofs.Common.{sym, ap, ◌∙◌}
 use Rattle.std.proofs.lemmas.Option.{same_Some, none-some}
 use Rattle.fast_float.specs.Text.{Parts, nearest}
-use Rattle.json.specs.Json as json
 use Rattle.serde_json.specs.Data.{Num, unsigned, negative, float, boolean}
 use Rattle.serde_json.specs.Find.{as_u64, as_i64}
 use Rattle.serde_json.specs.Read.{number_of, number_from, float_of}
 use Rattle.tracing_tree_lines.proofs.BorrowedTrees.{float_u64, float_i64}
-use Rattle.tracing_tree_lines.specs.Lines.Borrowed.{number_data}
-use Rattle.tracing_tree_lines.specs.Lines.Parts.{readable_word, IsPartOf}
-use Rattle.tracing_tree_lines.specs.declared.lines.part.Part.TheVariants.{Whole, Negative, Other}
+use Rattle.tracing_tree_lines.specs.Lines.Borrowed.{number_data, is_whole_number}
+use Rattle.tracing_tree_lines.specs.Lines.Parts.{readable_word, IsNumberPart}
+use Rattle.tracing_tree_lines.specs.declared.lines.part.Part.TheVariants.{Whole, Negative}
 
 below_zero : (b : Bool) (z y : ℤ) (o : Option Num) → option_and_then as_i64 o ≡ None → option_and_then as_i64 (if b then Some (negative z) else o) ≡ Some y
     → (if b then Some (negative z) else o) ≡ Some (negative y)
@@ -31,36 +30,38 @@ not_below false n m o none is = absurd (none-some m (sym none ∙ is))
 pub whole_read : (p : Parts) (m : ℕ) → option_and_then as_u64 (number_from false p) ≡ Some m → number_from false p ≡ Some (unsigned m)
 whole_read p m is = not_below _ _ m (float_of false p) (float_u64 false p) is
 
-finite_unread : (b : Bool) (x : Float) → readable_word (number_data (if b then Some (float x) else None)) ≡ boolean false
-finite_unread true x = refl
-finite_unread false x = refl
+-- a number that isn't whole, and of which no call is read
+abbrev IsUnread : Option Num → Type 0
+IsUnread o = (is_whole_number o ≡ false) × (boolean false ≡ readable_word (number_data o))
 
-float_unread : (sign : Bool) (p : Parts) → readable_word (number_data (float_of sign p)) ≡ boolean false
+finite_unread : (b : Bool) (x : Float) → IsUnread (if b then Some (float x) else None)
+finite_unread true x = (refl, refl)
+finite_unread false x = (refl, refl)
+
+float_unread : (sign : Bool) (p : Parts) → IsUnread (float_of sign p)
 float_unread sign p = finite_unread (float_is_finite (nearest binary64 sign p)) (nearest binary64 sign p)
 
-negative_or : (b : Bool) (z : ℤ) (o : Option Num) → readable_word (number_data o) ≡ boolean false → option_and_then as_i64 (if b then Some (negative z) else o) ≡ None
-    → readable_word (number_data (if b then Some (negative z) else o)) ≡ boolean false
+negative_or : (b : Bool) (z : ℤ) (o : Option Num) → IsUnread o → option_and_then as_i64 (if b then Some (negative z) else o) ≡ None → IsUnread (if b then Some (negative z) else o)
 negative_or true z o other none = absurd (none-some z (sym none))
 negative_or false z o other none = other
 
--- no call is read from another number after a minus
-pub negative_unread : (p : Parts) → option_and_then as_i64 (number_from true p) ≡ None → readable_word (number_data (number_from true p)) ≡ boolean false
+-- another number after a minus
+pub negative_unread : (p : Parts) → option_and_then as_i64 (number_from true p) ≡ None → IsUnread (number_from true p)
 negative_unread p none = negative_or _ _ (float_of true p) (float_unread true p) none
 
-unsigned_or : (b : Bool) (n : ℕ) (o : Option Num) → readable_word (number_data o) ≡ boolean false → option_and_then as_u64 (if b then Some (unsigned n) else o) ≡ None
-    → readable_word (number_data (if b then Some (unsigned n) else o)) ≡ boolean false
+unsigned_or : (b : Bool) (n : ℕ) (o : Option Num) → IsUnread o → option_and_then as_u64 (if b then Some (unsigned n) else o) ≡ None → IsUnread (if b then Some (unsigned n) else o)
 unsigned_or true n o other none = absurd (none-some n (sym none))
 unsigned_or false n o other none = other
 
--- no call is read from another number without a minus
-pub whole_unread : (p : Parts) → option_and_then as_u64 (number_from false p) ≡ None → readable_word (number_data (number_from false p)) ≡ boolean false
+-- another number without a minus
+pub whole_unread : (p : Parts) → option_and_then as_u64 (number_from false p) ≡ None → IsUnread (number_from false p)
 whole_unread p none = unsigned_or _ _ (float_of false p) (float_unread false p) none
 
-pub negative_part : (s : List ℕ) (z : ℤ) → number_of s ≡ Some (negative z) → IsPartOf (json.number s) (Negative z)
-negative_part s z is = record { kept = sym (ap (λ o. readable_word (number_data o)) is); whole = λ e. rw is refl }
+pub negative_part : (s : List ℕ) (z : ℤ) → number_of s ≡ Some (negative z) → IsNumberPart s (Some (Negative z))
+negative_part s z is = (ap is_whole_number is, sym (ap (λ o. readable_word (number_data o)) is))
 
-pub whole_part : (s : List ℕ) (n : ℕ) → number_of s ≡ Some (unsigned n) → IsPartOf (json.number s) (Whole n)
-whole_part s n is = record { kept = sym (ap (λ o. readable_word (number_data o)) is); whole = λ e. rw is refl }
+pub whole_part : (s : List ℕ) (n : ℕ) → number_of s ≡ Some (unsigned n) → IsNumberPart s (Some (Whole n))
+whole_part s n is = (ap is_whole_number is, sym (ap (λ o. readable_word (number_data o)) is))
 
-pub other_part : (s : List ℕ) → readable_word (number_data (number_of s)) ≡ boolean false → IsPartOf (json.number s) Other
-other_part s is = record { kept = sym is; whole = λ e. cc }
+pub no_part : (s : List ℕ) (o : Option Num) → number_of s ≡ o → IsUnread o → IsNumberPart s None
+no_part s o is unread = (ap is_whole_number is ∙ unread.0, unread.1 ∙ sym (ap (λ o. readable_word (number_data o)) is))

@@ -15,7 +15,8 @@ use Rattle.serde_json.specs.Read.{number_of, of_json, of_items, read}
 use Rattle.tracing_tree_layer.specs.declared.call.Call.{Call}
 use Rattle.tracing_tree_lines.proofs.BorrowedTrees.{tree_read, tree_and_more, no_tree}
 use Rattle.tracing_tree_lines.proofs.LineTokens.{unless_memory}
-use Rattle.tracing_tree_lines.specs.Lines.Parts.{opens_object, ArePartsTaken, IsObjectLine, ReadsObject, TakesParts}
+use Rattle.tracing_tree_lines.specs.Lines.Parts.{IsObjectLine, ReadsObject}
+use Rattle.tracing_tree_lines.specs.Lines.Taken.{opens_object, ArePartsTaken, TakesParts}
 use Rattle.serde_json.specs.Find.{as_object, as_str}
 use Rattle.tracing_tree_context.specs.declared.context.Moment.{Moment}
 use Rattle.tracing_tree_lines.proofs.Moments.{reads_none}

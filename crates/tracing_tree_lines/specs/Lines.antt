@@ -8,3 +8,4 @@ pub mod CallKinds
 pub mod Borrowed
 pub mod FieldList
 pub mod Parts
+pub mod Taken

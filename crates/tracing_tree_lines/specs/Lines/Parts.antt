@@ -1,30 +1,25 @@
 -- What a line's object has at the keys of a call, as far as a call is read from it.
-use Rattle.std.specs.Prelude.{◌≡◌, ℕ, Bool, true, false, List, [], ◌∷◌, length, Option, Some, None, Result, Ok, Err, IsUtf8, codes, bytes_eq, if◌then◌else◌}
+use Rattle.std.specs.Prelude.{◌≡◌, ℕ, true, false, List, [], ◌∷◌, Option, Some, None, Result, Ok, Err, IsUtf8, codes, bytes_eq, if◌then◌else◌}
 use Rattle.std.specs.Option.{option_map_or}
-use Rattle.json.specs.Token.{Token}
 use Rattle.json.specs.Json as json
-use Rattle.json.specs.declared.token.Token.{Token as ReadToken}
-use Rattle.json.specs.declared.token.Token.TheVariants as Read
 use Rattle.json.specs.declared.error.Error.{Error}
 use Rattle.json.specs.declared.error.Error.TheVariants.{Invalid, OutOfMemory, TooLong, DuplicateKey}
 use Rattle.serde_json.specs.Data.{Num, unsigned, negative, float, Data, null, boolean, number, string, array, object, Items, no_items, item, Members, no_members, member}
-use Rattle.serde_json.specs.Find.{as_str, get}
+use Rattle.serde_json.specs.Find.{get}
 use Rattle.serde_json.specs.Read.{of_json, read}
 use Rattle.serde_json.specs.Written.{has_float}
 use Rattle.tracing_tree_text.specs.declared.field.Field.{Field}
-use Rattle.tracing_tree_lines.specs.Lines.Borrowed.{data_of, items_data, members_data, is_whole, members_are_whole}
-use Rattle.tracing_tree_lines.specs.Lines.Spelled.{field_value, item_fields, pair_field, SpellsCall}
+use Rattle.tracing_tree_lines.specs.Lines.Borrowed.{data_of, members_data, is_whole, members_are_whole}
+use Rattle.tracing_tree_lines.specs.Lines.Spelled.{item_fields, SpellsCall}
 use Rattle.tracing_tree_lines.specs.Lines.Values.{IsUnlessMemory}
 use Rattle.tracing_tree_layer.specs.declared.call.Call.{Call}
 use Rattle.tracing_tree_lines.specs.declared.lines.LineCause.{LineCause}
 use Rattle.tracing_tree_lines.specs.declared.lines.LineCause.TheVariants.{NotACall, Memory}
 use Rattle.tracing_tree_lines.specs.declared.lines.part.Part.{Part}
-use Rattle.tracing_tree_lines.specs.declared.lines.part.Part.TheVariants.{Absent, Text, Whole, Negative, Truth, Other}
+use Rattle.tracing_tree_lines.specs.declared.lines.part.Part.TheVariants.{Absent, Text, Whole, Negative, Other}
 use Rattle.tracing_tree_lines.specs.declared.lines.part.FieldsPart.{FieldsPart}
 use Rattle.tracing_tree_lines.specs.declared.lines.part.FieldsPart.TheVariants as Listed
 use Rattle.tracing_tree_lines.specs.declared.lines.parts.Parts.{Parts}
-use Rattle.tracing_tree_lines.specs.declared.lines.pair.Texts.{Texts}
-use Rattle.tracing_tree_lines.specs.declared.lines.pair.Texts.TheVariants.{None as NoText, One, Two, Other as OtherItems}
 
 -- ---- what is read of a value
 
@@ -80,36 +75,22 @@ part_data Absent = null
 part_data (Text text) = string text.now
 part_data (Whole n) = number (unsigned n)
 part_data (Negative z) = number (negative z)
-part_data Truth = boolean false
 part_data Other = boolean false
+
+-- a number with this text is whole, and the part holds it; or it is another, of which nothing is
+-- read
+abbrev pub IsNumberPart : List ℕ → Option Part → Type 0
+IsNumberPart text (Some part) =
+    (is_whole (json.number text) ≡ true)
+    × (part_data part ≡ readable_word (data_of (json.number text)))
+IsNumberPart text None =
+    (is_whole (json.number text) ≡ false)
+    × (boolean false ≡ readable_word (data_of (json.number text)))
 
 abbrev pub listed_data : FieldsPart → Data
 listed_data Listed.Absent = null
 listed_data (Listed.Fields fields) = array (fields_data fields)
 listed_data Listed.Other = boolean false
-
-abbrev pub is_other : Part → Bool
-is_other Absent = false
-is_other (Text text) = false
-is_other (Whole n) = false
-is_other (Negative z) = false
-is_other Truth = false
-is_other Other = true
-
-abbrev pub are_other : FieldsPart → Bool
-are_other Listed.Absent = false
-are_other (Listed.Fields fields) = false
-are_other Listed.Other = true
-
--- the part holds what is read of the value, and only another value may hold a float
-pub record IsPartOf (value : json.Json) (part : Part) : Type 0 where
-  pub kept : part_data part ≡ readable_word (data_of value)
-  pub whole : is_other part ≡ false → is_whole value ≡ true
-
--- the same of the value at `fields`
-pub record IsListOf (value : json.Json) (list : FieldsPart) : Type 0 where
-  pub kept : listed_data list ≡ readable_list (data_of value)
-  pub whole : are_other list ≡ false → is_whole value ≡ true
 
 -- ---- what stands at the keys of calls
 
@@ -155,103 +136,10 @@ readable_members (member key old ms) value =
 abbrev pub call_members : Data → Members
 call_members value = readable_members no_parts value
 
--- ---- what reading takes of the tokens
-
--- the brace of an object
-abbrev pub opens_object : ReadToken → Bool
-opens_object Read.BeginObject = true
-opens_object Read.EndObject = false
-opens_object Read.BeginArray = false
-opens_object Read.EndArray = false
-opens_object (Read.Key s) = false
-opens_object (Read.String s) = false
-opens_object (Read.Number s) = false
-opens_object (Read.Bool b) = false
-opens_object Read.Null = false
-opens_object Read.Bad = false
-
--- the tokens of a value were taken
-pub record IsTaken (old new : List Token) (part : Part) : Type 0 where
-  pub value : json.Json
-  pub taken : json.value 126 old ≡ Some (value, new)
-  pub kept : IsPartOf value part
-
-pub record IsListTaken (old new : List Token) (list : FieldsPart) : Type 0 where
-  pub value : json.Json
-  pub taken : json.value 126 old ≡ Some (value, new)
-  pub kept : IsListOf value list
-
-abbrev pub TakesList : List Token → List Token → Result FieldsPart LineCause → Type 0
-TakesList old new (Ok list) = IsListTaken old new list
-TakesList old new (Err cause) = IsUnlessMemory NotACall (json.value 126 old ≡ None) cause
-
--- the tokens of the value at this key were taken, and what is read of it is put there
-pub record IsMemberTaken (key : List ℕ) (old new : List Token) (before after : Parts) : Type 0 where
-  pub value : json.Json
-  pub taken : json.value 126 old ≡ Some (value, new)
-  pub put : parts_members after
-      ≡ with_key key (readable key (data_of value)) (parts_members before)
-  pub whole : after.has_other ≡ false → (before.has_other ≡ false) × (is_whole value ≡ true)
-
-abbrev pub TakesMember : {A : Type 0} → List ℕ → List Token → List Token → Parts → Parts
-    → Result A LineCause → Type 0
-TakesMember key old new before after (Ok done) = IsMemberTaken key old new before after
-TakesMember key old new before after (Err cause) =
-    IsUnlessMemory NotACall (json.value 126 old ≡ None) cause
-
--- the tokens of a value were taken, and this is its field, if it is one
-pub record IsItemTaken (old new : List Token) (field : Option Field) : Type 0 where
-  pub value : json.Json
-  pub taken : json.value 125 old ≡ Some (value, new)
-  pub is : field ≡ field_value (data_of value)
-
--- the field of an array of these texts and then these items, if it is a pair
-abbrev pub pair_with : Texts → Items → Option Field
-pair_with NoText rest = pair_field rest
-pair_with (One name) rest = pair_field (item (string name.now) rest)
-pair_with (Two name text) rest = pair_field (item (string name.now) (item (string text.now) rest))
-pair_with OtherItems rest = None
-
--- the tokens of a value in a pair were taken, and this is its text, if it is one
-pub record IsTextTaken (old new : List Token) (text : Option (List ℕ)) : Type 0 where
-  pub value : json.Json
-  pub taken : json.value 124 old ≡ Some (value, new)
-  pub is : text ≡ as_str (data_of value)
-
--- the tokens of an array after its bracket were taken, and this is its field, if it is a pair
-pub record IsPairTaken (old new : List Token) (field : Option Field) : Type 0 where
-  pub items : json.Items
-  pub taken : json.items (json.value 124) (length old) old ≡ Some (items, new)
-  pub is : field ≡ pair_field (items_data items)
-
--- the tokens of an array after its bracket were taken
-pub record AreFieldsTaken (old new : List Token) (list : FieldsPart) : Type 0 where
-  pub items : json.Items
-  pub taken : json.items (json.value 125) (length old) old ≡ Some (items, new)
-  pub kept : IsListOf (json.array items) list
-
-abbrev pub TakesFields : List Token → List Token → Result FieldsPart LineCause → Type 0
-TakesFields old new (Ok list) = AreFieldsTaken old new list
-TakesFields old new (Err cause) =
-    IsUnlessMemory NotACall (json.items (json.value 125) (length old) old ≡ None) cause
-
--- the parts hold what is read of an object with these members; only where one of them is another
--- value there may be a float
+-- the parts hold what is read of an object with these members, and whether it is whole
 pub record ArePartsOf (members : json.Members) (parts : Parts) : Type 0 where
   pub kept : parts_members parts ≡ call_members (object (members_data members no_members))
-  pub whole : parts.has_other ≡ false → members_are_whole members ≡ true
-
--- the tokens of an object after its brace were taken
-pub record ArePartsTaken (old new : List Token) (parts : Parts) : Type 0 where
-  pub members : json.Members
-  pub taken : json.members (json.value 126) (length old) old ≡ Some (members, new)
-  pub kept : ArePartsOf members parts
-
-abbrev pub TakesParts : {A : Type 0} → List Token → List Token → Parts → Result A LineCause
-    → Type 0
-TakesParts old new parts (Ok done) = ArePartsTaken old new parts
-TakesParts old new parts (Err cause) =
-    IsUnlessMemory NotACall (json.members (json.value 126) (length old) old ≡ None) cause
+  pub whole : parts.is_whole ≡ members_are_whole members
 
 -- ---- lines
 

@@ -12,10 +12,10 @@ ghost use Rattle.tracing_tree_spans.specs.declared.registry.Parent.TheVariants.{
 ghost use Rattle.tracing_tree_text.specs.Style.{level_named};
 ghost use Rattle.tracing_tree_lines.specs.Lines.Steps.{MakesNamed, MakesSpelled};
 
+use super::LineCause;
 use super::context::{context_in, id_value};
 use super::part::Part;
-use super::parts::{Parts, read_object, refuse_float, refuse_floats};
-use super::{BLOCK, LineCause};
+use super::parts::{Parts, read_object, refuse_floats};
 use json::Scratch;
 use std::alloc::{AllocError, Global};
 use tracing_tree_context::{Context, Id};
@@ -41,36 +41,11 @@ pub(super) fn make_call<W: Output, FT: FormatTime>(
 {
     let mut parts = Parts::new();
     read_object(alloc, line, scratch, &mut parts)?;
-    if parts.has_other && line.len() > BLOCK {
-        drop(parts);
-        return make_call_of_long_line(alloc, line, scratch, layered);
-    }
     refuse_floats(alloc, line, &parts)?;
     make_call_of(alloc, &parts, layered)
 }
 
-// The same of a long line that may have a float. All its values are read first, while the room for unescaped texts, which is as long as
-// the line, is given back.
-#[inline(never)]
-fn make_call_of_long_line<W: Output, FT: FormatTime>(
-    alloc: Global,
-    line: &[u8],
-    scratch: &mut Scratch,
-    layered: &mut Layered<W, FT>,
-) -> Result<Reply, LineCause>
-    ensures { Changes (seen FT.FormatTime W.Output) (MakesSpelled (SpellsCall line.now) result)
-        layered.old layered.new }
-{
-    *scratch = Scratch::new(alloc);
-    refuse_float(alloc, line)?;
-    let mut parts = Parts::new();
-    read_object(alloc, line, scratch, &mut parts)?;
-    make_call_of(alloc, &parts, layered)
-}
-
-// Makes the call that the parts of a line spell. It is part of both callers, and so is what it calls for a kind: each line would pay for
-// a call of them.
-#[inline(always)]
+// Makes the call that the parts of a line spell.
 fn make_call_of<W: Output, FT: FormatTime>(
     alloc: Global,
     parts: &Parts<'_>,

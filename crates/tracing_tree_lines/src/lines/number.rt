@@ -1,30 +1,25 @@
 //! Numbers of 64 bits.
 
 ghost use Rattle.std.specs.Prelude.{◌≡◌, ◌==◌, ◌<◌, length, slice_index, true, false, IsTrue, option_and_then};
-ghost use Rattle.json.specs.Json as json;
 ghost use Rattle.serde_json.specs.Find.{as_i64, as_u64};
 ghost use Rattle.serde_json.specs.Read.{number_from};
-ghost use Rattle.tracing_tree_lines.specs.Lines.Parts.{IsPartOf};
+ghost use Rattle.tracing_tree_lines.specs.Lines.Parts.{IsNumberPart};
 
 use super::part::Part;
 use fast_float::Numeral;
 
-// The part of a number with this text.
+// The part of a number with this text. None where it isn't a whole number of 64 bits.
 #[inline(always)]
-pub(super) fn number_part<'a>(text: &str) -> Part<'a>
-    ensures { IsPartOf (json.number text.now) result }
+pub(super) fn number_part<'a>(text: &str) -> Option<Part<'a>>
+    ensures { IsNumberPart text.now result }
 {
     let bytes = text.as_bytes();
     if has_minus(bytes) {
-        return match negative_number(&Numeral::scan(&bytes[1..])) {
-            Some(number) => Part::Negative(number),
-            None => Part::Other,
-        };
+        let number = negative_number(&Numeral::scan(&bytes[1..]))?;
+        return Some(Part::Negative(number));
     }
-    match whole_number(&Numeral::scan(bytes)) {
-        Some(number) => Part::Whole(number),
-        None => Part::Other,
-    }
+    let number = whole_number(&Numeral::scan(bytes))?;
+    Some(Part::Whole(number))
 }
 
 // The number after a minus. None where it isn't whole or out of range; `-0` is a float.

@@ -3,7 +3,7 @@
 ghost use Rattle.std.specs.Prelude.{◌≡◌, [], Some, option_map};
 ghost use Rattle.std.specs.Option.{option_map_or};
 ghost use Rattle.serde_json.specs.Find.{as_str};
-ghost use Rattle.tracing_tree_lines.specs.Lines.Parts.{are_other, is_other, listed_data, part_data};
+ghost use Rattle.tracing_tree_lines.specs.Lines.Parts.{listed_data, part_data};
 ghost use Rattle.tracing_tree_lines.specs.Lines.Spelled.{fields_value, signed_value, unless_null, whole_value};
 
 use super::field_list::FieldList;
@@ -19,9 +19,7 @@ pub(super) enum Part<'a> {
     Whole(u64),
     // A whole number of 64 bits below zero.
     Negative(i64),
-    // A truth value. No part of a call is read from it.
-    Truth,
-    // Another value, which may hold a float. No part of a call is read from it.
+    // Another value. No part of a call is read from it.
     Other,
 }
 
@@ -34,12 +32,6 @@ impl<'a> Part<'a> {
             Part::Absent => None,
             _ => Some(self),
         }
-    }
-
-    pub(super) fn is_other(&self) -> bool
-        ensures { result ≡ is_other self.now }
-    {
-        matches!(self, Part::Other)
     }
 
     // The text. None where it is none.
@@ -86,12 +78,6 @@ pub(super) enum FieldsPart<'a> {
 }
 
 impl<'a> FieldsPart<'a> {
-    pub(super) fn are_other(&self) -> bool
-        ensures { result ≡ are_other self.now }
-    {
-        matches!(self, FieldsPart::Other)
-    }
-
     // The fields, none of them where nothing stands there. None where they can't be read.
     #[tactic(auto, using(crate::proofs::LineParts::fields_read))]
     pub(super) fn as_fields(&'a self) -> Option<&'a [FieldTexts<'a>]>

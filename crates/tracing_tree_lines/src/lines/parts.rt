@@ -1,9 +1,10 @@
 //! What a line's object has at the keys of a call, read in one pass.
 
-ghost use Rattle.std.specs.Prelude.{◌≡◌, ◌||◌, codes, false, None, MatchResult};
+ghost use Rattle.std.specs.Prelude.{◌≡◌, codes, true, None, MatchResult};
 ghost use Rattle.json.specs.Json as json;
 ghost use Rattle.tracing_tree_lines.specs.Lines.Borrowed.{RefusesFloat};
-ghost use Rattle.tracing_tree_lines.specs.Lines.Parts.{are_other, is_other, listed_data, no_parts, opens_object, part_data, parts_members, with_key, IsObjectLine, IsTaken, ReadsObject, ReadsParts, TakesFields, TakesList, TakesMember, TakesParts};
+ghost use Rattle.tracing_tree_lines.specs.Lines.Parts.{no_parts, part_data, parts_members, with_key, IsObjectLine, ReadsObject, ReadsParts};
+ghost use Rattle.tracing_tree_lines.specs.Lines.Taken.{opens_object, IsTaken, TakesFields, TakesList, TakesMember, TakesParts};
 
 use super::LineCause;
 use super::field_list::FieldList;
@@ -31,14 +32,14 @@ pub(super) struct Parts<'a> {
     pub(super) thread_name: Part<'a>,
     pub(super) mono: Part<'a>,
     pub(super) wall: Part<'a>,
-    // Whether a member had another value. It may hold a float.
-    pub(super) has_other: bool,
+    // Whether each number of the line is a whole number of 64 bits. Where one isn't, the line may have a float.
+    pub(super) is_whole: bool,
 }
 
 impl<'a> Parts<'a> {
     pub(super) fn new() -> Parts<'a>
         ensures absent { parts_members result ≡ no_parts }
-        ensures none { result.has_other ≡ false }
+        ensures whole { result.is_whole ≡ true }
     {
         Parts {
             call: Part::Absent,
@@ -53,7 +54,7 @@ impl<'a> Parts<'a> {
             thread_name: Part::Absent,
             mono: Part::Absent,
             wall: Part::Absent,
-            has_other: false,
+            is_whole: true,
         }
     }
 
@@ -69,22 +70,13 @@ impl<'a> Parts<'a> {
         ensures { TakesMember key.now reader.old reader.new self.old self.new result }
     {
         match key {
-            "fields" => self.set_fields(read_list(alloc, reader)?),
-            _ => self.set(key, read_part(reader)?),
+            "fields" => self.fields = read_list(alloc, reader, &mut self.is_whole)?,
+            _ => {
+                let part = read_part(reader, &mut self.is_whole)?;
+                self.set(key, part);
+            }
         }
         Ok(())
-    }
-
-    // Puts the fields at their key.
-    fn set_fields(&mut self, list: FieldsPart<'a>)
-        ensures put { parts_members self.new
-            ≡ with_key (codes "fields") (listed_data list.entry) (parts_members self.old) }
-        ensures other { self.new.has_other ≡ (are_other list.entry || self.old.has_other) }
-    {
-        if list.are_other() {
-            self.has_other = true;
-        }
-        self.fields = list;
     }
 
     // Puts a part at its key, which isn't that of the fields. A key of no call is passed over.
@@ -92,11 +84,8 @@ impl<'a> Parts<'a> {
         requires { key.now ≡ codes "fields" → ⊥ }
         ensures put { parts_members self.new
             ≡ with_key key.now (part_data part.entry) (parts_members self.old) }
-        ensures other { self.new.has_other ≡ (is_other part.entry || self.old.has_other) }
+        ensures whole { self.new.is_whole ≡ self.old.is_whole }
     {
-        if part.is_other() {
-            self.has_other = true;
-        }
         match key {
             "call" => self.call = part,
             "id" => self.id = part,
@@ -121,7 +110,8 @@ pub(super) fn read_object<'a>(
     scratch: &'a mut Scratch,
     parts: &mut Parts<'a>,
 ) -> Result<(), LineCause>
-    requires { parts_members parts.old ≡ no_parts }
+    requires absent { parts_members parts.old ≡ no_parts }
+    requires whole { parts.old.is_whole ≡ true }
     ensures { ReadsObject line.now parts.new result }
 {
     let Ok(text) = from_utf8(line) else {
@@ -146,20 +136,22 @@ fn opens_object(token: &Token<'_>) -> bool
     matches!(token, Token::BeginObject)
 }
 
-// Refuses the line of these parts where it has a float, which only another value may hold. `NotACall` then, `Memory` where memory is
-// refused.
+// Refuses the line of these parts where it has a float: a number that isn't whole, or not of 64 bits, and whose key doesn't come again
+// in its object. `NotACall` then, `Memory` where memory is refused.
 pub(super) fn refuse_floats(alloc: Global, line: &[u8], parts: &Parts<'_>) -> Result<(), LineCause>
     requires { IsObjectLine line.now parts.now }
     ensures { ReadsParts line.now parts.now result }
 {
-    if parts.has_other {
-        return refuse_float(alloc, line);
+    if parts.is_whole {
+        return Ok(());
     }
-    Ok(())
+    refuse_float(alloc, line)
 }
 
-// Refuses a line with a float: a number that isn't whole, or not of 64 bits, and whose key doesn't come again in its object.
-pub(super) fn refuse_float(alloc: Global, line: &[u8]) -> Result<(), LineCause>
+// Reads the line anew, as a tree in which the last member of a key counts, and refuses it where the tree has a float. Few lines come here,
+// so the code for it stays apart from what each line runs.
+#[inline(never)]
+fn refuse_float(alloc: Global, line: &[u8]) -> Result<(), LineCause>
     ensures { RefusesFloat line.now result }
 {
     match serde_json::Value::from_slice(alloc, line) {
@@ -176,7 +168,8 @@ fn read_members<'a>(
     reader: &mut Reader<'a>,
     parts: &mut Parts<'a>,
 ) -> Result<(), LineCause>
-    requires { parts_members parts.old ≡ no_parts }
+    requires absent { parts_members parts.old ≡ no_parts }
+    requires whole { parts.old.is_whole ≡ true }
     ensures { TakesParts reader.old reader.new parts.new result }
 {
     while let Some(key) = reader.next_key()? {
@@ -185,46 +178,60 @@ fn read_members<'a>(
     Ok(())
 }
 
-// The next value.
+// The next value. `is_whole` becomes false where a number in it isn't a whole number of 64 bits; so it does in `read_list` and
+// `read_fields`.
 #[inline(always)]
-fn read_part<'a>(reader: &mut Reader<'a>) -> Result<Part<'a>, Invalid>
-    ensures { MatchResult result (IsTaken reader.old reader.new)
+fn read_part<'a>(reader: &mut Reader<'a>, is_whole: &mut bool) -> Result<Part<'a>, Invalid>
+    ensures { MatchResult result (IsTaken reader.old reader.new is_whole.old is_whole.new)
         (λ _. json.value 126 reader.old ≡ None) }
 {
     match reader.next().ok_or(Invalid)? {
         Token::Null => Ok(Part::Absent),
         Token::String(text) => Ok(Part::Text(text)),
-        Token::Number(text) => Ok(number_part(text)),
-        Token::Bool(_) => Ok(Part::Truth),
+        Token::Number(text) => {
+            let Some(part) = number_part(text) else {
+                *is_whole = false;
+                return Ok(Part::Other);
+            };
+            Ok(part)
+        }
         first => {
-            skip_rest(reader, first, MEMBER_DEPTH)?;
+            skip_rest(reader, first, MEMBER_DEPTH, is_whole)?;
             Ok(Part::Other)
         }
     }
 }
 
 // The next value, from which fields are read.
-fn read_list<'a>(alloc: Global, reader: &mut Reader<'a>) -> Result<FieldsPart<'a>, LineCause>
-    ensures { TakesList reader.old reader.new result }
+fn read_list<'a>(
+    alloc: Global,
+    reader: &mut Reader<'a>,
+    is_whole: &mut bool,
+) -> Result<FieldsPart<'a>, LineCause>
+    ensures { TakesList reader.old reader.new is_whole.old is_whole.new result }
 {
     match reader.next().ok_or(LineCause::NotACall)? {
         Token::Null => Ok(FieldsPart::Absent),
-        Token::BeginArray => read_fields(alloc, reader),
+        Token::BeginArray => read_fields(alloc, reader, is_whole),
         first => {
-            skip_rest(reader, first, MEMBER_DEPTH)?;
+            skip_rest(reader, first, MEMBER_DEPTH, is_whole)?;
             Ok(FieldsPart::Other)
         }
     }
 }
 
 // The fields of an array whose `[` was read.
-fn read_fields<'a>(alloc: Global, reader: &mut Reader<'a>) -> Result<FieldsPart<'a>, LineCause>
-    ensures { TakesFields reader.old reader.new result }
+fn read_fields<'a>(
+    alloc: Global,
+    reader: &mut Reader<'a>,
+    is_whole: &mut bool,
+) -> Result<FieldsPart<'a>, LineCause>
+    ensures { TakesFields reader.old reader.new is_whole.old is_whole.new result }
 {
     let mut fields = FieldList::new();
     let mut are_fields = true;
     while !reader.take_end_array() {
-        let Some(field) = read_pair(reader)? else {
+        let Some(field) = read_pair(reader, is_whole)? else {
             are_fields = false;
             continue;
         };

@@ -1,9 +1,12 @@
 //! Values that are passed over.
 
-ghost use Rattle.std.specs.Prelude.{◌≡◌, ◌<◌, ◌∷◌, None, Some, MatchResult};
-ghost use Rattle.json.specs.Json.{skip_value};
-ghost use Rattle.json.specs.Reads.{token_of, skip_items, skip_members};
+ghost use Rattle.std.specs.Prelude.{◌≡◌, ◌∷◌, None, MatchResult};
+ghost use Rattle.json.specs.Json as json;
+ghost use Rattle.json.specs.Reads.{token_of};
+ghost use Rattle.json.specs.Token.{begin_array, begin_object};
+ghost use Rattle.tracing_tree_lines.specs.Lines.Taken.{IsValueTaken};
 
+use super::number::number_part;
 use json::{Invalid, Reader, Token};
 
 // How deep arrays and objects may nest in what stands at a key. A line may nest 127 deep.
@@ -13,44 +16,59 @@ pub(super) const MEMBER_DEPTH: usize = 126;
 pub(super) const ITEM_DEPTH: usize = 125;
 
 // Passes over what is left of a value whose first token was read. Arrays and objects nest no deeper in it than this, itself among them.
+// `is_whole` becomes false where a number in it isn't a whole number of 64 bits.
+#[cycle(skip)]
 pub(super) fn skip_rest(
     reader: &mut Reader<'_>,
     first: Token<'_>,
     depth: usize,
+    is_whole: &mut bool,
 ) -> Result<(), Invalid>
-    requires { 0 < depth }
     ensures { MatchResult result
-        (λ _. skip_value depth (token_of first.entry ∷ reader.old) ≡ Some reader.new)
-        (λ _. skip_value depth (token_of first.entry ∷ reader.old) ≡ None) }
+        (λ _. IsValueTaken depth (token_of first.entry ∷ reader.old) reader.new is_whole.old
+        is_whole.new)
+        (λ _. json.value depth (token_of first.entry ∷ reader.old) ≡ None) }
 {
     match first {
-        Token::Null | Token::String(_) | Token::Number(_) | Token::Bool(_) => Ok(()),
-        Token::BeginArray => skip_items(reader, depth - 1),
-        Token::BeginObject => skip_members(reader, depth - 1),
+        Token::Null | Token::String(_) | Token::Bool(_) => Ok(()),
+        Token::Number(text) => {
+            if number_part(text).is_none() {
+                *is_whole = false;
+            }
+            Ok(())
+        }
+        Token::BeginArray => skip_items(reader, depth, is_whole),
+        Token::BeginObject => skip_members(reader, depth, is_whole),
         Token::EndObject | Token::EndArray | Token::Key(_) | Token::Bad => Err(Invalid),
     }
 }
 
-// Passes over the items of an array whose `[` was read, in which arrays and objects nest no deeper than this.
-fn skip_items(reader: &mut Reader<'_>, depth: usize) -> Result<(), Invalid>
+// The same of an array whose `[` was read.
+#[cycle(skip)]
+fn skip_items(reader: &mut Reader<'_>, depth: usize, is_whole: &mut bool) -> Result<(), Invalid>
     ensures { MatchResult result
-        (λ _. skip_items depth reader.old ≡ Some reader.new)
-        (λ _. skip_items depth reader.old ≡ None) }
+        (λ _. IsValueTaken depth (begin_array ∷ reader.old) reader.new is_whole.old is_whole.new)
+        (λ _. json.value depth (begin_array ∷ reader.old) ≡ None) }
 {
+    let inner = depth.checked_sub(1).ok_or(Invalid)?;
     while !reader.take_end_array() {
-        reader.skip_value(depth)?;
+        let first = reader.next().ok_or(Invalid)?;
+        skip_rest(reader, first, inner, is_whole)?;
     }
     Ok(())
 }
 
-// Passes over the members of an object whose `{` was read, in which arrays and objects nest no deeper than this.
-fn skip_members(reader: &mut Reader<'_>, depth: usize) -> Result<(), Invalid>
+// The same of an object whose `{` was read.
+#[cycle(skip)]
+fn skip_members(reader: &mut Reader<'_>, depth: usize, is_whole: &mut bool) -> Result<(), Invalid>
     ensures { MatchResult result
-        (λ _. skip_members depth reader.old ≡ Some reader.new)
-        (λ _. skip_members depth reader.old ≡ None) }
+        (λ _. IsValueTaken depth (begin_object ∷ reader.old) reader.new is_whole.old is_whole.new)
+        (λ _. json.value depth (begin_object ∷ reader.old) ≡ None) }
 {
+    let inner = depth.checked_sub(1).ok_or(Invalid)?;
     while let Some(_) = reader.next_key()? {
-        reader.skip_value(depth)?;
+        let first = reader.next().ok_or(Invalid)?;
+        skip_rest(reader, first, inner, is_whole)?;
     }
     Ok(())
 }

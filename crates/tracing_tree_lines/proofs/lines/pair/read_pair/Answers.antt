@@ -14,9 +14,9 @@ returns-in_err-first c =
 pub returns-in-BeginArray : goal.returns-in-BeginArray
 returns-in-BeginArray c =
     let first : c.args.reader.now ≡ token_of c.in_ok-first.first ∷ c.next.new.self = grind arith in
-    pair_taken c.args.reader.now c.next.new.self c.read_texts.new.reader c.read_texts.result (first ∙ ap (λ k. token_of k ∷ c.next.new.self) c.in-BeginArray.is) c.read_texts.ensures
+    pair_taken c.args.reader.now c.next.new.self c.read_texts.new.reader c.args.is_whole.now c.read_texts.new.is_whole c.read_texts.result (first ∙ ap (λ k. token_of k ∷ c.next.new.self) c.in-BeginArray.is) c.read_texts.ensures
 
 pub returns-in_ok-skip_rest-in_default : goal.returns-in_ok-skip_rest-in_default
 returns-in_ok-skip_rest-in_default c =
     let first : c.args.reader.now ≡ token_of c.in_ok-first.first ∷ c.next.new.self = grind arith in
-    no_pair_read c.in_ok-first.first c.args.reader.now c.next.new.self c.skip_rest.new.reader first c.in_default.not-BeginArray c.in_ok-skip_rest-in_default.ensures
+    no_pair_read c.in_ok-first.first c.args.reader.now c.next.new.self c.skip_rest.new.reader c.args.is_whole.now c.skip_rest.new.is_whole first c.in_default.not-BeginArray c.in_ok-skip_rest-in_default.ensures

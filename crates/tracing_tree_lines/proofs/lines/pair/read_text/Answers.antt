@@ -14,9 +14,9 @@ returns-in_err-first c =
 pub returns-in-String : goal.returns-in-String
 returns-in-String c =
     let first : c.args.reader.now ≡ token_of c.in_ok-first.first ∷ c.next.new.self = grind arith in
-    text_read c.args.reader.now c.next.new.self c.in-String.text.now (first ∙ ap (λ k. token_of k ∷ c.next.new.self) c.in-String.is)
+    text_read c.args.reader.now c.next.new.self c.args.is_whole.now c.in-String.text.now (first ∙ ap (λ k. token_of k ∷ c.next.new.self) c.in-String.is)
 
 pub returns-in_ok-skip_rest-in_default : goal.returns-in_ok-skip_rest-in_default
 returns-in_ok-skip_rest-in_default c =
     let first : c.args.reader.now ≡ token_of c.in_ok-first.first ∷ c.next.new.self = grind arith in
-    other_read c.in_ok-first.first c.args.reader.now c.next.new.self c.skip_rest.new.reader first c.in_default.not-String c.in_ok-skip_rest-in_default.ensures
+    other_read c.in_ok-first.first c.args.reader.now c.next.new.self c.skip_rest.new.reader c.args.is_whole.now c.skip_rest.new.is_whole first c.in_default.not-String c.in_ok-skip_rest-in_default.ensures

@@ -1,13 +1,13 @@
 use Rattle.std.proofs.Common.{◌≡◌, ◌<◌, length, Some, refl, sym, ap, subst, arith}
 use Rattle.json.specs.Json.{read_key}
 use Rattle.json.proofs.Grammar.{left, read_key-shorter, skip_value-shorter}
-use Rattle.tracing_tree_lines.specs.Lines.Parts.{TakesParts}
+use Rattle.tracing_tree_lines.specs.Lines.Taken.{TakesParts}
 use Rattle.tracing_tree_lines.specs.declared.lines.LineCause.TheVariants.{NotACall}
 use Rattle.tracing_tree_lines.proofs.LineTokens.{fault_is, no_members_read, member_read, key_failed, parts_failed, parts_taken}
 use Rattle.tracing_tree_lines.proofs.lines.parts.read_members.Goals as goal
 
 pub loop-key-init : goal.loop-key-init
-loop-key-init c = no_members_read c.args.reader.now c.args.parts.now c.requires
+loop-key-init c = no_members_read c.args.reader.now c.args.parts.now c.requires.absent c.requires.whole
 
 pub returns-in_err-key : goal.returns-in_err-key
 returns-in_err-key c =
@@ -33,7 +33,7 @@ loop-key-smaller c =
     let s = c.next_key.new.self in
     let key : read_key l.reader ≡ Some (Some k, s) = grind arith in
     let less = read_key-shorter l.reader (Some k) s key in
-    let lesser = skip_value-shorter 126 _ _ (ap left c.in_ok-read_member.ensures.taken) in
+    let lesser = skip_value-shorter 126 _ _ (ap left c.in_ok-read_member.ensures.passed.taken) in
     let both : length c.read_member.new.reader < length l.reader = omega arith in
     both
 

@@ -2,7 +2,8 @@ use Rattle.std.proofs.Common.{◌≡◌, ◌∷◌, true, false, Some, None, ref
 use Rattle.json.specs.Lex.{tokens}
 use Rattle.json.specs.Token as spec
 use Rattle.json.specs.Reads.{token_of}
-use Rattle.tracing_tree_lines.specs.Lines.Parts.{opens_object, ReadsObject}
+use Rattle.tracing_tree_lines.specs.Lines.Parts.{ReadsObject}
+use Rattle.tracing_tree_lines.specs.Lines.Taken.{opens_object}
 use Rattle.tracing_tree_lines.specs.declared.lines.LineCause.TheVariants.{NotACall}
 use Rattle.tracing_tree_lines.proofs.LineTokens.{fault_is}
 use Rattle.tracing_tree_lines.proofs.ObjectLines.{no_object_call, other_first, other_token, brace_token, object_failed, object_and_more, object_alone}

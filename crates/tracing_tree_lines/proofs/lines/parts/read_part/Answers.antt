@@ -1,8 +1,9 @@
-use Rattle.std.proofs.Common.{◌≡◌, ◌∷◌, [], None, ap, ◌∙◌, arith}
+use Rattle.std.proofs.Common.{◌≡◌, ◌∷◌, [], Some, None, ap, ◌∙◌, subst, arith, rules}
 use Rattle.json.specs.Json.{value}
 use Rattle.json.specs.Reads.{token_of}
 use Rattle.json.proofs.Grammar.{value_is}
-use Rattle.tracing_tree_lines.proofs.LineTokens.{null_taken, text_taken, truth_taken, number_taken, other_taken}
+use Rattle.tracing_tree_lines.specs.Lines.Parts.{IsNumberPart}
+use Rattle.tracing_tree_lines.proofs.LineTokens.{null_taken, text_taken, number_taken, other_number_taken, word_passed}
 use Rattle.tracing_tree_lines.proofs.lines.parts.read_part.Goals as goal
 
 pub returns-in_err-first : goal.returns-in_err-first
@@ -14,25 +15,29 @@ returns-in_err-first c =
 pub returns-in-Null : goal.returns-in-Null
 returns-in-Null c =
     let first : c.args.reader.now ≡ token_of c.in_ok-first.first ∷ c.next.new.self = grind arith in
-    null_taken c.args.reader.now c.next.new.self (first ∙ ap (λ k. token_of k ∷ c.next.new.self) c.in-Null.is)
+    null_taken c.args.reader.now c.next.new.self c.args.is_whole.now (first ∙ ap (λ k. token_of k ∷ c.next.new.self) c.in-Null.is)
 
 pub returns-in-String : goal.returns-in-String
 returns-in-String c =
     let first : c.args.reader.now ≡ token_of c.in_ok-first.first ∷ c.next.new.self = grind arith in
-    text_taken c.args.reader.now c.next.new.self c.in-String.text (first ∙ ap (λ k. token_of k ∷ c.next.new.self) c.in-String.is)
+    text_taken c.args.reader.now c.next.new.self c.args.is_whole.now c.in-String.text (first ∙ ap (λ k. token_of k ∷ c.next.new.self) c.in-String.is)
 
-pub returns-in-Number : goal.returns-in-Number
-returns-in-Number c =
+pub returns-in-Some : goal.returns-in-Some
+returns-in-Some c =
     let first : c.args.reader.now ≡ token_of c.in_ok-first.first ∷ c.next.new.self = grind arith in
-    number_taken c.args.reader.now c.next.new.self c.in-Number.text.now c.number_part.result (first ∙ ap (λ k. token_of k ∷ c.next.new.self) c.in-Number.is) c.number_part.ensures
+    let found : c.number_part.result ≡ Some c.in-Some.part = search rules in
+    number_taken c.args.reader.now c.next.new.self c.args.is_whole.now c.in-Number.text.now c.in-Some.part (first ∙ ap (λ k. token_of k ∷ c.next.new.self) c.in-Number.is)
+    (subst (IsNumberPart c.in-Number.text.now) found c.number_part.ensures)
 
-pub returns-in-Bool : goal.returns-in-Bool
-returns-in-Bool c =
+pub returns-in_default-number_part : goal.returns-in_default-number_part
+returns-in_default-number_part c =
     let first : c.args.reader.now ≡ token_of c.in_ok-first.first ∷ c.next.new.self = grind arith in
-    truth_taken c.args.reader.now c.next.new.self c.in-Bool.field-0 (first ∙ ap (λ k. token_of k ∷ c.next.new.self) c.in-Bool.is)
+    let none : c.number_part.result ≡ None = search rules in
+    other_number_taken c.args.reader.now c.next.new.self c.args.is_whole.now c.in-Number.text.now (first ∙ ap (λ k. token_of k ∷ c.next.new.self) c.in-Number.is)
+    (subst (IsNumberPart c.in-Number.text.now) none c.number_part.ensures)
 
 pub returns-in_ok-skip_rest-in_default : goal.returns-in_ok-skip_rest-in_default
 returns-in_ok-skip_rest-in_default c =
     let first : c.args.reader.now ≡ token_of c.in_ok-first.first ∷ c.next.new.self = grind arith in
     let other = c.in_default in
-    other_taken c.in_ok-first.first c.args.reader.now c.next.new.self c.skip_rest.new.reader first other.not-Null other.not-String other.not-Number c.in_ok-skip_rest-in_default.ensures
+    word_passed c.in_ok-first.first c.args.reader.now c.next.new.self c.skip_rest.new.reader c.args.is_whole.now c.skip_rest.new.is_whole first other.not-Null other.not-String other.not-Number c.in_ok-skip_rest-in_default.ensures

@@ -3,7 +3,6 @@ use Rattle.std.specs.Prelude.{bytes_eq}
 use Rattle.tracing_tree_lines.specs.Lines.Parts.{part_data}
 use Rattle.tracing_tree_lines.proofs.Choices.{apart}
 use Rattle.tracing_tree_lines.proofs.LineParts.{other_key}
-use Rattle.tracing_tree_lines.proofs.lines.parts.Parts.set.Goals.{then-is_other, else-is_other}
 use Rattle.tracing_tree_lines.proofs.lines.parts.Parts.set.Goals as goal
 
 pub returns-else-str_eq-11-clause-put : goal.returns-else-str_eq-11-clause-put
@@ -21,9 +20,5 @@ returns-else-str_eq-11-clause-put c =
     let mono : bytes_eq key (codes "mono") ≡ false = search rules in
     let wall : bytes_eq key (codes "wall") ≡ false = search rules in
     let fields = apart key (codes "fields") c.requires in
-    let same = other_key key (part_data c.args.part) c.args.self.now
-    (call, (id, (name, (level, (target, (parent, (fields, (current, (thread, (thread_name, (mono, (wall, tt)))))))))))) in
-    elim c.if-is_other.branch [
-      | then-is_other w ↦ rw w.self-is (sym same)
-      | else-is_other w ↦ rw w.self-is (sym same)
-    ]
+    sym (other_key key (part_data c.args.part) c.args.self.now
+    (call, (id, (name, (level, (target, (parent, (fields, (current, (thread, (thread_name, (mono, (wall, tt)))))))))))))
