@@ -44,6 +44,9 @@ ENDED = re.compile(r"(?m)^(logic=not-proved|only=\d+ proved=)")
 UNKNOWN = 2
 # What antt says of a proof that names what an edit took away. It is no answer about a contract.
 NAMES = re.compile(r"has no field|is not in scope|has no `|was not admitted|cannot continue|expected the end")
+# Where antt goes on in the next line of such a message, and such a message as `rt must-fail` cuts it there.
+BROKEN = re.compile(r"\n +(?=has no )")
+CUT = re.compile(r"error: (`[^`]+`: )*(module|record) `")
 ONLY_NAMES = "only because a proof file names what the edit took away"
 # What stands before a refusal that an earlier run kept.
 KEPT = "kept: "
@@ -278,7 +281,7 @@ def told_at(line, bodies):
 def goals_in(output, bodies):
     """Returns the first goal of each body that is refused by a goal of its own, and such goals of bodies that aren't known."""
     own, strange = {}, []
-    for line in output.split("\n"):
+    for line in BROKEN.sub(" ", output).split("\n"):
         told = told_at(line, bodies)
         if told and told[0]:
             own.setdefault(told[0], told[1])
@@ -389,7 +392,7 @@ class Trial:
     def check_edited(self, edits):
         """Checks the edited functions and what they call. A check of the whole crate would try each caller of an edited function again, and
         show nothing by it; it is made only where an edited function can't be named."""
-        texts, names = edited(self.crate, edits), [self.name_of(it.body) for it in edits]
+        texts, names = edited(self.crate, edits), [it.body and self.name_of(it.body) for it in edits]
         only = [word for it in names for word in ("--only", it)] if all(names) else []
         return self.over_kept(lambda kept: self.kit.checked(self.crate, texts, ["--jobs", "1", *only], kept))
 
@@ -397,7 +400,14 @@ class Trial:
         """Returns the verdict of `rt must-fail`. An edit that only a proof file's names or a limit of the prover refuse has failed."""
         is_refused, said = self.over_kept(lambda kept: self.kit.must_fail(self.crate, edit.path, ["--jobs", "1"], kept))
         why = said.partition(": ")[2]
-        return Verdict(edit, is_refused and ONLY_NAMES not in said, f"alone: {why}")
+        if is_refused and CUT.search(why) and self.is_by_names(edit):
+            why = f"{ONLY_NAMES}: {why}"
+        return Verdict(edit, is_refused and ONLY_NAMES not in why, f"alone: {why}")
+
+    def is_by_names(self, edit):
+        """Returns whether no goal of the edit's own function is refused, or of any function where it edits none."""
+        own, _ = goals_in(self.check_edited([edit]).stdout, self.bodies)
+        return edit.body not in own if edit.body else not own
 
     def try_round(self, edits):
         """Checks the crate with all of these edits, and returns a verdict of each that the check refused, and the edits of which it says
