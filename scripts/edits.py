@@ -43,10 +43,10 @@ ENDED = re.compile(r"(?m)^(logic=not-proved|only=\d+ proved=)")
 # The status of a check that is asked for a function by words that fit none, or several.
 UNKNOWN = 2
 # What antt says of a proof that names what an edit took away. It is no answer about a contract.
-NAMES = re.compile(r"has no field|is not in scope|has no `|was not admitted|cannot continue|expected the end")
+NAMES = re.compile(r"has no field|is not in scope|has no `|was not admitted|cannot continue|expected the end|write the case `goal")
 # Where antt goes on in the next line of such a message, and such a message as `rt must-fail` cuts it there.
 BROKEN = re.compile(r"\n +(?=has no )")
-CUT = re.compile(r"error: (`[^`]+`: )*(module|record) `")
+CUT = re.compile(r"error: (`[^`]+`: )*(module `|record `|write the case `goal)")
 ONLY_NAMES = "only because a proof file names what the edit took away"
 # What stands before a refusal that an earlier run kept.
 KEPT = "kept: "
