@@ -1,18 +1,19 @@
 -- The lines of a row, one by one.
-use Rattle.std.proofs.Common.{◌≡◌, ◌≢◌, ℕ, ◌+◌, ◌-◌, ◌<◌, ◌≤◌, Bool, true, false, List, [], ◌∷◌, ◌++◌, length, take, get_or, ◌==◌, refl, sym, ap, ◌∙◌, arith, append_assoc, Option, Some, None, Result, Ok, Err, Bor, inl, inr, MatchOption}
-use Rattle.std.specs.Prelude.{OnOk}
+use Rattle.std.proofs.Common.{◌≡◌, ◌≢◌, ℕ, ◌+◌, ◌-◌, ◌<◌, ◌≤◌, Bool, true, false, List, [], ◌∷◌, ◌++◌, length, take, drop, get_or, ◌==◌, refl, sym, ap, ◌∙◌, arith, append_assoc, Option, Some, None, Result, Ok, Err, Bor, inl, inr, MatchOption}
+use Rattle.std.specs.Prelude.{OnOk, IsTrue, not}
 use Rattle.std.specs.List.{All, slice_split, flat_map, enumerate_from}
 use Rattle.std.specs.Option.{unwrap_or}
 use Rattle.std.specs.Str.Lines.{lines, lines_of_parts, strip_carriage_return}
 use Rattle.std.proofs.lemmas.Bool.{ne_eqb}
 use Rattle.std.proofs.lemmas.Bool.Decides.{eqb_tells, nat_tests}
-use Rattle.std.proofs.lemmas.List.{append-nil, take_all, take_more, length_push, get_or_push}
+use Rattle.std.proofs.lemmas.List.{append-nil, take-append-drop, take_all, take_more, length_push, get_or_push}
 use Rattle.std.proofs.lemmas.List.Elements.{All-from_get_or}
 use Rattle.std.proofs.lemmas.List.Splits.{slice_split_at, slice_split_none, length-slice_split}
 use Rattle.std.proofs.Math.Seq.{take-append_seam}
 use Rattle.tracing_tree_drawing.specs.Format.Settings.{Settings}
-use Rattle.tracing_tree_drawing.specs.Format.Picture.{Row, drawn_line, row_frame, row_lines}
+use Rattle.tracing_tree_drawing.specs.Format.Picture.{Row, drawn_line, drawn_row, mark_after_corner, mark_before_corner, mark_line, row_frame, row_lines, row_start}
 use Rattle.tracing_tree_drawing.specs.declared.format.SpanMode.{SpanMode}
+use Rattle.tracing_tree_text.specs.Extended.{IsExtended}
 
 -- ---- carriage returns
 
@@ -159,3 +160,50 @@ pub unlined-last : {T E : Type 0} (r : Result T E) (settings : Settings) (row : 
 unlined-last r settings row whole text more rest frame h unlined unbroken filled pushed =
     let lines : row_lines settings.indent_lines rest ≡ rest ∷ [] = rw unlined (row_lines-rest rest unbroken filled) in
     on-ok r (drawn-last settings row whole text more rest frame rest h lines) pushed
+
+-- a test that fails holds of nothing
+never : false ≡ true → ⊥
+never e = absurd cc
+
+-- a block that is one line as it is, with lines
+pub line-lined : (block : List ℕ) (cut ends : Bool) → cut ≡ false → ((i : ℕ) → i < length block → get_or block i 0 ≡ 10 → cut ≡ true) →
+    IsTrue (not ends) → ((front : List ℕ) → block ≡ front ++ 13 ∷ [] → ends ≡ true) → row_lines true block ≡ block ∷ []
+line-lined block true ends whole cuts stays returns = absurd (never (sym whole))
+line-lined block false true whole cuts stays returns = absurd (never stays)
+line-lined block false false whole cuts stays returns =
+    row_lines-last block (λ i within same. never (cuts i within same))
+    ∙ ap (λ line. line ∷ []) (strip-none block (λ front same. never (returns front same)))
+
+-- and without lines
+pub line-unlined : (block : List ℕ) (cut empty : Bool) → cut ≡ false → ((i : ℕ) → i < length block → get_or block i 0 ≡ 10 → cut ≡ true) →
+    IsTrue (not empty) → empty ≡ (length block == 0) → row_lines false block ≡ block ∷ []
+line-unlined block true empty whole cuts filled here = absurd (never (sym whole))
+line-unlined block false true whole cuts filled here = absurd (never filled)
+line-unlined block false false whole cuts filled here =
+    row_lines-rest block (λ i within same. never (cuts i within same)) (sym here)
+
+-- ---- rows that were begun
+
+-- a text is a beginning of it, and what follows
+pub extended-cut : (at : ℕ) (text : List ℕ) → IsExtended (take at text) text
+extended-cut at text = record { front = drop at text; appended = sym (take-append-drop at text) }
+
+row-pieces : (before mark prefix frame block after : List ℕ) →
+    before ++ (mark ++ prefix ++ frame) ++ block ++ 10 ∷ [] ++ after ≡ before ++ (mark ++ (prefix ++ frame ++ block ++ 10 ∷ [] ++ []) ++ after)
+row-pieces before mark prefix frame block after = simp (append-nil, append_assoc)
+
+-- a row that was begun, its block, which is one line, and a line end
+pub row-ended : {T E : Type 0} (r : Result T E) (settings : Settings) (row : Row) (before text ended more : List ℕ) (at : ℕ) →
+    take at text ≡ before ++ row_start settings row → row_lines settings.indent_lines (drop at text) ≡ drop at text ∷ [] →
+    ended ≡ text ++ 10 ∷ [] → OnOk r (more ≡ ended ++ mark_line settings row (mark_after_corner row.mode)) →
+    OnOk r (more ≡ before ++ drawn_row settings (record row { block = drop at text }))
+row-ended r settings row before text ended more at begun single pushed marked =
+    let block = drop at text in
+    let first = mark_line settings row (mark_before_corner row.mode) in
+    let last = mark_line settings row (mark_after_corner row.mode) in
+    let whole : text ≡ before ++ row_start settings row ++ block =
+    sym (take-append-drop at text) ∙ ap (λ front. front ++ block) begun in
+    let pieces : before ++ row_start settings row ++ block ++ 10 ∷ [] ++ last ≡ before ++ (first ++ drawn_from settings row 0 (block ∷ []) ++ last) =
+    row-pieces before first row.prefix (row_frame settings row.mode row.level 0) block last in
+    on-ok r (λ e. e ∙ ap (λ t. t ++ last) (pushed ∙ ap (λ t. t ++ 10 ∷ []) whole) ∙ pieces
+    ∙ ap (λ texts. before ++ (first ++ drawn_from settings row 0 texts ++ last)) (sym single)) marked

@@ -9,7 +9,7 @@ mod event;
 mod surface;
 
 pub use config::Config;
-pub use draw::{push_frame, push_row};
+pub use draw::{RowDrawing, RowPlace, push_frame, push_row};
 pub use event::{push_event_field, push_event_texts, push_named, push_shown};
 use std::alloc::AllocError;
 pub use surface::{Buffers, FmtEvent};

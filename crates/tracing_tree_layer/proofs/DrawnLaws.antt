@@ -1,10 +1,11 @@
 -- Rows that are drawn one after another are drawn together.
-use Rattle.std.proofs.Common.{◌≡◌, ◌≢◌, ◌⊎◌, ◌-◌, suc, take, drop, ℕ, Bool, true, false, if◌then◌else◌, ◌||◌, List, [], ◌∷◌, ◌++◌, None, Some, Option, Result, Ok, Err, is_ok, string_bytes, refl, sym, ap, subst, ◌∙◌, inl, inr, append_assoc, append-nil}
+use Rattle.std.proofs.Common.{◌≡◌, ◌≢◌, ◌⊎◌, ◌-◌, suc, take, drop, ℕ, Bool, true, false, if◌then◌else◌, ◌||◌, List, [], ◌∷◌, ◌++◌, None, Some, Option, Result, Ok, Err, is_ok, String, string_bytes, refl, sym, ap, subst, ◌∙◌, inl, inr, append_assoc, append-nil, length}
 use Rattle.std.proofs.lemmas.Grind.{flat_map-append}
 use Rattle.std.proofs.lemmas.List.{map-append}
+use Rattle.std.proofs.Math.Seq.{drop-append_seam, take-append_seam}
 use Rattle.std.proofs.lemmas.List.Folds.{list_any-append}
 use Rattle.tracing_tree_drawing.specs.Format.Settings.{Settings}
-use Rattle.tracing_tree_drawing.specs.Format.Picture.{Row, draw, drawn_row, is_too_wide, unnamed_row}
+use Rattle.tracing_tree_drawing.specs.Format.Picture.{Row, draw, drawn_row, is_too_wide, row_start, unnamed_row}
 use Rattle.tracing_tree_context.specs.declared.context.Refusal.{Refusal}
 use Rattle.tracing_tree_context.specs.declared.context.Refusal.TheVariants.{NotHeld, TooWide, TooMany, Memory, Timer, Writer, Failed}
 use Rattle.tracing_tree_spans.specs.Registry.Forest.{Forest, is_live, if_live, path_of, path_of_any}
@@ -14,6 +15,9 @@ use Rattle.tracing_tree_spans.specs.declared.registry.Event.{Event}
 use Rattle.tracing_tree_drawing.specs.declared.format.SpanMode.TheVariants.{Event as EventMode}
 use Rattle.tracing_tree_time.specs.Clock.{Timer as Clock}
 use Rattle.tracing_tree_spans.proofs.PathLaws.{path_of-none}
+use Rattle.tracing_tree_text.proofs.Extended.{cuts_back, extended_twice}
+use Rattle.tracing_tree_text.specs.Extended.{IsExtended}
+use Rattle.std.specs.String.Boundary.{IsSplitPoint}
 use Rattle.std.specs.Option.{option_or}
 use Rattle.std.specs.Bool.{then_some}
 use Rattle.std.specs.Io.KnownBytes.{Appends}
@@ -22,8 +26,7 @@ use Rattle.tracing_tree_output.specs.Writers.{IsCutShort, LeavesCut, SeenWriter}
 use Rattle.tracing_tree_layer.specs.Layered.State.{Turn}
 use Rattle.tracing_tree_layer.specs.Layer.Turns.{then_turn, turn_of_row, turn_of_closes, event_depth, event_level, event_parent}
 use Rattle.tracing_tree_layer.specs.Layer.Plan.{PlanView, rows_of_planned, row_of_planned, turn_of_plan}
-use Rattle.tracing_tree_layer.specs.Layer.Drawn.{AddsRow, DoesTurn, DrawsRows, Drafts, IsUndrawn, IsWritten, Sends, failed_by, has_no_id, has_no_row, rows_cause, when_ok, draws_too_wide, is_event_too_wide}
-use Rattle.tracing_tree_layer.specs.declared.layer.page.Page.{Page}
+use Rattle.tracing_tree_layer.specs.Layer.Drawn.{DoesTurn, DrawsRows, Drafts, IsUndrawn, IsWritten, Sends, failed_by, has_no_id, has_no_row, rows_cause, when_ok, draws_too_wide, is_event_too_wide}
 use Rattle.tracing_tree_layer.specs.declared.layer.plan.PlannedRow.{PlannedRow}
 
 pub draw-append : (settings : Settings) (first second : List Row) → draw settings (first ++ second) ≡ draw settings first ++ draw settings second
@@ -84,21 +87,20 @@ row-second (row ∷ first) second h = refl
 -- ---- one after another
 
 -- a refusal of the first rows is one of all
-pub refuses_first : (settings : Settings) (first second : List Row) (faults : Bool) (refusal : Refusal) (a b : Page) →
+pub refuses_first : (settings : Settings) (first second : List Row) (faults : Bool) (refusal : Refusal) (a b : List ℕ) →
     DrawsRows settings first false (Err refusal) a b → DrawsRows settings (first ++ second) faults (Err refusal) a b
 refuses_first settings first second faults refusal a b (inl cause) = inl (cause-first settings first second faults refusal cause)
 refuses_first settings first second faults refusal a b (inr memory) = inr (memory.0, row-first first second memory.1)
 
 -- the first rows and then the others
-pub draws_both : (settings : Settings) (first second : List Row) (faults : Bool) (result : Result (Unit {0}) Refusal) (a b c : Page) →
+pub draws_both : (settings : Settings) (first second : List Row) (faults : Bool) (result : Result (Unit {0}) Refusal) (a b c : List ℕ) →
     DrawsRows settings first false (Ok tt) a b → DrawsRows settings second faults result b c →
     DrawsRows settings (first ++ second) faults result a c
 draws_both settings first second faults (Ok done) a b c h k = (
   cause-second settings first second h.0 faults ∙ k.0,
-  k.1,
-  k.2 ∙ ap (λ text. text ++ draw settings second) h.2
-      ∙ append_assoc (string_bytes a.text) (draw settings first) (draw settings second)
-      ∙ ap (λ text. string_bytes a.text ++ text) (sym (draw-append settings first second)),
+  k.1 ∙ ap (λ text. text ++ draw settings second) h.1
+      ∙ append_assoc a (draw settings first) (draw settings second)
+      ∙ ap (λ text. a ++ text) (sym (draw-append settings first second)),
 )
 draws_both settings first second faults (Err refusal) a b c h (inl cause) = inl (cause-second settings first second h.0 faults ∙ cause)
 draws_both settings first second faults (Err refusal) a b c h (inr memory) = inr (memory.0, row-second first second memory.1)
@@ -108,23 +110,6 @@ draws_both settings first second faults (Err refusal) a b c h (inr memory) = inr
 wide-single : (settings : Settings) (row : Row) → draws_too_wide settings (row ∷ []) ≡ is_too_wide settings row
 wide-single settings row = elim (is_too_wide settings row) as (λ b. (b || false) ≡ b) [ true ↦ refl | false ↦ refl ]
 
--- a row that was added is drawn
-pub draws_added : (settings : Settings) (row : Row) (result : Result (Unit {0}) Refusal) (a b c : Page) →
-    string_bytes b.text ≡ string_bytes a.text →
-    AddsRow (is_too_wide settings row) (drawn_row settings row) result b c → DrawsRows settings (row ∷ []) false result a c
-draws_added settings row (Ok done) a b c text h = (
-  cause-narrow settings (row ∷ []) (wide-single settings row ∙ h.0),
-  h.1,
-  h.2 ∙ ap (λ front. front ++ drawn_row settings row) text ∙ ap (λ rows. string_bytes a.text ++ rows) (sym (append-nil (drawn_row settings row))),
-)
-draws_added settings row (Err TooWide) a b c text h = inl (cause-wide settings (row ∷ []) (wide-single settings row ∙ h.0) false)
-draws_added settings row (Err Memory) a b c text h = inr (refl, refl)
-draws_added settings row (Err (NotHeld i)) a b c text h = absurd h
-draws_added settings row (Err TooMany) a b c text h = absurd h
-draws_added settings row (Err Timer) a b c text h = absurd h
-draws_added settings row (Err Writer) a b c text h = absurd h
-draws_added settings row (Err Failed) a b c text h = absurd h
-
 -- a span that isn't live stands in none
 pub path-if_live : (forest : Forest) (i : Id) → path_of_any forest (if_live forest (Some i)) ≡ path_of forest i
 path-if_live forest i =
@@ -133,19 +118,37 @@ path-if_live forest i =
       | false ↦ (λ e. sym (path_of-none forest i e))
     ] refl
 
--- a row without its span is drawn as the row
-pub draws_like : (settings : Settings) (row : Row) (level : ℕ) (result : Result (Unit {0}) Refusal) (a b c : Page) →
-    string_bytes b.text ≡ string_bytes a.text → level ≡ row.level → string_bytes b.block ≡ row.block →
-    AddsRow (is_too_wide settings (unnamed_row row.mode level (string_bytes b.block) row.prefix)) (drawn_row settings (unnamed_row row.mode level (string_bytes b.block) row.prefix)) result b c →
-    DrawsRows settings (row ∷ []) false result a c
-draws_like settings row level result a b c text same_level same_block h =
-    let same : unnamed_row row.mode level (string_bytes b.block) row.prefix ≡ unnamed_row row.mode row.level row.block row.prefix =
-    (λ i. unnamed_row row.mode (same_level i) (same_block i) row.prefix) in
-    let P : Row → Type 0 = λ r. AddsRow (is_too_wide settings r) (drawn_row settings r) result b c in
-    draws_added settings row result a b c text (subst P same h)
+-- a row at its level is drawn, with the block that was appended after its start
+pub row-drawn : (settings : Settings) (row : Row) (level start at : ℕ) (old begun whole new : List ℕ) →
+    level ≡ row.level → is_too_wide settings (unnamed_row row.mode level [] row.prefix) ≡ false →
+    start ≡ length old → at ≡ length begun → begun ≡ old ++ row_start settings (unnamed_row row.mode level [] row.prefix) → whole ≡ begun ++ row.block →
+    new ≡ take start whole ++ drawn_row settings (unnamed_row row.mode level (drop at whole) row.prefix) →
+    DrawsRows settings (row ∷ []) false (Ok tt) old new
+row-drawn settings row level start at old begun whole new same_level narrow here there started filled drawn =
+    let first : List ℕ = row_start settings (unnamed_row row.mode level [] row.prefix) in
+    let before : take start whole ≡ old = ap (take start) (filled ∙ ap (λ t. t ++ row.block) started ∙ append_assoc old first row.block)
+    ∙ ap (λ n. take n (old ++ (first ++ row.block))) here ∙ take-append_seam old (first ++ row.block) in
+    let block : drop at whole ≡ row.block = ap (drop at) filled ∙ ap (λ n. drop n (begun ++ row.block)) there ∙ drop-append_seam begun row.block in
+    let picture : new ≡ old ++ drawn_row settings row = drawn
+    ∙ (λ i. before i ++ drawn_row settings (unnamed_row row.mode (same_level i) (block i) row.prefix)) in (
+      cause-narrow settings (row ∷ []) (wide-single settings row ∙ ap (λ l. is_too_wide settings (unnamed_row row.mode l [] row.prefix)) (sym same_level) ∙ narrow),
+      picture ∙ ap (λ rows. old ++ rows) (sym (append-nil (drawn_row settings row))),
+    )
+
+-- a text that was appended to twice can be cut where each began
+pub row-splits : {Z : Type 0} (old begun whole : String Z) (first block : List ℕ) (start at : ℕ) →
+    start ≡ length (string_bytes old) → at ≡ length (string_bytes begun) →
+    string_bytes begun ≡ string_bytes old ++ first → string_bytes whole ≡ string_bytes begun ++ block →
+    IsSplitPoint (string_bytes whole) start × IsSplitPoint (string_bytes whole) at
+row-splits old begun whole first block start at here there started filled =
+    let more : IsExtended (string_bytes old) (string_bytes begun) = record { front = first; appended = started } in
+    let most : IsExtended (string_bytes begun) (string_bytes whole) = record { front = block; appended = filled } in (
+      cuts_back old whole start (here ∙ sym old.bytes.ok.0) (extended_twice _ _ _ more most),
+      cuts_back begun whole at (there ∙ sym begun.bytes.ok.0) most,
+    )
 
 -- where one planned row is refused, they all are
-pub planned_refused : (settings : Settings) (context : Context) (forest : Forest) (planned : List PlannedRow) (k : ℕ) (row : PlannedRow) (refusal : Refusal) (a b c : Page) →
+pub planned_refused : (settings : Settings) (context : Context) (forest : Forest) (planned : List PlannedRow) (k : ℕ) (row : PlannedRow) (refusal : Refusal) (a b c : List ℕ) →
     DrawsRows settings (rows_of_planned settings context forest (take k planned)) false (Ok tt) a b →
     DrawsRows settings (row_of_planned settings context forest row ∷ []) false (Err refusal) b c →
     planned ≡ take k planned ++ row ∷ drop (suc k) planned →
@@ -166,7 +169,7 @@ planned_refused settings context forest planned k row refusal a b c before here 
 -- ---- turns
 
 -- the rows of a turn are drawn, or refused
-abbrev pub IsDrawn : Settings → List Row → Bool → Bool → Result (Unit {0}) Refusal → Page → Page → Type 0
+abbrev pub IsDrawn : Settings → List Row → Bool → Bool → Result (Unit {0}) Refusal → List ℕ → List ℕ → Type 0
 IsDrawn settings rows faults quiet (Ok done) old new = DrawsRows settings rows faults (Ok done) old new
 IsDrawn settings rows faults quiet (Err refusal) old new =
     IsUndrawn (rows_cause settings rows faults) quiet refusal
@@ -177,7 +180,7 @@ loud-undrawn cause quiet refusal (inl h) = inl h
 loud-undrawn cause quiet refusal (inr memory) = inr (memory.0, refl)
 
 -- a turn is drafted where its rows are drawn and its plan comes to it
-pub drafts : (settings : Settings) (context : Context) (forest : Forest) (turn : Turn) (quiet : Bool) (result : Result (Unit {0}) Refusal) (old new : Page) (plan : PlanView) →
+pub drafts : (settings : Settings) (context : Context) (forest : Forest) (turn : Turn) (quiet : Bool) (result : Result (Unit {0}) Refusal) (old new : List ℕ) (plan : PlanView) →
     turn_of_plan settings context forest plan ≡ turn → (has_no_row turn.rows ≡ false → quiet ≡ false) →
     DrawsRows settings (rows_of_planned settings context forest plan.rows) false result old new →
     Drafts settings forest turn false quiet result old new plan
@@ -200,7 +203,7 @@ closes-loud settings context [] forest last h = cc
 closes-loud settings context (i ∷ others) forest last h = refl
 
 -- an event's row after the rows of its plan
-pub drafts_event : (settings : Settings) (context : Context) (forest : Forest) (before : Turn) (row : Row) (faults : Bool) (result : Result (Unit {0}) Refusal) (a b c : Page) (plan : PlanView) →
+pub drafts_event : (settings : Settings) (context : Context) (forest : Forest) (before : Turn) (row : Row) (faults : Bool) (result : Result (Unit {0}) Refusal) (a b c : List ℕ) (plan : PlanView) →
     turn_of_plan settings context forest plan ≡ before →
     DrawsRows settings (rows_of_planned settings context forest plan.rows) false (Ok tt) a b → DrawsRows settings (row ∷ []) faults result b c →
     Drafts settings forest (then_turn before (turn_of_row row)) faults false result a c plan
@@ -215,7 +218,7 @@ drafts_event settings context forest before row faults (Err refusal) a b c plan 
     loud-undrawn (rows_cause settings (before.rows ++ row ∷ []) faults) (has_no_row (before.rows ++ row ∷ [])) refusal all
 
 -- the rows of its plan are refused
-pub refuses_event : (settings : Settings) (context : Context) (forest : Forest) (before : Turn) (row : Row) (faults : Bool) (refusal : Refusal) (a b : Page) (plan : PlanView) →
+pub refuses_event : (settings : Settings) (context : Context) (forest : Forest) (before : Turn) (row : Row) (faults : Bool) (refusal : Refusal) (a b : List ℕ) (plan : PlanView) →
     turn_of_plan settings context forest plan ≡ before →
     DrawsRows settings (rows_of_planned settings context forest plan.rows) false (Err refusal) a b →
     Drafts settings forest (then_turn before (turn_of_row row)) faults false (Err refusal) a b plan
@@ -268,15 +271,15 @@ cut-some text [] cut none = cut.cut (sym cut.whole ∙ none)
 cut-some text (x ∷ front) cut none = let e = sym cut.whole ∙ none in cc
 
 -- rows that were drawn and sent are written, or refused as they may be
-pub written : (settings : Settings) (rows : List Row) (faults quiet : Bool) (drawn sent : Result (Unit {0}) Refusal) (a b c : Page) (old new : SeenWriter) →
-    IsDrawn settings rows faults quiet drawn a b → string_bytes a.text ≡ [] → Sends drawn sent b c old new →
+pub written : (settings : Settings) (rows : List Row) (faults quiet : Bool) (drawn sent : Result (Unit {0}) Refusal) (a b c : List ℕ) (old new : SeenWriter) →
+    IsDrawn settings rows faults quiet drawn a b → a ≡ [] → Sends drawn sent b c old new →
     IsWritten settings rows faults quiet sent old new
 written settings rows faults quiet (Ok done) (Ok also) a b c old new h none k =
-    let text : string_bytes b.text ≡ draw settings rows = h.2 ∙ ap (λ front. front ++ draw settings rows) none in
+    let text : b ≡ draw settings rows = h.1 ∙ ap (λ front. front ++ draw settings rows) none in
     let P : List ℕ → Type 0 = λ t. Appends old.bytes new.bytes t in
     record { answer = h.0; written = (subst P text k.0, k.1) }
 written settings rows faults quiet (Ok done) (Err Writer) a b c old new h none k =
-    let text : string_bytes b.text ≡ draw settings rows = h.2 ∙ ap (λ front. front ++ draw settings rows) none in
+    let text : b ≡ draw settings rows = h.1 ∙ ap (λ front. front ++ draw settings rows) none in
     let P : List ℕ → Type 0 = λ t. LeavesCut t old new in
     let cut = subst P text k in
     record { answer = (h.0, cut-some (draw settings rows) cut.front cut.cut); written = cut }
@@ -294,7 +297,7 @@ written settings rows faults quiet (Err refusal) sent a b c old new h none k =
 -- ---- a refused turn
 
 -- a turn that is drafted is drawn
-pub drafts-drawn : (settings : Settings) (forest : Forest) (turn : Turn) (faults quiet : Bool) (result : Result (Unit {0}) Refusal) (a b : Page) (plan : PlanView) →
+pub drafts-drawn : (settings : Settings) (forest : Forest) (turn : Turn) (faults quiet : Bool) (result : Result (Unit {0}) Refusal) (a b : List ℕ) (plan : PlanView) →
     Drafts settings forest turn faults quiet result a b plan → IsDrawn settings turn.rows faults quiet result a b
 drafts-drawn settings forest turn faults quiet (Ok done) a b plan h = h.0
 drafts-drawn settings forest turn faults quiet (Err refusal) a b plan h = h
@@ -305,9 +308,9 @@ refused-same (Ok done) next before e = cc
 refused-same (Err refusal) next before e = refl
 
 -- a turn whose rows were not written is refused
-pub gives_up : {W FT : Type 0} → (see : W → SeenWriter) (settings : Settings) (forest : Forest) (turn : Turn) (faults quiet : Bool) (drawn sent : Result (Unit {0}) Refusal) (a b c : Page) (plan : PlanView)
+pub gives_up : {W FT : Type 0} → (see : W → SeenWriter) (settings : Settings) (forest : Forest) (turn : Turn) (faults quiet : Bool) (drawn sent : Result (Unit {0}) Refusal) (a b c : List ℕ) (plan : PlanView)
     (writer next : W) (timer : FT) (last : Option Id) (was failed : Bool) →
-    Drafts settings forest turn faults quiet drawn a b plan → string_bytes a.text ≡ [] → Sends drawn sent b c (see writer) (see next) →
+    Drafts settings forest turn faults quiet drawn a b plan → a ≡ [] → Sends drawn sent b c (see writer) (see next) →
     failed ≡ failed_by sent → is_ok sent ≡ false →
     DoesTurn see turn faults quiet sent
     (record { settings = settings; writer = writer; timer = timer; last = last; failed = was })

@@ -4,11 +4,10 @@ mod bare;
 mod block;
 mod builders;
 mod drawing;
-mod page;
 mod path;
 mod plan;
 
-ghost use Rattle.std.specs.Prelude.{◌≡◌, ◌<◌, false, None, IfSome};
+ghost use Rattle.std.specs.Prelude.{◌≡◌, ◌<◌, [], false, None, IfSome, string_bytes};
 ghost use Rattle.tracing_tree_drawing.specs.Format.Settings.{default_settings};
 ghost use Rattle.tracing_tree_spans.specs.Registry.Forest.{mark_all};
 ghost use Rattle.tracing_tree_layer.specs.Layer.Block.{event_tail};
@@ -16,12 +15,11 @@ ghost use Rattle.tracing_tree_layer.specs.Layer.Turns.{event_depth, turn_of_new,
 ghost use Rattle.tracing_tree_layer.specs.Layered.Refused.{timer_faults_at};
 ghost use Rattle.tracing_tree_layer.specs.Layer.Layers.{is_fresh, IsFlushed};
 ghost use Rattle.tracing_tree_output.specs.Writers.{seen_writer};
-ghost use Rattle.tracing_tree_layer.specs.Layer.Drawn.{failed_by, has_no_id, DoesTurn, IsReady, Sends, is_event_too_wide};
+ghost use Rattle.tracing_tree_layer.specs.Layer.Drawn.{failed_by, has_no_id, DoesTurn, Sends, is_event_too_wide};
 
 use crate::told::ToldEvent;
 pub use block::push_event_tail;
 use drawing::CallDrawing;
-use page::Page;
 use plan::Plan;
 use std::alloc::Global;
 use std::marker::Model;
@@ -49,7 +47,7 @@ use tracing_tree_time::FormatTime;
 /// ```
 #[derive(Drop)]
 pub struct HierarchicalLayer<W: Output, FT: FormatTime> {
-    page: Page,
+    page: String,
     plan: Plan,
     config: Config,
     writer: W,
@@ -59,9 +57,8 @@ pub struct HierarchicalLayer<W: Output, FT: FormatTime> {
 }
 
 impl<W: Output, FT: FormatTime> Model for HierarchicalLayer<W, FT> {
-    ghost use Rattle.std.specs.Prelude.{◌≡◌, false};
+    ghost use Rattle.std.specs.Prelude.{◌≡◌, [], false, string_bytes};
     ghost use Rattle.tracing_tree_layer.specs.Layer.Layers.{LayerView};
-    ghost use Rattle.tracing_tree_layer.specs.Layer.Drawn.{IsClear};
 
     ghost Value = { LayerView W FT };
 
@@ -75,7 +72,8 @@ impl<W: Output, FT: FormatTime> Model for HierarchicalLayer<W, FT> {
 
     // A layer that has not failed has written all that it built, and its writer has never refused a
     // write.
-    ghost invariant = { λ l. l.failed ≡ false → IsClear l.page × (W.fault_count l.writer ≡ 0) };
+    ghost invariant = { λ l. l.failed ≡ false
+        → (string_bytes l.page ≡ []) × (W.fault_count l.writer ≡ 0) };
 }
 
 impl<W: Output> HierarchicalLayer<W, ()> {
@@ -112,7 +110,7 @@ impl<W: Output> HierarchicalLayer<W, ()> {
         } }
     {
         HierarchicalLayer {
-            page: Page::new(alloc),
+            page: String::new(alloc),
             plan: Plan::new(alloc),
             config,
             writer,
@@ -319,18 +317,17 @@ fn commit<S: LookupSpan>(plan: &Plan, last: &mut Option<Id>, spans: &mut S)
 #[inline(always)]
 fn send<W: Output>(
     drawn: Result<(), Refusal>,
-    page: &mut Page,
+    page: &mut String,
     writer: &mut W,
     failed: &mut bool,
 ) -> Result<(), Refusal>
     requires room { W.fault_count writer.old < u64.MAX }
-    requires ready { IsReady drawn page.old }
-    ensures sends { Sends drawn result page.old page.new
+    ensures sends { Sends drawn result (string_bytes page.old) (string_bytes page.new)
         (seen_writer W.Output writer.old) (seen_writer W.Output writer.new) }
     ensures failed { failed.new ≡ failed_by result }
 {
     let sent = match drawn {
-        Ok(()) => write_whole(&mut page.text, writer).map_err(|_| Refusal::Writer),
+        Ok(()) => write_whole(page, writer).map_err(|_| Refusal::Writer),
         Err(refusal) => {
             page.clear();
             Err(refusal)

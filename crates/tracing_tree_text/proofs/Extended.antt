@@ -1,7 +1,7 @@
 -- A text that grew, and is cut back to what it was.
-use Rattle.std.proofs.Common.{◌≡◌, ℕ, ◌≤◌, List, [], ◌∷◌, ◌++◌, length, arith, refl, sym, ap, ◌∙◌, subst, lit<}
-use Rattle.std.proofs.lemmas.List.{append-nil, append_assoc, length-append}
-use Rattle.std.proofs.lemmas.Str.{IsUtf8-append, IsUtf8-past_char, IsUtf8-string_bytes, lead_after_ascii}
+use Rattle.std.proofs.Common.{◌≡◌, ℕ, ◌≤◌, zero, suc, List, [], ◌∷◌, ◌++◌, length, take, arith, refl, sym, ap, ◌∙◌, subst, lit<}
+use Rattle.std.proofs.lemmas.List.{append-nil, append_assoc, length-append, length-take}
+use Rattle.std.proofs.lemmas.Str.{IsUtf8-append, IsUtf8-past_char, IsUtf8-take, IsUtf8-string_bytes, lead_after_ascii}
 use Rattle.std.proofs.Math.Seq.{get_or-append_seam}
 use Rattle.std.specs.Str.{IsUtf8}
 use Rattle.std.specs.Prelude.{Result, Ok, Err, String, string_bytes, is_ok, if◌then◌else◌}
@@ -64,3 +64,14 @@ pub cuts_back : {Z : Type 0} (old new : String Z) (at : ℕ) → at ≡ string_l
 cuts_back old new at here h =
     subst (IsSplitPoint (string_bytes new)) (sym old.bytes.ok.0 ∙ sym here)
     (extended_splits (string_bytes old) (string_bytes new) (IsUtf8-string_bytes old) (IsUtf8-string_bytes new) h)
+
+-- a text that grew from a beginning of what it was can be cut back to that
+pub cuts_back_to : {Z : Type 0} (old new : String Z) (at : ℕ) → IsSplitPoint (string_bytes old) at →
+    IsExtended (take at (string_bytes old)) (string_bytes new) → IsSplitPoint (string_bytes new) at
+cuts_back_to old new zero split h = (omega arith, λ positive. absurd (omega arith))
+cuts_back_to old new (suc n) split h =
+    let text = string_bytes old in
+    let front = take (suc n) text in
+    let long : length front ≡ suc n = omega (arith, length-take (suc n) text, split.0) in
+    let whole : IsUtf8 front = IsUtf8-take text (suc n) (IsUtf8-string_bytes old) (split.0, split.1 (omega arith)) in
+    subst (IsSplitPoint (string_bytes new)) long (extended_splits front (string_bytes new) whole (IsUtf8-string_bytes new) h)

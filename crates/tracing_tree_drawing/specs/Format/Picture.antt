@@ -159,6 +159,12 @@ module _ (settings : Settings) where
       let line = columns (wrapped_level row.level * settings.indent_amount) (code "─") in
       if is_last_before_wrap row.level then drawn_line row.prefix line (encode_utf8 corner) else []
 
+  -- what stands before the block of a row of one line: its mark, if it has one there, its prefix and
+  -- its frame
+  abbrev pub row_start : Row → List ℕ
+  row_start row =
+      mark_line row (mark_before_corner row.mode) ++ row.prefix ++ row_frame row.mode row.level 0
+
   abbrev pub drawn_row : Row → List ℕ
   drawn_row row =
       mark_line row (mark_before_corner row.mode) ++ picture row

@@ -1,10 +1,11 @@
 //! The drawing of rows: what docs/FORMATS.md, "Drawing", says of frames, lines and wrap marks.
 
 ghost use Rattle.std.specs.List.{repeat};
-ghost use Rattle.std.specs.Prelude.{◌≡◌, ◌+◌, ◌*◌, ◌^◌, ◌<◌, ◌++◌, ◌∷◌, [], true, false, Some, Err, OnOk, OnErr, IfErr, string_bytes, encode_utf8, if◌then◌else◌};
+ghost use Rattle.std.specs.Prelude.{◌≡◌, ◌+◌, ◌*◌, ◌^◌, ◌<◌, ◌≤◌, ◌++◌, ◌∷◌, [], true, false, length, take, drop, Some, Err, OnOk, OnErr, IfOk, IfErr, IsTrue, string_bytes, encode_utf8, if◌then◌else◌};
 ghost use Rattle.std.specs.Str.Lines.{strip_carriage_return};
+ghost use Rattle.std.specs.String.Boundary.{IsSplitPoint};
 ghost use Rattle.tracing_tree_drawing.specs.Format.Frames.{HasRoom, blanks, corner_pieces, frame_pieces, line_piece, pushed_text, row_of, span_pieces};
-ghost use Rattle.tracing_tree_drawing.specs.Format.Picture.{columns, drawn_row, edge_frame, first_frame, is_last_before_wrap, is_too_wide, later_frame, lined_frame, mark_after_corner, mark_before_corner, mark_line, picture, row_frame, shift_of, unnamed_row, wrapped_level};
+ghost use Rattle.tracing_tree_drawing.specs.Format.Picture.{columns, drawn_row, edge_frame, first_frame, is_last_before_wrap, is_too_wide, later_frame, lined_frame, mark_after_corner, mark_before_corner, mark_line, picture, row_frame, row_lines, row_start, shift_of, unnamed_row, wrapped_level};
 ghost use Rattle.tracing_tree_text.specs.Extended.{IsExtended};
 ghost use Rattle.tracing_tree_drawing.specs.Format.Texts.{prefix_text};
 
@@ -15,13 +16,30 @@ use tracing_tree_context::{Context, Refusal};
 // Spaces that stand ready. More of them are appended one by one.
 const SPACES: &str = "                                                                ";
 
-// A row that is being drawn: everything but its block.
+/// A row that is being drawn: everything but its block.
 #[derive(Clone, Copy)]
-struct RowDrawing<'a> {
-    config: &'a Config,
-    context: &'a Context,
-    mode: SpanMode,
-    level: usize,
+pub struct RowDrawing<'a> {
+    /// The settings.
+    pub config: &'a Config,
+
+    /// The context of the call, for what each line begins with.
+    pub context: &'a Context,
+
+    /// What the row shows.
+    pub mode: SpanMode,
+
+    /// A number of spans, whatever the settings' wraparound.
+    pub level: usize,
+}
+
+/// Where a row was begun in a text, in bytes.
+#[derive(Clone, Copy)]
+pub struct RowPlace {
+    /// Where the row begins.
+    pub start: usize,
+
+    /// Where its block begins.
+    pub block: usize,
 }
 
 // What stands between the prefix and the text of a line: spaces, a branch, a filler a number of times, and a corner.
@@ -330,6 +348,123 @@ pub fn push_row(
 }
 
 impl RowDrawing<'_> {
+    /// Appends what stands before the row's block. Then the caller appends the block, and calls [`RowDrawing::end`]. `TooWide` and
+    /// `Memory` change nothing.
+    #[inline(always)]
+    pub fn begin(&self, out: &mut String) -> Result<RowPlace, Refusal>
+        ensures ok { OnOk result (string_bytes out.new ≡ string_bytes out.old
+            ++ row_start self.now.config.now (row_of self.now [])) }
+        ensures place { IfOk result (λ place. place ≡ record {
+          start = length (string_bytes out.old);
+          block = length (string_bytes out.new);
+        }) }
+        ensures fits { OnOk result (is_too_wide self.now.config.now (row_of self.now []) ≡ false) }
+        ensures refusal { IfErr result (λ refusal.
+            refusal ≡ (if is_too_wide self.now.config.now (row_of self.now []) then Refusal.TooWide
+            else Refusal.Memory)) }
+        ensures err { OnErr result (string_bytes out.new ≡ string_bytes out.old) }
+    {
+        self.config.check_width(self.mode, self.level)?;
+        let start = out.len();
+        if self.push_start(out).is_err() {
+            out.truncate(start);
+            return Err(Refusal::Memory);
+        }
+        let block = out.len();
+        Ok(RowPlace { start, block })
+    }
+
+    /// Makes the text from this place on, which is a row that was begun and its block, the picture of the row with this block. The
+    /// caller must ensure that the row isn't too wide, and that the text stands so. On `AllocError` the text ends where the row began.
+    #[inline(always)]
+    pub fn end(&self, out: &mut String, place: RowPlace) -> Result<(), AllocError>
+        requires fits { is_too_wide self.now.config.now (row_of self.now []) ≡ false }
+        requires start { IsSplitPoint (string_bytes out.old) place.start }
+        requires block { IsSplitPoint (string_bytes out.old) place.block }
+        requires begun { take place.block (string_bytes out.old)
+            ≡ take place.start (string_bytes out.old)
+            ++ row_start self.now.config.now (row_of self.now []) }
+        ensures ok { let block = drop place.block (string_bytes out.old) in
+            OnOk result (string_bytes out.new ≡ take place.start (string_bytes out.old)
+            ++ drawn_row self.now.config.now (row_of self.now block)) }
+        ensures err { OnErr result
+            (string_bytes out.new ≡ take place.start (string_bytes out.old)) }
+    {
+        if self.finish(out, place).is_err() {
+            out.truncate(place.start);
+            return Err(AllocError);
+        }
+        Ok(())
+    }
+
+    // The same, but where memory is refused a beginning of it may be left.
+    #[inline(always)]
+    fn finish(&self, out: &mut String, place: RowPlace) -> Result<(), AllocError>
+        requires fits { is_too_wide self.now.config.now (row_of self.now []) ≡ false }
+        requires start { IsSplitPoint (string_bytes out.old) place.start }
+        requires block { IsSplitPoint (string_bytes out.old) place.block }
+        requires begun { take place.block (string_bytes out.old)
+            ≡ take place.start (string_bytes out.old)
+            ++ row_start self.now.config.now (row_of self.now []) }
+        ensures ok { let block = drop place.block (string_bytes out.old) in
+            OnOk result (string_bytes out.new ≡ take place.start (string_bytes out.old)
+            ++ drawn_row self.now.config.now (row_of self.now block)) }
+        ensures extended { IsExtended (take place.start (string_bytes out.old))
+            (string_bytes out.new) }
+    {
+        if self.is_line(&out.as_str()[place.block..]) {
+            out.push('\n')?;
+            return self.mark(out, corner_after(self.mode));
+        }
+        self.draw_anew(out, place)
+    }
+
+    // The same, where the block isn't one line as it is.
+    #[inline(never)]
+    fn draw_anew(&self, out: &mut String, place: RowPlace) -> Result<(), AllocError>
+        requires fits { is_too_wide self.now.config.now (row_of self.now []) ≡ false }
+        requires start { IsSplitPoint (string_bytes out.old) place.start }
+        requires block { IsSplitPoint (string_bytes out.old) place.block }
+        requires order { place.start ≤ place.block }
+        ensures ok { let block = drop place.block (string_bytes out.old) in
+            OnOk result (string_bytes out.new ≡ take place.start (string_bytes out.old)
+            ++ drawn_row self.now.config.now (row_of self.now block)) }
+        ensures extended { IsExtended (take place.start (string_bytes out.old))
+            (string_bytes out.new) }
+    {
+        let block = out.split_off(place.block)?;
+        out.truncate(place.start);
+        self.row(out, block.as_str())
+    }
+
+    // Whether a block is one line as it is.
+    #[inline(always)]
+    fn is_line(&self, block: &str) -> bool
+        ensures { IsTrue result
+            → row_lines self.now.config.now.indent_lines block.now ≡ block.now ∷ [] }
+    {
+        if block.contains('\n') {
+            return false;
+        }
+        if self.config.indent_lines() {
+            return !block.ends_with('\r');
+        }
+        !block.is_empty()
+    }
+
+    // Appends what stands before the block, or a beginning of it.
+    #[inline(always)]
+    fn push_start(&self, out: &mut String) -> Result<(), AllocError>
+        requires { is_too_wide self.now.config.now (row_of self.now []) ≡ false }
+        ensures ok { OnOk result (string_bytes out.new ≡ string_bytes out.old
+            ++ row_start self.now.config.now (row_of self.now [])) }
+        ensures extended { IsExtended (string_bytes out.old) (string_bytes out.new) }
+    {
+        self.mark(out, corner_before(self.mode))?;
+        self.config.push_prefix(out, self.context)?;
+        self.frame(true).push(out)
+    }
+
     // Appends the lines of a block, and before or after them the row's wrap mark, or a beginning of that.
     fn row(&self, out: &mut String, block: &str) -> Result<(), AllocError>
         requires { is_too_wide self.now.config.now (row_of self.now block.now) ≡ false }

@@ -1,5 +1,5 @@
 -- Rows that are drawn one after another, and written once. No public contract names these.
-use Rattle.std.specs.Prelude.{◌≡◌, ◌⊎◌, ℕ, Bool, true, false, List, [], ◌∷◌, ◌++◌, Option, None, Some, is_none, Result, Ok, Err, string_bytes}
+use Rattle.std.specs.Prelude.{◌≡◌, ◌⊎◌, ℕ, Bool, true, false, List, [], ◌∷◌, ◌++◌, Option, None, Some, is_none, Result, Ok, Err}
 use Rattle.std.specs.Option.{option_map_or, option_or}
 use Rattle.std.specs.Bool.{then_some}
 use Rattle.std.specs.List.{list_any}
@@ -20,27 +20,8 @@ use Rattle.tracing_tree_layer.specs.Layer.Layers.{LayerView}
 use Rattle.tracing_tree_layer.specs.Layer.Plan.{PlanView, marked_by}
 use Rattle.tracing_tree_layer.specs.Layered.Run.{IsRefusedFor}
 use Rattle.tracing_tree_layer.specs.Layered.Answered.{Writes}
-use Rattle.tracing_tree_layer.specs.declared.layer.page.Page.{Page}
 
--- ---- rows on a page
-
--- no row is being built
-abbrev pub IsBlank : Page → Type 0
-IsBlank page = string_bytes page.block ≡ []
-
--- the block and the text of a page stay
-pub record KeepsPage (old new : Page) : Type 0 where
-  pub block : string_bytes new.block ≡ string_bytes old.block
-  pub text : string_bytes new.text ≡ string_bytes old.text
-
--- The block becomes this text at the end of the page. A row that is too wide is refused for that;
--- a refusal changes nothing.
-abbrev pub AddsRow : Bool → List ℕ → Result (Unit {0}) Refusal → Page → Page → Type 0
-AddsRow too_wide text (Ok done) old new =
-    (too_wide ≡ false) × IsBlank new × (string_bytes new.text ≡ string_bytes old.text ++ text)
-AddsRow too_wide text (Err TooWide) old new = (too_wide ≡ true) × KeepsPage old new
-AddsRow too_wide text (Err Memory) old new = (too_wide ≡ false) × KeepsPage old new
-AddsRow too_wide text (Err refusal) old new = ⊥
+-- ---- rows
 
 -- one of these rows would be too wide
 abbrev pub draws_too_wide : Settings → List Row → Bool
@@ -74,17 +55,17 @@ abbrev pub IsUndrawn : Option Refusal → Bool → Refusal → Type 0
 IsUndrawn cause quiet refusal = (cause ≡ Some refusal) ⊎ ((refusal ≡ Memory) × (quiet ≡ false))
 
 -- Rows are drawn after those before them, or refused.
-abbrev pub DrawsRows : Settings → List Row → Bool → Result (Unit {0}) Refusal → Page → Page → Type 0
+abbrev pub DrawsRows : Settings → List Row → Bool → Result (Unit {0}) Refusal → List ℕ → List ℕ
+    → Type 0
 DrawsRows settings rows faults (Ok done) old new =
-    (rows_cause settings rows faults ≡ None) × IsBlank new
-    × (string_bytes new.text ≡ string_bytes old.text ++ draw settings rows)
+    (rows_cause settings rows faults ≡ None) × (new ≡ old ++ draw settings rows)
 DrawsRows settings rows faults (Err refusal) old new =
     IsUndrawn (rows_cause settings rows faults) (has_no_row rows) refusal
 
 -- The rows of a turn are drawn, and the plan has its marks and its last span; or the turn is
 -- refused.
-abbrev pub Drafts : Settings → Forest → Turn → Bool → Bool → Result (Unit {0}) Refusal → Page → Page
-    → PlanView → Type 0
+abbrev pub Drafts : Settings → Forest → Turn → Bool → Bool → Result (Unit {0}) Refusal → List ℕ
+    → List ℕ → PlanView → Type 0
 Drafts settings forest turn faults quiet (Ok done) old new plan =
     DrawsRows settings turn.rows faults (Ok done) old new
     × (marked_by plan forest ≡ turn.forest) × (plan.last ≡ turn.last)
@@ -109,27 +90,16 @@ abbrev pub when_ok : {A B : Type 0} → Result A Refusal → B → B → B
 when_ok (Ok answer) new old = new
 when_ok (Err refusal) new old = old
 
--- no row is being built where rows were drawn
-abbrev pub IsReady : Result (Unit {0}) Refusal → Page → Type 0
-IsReady (Ok done) page = IsBlank page
-IsReady (Err refusal) page = Unit {0}
-
--- nothing is left on the page
-pub record IsClear (page : Page) : Type 0 where
-  pub block : IsBlank page
-  pub text : string_bytes page.text ≡ []
-
 -- What was drawn is written once, whole, or given up. Only what was drawn whole is written, and
 -- only a fault of the writer leaves a text on the page.
-abbrev pub Sends : Result (Unit {0}) Refusal → Result (Unit {0}) Refusal → Page → Page → SeenWriter
-    → SeenWriter → Type 0
+abbrev pub Sends : Result (Unit {0}) Refusal → Result (Unit {0}) Refusal → List ℕ → List ℕ
+    → SeenWriter → SeenWriter → Type 0
 Sends (Ok done) (Ok sent) old new before after =
-    Appends before.bytes after.bytes (string_bytes old.text) × (after.faults ≡ before.faults)
-    × IsClear new
-Sends (Ok done) (Err Writer) old new before after = LeavesCut (string_bytes old.text) before after
+    Appends before.bytes after.bytes old × (after.faults ≡ before.faults) × (new ≡ [])
+Sends (Ok done) (Err Writer) old new before after = LeavesCut old before after
 Sends (Ok done) (Err refusal) old new before after = ⊥
 Sends (Err cause) result old new before after =
-    (result ≡ Err cause) × (after ≡ before) × IsClear new
+    (result ≡ Err cause) × (after ≡ before) × (new ≡ [])
 
 -- an answer that rows may get: they are refused for their cause, or for want of memory, unless they
 -- take none

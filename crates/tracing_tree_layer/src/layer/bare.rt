@@ -80,7 +80,7 @@ impl<W: Output, FT: FormatTime> HierarchicalLayer<W, FT> {
             return Err(Refusal::Failed);
         }
         let parent = event.parent.named(context.current);
-        let depth = depth(*self.page.text.allocator(), spans, parent)?;
+        let depth = depth(*self.page.allocator(), spans, parent)?;
         self.write_event(event, None, depth, spans, context)
     }
 

@@ -6,15 +6,14 @@ ghost use Rattle.tracing_tree_layer.specs.Layer.Block.{elapsed_part, event_block
 ghost use Rattle.tracing_tree_layer.specs.Layer.Turns.{block_of, event_row, event_depth, event_level, event_parent, time_in_current, turn_of_new, turn_of_event, turn_of_closes};
 ghost use Rattle.tracing_tree_layer.specs.Layer.Plan.{row_of_planned, rows_of_planned};
 ghost use Rattle.tracing_tree_layer.specs.Layered.Refused.{timer_faults_at};
-ghost use Rattle.tracing_tree_layer.specs.Layer.Drawn.{DrawsRows, Drafts, IsBlank, IsUntimed, has_no_id, is_event_too_wide, lacks_elapsed};
+ghost use Rattle.tracing_tree_layer.specs.Layer.Drawn.{DrawsRows, Drafts, IsUntimed, has_no_id, is_event_too_wide, lacks_elapsed};
 
 use super::block::{push_event_tail, push_span_block};
-use super::page::Page;
 use super::plan::{Plan, PlannedRow, Planner};
 use crate::told::ToldEvent;
 use std::alloc::{AllocError, Global};
 use tracing_tree_context::{Context, Id, Refusal};
-use tracing_tree_drawing::format::{Config, SpanMode};
+use tracing_tree_drawing::format::{Config, RowDrawing, SpanMode};
 use tracing_tree_spans::registry::LookupSpan;
 use tracing_tree_time::FormatTime;
 
@@ -50,12 +49,12 @@ impl<'a, S: LookupSpan> CallDrawing<'a, S> {
     }
 
     // A new span.
-    pub(super) fn new_span(&self, page: &mut Page, plan: &mut Plan, id: Id) -> Result<(), Refusal>
-        requires { IsBlank page.old }
+    pub(super) fn new_span(&self, page: &mut String, plan: &mut Plan, id: Id) -> Result<(), Refusal>
         ensures { let settings = self.now.config.now in
             let forest = S.forest self.now.spans.now in
             let turn = turn_of_new settings self.now.context.now forest self.now.last id in
-            Drafts settings forest turn false false result page.old page.new plan.new }
+            Drafts settings forest turn false false result (string_bytes page.old)
+            (string_bytes page.new) plan.new }
     {
         plan.begin(self.last);
         self.planner().new_span(plan, id)?;
@@ -63,13 +62,17 @@ impl<'a, S: LookupSpan> CallDrawing<'a, S> {
     }
 
     // Spans that close one after another.
-    pub(super) fn closes(&self, page: &mut Page, plan: &mut Plan, ids: &[Id]) -> Result<(), Refusal>
-        requires { IsBlank page.old }
+    pub(super) fn closes(
+        &self,
+        page: &mut String,
+        plan: &mut Plan,
+        ids: &[Id],
+    ) -> Result<(), Refusal>
         ensures { let settings = self.now.config.now in
             let forest = S.forest self.now.spans.now in
             let turn = turn_of_closes settings self.now.context.now ids.now forest self.now.last in
-            Drafts settings forest turn false (has_no_id ids.now) result page.old page.new
-            plan.new }
+            Drafts settings forest turn false (has_no_id ids.now) result (string_bytes page.old)
+            (string_bytes page.new) plan.new }
     {
         plan.begin(self.last);
         self.planner().closes(plan, ids)?;
@@ -81,14 +84,13 @@ impl<'a, S: LookupSpan> CallDrawing<'a, S> {
     // used.
     pub(super) fn event<FT: FormatTime, E: ToldEvent>(
         &self,
-        page: &mut Page,
+        page: &mut String,
         plan: &mut Plan,
         timer: &FT,
         event: &E,
         tail: Option<&str>,
         depth: usize,
     ) -> Result<(), Refusal>
-        requires blank { IsBlank page.old }
         requires tail { IfSome tail (λ t. t.now ≡ event_tail self.now.config.now (E.told event.now)) }
         requires depth { depth ≡ event_depth (S.forest self.now.spans.now) (E.told event.now)
             self.now.context.now }
@@ -100,7 +102,8 @@ impl<'a, S: LookupSpan> CallDrawing<'a, S> {
             let turn = turn_of_event settings timer context forest last (E.told event.now) in
             let faults = timer_faults_at settings timer forest context in
             let wide = is_event_too_wide settings timer forest (E.told event.now) context in
-            Drafts settings forest turn faults wide result page.old page.new plan.new }
+            Drafts settings forest turn faults wide result (string_bytes page.old)
+            (string_bytes page.new) plan.new }
     {
         let level = self.event_level(depth);
         self.config.check_width(SpanMode::Event, level)?;
@@ -121,12 +124,12 @@ impl<'a, S: LookupSpan> CallDrawing<'a, S> {
 
     // Planned rows, one after another.
     #[inline(always)]
-    fn rows(&self, page: &mut Page, rows: &[PlannedRow]) -> Result<(), Refusal>
-        requires { IsBlank page.old }
+    fn rows(&self, page: &mut String, rows: &[PlannedRow]) -> Result<(), Refusal>
         ensures { let settings = self.now.config.now in
             let forest = S.forest self.now.spans.now in
             let rows = rows_of_planned settings self.now.context.now forest rows.now in
-            DrawsRows settings rows false result page.old page.new }
+            DrawsRows settings rows false result (string_bytes page.old)
+            (string_bytes page.new) }
     {
         for row in rows {
             self.row(page, *row)?;
@@ -136,15 +139,35 @@ impl<'a, S: LookupSpan> CallDrawing<'a, S> {
 
     // A planned row. It stands apart, so that little is done where none is planned.
     #[inline(never)]
-    fn row(&self, page: &mut Page, row: PlannedRow) -> Result<(), Refusal>
-        requires { IsBlank page.old }
+    fn row(&self, page: &mut String, row: PlannedRow) -> Result<(), Refusal>
         ensures { let settings = self.now.config.now in
             let forest = S.forest self.now.spans.now in
             let row = row_of_planned settings self.now.context.now forest row in
-            DrawsRows settings (row ∷ []) false result page.old page.new }
+            DrawsRows settings (row ∷ []) false result (string_bytes page.old)
+            (string_bytes page.new) }
     {
-        self.block(&mut page.block, row.mode, row.id)?;
-        page.add_row(row.level, self.config, row.mode, self.context)
+        let drawing = self.drawing(row.mode, row.level);
+        let place = drawing.begin(page)?;
+        self.block(page, row.mode, row.id)?;
+        drawing.end(page, place)?;
+        Ok(())
+    }
+
+    // A row of the call.
+    fn drawing(&self, mode: SpanMode, level: usize) -> RowDrawing<'_>
+        ensures { result ≡ record {
+          config = self.now.config;
+          context = self.now.context;
+          mode = mode;
+          level = level;
+        } }
+    {
+        RowDrawing {
+            config: self.config,
+            context: self.context,
+            mode,
+            level,
+        }
     }
 
     // Appends the block of a span's row.
@@ -166,13 +189,12 @@ impl<'a, S: LookupSpan> CallDrawing<'a, S> {
     // The row of an event at this level, which isn't too wide.
     fn event_row<FT: FormatTime, E: ToldEvent>(
         &self,
-        page: &mut Page,
+        page: &mut String,
         timer: &FT,
         event: &E,
         tail: Option<&str>,
         level: usize,
     ) -> Result<(), Refusal>
-        requires blank { IsBlank page.old }
         requires tail { IfSome tail (λ t. t.now ≡ event_tail self.now.config.now (E.told event.now)) }
         requires level { let forest = S.forest self.now.spans.now in
             let parent = event_parent forest (E.told event.now) self.now.context.now in
@@ -185,10 +207,14 @@ impl<'a, S: LookupSpan> CallDrawing<'a, S> {
             let timer = FT.timer timer.now in
             let row = event_row settings timer forest (E.told event.now) context in
             let faults = timer_faults_at settings timer forest context in
-            DrawsRows settings (row ∷ []) faults result page.old page.new }
+            DrawsRows settings (row ∷ []) faults result (string_bytes page.old)
+            (string_bytes page.new) }
     {
-        self.event_block(&mut page.block, timer, event, tail)?;
-        page.add_row(level, self.config, SpanMode::Event, self.context)
+        let drawing = self.drawing(SpanMode::Event, level);
+        let place = drawing.begin(page)?;
+        self.event_block(page, timer, event, tail)?;
+        drawing.end(page, place)?;
+        Ok(())
     }
 
     // An event stands one level below its parent, but without lines at the same level.

@@ -1,4 +1,4 @@
-use Rattle.std.proofs.Common.{ap, ◌∙◌}
+use Rattle.std.proofs.Common.{ap, ◌∙◌, string_bytes}
 use Rattle.tracing_tree_layer.specs.Layer.Turns.{turn_of_closes}
 use Rattle.tracing_tree_layer.specs.Layer.Plan.{plan_of_closes, turn_of_plan}
 use Rattle.tracing_tree_layer.specs.Layer.Drawn.{has_no_id}
@@ -16,5 +16,5 @@ returns g c =
     let ids = c.args.ids.now in
     let planned = (rw c.planner.ensures at c.in_ok-closes.ensures.ok) ∙ ap (plan_of_closes settings forest ids) c.begin.ensures in
     let same = ap (turn_of_plan settings context forest) planned ∙ turn-closes settings context forest ids last in
-    drafts settings context forest (turn_of_closes settings context ids forest last) (has_no_id ids) c.rows-2.result c.args.page.now c.rows-2.new.page c.closes.new.plan
+    drafts settings context forest (turn_of_closes settings context ids forest last) (has_no_id ids) c.rows-2.result (string_bytes c.args.page.now) (string_bytes c.rows-2.new.page) c.closes.new.plan
     same (closes-loud settings context ids forest last) (rw c.rows.ensures at c.rows-2.ensures)

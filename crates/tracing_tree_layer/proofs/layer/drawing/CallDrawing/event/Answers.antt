@@ -1,4 +1,4 @@
-use Rattle.std.proofs.Common.{Bool, ap, sym, subst, ◌∙◌}
+use Rattle.std.proofs.Common.{Bool, ap, sym, subst, ◌∙◌, string_bytes}
 use Rattle.std.proofs.lemmas.Result.{err_from_is_err_and}
 use Rattle.tracing_tree_layer.specs.Layer.Turns.{current_of, event_row, then_turn, turn_of_row, turn_before_event}
 use Rattle.tracing_tree_layer.specs.Layered.Refused.{timer_faults_at}
@@ -22,9 +22,9 @@ returns g c =
     let row = event_row settings timer forest (g.E.ToldEvent.told c.args.event.now) context in
     let faults = timer_faults_at settings timer forest context in
     let before = turn_before_event settings context forest last current in
-    let Q : Bool → Type 0 = λ quiet. Drafts settings forest (then_turn before (turn_of_row row)) faults quiet c.event_row.result c.args.page.now c.event_row.new.page c.event.new.plan in
+    let Q : Bool → Type 0 = λ quiet. Drafts settings forest (then_turn before (turn_of_row row)) faults quiet c.event_row.result (string_bytes c.args.page.now) (string_bytes c.event_row.new.page) c.event.new.plan in
     subst Q (sym (fits-event settings timer forest (g.E.ToldEvent.told c.args.event.now) context c.args.depth _ c.check_width.result c.requires.depth c.event_level-level.ensures c.check_width.ensures c.in_ok-check_width.was))
-    (drafts_event settings context forest before row faults c.event_row.result c.args.page.now c.rows-2.new.page c.event_row.new.page c.event.new.plan
+    (drafts_event settings context forest before row faults c.event_row.result (string_bytes c.args.page.now) (string_bytes c.rows-2.new.page) (string_bytes c.event_row.new.page) c.event.new.plan
     same (rw c.rows.ensures at c.in_ok-rows.ensures) c.event_row.ensures)
 
 pub returns-in_err-rows : goal.returns-in_err-rows
@@ -42,8 +42,8 @@ returns-in_err-rows g c =
     let row = event_row settings timer forest (g.E.ToldEvent.told c.args.event.now) context in
     let faults = timer_faults_at settings timer forest context in
     let before = turn_before_event settings context forest last current in
-    let Q : Bool → Type 0 = λ quiet. Drafts settings forest (then_turn before (turn_of_row row)) faults quiet c.from_residual-in_err-rows.result c.args.page.now c.rows-2.new.page c.event.new.plan in
+    let Q : Bool → Type 0 = λ quiet. Drafts settings forest (then_turn before (turn_of_row row)) faults quiet c.from_residual-in_err-rows.result (string_bytes c.args.page.now) (string_bytes c.rows-2.new.page) c.event.new.plan in
     subst Q (sym (fits-event settings timer forest (g.E.ToldEvent.told c.args.event.now) context c.args.depth _ c.check_width.result c.requires.depth c.event_level-level.ensures c.check_width.ensures c.in_ok-check_width.was))
     (rw (p.1, p.2) (refuses_event settings context forest before row faults _
-    c.args.page.now c.rows-2.new.page c.event.new.plan
+    (string_bytes c.args.page.now) (string_bytes c.rows-2.new.page) c.event.new.plan
     same (rw c.rows.ensures at c.in_err-rows.ensures)))
