@@ -1,5 +1,5 @@
 -- What closes with a span, read off the counts that a registry keeps.
-use Rattle.std.proofs.Common.{◌≡◌, ◌≢◌, ℕ, suc, ◌+◌, ◌-◌, ◌<◌, nat_lt, ◌==◌, Bool, true, false, ◌&&◌, List, [], ◌∷◌, ◌++◌, length, reverse, take, drop, find, filter, Option, Some, None, if◌then◌else◌, arith, refl, sym, ap, ◌∙◌, subst, length-append, append_assoc}
+use Rattle.std.proofs.Common.{◌≡◌, ℕ, suc, ◌+◌, ◌-◌, ◌<◌, nat_lt, ◌==◌, Bool, true, false, ◌&&◌, List, [], ◌∷◌, ◌++◌, length, reverse, take, drop, find, filter, Option, Some, None, if◌then◌else◌, arith, refl, sym, ap, ◌∙◌, subst, length-append, append_assoc}
 use Rattle.std.specs.List.{list_all, list_any}
 use Rattle.std.specs.Option.{option_map, option_map_or, option_and_then}
 use Rattle.std.proofs.lemmas.Bool.{eqb-true, and_parts, or_parts}
@@ -137,15 +137,24 @@ kept-found nodes i node tied here = record {
   path = tied.paths i node here;
 }
 
--- with one handle and no child a span closes, and then what closes above it
+-- one less is nothing where there was one
+none-left : (n : ℕ) → 0 < n → (n - 1 == 0) ≡ (n == 1)
+none-left n some = grind (arith, nat_tests)
+
+-- the test of a span of which a handle is given back
+first-test : (nodes : List KeptSpan) (i : Id) (node : KeptSpan) → IsKeptAt nodes i node → 0 < node.span.handles →
+    ((node.span.handles - 1 == 0) && lacks_others (spans_of nodes) None i) ≡ ((node.span.handles == 1) && (node.children == 0))
+first-test nodes i node h some =
+    let lacks : lacks_others (spans_of nodes) None i ≡ (node.children == 0) =
+    lacks-all (filter (is_child_of i) (spans_of nodes)) ∙ ap (λ n. n == 0) (sym h.count) in
+    ap (λ b. (node.span.handles - 1 == 0) && b) lacks ∙ ap (λ b. b && (node.children == 0)) (none-left node.span.handles some)
+
+-- where one handle keeps a span, and no child, it closes, and then what closes above it
 pub part-begins : (nodes : List KeptSpan) (i : Id) (node : KeptSpan) → IsKept (spans_of nodes) None → IsKeptAt nodes i node →
-    node.span.handles ≡ 1 → node.children ≡ 0 → HasClosed (spans_of nodes) i (length node.path) 1 node.span.parent
-part-begins nodes i node kept h one none =
+    0 < node.span.handles → ((node.span.handles == 1) && (node.children == 0)) ≡ true → HasClosed (spans_of nodes) i (length node.path) 1 node.span.parent
+part-begins nodes i node kept h some alone_there =
     let spans : List Span = spans_of nodes in
-    let lacks : lacks_others spans None i ≡ true =
-    lacks-all (filter (is_child_of i) spans) ∙ ap (λ n. n == 0) (sym h.count ∙ none) in
-    let zero-left : (node.span.handles - 1 == 0) ≡ true = rw one refl in
-    let goes : ((node.span.handles - 1 == 0) && lacks_others spans None i) ≡ true = rw (zero-left, lacks) refl in
+    let goes = first-test nodes i node h some ∙ alone_there in
     record {
       going = i ∷ [];
       last = i;
@@ -159,30 +168,14 @@ part-begins nodes i node kept h one none =
           let sum = length-append (path_of_any (alone spans) node.span.parent) (i ∷ []) in omega (arith, n, sum);
     }
 
--- a handle or a child keeps it
-pub part-none : (nodes : List KeptSpan) (i : Id) (node : KeptSpan) → IsKept (spans_of nodes) None → IsKeptAt nodes i node →
-    (node.span.handles ≢ 1) → (node.span.handles ≢ 0) → closing_of (alone (spans_of nodes)) i ≡ []
-part-none nodes i node kept h one some =
+-- where others keep it, nothing closes
+pub part-stays : (nodes : List KeptSpan) (i : Id) (node : KeptSpan) → IsKept (spans_of nodes) None → IsKeptAt nodes i node →
+    0 < node.span.handles → ((node.span.handles == 1) && (node.children == 0)) ≡ false → closing_of (alone (spans_of nodes)) i ≡ []
+part-stays nodes i node kept h some others =
     let spans : List Span = spans_of nodes in
-    let stays : (node.span.handles - 1 == 0) ≡ false = grind (arith, nat_tests) in
-    let goes : ((node.span.handles - 1 == 0) && lacks_others spans None i) ≡ false = rw stays refl in
-    closing-first (alone spans) kept.0 i node.span h.found
-    ∙ ap (λ b. if b then i ∷ going_after (alone spans) (Some i) (way_up (alone spans) node.span.parent) else []) goes
-
-pub part-child : (nodes : List KeptSpan) (i : Id) (node : KeptSpan) → IsKept (spans_of nodes) None → IsKeptAt nodes i node →
-    (node.children ≢ 0) → closing_of (alone (spans_of nodes)) i ≡ []
-part-child nodes i node kept h some =
-    let spans : List Span = spans_of nodes in
-    let children : (node.children == 0) ≡ false = grind (arith, nat_tests) in
-    let lacks : lacks_others spans None i ≡ false =
-    lacks-all (filter (is_child_of i) spans) ∙ ap (λ n. n == 0) (sym h.count) ∙ children in
     closing-first (alone spans) kept.0 i node.span h.found
     ∙ ap (λ b. if b then i ∷ going_after (alone spans) (Some i) (way_up (alone spans) node.span.parent) else [])
-    (ap (λ b. (node.span.handles - 1 == 0) && b) lacks ∙ none (node.span.handles - 1 == 0))
-  where
-    none : (a : Bool) → (a && false) ≡ false
-    none true = refl
-    none false = refl
+    (first-test nodes i node h some ∙ others)
 
 -- the test of a span whose child has closed
 goes-test : (nodes : List KeptSpan) (before a : Id) (below : Span) (node : KeptSpan) → IsKept (spans_of nodes) None → IsKeptAt nodes a node →
@@ -197,13 +190,13 @@ goes-test nodes before a below node kept h found parent =
 
 -- one span more closes
 pub part-more : (nodes : List KeptSpan) (i a : Id) (node : KeptSpan) (whole count : ℕ) (o : Option Id) → IsKept (spans_of nodes) None → IsKeptAt nodes a node →
-    o ≡ Some a → node.span.handles ≡ 0 → node.children ≡ 1 → HasClosed (spans_of nodes) i whole count o →
+    o ≡ Some a → ((node.span.handles == 0) && (node.children == 1)) ≡ true → HasClosed (spans_of nodes) i whole count o →
     HasClosed (spans_of nodes) i whole (count + 1) node.span.parent
-part-more nodes i a node whole count o kept h e zero-left one closed =
+part-more nodes i a node whole count o kept h e one closed =
     let spans : List Span = spans_of nodes in
     let rest : List Id = going_after (alone spans) (Some a) (way_up (alone spans) node.span.parent) in
     let test : goes_after (alone spans) (Some closed.last) a ≡ true =
-    goes-test nodes closed.last a closed.below node kept h closed.found (closed.parent ∙ e) ∙ rw (zero-left, one) refl in
+    goes-test nodes closed.last a closed.below node kept h closed.found (closed.parent ∙ e) ∙ one in
     let step : going_after (alone spans) (Some closed.last) (way_up (alone spans) o) ≡ a ∷ rest =
     ap (λ p. going_after (alone spans) (Some closed.last) (way_up (alone spans) p)) e
     ∙ going-step (alone spans) (as_forest (alone spans) kept.0) (Some closed.last) a node.span h.found ∙ ap (λ b. if b then a ∷ rest else []) test in
@@ -308,17 +301,6 @@ rest-kept nodes i a node whole count o kept h e closed stays =
     ap (λ p. going_after (alone spans) (Some closed.last) (way_up (alone spans) p)) e
     ∙ going-step (alone spans) (as_forest (alone spans) kept.0) (Some closed.last) a node.span h.found
     ∙ ap (λ b. if b then a ∷ going_after (alone spans) (Some a) (way_up (alone spans) node.span.parent) else []) test
-
--- the test, as the code makes it
-pub stays-handle : (node : KeptSpan) → (node.span.handles ≢ 0) → ((node.span.handles == 0) && (node.children == 1)) ≡ false
-stays-handle node some = let first : (node.span.handles == 0) ≡ false = grind (arith, nat_tests) in rw first refl
-
-pub stays-child : (node : KeptSpan) → (node.children ≢ 1) → ((node.span.handles == 0) && (node.children == 1)) ≡ false
-stays-child node other = let second : (node.children == 1) ≡ false = grind (arith, nat_tests) in rw second (none (node.span.handles == 0))
-  where
-    none : (a : Bool) → (a && false) ≡ false
-    none true = refl
-    none false = refl
 
 -- ---- the removal of what closes
 

@@ -2,7 +2,7 @@
 use Rattle.std.proofs.Common.{◌≡◌, ℕ, suc, ◌≤◌, Bool, true, false, ◌||◌, List, [], ◌∷◌, ◌++◌, length, reverse, Option, Some, None, is_some, arith, refl, sym, ap, ◌∙◌, subst}
 use Rattle.std.specs.Option.{option_map_or}
 use Rattle.std.specs.List.{list_any}
-use Rattle.std.proofs.lemmas.Bool.{not-true, or_parts}
+use Rattle.std.proofs.lemmas.Bool.{or_parts}
 use Rattle.tracing_tree_spans.specs.Registry.Spans.{Span}
 use Rattle.tracing_tree_spans.specs.Registry.Forest.{Forest, has_id, span_at, is_live, path_up, path_of, path_of_any, IsPath, IsPathIfLive, IsGrown, IsForest}
 use Rattle.tracing_tree_context.specs.declared.context.Id.{Id}

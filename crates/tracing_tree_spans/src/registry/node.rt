@@ -1,6 +1,6 @@
 //! A span as it is kept, and a look at it.
 
-ghost use Rattle.std.specs.Prelude.{◌≡◌, ◌<◌, IfOk, OnOk, OnErr};
+ghost use Rattle.std.specs.Prelude.{◌≡◌, ◌<◌, ◌==◌, ◌&&◌, IfOk, OnOk, OnErr};
 ghost use Rattle.tracing_tree_spans.specs.Registry.Spans.{shown_span, handle_more, handle_less, child_more, child_less, kept_printed, fields_more};
 
 use super::path::SpanPath;
@@ -81,10 +81,18 @@ impl Node {
         self.handles
     }
 
-    pub(crate) fn children(&self) -> usize
-        ensures { result ≡ self.now.children }
+    // Whether one handle keeps the span, and no child.
+    pub(crate) fn is_kept_by_a_handle(&self) -> bool
+        ensures { result ≡ ((self.now.span.handles == 1) && (self.now.children == 0)) }
     {
-        self.children
+        self.handles == 1 && self.children == 0
+    }
+
+    // Whether one child keeps the span, and no handle.
+    pub(crate) fn is_kept_by_a_child(&self) -> bool
+        ensures { result ≡ ((self.now.span.handles == 0) && (self.now.children == 1)) }
+    {
+        self.handles == 0 && self.children == 1
     }
 
     pub(crate) fn path(&self) -> &[Id]

@@ -265,7 +265,7 @@ fn closing_part<'a>(nodes: &Nodes, node: &'a Node) -> &'a [Id]
     ensures { reverse result.now ≡ closing_of (alone (spans_of nodes.now)) node.now.span.id }
 {
     let path = node.path();
-    if node.handles() != 1 || node.children() != 0 {
+    if !node.is_kept_by_a_handle() {
         return &path[path.len()..];
     }
     let mut count = 1;
@@ -274,7 +274,7 @@ fn closing_part<'a>(nodes: &Nodes, node: &'a Node) -> &'a [Id]
         let Some(parent) = nodes.get(id) else {
             break;
         };
-        if parent.handles() != 0 || parent.children() != 1 {
+        if !parent.is_kept_by_a_child() {
             break;
         }
         count += 1;
