@@ -261,6 +261,14 @@ def edited(crate, edits):
     return texts
 
 
+def folders_told(folder, goal):
+    """Returns the folders that the body may have of whose proof a line tells. The proofs of a cycle lie in a folder with a plus sign before its
+    name, which is that of its one function, or else each goal there begins with its function's name."""
+    top, _, last = folder.rpartition("/")
+    own = re.match(r"`(\w+)-", goal) if last.startswith("+") else None
+    return [folder.replace("+", ""), *([f"{top}/{own[1]}"] if own else [])]
+
+
 def told_at(line, bodies):
     """Returns the body of which a line of the check tells that a goal of its own is refused, with the goal; else None. The body is None
     where such a line is told of none that is known."""
@@ -270,11 +278,11 @@ def told_at(line, bodies):
         return (near[-1] if near else None), goal["goal"]
     if not answer or NAMES.search(answer["goal"]):
         return None
-    folder = answer["folder"].replace("+", "")
+    folders = folders_told(answer["folder"], answer["goal"])
     every = [it for found in bodies.values() for it in found]
-    near = [it for it in every if it.folder == folder]
+    near = next((found for folder in folders if (found := [it for it in every if it.folder == folder])), [])
     # An impl may stand in another module than its type.
-    near = near or [it for it in every if "/" in it.folder and folder.endswith("/" + "/".join(it.folder.split("/")[-2:]))]
+    near = near or [it for it in every if "/" in it.folder and folders[0].endswith("/" + "/".join(it.folder.split("/")[-2:]))]
     return (near[0] if len(near) == 1 else None), f"proofs/{answer['folder']}: {answer['goal']}"
 
 
