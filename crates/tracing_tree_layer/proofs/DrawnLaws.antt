@@ -17,7 +17,9 @@ use Rattle.tracing_tree_time.specs.Clock.{Timer as Clock}
 use Rattle.tracing_tree_spans.proofs.PathLaws.{path_of-none}
 use Rattle.tracing_tree_text.proofs.Extended.{cuts_back, extended_twice}
 use Rattle.tracing_tree_text.specs.Extended.{IsExtended}
-use Rattle.std.specs.String.Boundary.{IsSplitPoint}
+use Rattle.tracing_tree_drawing.specs.Format.Frames.{IsBegun, row_of, with_row}
+use Rattle.tracing_tree_drawing.specs.declared.format.draw.RowDrawing.{RowDrawing}
+use Rattle.tracing_tree_drawing.specs.declared.format.draw.RowPlace.{RowPlace}
 use Rattle.std.specs.Option.{option_or}
 use Rattle.std.specs.Bool.{then_some}
 use Rattle.std.specs.Io.KnownBytes.{Appends}
@@ -118,33 +120,53 @@ path-if_live forest i =
       | false ↦ (λ e. sym (path_of-none forest i e))
     ] refl
 
--- a row at its level is drawn, with the block that was appended after its start
-pub row-drawn : (settings : Settings) (row : Row) (level start at : ℕ) (old begun whole new : List ℕ) →
-    level ≡ row.level → is_too_wide settings (unnamed_row row.mode level [] row.prefix) ≡ false →
-    start ≡ length old → at ≡ length begun → begun ≡ old ++ row_start settings (unnamed_row row.mode level [] row.prefix) → whole ≡ begun ++ row.block →
-    new ≡ take start whole ++ drawn_row settings (unnamed_row row.mode level (drop at whole) row.prefix) →
-    DrawsRows settings (row ∷ []) false (Ok tt) old new
-row-drawn settings row level start at old begun whole new same_level narrow here there started filled drawn =
-    let first : List ℕ = row_start settings (unnamed_row row.mode level [] row.prefix) in
-    let before : take start whole ≡ old = ap (take start) (filled ∙ ap (λ t. t ++ row.block) started ∙ append_assoc old first row.block)
-    ∙ ap (λ n. take n (old ++ (first ++ row.block))) here ∙ take-append_seam old (first ++ row.block) in
-    let block : drop at whole ≡ row.block = ap (drop at) filled ∙ ap (λ n. drop n (begun ++ row.block)) there ∙ drop-append_seam begun row.block in
-    let picture : new ≡ old ++ drawn_row settings row = drawn
-    ∙ (λ i. before i ++ drawn_row settings (unnamed_row row.mode (same_level i) (block i) row.prefix)) in (
-      cause-narrow settings (row ∷ []) (wide-single settings row ∙ ap (λ l. is_too_wide settings (unnamed_row row.mode l [] row.prefix)) (sym same_level) ∙ narrow),
-      picture ∙ ap (λ rows. old ++ rows) (sym (append-nil (drawn_row settings row))),
-    )
+-- a beginning of a text
+cut-front : (n : ℕ) (front back whole : List ℕ) → n ≡ length front → whole ≡ front ++ back → take n whole ≡ front
+cut-front n front back whole here e =
+    ap (take n) e ∙ ap (λ k. take k (front ++ back)) here ∙ take-append_seam front back
 
--- a text that was appended to twice can be cut where each began
-pub row-splits : {Z : Type 0} (old begun whole : String Z) (first block : List ℕ) (start at : ℕ) →
-    start ≡ length (string_bytes old) → at ≡ length (string_bytes begun) →
-    string_bytes begun ≡ string_bytes old ++ first → string_bytes whole ≡ string_bytes begun ++ block →
-    IsSplitPoint (string_bytes whole) start × IsSplitPoint (string_bytes whole) at
-row-splits old begun whole first block start at here there started filled =
+-- a row was begun, and its block appended
+pub row-begun : {Z : Type 0} (drawing : RowDrawing) (place : RowPlace) (old begun whole : String Z) (block : List ℕ) →
+    place ≡ record { start = length (string_bytes old); block = length (string_bytes begun) } →
+    is_too_wide drawing.config.now (row_of drawing []) ≡ false →
+    string_bytes begun ≡ string_bytes old ++ row_start drawing.config.now (row_of drawing []) →
+    string_bytes whole ≡ string_bytes begun ++ block → IsBegun drawing place (string_bytes whole)
+row-begun drawing place old begun whole block here fits started filled =
+    let first = row_start drawing.config.now (row_of drawing []) in
+    let start : place.start ≡ length (string_bytes old) = ap (λ (p : RowPlace). p.start) here in
+    let at : place.block ≡ length (string_bytes begun) = ap (λ (p : RowPlace). p.block) here in
+    let both : string_bytes whole ≡ string_bytes old ++ (first ++ block) =
+    filled ∙ ap (λ t. t ++ block) started ∙ append_assoc (string_bytes old) first block in
     let more : IsExtended (string_bytes old) (string_bytes begun) = record { front = first; appended = started } in
-    let most : IsExtended (string_bytes begun) (string_bytes whole) = record { front = block; appended = filled } in (
-      cuts_back old whole start (here ∙ sym old.bytes.ok.0) (extended_twice _ _ _ more most),
-      cuts_back begun whole at (there ∙ sym begun.bytes.ok.0) most,
+    let most : IsExtended (string_bytes begun) (string_bytes whole) = record { front = block; appended = filled } in
+    record {
+      fits = fits;
+      start = cuts_back old whole place.start (start ∙ sym old.bytes.ok.0) (extended_twice _ _ _ more most);
+      block = cuts_back begun whole place.block (at ∙ sym begun.bytes.ok.0) most;
+      begun = cut-front place.block (string_bytes begun) block (string_bytes whole) at filled ∙ started
+          ∙ ap (λ t. t ++ first) (sym (cut-front place.start (string_bytes old) (first ++ block) (string_bytes whole) start both));
+    }
+
+-- such a row is drawn, where it has this level
+pub row-drawn : (settings : Settings) (row : Row) (drawing : RowDrawing) (place : RowPlace) (old begun whole new : List ℕ) →
+    settings ≡ drawing.config.now → row_of drawing [] ≡ unnamed_row row.mode row.level [] row.prefix →
+    place ≡ record { start = length old; block = length begun } →
+    is_too_wide drawing.config.now (row_of drawing []) ≡ false →
+    begun ≡ old ++ row_start drawing.config.now (row_of drawing []) → whole ≡ begun ++ row.block →
+    new ≡ with_row drawing place whole → DrawsRows settings (row ∷ []) false (Ok tt) old new
+row-drawn settings row drawing place old begun whole new same like here fits started filled drawn =
+    let first = row_start drawing.config.now (row_of drawing []) in
+    let before : take place.start whole ≡ old =
+    cut-front place.start old (first ++ row.block) whole (ap (λ (p : RowPlace). p.start) here)
+    (filled ∙ ap (λ t. t ++ row.block) started ∙ append_assoc old first row.block) in
+    let block : drop place.block whole ≡ row.block = ap (drop place.block) filled
+    ∙ ap (λ (p : RowPlace). drop p.block (begun ++ row.block)) here ∙ drop-append_seam begun row.block in
+    let back : drawing.config.now ≡ settings = sym same in
+    let alike : unnamed_row row.mode row.level [] row.prefix ≡ row_of drawing [] = sym like in
+    let picture : new ≡ old ++ drawn_row settings row = drawn
+    ∙ (λ i. before i ++ drawn_row (back i) (record (like i) { block = block i })) in (
+      cause-narrow settings (row ∷ []) (wide-single settings row ∙ (λ i. is_too_wide (same i) (alike i)) ∙ fits),
+      picture ∙ ap (λ rows. old ++ rows) (sym (append-nil (drawn_row settings row))),
     )
 
 -- where one planned row is refused, they all are

@@ -1,10 +1,12 @@
--- What the code's frames append, and which row a drawing draws.
-use Rattle.std.specs.Prelude.{ℕ, ◌+◌, ◌-◌, ◌*◌, ◌/◌, ◌<◌, nat_le, Bool, true, false, if◌then◌else◌, List, ◌++◌, encode_utf8, ◌^◌}
+-- What the code's frames append, which row a drawing draws, and what it makes of a text.
+use Rattle.std.specs.Prelude.{◌≡◌, ℕ, ◌+◌, ◌-◌, ◌*◌, ◌/◌, ◌<◌, nat_le, Bool, true, false, if◌then◌else◌, List, [], take, drop, ◌++◌, encode_utf8, ◌^◌}
 use Rattle.std.specs.List.{repeat}
-use Rattle.tracing_tree_drawing.specs.Format.Picture.{Row, columns, level_used, unnamed_row}
+use Rattle.std.specs.String.Boundary.{IsSplitPoint}
+use Rattle.tracing_tree_drawing.specs.Format.Picture.{Row, columns, drawn_row, is_too_wide, level_used, row_start, unnamed_row}
 use Prim.Native.Char.{code}
 use Rattle.tracing_tree_drawing.specs.Format.Texts.{prefix_text}
 use Rattle.tracing_tree_drawing.specs.declared.format.draw.RowDrawing.{RowDrawing}
+use Rattle.tracing_tree_drawing.specs.declared.format.draw.RowPlace.{RowPlace}
 use Rattle.tracing_tree_drawing.specs.declared.format.draw.FramePieces.{FramePieces}
 
 -- columns of spaces
@@ -47,3 +49,18 @@ abbrev pub HasRoom : RowDrawing → Type 0
 HasRoom drawing =
     level_used drawing.config.now drawing.mode
     drawing.level * drawing.config.now.indent_amount < 2 ^ 64
+
+-- A row was begun at this place of a text: what stands before its block is there, and the block after
+-- it.
+pub record IsBegun (drawing : RowDrawing) (place : RowPlace) (text : List ℕ) : Type 0 where
+  pub fits : is_too_wide drawing.config.now (row_of drawing []) ≡ false
+  pub start : IsSplitPoint text place.start
+  pub block : IsSplitPoint text place.block
+  pub begun : take place.block text
+      ≡ take place.start text ++ row_start drawing.config.now (row_of drawing [])
+
+-- the text with the picture of that row
+abbrev pub with_row : RowDrawing → RowPlace → List ℕ → List ℕ
+with_row drawing place text =
+    take place.start text
+    ++ drawn_row drawing.config.now (row_of drawing (drop place.block text))

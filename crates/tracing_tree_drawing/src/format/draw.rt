@@ -1,10 +1,9 @@
 //! The drawing of rows: what docs/FORMATS.md, "Drawing", says of frames, lines and wrap marks.
 
 ghost use Rattle.std.specs.List.{repeat};
-ghost use Rattle.std.specs.Prelude.{◌≡◌, ◌+◌, ◌*◌, ◌^◌, ◌<◌, ◌≤◌, ◌++◌, ◌∷◌, [], true, false, length, take, drop, Some, Err, OnOk, OnErr, IfOk, IfErr, IsTrue, string_bytes, encode_utf8, if◌then◌else◌};
+ghost use Rattle.std.specs.Prelude.{◌≡◌, ◌+◌, ◌*◌, ◌^◌, ◌<◌, ◌++◌, ◌∷◌, [], true, false, length, take, drop, Some, Err, OnOk, OnErr, IfOk, IfErr, IsTrue, string_bytes, encode_utf8, if◌then◌else◌};
 ghost use Rattle.std.specs.Str.Lines.{strip_carriage_return};
-ghost use Rattle.std.specs.String.Boundary.{IsSplitPoint};
-ghost use Rattle.tracing_tree_drawing.specs.Format.Frames.{HasRoom, blanks, corner_pieces, frame_pieces, line_piece, pushed_text, row_of, span_pieces};
+ghost use Rattle.tracing_tree_drawing.specs.Format.Frames.{HasRoom, IsBegun, blanks, corner_pieces, frame_pieces, line_piece, pushed_text, row_of, span_pieces, with_row};
 ghost use Rattle.tracing_tree_drawing.specs.Format.Picture.{columns, drawn_row, edge_frame, first_frame, is_last_before_wrap, is_too_wide, later_frame, lined_frame, mark_after_corner, mark_before_corner, mark_line, picture, row_frame, row_lines, row_start, shift_of, unnamed_row, wrapped_level};
 ghost use Rattle.tracing_tree_text.specs.Extended.{IsExtended};
 ghost use Rattle.tracing_tree_drawing.specs.Format.Texts.{prefix_text};
@@ -348,8 +347,8 @@ pub fn push_row(
 }
 
 impl RowDrawing<'_> {
-    /// Appends what stands before the row's block. Then the caller appends the block, and calls [`RowDrawing::end`]. `TooWide` and
-    /// `Memory` change nothing.
+    /// Appends what stands before the row's block, and returns where that is. The caller then appends the block, and calls
+    /// [`RowDrawing::end`]. `TooWide` and `Memory` change nothing.
     #[inline(always)]
     pub fn begin(&self, out: &mut String) -> Result<RowPlace, Refusal>
         ensures ok { OnOk result (string_bytes out.new ≡ string_bytes out.old
@@ -374,19 +373,14 @@ impl RowDrawing<'_> {
         Ok(RowPlace { start, block })
     }
 
-    /// Makes the text from this place on, which is a row that was begun and its block, the picture of the row with this block. The
-    /// caller must ensure that the row isn't too wide, and that the text stands so. On `AllocError` the text ends where the row began.
+    /// Ends a row: what [`RowDrawing::begin`] appended at this place, and the block after it, become the picture of the row. The caller
+    /// must ensure that `begin` gave this place, and that the text before the block is as it left it. On `AllocError` the text ends where
+    /// the row began.
     #[inline(always)]
     pub fn end(&self, out: &mut String, place: RowPlace) -> Result<(), AllocError>
-        requires fits { is_too_wide self.now.config.now (row_of self.now []) ≡ false }
-        requires start { IsSplitPoint (string_bytes out.old) place.start }
-        requires block { IsSplitPoint (string_bytes out.old) place.block }
-        requires begun { take place.block (string_bytes out.old)
-            ≡ take place.start (string_bytes out.old)
-            ++ row_start self.now.config.now (row_of self.now []) }
-        ensures ok { let block = drop place.block (string_bytes out.old) in
-            OnOk result (string_bytes out.new ≡ take place.start (string_bytes out.old)
-            ++ drawn_row self.now.config.now (row_of self.now block)) }
+        requires { IsBegun self.now place (string_bytes out.old) }
+        ensures ok { OnOk result
+            (string_bytes out.new ≡ with_row self.now place (string_bytes out.old)) }
         ensures err { OnErr result
             (string_bytes out.new ≡ take place.start (string_bytes out.old)) }
     {
@@ -397,18 +391,12 @@ impl RowDrawing<'_> {
         Ok(())
     }
 
-    // The same, but where memory is refused a beginning of it may be left.
+    // Ends a row. Where memory is refused, a beginning of it may be left.
     #[inline(always)]
     fn finish(&self, out: &mut String, place: RowPlace) -> Result<(), AllocError>
-        requires fits { is_too_wide self.now.config.now (row_of self.now []) ≡ false }
-        requires start { IsSplitPoint (string_bytes out.old) place.start }
-        requires block { IsSplitPoint (string_bytes out.old) place.block }
-        requires begun { take place.block (string_bytes out.old)
-            ≡ take place.start (string_bytes out.old)
-            ++ row_start self.now.config.now (row_of self.now []) }
-        ensures ok { let block = drop place.block (string_bytes out.old) in
-            OnOk result (string_bytes out.new ≡ take place.start (string_bytes out.old)
-            ++ drawn_row self.now.config.now (row_of self.now block)) }
+        requires { IsBegun self.now place (string_bytes out.old) }
+        ensures ok { OnOk result
+            (string_bytes out.new ≡ with_row self.now place (string_bytes out.old)) }
         ensures extended { IsExtended (take place.start (string_bytes out.old))
             (string_bytes out.new) }
     {
@@ -419,16 +407,12 @@ impl RowDrawing<'_> {
         self.draw_anew(out, place)
     }
 
-    // The same, where the block isn't one line as it is.
+    // Ends a row whose block isn't one line as it is: takes it out, and draws it anew.
     #[inline(never)]
     fn draw_anew(&self, out: &mut String, place: RowPlace) -> Result<(), AllocError>
-        requires fits { is_too_wide self.now.config.now (row_of self.now []) ≡ false }
-        requires start { IsSplitPoint (string_bytes out.old) place.start }
-        requires block { IsSplitPoint (string_bytes out.old) place.block }
-        requires order { place.start ≤ place.block }
-        ensures ok { let block = drop place.block (string_bytes out.old) in
-            OnOk result (string_bytes out.new ≡ take place.start (string_bytes out.old)
-            ++ drawn_row self.now.config.now (row_of self.now block)) }
+        requires { IsBegun self.now place (string_bytes out.old) }
+        ensures ok { OnOk result
+            (string_bytes out.new ≡ with_row self.now place (string_bytes out.old)) }
         ensures extended { IsExtended (take place.start (string_bytes out.old))
             (string_bytes out.new) }
     {
