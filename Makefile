@@ -70,10 +70,12 @@ bench: need-python need-cc build bin/tracing_tree_bench
 	@python3 scripts/bench.py bin/tracing_tree
 	@python3 scripts/bench_rows.py bin/tracing_tree bin/tracing_tree_bench
 
-# Inputs of worked cases that refusals are tried on too: with retracing, with clocks, with a fault of the settings and of a call.
+# Inputs of worked cases that refusals are tried on too: with retracing, with clocks, with texts of two lines, with a fault of the settings
+# and of a call.
 DATA = crates/tracing_tree_cases/data
 FAULTY = $(addprefix $(DATA)/,retracing/concurrent_eager.in retracing/deferred_closes.in close_retrace/stranger.in \
-	clocks/utc.in clocks/local.in clocks/uptime_higher.in lines/settings_wraparound_text.in lines/call_close_without_id.in)
+	clocks/utc.in clocks/local.in clocks/uptime_higher.in \
+	drawing/two_lines_in_close.in drawing/no_lines_two_lines.in lines/settings_wraparound_text.in lines/call_close_without_id.in)
 DRAWINGS = $(addprefix $(DATA)/,first/tree.out retracing/concurrent_eager.out retracing/retrace.out)
 
 # Refuses the programs each allocation, each read and each write in turn, and looks at what they tell and leave, and at their status.

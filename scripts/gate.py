@@ -154,10 +154,11 @@ class Gate:
         self.programs("scripts/counts.py", "tracing_tree_bench", more=[counter])
         self.programs("scripts/steps.py", "tracing_tree_bench", more=[stepper])
         self.programs("scripts/refuse_calls.py", "tracing_tree_refusals", more=[shim])
-        self.programs("scripts/refuse.py", "tracing_tree_cli", more=[shim, f"{TOP}/examples/first.jsonl"])
+        data = f"{TOP}/crates/tracing_tree_cases/data"
+        lines = [f"{TOP}/examples/first.jsonl", f"{data}/drawing/two_lines_in_close.in", f"{data}/drawing/no_lines_two_lines.in"]
+        self.programs("scripts/refuse.py", "tracing_tree_cli", more=[shim, *lines])
         self.programs("scripts/refuse.py", "tracing_tree_ttree", more=[shim, f"{TOP}/examples/go-test.jsonl", f"{TOP}/examples/uftrace.json"])
-        drawing = f"{TOP}/crates/tracing_tree_cases/data/first/tree.out"
-        return self.programs("scripts/refuse.py", "tracing_tree_read", more=[shim, drawing])
+        return self.programs("scripts/refuse.py", "tracing_tree_read", more=[shim, f"{data}/first/tree.out"])
 
     def bindings(self):
         """Builds the library for C over what `rt ci` proved, and runs the tests of its header and of the Rust crate."""
