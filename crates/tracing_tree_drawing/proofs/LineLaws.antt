@@ -1,10 +1,11 @@
 -- The lines of a row, one by one.
 use Rattle.std.proofs.Common.{◌≡◌, ◌≢◌, ℕ, ◌+◌, ◌-◌, ◌<◌, ◌≤◌, Bool, true, false, List, [], ◌∷◌, ◌++◌, length, take, drop, get_or, ◌==◌, refl, sym, ap, ◌∙◌, arith, append_assoc, Option, Some, None, Result, Ok, Err, Bor, inl, inr, MatchOption}
-use Rattle.std.specs.Prelude.{OnOk, IsTrue, not}
+use Rattle.std.specs.Prelude.{OnOk, IsTrue, is_some, not, slice_index}
+use Rattle.memchr.specs.Find.{IsFirstByte, is_byte}
 use Rattle.std.specs.List.{All, slice_split, flat_map, enumerate_from}
 use Rattle.std.specs.Option.{unwrap_or}
 use Rattle.std.specs.Str.Lines.{lines, lines_of_parts, strip_carriage_return}
-use Rattle.std.proofs.lemmas.Bool.{ne_eqb}
+use Rattle.std.proofs.lemmas.Bool.{eq-eqb, ne_eqb}
 use Rattle.std.proofs.lemmas.Bool.Decides.{eqb_tells, nat_tests}
 use Rattle.std.proofs.lemmas.List.{append-nil, take-append-drop, take_all, take_more, length_push, get_or_push}
 use Rattle.std.proofs.lemmas.List.Elements.{All-from_get_or}
@@ -166,21 +167,22 @@ never : false ≡ true → ⊥
 never e = absurd cc
 
 -- a block that is one line as it is, with lines
-pub line-lined : (block : List ℕ) (cut ends : Bool) → cut ≡ false → ((i : ℕ) → i < length block → get_or block i 0 ≡ 10 → cut ≡ true) →
-    IsTrue (not ends) → ((front : List ℕ) → block ≡ front ++ 13 ∷ [] → ends ≡ true) → row_lines true block ≡ block ∷ []
-line-lined block true ends whole cuts stays returns = absurd (never (sym whole))
-line-lined block false true whole cuts stays returns = absurd (never stays)
-line-lined block false false whole cuts stays returns =
-    row_lines-last block (λ i within same. never (cuts i within same))
-    ∙ ap (λ line. line ∷ []) (strip-none block (λ front same. never (returns front same)))
+pub line-lined : (block : List ℕ) (ends : Bool) → IsUnbroken block → IsTrue (not ends) → ((front : List ℕ) → block ≡ front ++ 13 ∷ [] → ends ≡ true) →
+    row_lines true block ≡ block ∷ []
+line-lined block true unbroken stays returns = absurd (never stays)
+line-lined block false unbroken stays returns =
+    row_lines-last block unbroken ∙ ap (λ line. line ∷ []) (strip-none block (λ front same. never (returns front same)))
 
 -- and without lines
-pub line-unlined : (block : List ℕ) (cut empty : Bool) → cut ≡ false → ((i : ℕ) → i < length block → get_or block i 0 ≡ 10 → cut ≡ true) →
-    IsTrue (not empty) → empty ≡ (length block == 0) → row_lines false block ≡ block ∷ []
-line-unlined block true empty whole cuts filled here = absurd (never (sym whole))
-line-unlined block false true whole cuts filled here = absurd (never filled)
-line-unlined block false false whole cuts filled here =
-    row_lines-rest block (λ i within same. never (cuts i within same)) (sym here)
+pub line-unlined : (block : List ℕ) (empty : Bool) → IsUnbroken block → IsTrue (not empty) → empty ≡ (length block == 0) →
+    row_lines false block ≡ block ∷ []
+line-unlined block true unbroken filled here = absurd (never filled)
+line-unlined block false unbroken filled here = row_lines-rest block unbroken (sym here)
+
+-- a search for a line end that finds none
+pub no-end : (text : List ℕ) (r : Option ℕ) → IsFirstByte (is_byte 10) text r → is_some r ≡ false → IsUnbroken text
+no-end text None h none = λ i within same. h i (omega arith) within (eq-eqb (slice_index text i) 10 same)
+no-end text (Some at) h none = absurd (never (sym none))
 
 -- ---- rows that were begun
 

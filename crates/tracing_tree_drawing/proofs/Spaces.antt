@@ -1,11 +1,13 @@
 -- Spaces that stand ready.
-use Rattle.std.proofs.Common.{◌≡◌, ◌-◌, ◌≤◌, ◌<◌, arith, ℕ, zero, suc, ◌∷◌, take, refl, sym, ap, ◌∙◌}
+use Rattle.std.proofs.Common.{◌≡◌, ◌+◌, ◌-◌, ◌*◌, ◌/◌, ◌%◌, ◌≤◌, ◌<◌, ◌++◌, arith, ℕ, zero, suc, ◌∷◌, take, refl, sym, ap, ◌∙◌}
 use Rattle.std.specs.Char.{encode_utf8}
-use Rattle.std.specs.List.{slice_range}
+use Rattle.std.specs.List.{repeat, slice_range}
 use Rattle.std.proofs.lemmas.Str.Ascii.{IsAscii-from_all}
 use Rattle.std.proofs.lemmas.List.Elements.{All-replicate}
 use Rattle.std.specs.Prelude.{replicate, IsAscii}
-use Rattle.std.proofs.lemmas.List.{take-replicate}
+use Rattle.std.proofs.lemmas.List.{replicate-append-replicate, take-replicate}
+use Rattle.std.proofs.lemmas.Nat.{div-add-mod'}
+use Rattle.std.proofs.Math.Nat.{suc-mul, zero-mul}
 use Rattle.tracing_tree_drawing.specs.Format.Picture.{columns}
 use Rattle.tracing_tree_drawing.proofs.Characters.{space}
 
@@ -24,3 +26,19 @@ ready-spaces ready count fits =
 -- spaces are ASCII
 pub ascii-spaces : (count : ℕ) → IsAscii (replicate count space)
 ascii-spaces count = IsAscii-from_all (replicate count space) (All-replicate (λ byte. byte < 128) count space (omega arith))
+
+-- spaces so many at a time
+repeat-ready : (many ready : ℕ) → repeat many (replicate ready space) ≡ replicate (many * ready) space
+repeat-ready zero ready = ap (λ n. replicate n space) (sym (zero-mul ready))
+repeat-ready (suc many) ready =
+    let sum : ready + many * ready ≡ suc many * ready = let n = suc-mul many ready in omega (arith, n) in
+    ap (λ rest. replicate ready space ++ rest) (repeat-ready many ready)
+    ∙ replicate-append-replicate ready (many * ready) space ∙ ap (λ n. replicate n space) sum
+
+-- and what is left
+pub many-spaces : (count ready : ℕ) → repeat (count / ready) (replicate ready space) ++ columns (count % ready) space ≡ columns count space
+many-spaces count ready =
+    ap (λ front. front ++ columns (count % ready) space) (repeat-ready (count / ready) ready)
+    ∙ ap (λ back. replicate (count / ready * ready) space ++ back) (repeat-space (count % ready))
+    ∙ replicate-append-replicate (count / ready * ready) (count % ready) space
+    ∙ ap (λ n. replicate n space) (div-add-mod' count ready) ∙ sym (repeat-space count)

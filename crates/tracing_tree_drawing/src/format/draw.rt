@@ -9,10 +9,11 @@ ghost use Rattle.tracing_tree_text.specs.Extended.{IsExtended};
 ghost use Rattle.tracing_tree_drawing.specs.Format.Texts.{prefix_text};
 
 use super::{Config, SpanMode};
+use memchr::memchr;
 use std::alloc::AllocError;
 use tracing_tree_context::{Context, Refusal};
 
-// Spaces that stand ready. More of them are appended one by one.
+// Spaces that stand ready. More of them are appended so many at a time.
 const SPACES: &str = "                                                                ";
 
 /// A row that is being drawn: everything but its block.
@@ -296,9 +297,20 @@ fn push_spaces(out: &mut String, count: usize) -> Result<(), AllocError>
         return Ok(());
     }
     if count > SPACES.len() {
-        return push_repeated(out, " ", count);
+        return push_many_spaces(out, count);
     }
     out.push_str(&SPACES[..count])
+}
+
+// The same, of any number. It stands apart, since few rows are so wide.
+#[inline(never)]
+fn push_many_spaces(out: &mut String, count: usize) -> Result<(), AllocError>
+    ensures ok { OnOk result
+        (string_bytes out.new ≡ string_bytes out.old ++ blanks count) }
+    ensures extended { IsExtended (string_bytes out.old) (string_bytes out.new) }
+{
+    push_repeated(out, SPACES, count / SPACES.len())?;
+    out.push_str(&SPACES[..count % SPACES.len()])
 }
 
 // A line before a line end loses one carriage return.
@@ -427,7 +439,7 @@ impl RowDrawing<'_> {
         ensures { IsTrue result
             → row_lines self.now.config.now.indent_lines block.now ≡ block.now ∷ [] }
     {
-        if block.contains('\n') {
+        if memchr(b'\n', block.as_bytes()).is_some() {
             return false;
         }
         if self.config.indent_lines() {
