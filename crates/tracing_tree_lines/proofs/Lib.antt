@@ -12,6 +12,7 @@ pub mod ObjectLines
 pub mod SpelledLines
 pub mod LineEnds
 pub mod LineRuns
+pub mod HeldLines
 pub mod OpenedLines
 pub mod RowsRead
 pub mod Worked

@@ -1,13 +1,10 @@
 -- Where lines end in the bytes that a reader shows, and which line comes first.
-use Rattle.std.proofs.Common.{◌≡◌, ℕ, ◌+◌, ◌<◌, ◌==◌, Bool, true, false, not, List, [], ◌∷◌, ◌++◌, length, take, drop, get_or, if◌then◌else◌, take-append-drop, Option, Some, None, Ok, position, refl, sym, ap, subst, ◌∙◌, arith, append_assoc, append-nil, eqb-true, ⊎_elim}
-use Rattle.std.specs.declared.alloc.Global.{Global}
-use Rattle.std.specs.declared.io.buffered.BufReader.{BufReader}
-use Rattle.std.specs.Io.Buffered.{reader_buffer, reader_inner, reader_capacity, reader_remaining}
+use Rattle.std.proofs.Common.{◌≡◌, ℕ, ◌+◌, ◌<◌, ◌==◌, Bool, true, false, not, List, [], ◌∷◌, ◌++◌, length, length-drop, take, drop, get_or, get_or-drop, take-append-drop, Option, Some, None, Ok, position, refl, sym, ap, subst, ◌∙◌, arith, append_assoc, append-nil, eqb-true, ⊎_elim}
 use Rattle.std.specs.Io.KnownBytes.{Consumes, Keeps, IsAtEnd, prepend_known}
-use Rattle.memchr.specs.Find.{IsFirstByte, is_byte}
+use Rattle.memchr.specs.Find.{IsFirstByte, Nowhere, Passes, is_byte}
 use Rattle.std.proofs.Math.Nat.{eq-or-lt_of_le}
 use Rattle.std.proofs.lemmas.Bool.{cases_lt, false≢true}
-use Rattle.std.proofs.lemmas.Grind.{common_steps}
+use Rattle.std.proofs.lemmas.Grind.{common_steps, get_or_default_zero}
 use Rattle.std.proofs.lemmas.List.{take_more}
 use Rattle.std.proofs.lemmas.List.Elements.{All-append}
 use Rattle.std.proofs.lemmas.List.Sums.{fails_before_first}
@@ -47,6 +44,19 @@ ends_at held i e =
 -- bytes without a place of a line end have none
 pub has_no_end : (held : List ℕ) → position is_end held ≡ None → HasNoLineEnd held
 has_no_end held e = λ k d lt. fails_before_first is_end held k d (grind (arith, common_steps))
+
+-- what isn't true is false
+not_true : (b : Bool) → ¬ (b ≡ true) → b ≡ false
+not_true true none = absurd (none refl)
+not_true false none = refl
+
+-- bytes from a place on, where no line end stands
+pub no_end_from : (held : List ℕ) (from : ℕ) → Nowhere (Passes (is_byte 10) held) from (length held) → HasNoLineEnd (drop from held)
+no_end_from held from none = λ k d lt.
+    let inside : from + k < length held = omega (arith, lt, length-drop from held) in
+    let same : get_or (drop from held) k d ≡ get_or held (from + k) 0 =
+    get_or-drop from held k d ∙ get_or_default_zero held (from + k) d inside in
+    ap is_end same ∙ not_true (is_end (get_or held (from + k) 0)) (none (from + k) (omega arith) inside)
 
 -- a place before another isn't the first where the other is
 not_before : (held : List ℕ) (i k : ℕ) → is_end (get_or held i 0) ≡ true → ((j : ℕ) → j < k → is_end (get_or held j 0) ≡ false) → i < k → ⊥
@@ -152,24 +162,17 @@ takes_last (Some x) left line false taken is =
 
 -- ---- a line that a buffer holds
 
-held_taken : (held : List ℕ) (n : ℕ) (is_empty : Bool) (inner : Option (List ℕ)) →
-    Consumes (if is_empty then None else prepend_known held inner) (if is_empty then None else prepend_known (drop n held) inner) (take n held)
-held_taken held n true inner = tt
-held_taken held n false None = tt
-held_taken held n false (Some rest) =
+held_taken : (held : List ℕ) (n : ℕ) (inner : Option (List ℕ)) → Consumes (prepend_known held inner) (prepend_known (drop n held) inner) (take n held)
+held_taken held n None = tt
+held_taken held n (Some rest) =
     ap (λ bytes. bytes ++ rest) (sym (take-append-drop n held)) ∙ append_assoc (take n held) (drop n held) rest
 
--- what a buffer holds up to a line end is the first line, once it is consumed
-pub held_line : {T : Type 0} (remaining : T → Option (List ℕ)) (old new : BufReader T Global) (i : ℕ) → position is_end (reader_buffer old) ≡ Some i →
-    reader_buffer new ≡ drop (i + 1) (reader_buffer old) → reader_inner new ≡ reader_inner old → reader_capacity new ≡ reader_capacity old →
-    TakesLine (reader_remaining remaining old) (reader_remaining remaining new) (take i (reader_buffer old))
-held_line remaining old new i found bytes inner room =
-    let held = reader_buffer old in
+-- held bytes up to a line end are the first line, whatever stands behind them
+pub held_line : (held : List ℕ) (inner : Option (List ℕ)) (i : ℕ) → position is_end held ≡ Some i →
+    TakesLine (prepend_known held inner) (prepend_known (drop (i + 1) held) inner) (take i held)
+held_line held inner i found =
     let e = ends_at held i found in
-    let left : reader_remaining remaining new ≡ (if reader_capacity old == 0 then None else prepend_known (drop (i + 1) held) (remaining (reader_inner old))) =
-    (λ k. if room k == 0 then None else prepend_known (bytes k) (remaining (inner k))) in
     takes_first _ _ (take i held) (record {
       within = e.clean;
-      taken = subst (λ l. Consumes (reader_remaining remaining old) l (take i held ++ 10 ∷ [])) (sym left)
-          (subst (Consumes _ _) e.through (held_taken held (i + 1) (reader_capacity old == 0) (remaining (reader_inner old))));
+      taken = subst (Consumes (prepend_known held inner) (prepend_known (drop (i + 1) held) inner)) e.through (held_taken held (i + 1) inner);
     })

@@ -1,6 +1,6 @@
 -- Runs over lines: one line more, and what the run leaves at its end.
 use Rattle.std.proofs.Common.{◌≡◌, Result, ℕ, ◌+◌, ◌<◌, ◌≤◌, true, false, not, List, [], ◌∷◌, ◌++◌, length, take, Option, Some, None, IfSome, Ok, Err, refl, sym, ap, subst, ◌∙◌, arith, append_assoc, append-nil, length-append}
-use Rattle.std.specs.Prelude.{slice_get, Bool, ⊤, filter}
+use Rattle.std.specs.Prelude.{slice_get, Bool, filter}
 use Rattle.std.specs.List.{AllZip}
 use Rattle.std.proofs.lemmas.List.Elements.{filter-append}
 use Rattle.std.specs.Io.KnownBytes.{Appends}
@@ -21,12 +21,14 @@ use Rattle.tracing_tree_lines.specs.Lines.Spelled.{input_lines, is_skipped, Spel
 use Rattle.tracing_tree_lines.specs.Lines.Runs.{EndsRun, IsLeft, last_number, RunsOver, CountsEnd}
 use Rattle.tracing_tree_lines.specs.Lines.Reads.{TakesLine, HasNoLine, is_from_outside}
 use Rattle.tracing_tree_layer.specs.Layer.Layers.{Flushes}
+use Rattle.tracing_tree_lines.specs.Lines.SoFar.{IsSoFar, IsKnownSoFar, GoesOver, counted}
 use Rattle.tracing_tree_lines.specs.Lines.Steps.{MakesCall, MakesSpelled, SkipsLine, FailsLine, JudgesLine, ShowsAndJudges, EndsLines}
 use Rattle.tracing_tree_layer.specs.declared.call.Call.{Call}
 use Rattle.tracing_tree_layer.specs.declared.call.Reply.{Reply}
 use Rattle.tracing_tree_lines.specs.declared.lines.Judged.{Judged}
 use Rattle.tracing_tree_lines.specs.declared.lines.Judged.TheVariants.{End, Skipped, Accepted}
 use Rattle.tracing_tree_lines.specs.declared.lines.LineCause.{LineCause}
+use Rattle.tracing_tree_lines.specs.declared.lines.Progress.{Progress}
 use Rattle.tracing_tree_lines.specs.declared.lines.LineCause.TheVariants.{Settings as NoSettings, NotACall, Read, Memory, Refused}
 use Rattle.tracing_tree_layer.proofs.DrawnLaws.{draw-append}
 use Rattle.tracing_tree_layer.proofs.RunLaws.{run-append}
@@ -115,26 +117,8 @@ module _ (first : Seen) where
       ∙ ap (λ cause. then_run r (λ state. then_run (run_by_cause first.settings first.timer state last cause) no_call)) none
       ∙ (λ i. record { state = state_after first.settings first.timer r.state last; rows = r.rows ++ append-nil added i; replies = r.replies ++ reply_of r.state.forest last ∷ [] })
 
-  -- what these lines have left when only the others are to be judged
-  pub record IsSoFar (lines others : List (List ℕ)) (accepted number : ℕ) (now : Seen) : Type 0 where
-    pub done : List (List ℕ)
-    pub apart : lines ≡ done ++ others
-    pub number_is : number ≡ length done + 2
-    pub calls : List Call
-    pub spelled : SpellCalls done calls
-    pub count : accepted ≡ length calls
-    pub left : now ≡ seen_later first (run_from first calls).state now.writer
-    pub taken : length (run_from first calls).replies ≡ length calls
-    pub appends : Appends first.writer.bytes now.writer.bytes (draw first.settings (run_from first calls).rows)
-
-  -- the same of the lines of an input, where it is known
-  abbrev pub IsKnownSoFar : Option (List ℕ) → Option (List ℕ) → ℕ → ℕ → Seen → Type 0
-  IsKnownSoFar None left accepted number now = ⊤
-  IsKnownSoFar (Some input) None accepted number now = ⊥
-  IsKnownSoFar (Some input) (Some rest) accepted number now = IsSoFar (input_lines input) (input_lines rest) accepted number now
-
   -- no line is judged yet
-  pub starts : (known : Option (List ℕ)) → IsKnownSoFar known known 0 2 first
+  pub starts : (known : Option (List ℕ)) → IsKnownSoFar first known known 0 2 first
   starts None = tt
   starts (Some input) = record {
     done = [];
@@ -154,12 +138,12 @@ module _ (first : Seen) where
 
   -- a skipped line more
   pub skips : (known middle left : Option (List ℕ)) (accepted number : ℕ) (now next : Seen) →
-      IsKnownSoFar known middle accepted number now → SkipsLine middle left × (next ≡ now) → IsKnownSoFar known left accepted (number + 1) next
+      IsKnownSoFar first known middle accepted number now → SkipsLine middle left × (next ≡ now) → IsKnownSoFar first known left accepted (number + 1) next
   skips None middle left accepted number now next so_far h = tt
   skips (Some x) None left accepted number now next so_far h = absurd so_far
   skips (Some x) (Some y) None accepted number now next so_far h = absurd h.0.first
   skips (Some x) (Some y) (Some z) accepted number now next so_far h =
-      let longer : IsSoFar (input_lines x) (input_lines z) accepted (number + 1) now = record {
+      let longer : IsSoFar first (input_lines x) (input_lines z) accepted (number + 1) now = record {
         done = so_far.done ++ h.0.line ∷ [];
         apart = one_done _ so_far.done _ _ h.0.line so_far.apart h.0.first;
         number_is = omega (arith, so_far.number_is, length-append so_far.done (h.0.line ∷ []));
@@ -170,11 +154,11 @@ module _ (first : Seen) where
         taken = so_far.taken;
         appends = so_far.appends;
       } in
-      subst (IsSoFar (input_lines x) (input_lines z) accepted (number + 1)) (sym h.1) longer
+      subst (IsSoFar first (input_lines x) (input_lines z) accepted (number + 1)) (sym h.1) longer
 
   -- the writer is flushed
   pub flushes : (known middle : Option (List ℕ)) (accepted number : ℕ) (now next : Seen) →
-      IsKnownSoFar known middle accepted number now → Flushes now next → IsKnownSoFar known middle accepted number next
+      IsKnownSoFar first known middle accepted number now → Flushes now next → IsKnownSoFar first known middle accepted number next
   flushes None middle accepted number now next so_far h = tt
   flushes (Some x) None accepted number now next so_far h = absurd so_far
   flushes (Some x) (Some y) accepted number now next so_far h = record {
@@ -200,8 +184,8 @@ module _ (first : Seen) where
 
   -- an accepted call more
   pub accepts : (known middle left : Option (List ℕ)) (accepted number : ℕ) (now next : Seen) →
-      IsKnownSoFar known middle accepted number now → (reply : Reply) × MakesCall middle left (Ok reply) now next →
-      IsKnownSoFar known left (accepted + 1) (number + 1) next
+      IsKnownSoFar first known middle accepted number now → (reply : Reply) × MakesCall middle left (Ok reply) now next →
+      IsKnownSoFar first known left (accepted + 1) (number + 1) next
   accepts None middle left accepted number now next so_far h = tt
   accepts (Some x) None left accepted number now next so_far h = absurd so_far
   accepts (Some x) (Some y) None accepted number now next so_far h = absurd h.1.first
@@ -266,7 +250,7 @@ module _ (first : Seen) where
 
   -- the end of the input
   pub finishes : (known middle : Option (List ℕ)) (accepted number : ℕ) (now next : Seen) → number < last_number →
-      IsKnownSoFar known middle accepted number now → HasNoLine middle × (next ≡ now) →
+      IsKnownSoFar first known middle accepted number now → HasNoLine middle × (next ≡ now) →
       IfSome known (λ input. RunsOver (input_lines input) accepted None first next.writer)
   finishes None middle accepted number now next below so_far h = tt
   finishes (Some x) None accepted number now next below so_far h = absurd so_far
@@ -293,7 +277,7 @@ module _ (first : Seen) where
 
   -- a fault from outside
   pub breaks : (known middle : Option (List ℕ)) (accepted number : ℕ) (now next : Seen) (cause : LineCause) → is_from_outside cause ≡ true →
-      MayEndAt number cause → IsKnownSoFar known middle accepted number now → next ≡ now →
+      MayEndAt number cause → IsKnownSoFar first known middle accepted number now → next ≡ now →
       IfSome known (λ input. RunsOver (input_lines input) accepted (Some (record { line = number; cause = cause })) first next.writer)
   breaks None middle accepted number now next cause outside reached so_far same = tt
   breaks (Some x) None accepted number now next cause outside reached so_far same = absurd so_far
@@ -317,7 +301,7 @@ module _ (first : Seen) where
 
   -- a line that was read whole is to blame
   blames : (lines others after : List (List ℕ)) (line : List ℕ) (accepted number : ℕ) (now next : Seen) (cause : LineCause) (front : List ℕ) →
-      number < last_number → (so_far : IsSoFar lines others accepted number now) → others ≡ line ∷ after →
+      number < last_number → (so_far : IsSoFar first lines others accepted number now) → others ≡ line ∷ after →
       EndsRun first.settings first.timer (run_from first so_far.calls).state (Some line) cause →
       IsLeft first.settings first.timer (run_from first so_far.calls).state first.writer.whole (Some cause) (Some line) front →
       Appends now.writer.bytes next.writer.bytes front → RunsOver lines accepted (Some (record { line = number; cause = cause })) first next.writer
@@ -358,7 +342,7 @@ module _ (first : Seen) where
 
   -- a line that spells nothing
   fails : (known middle left : Option (List ℕ)) (accepted number : ℕ) (now next : Seen) → number < last_number →
-      IsKnownSoFar known middle accepted number now → FailsLine middle left × (next ≡ now) →
+      IsKnownSoFar first known middle accepted number now → FailsLine middle left × (next ≡ now) →
       IfSome known (λ input. RunsOver (input_lines input) accepted (Some (record { line = number; cause = NotACall })) first next.writer)
   fails None middle left accepted number now next below so_far h = tt
   fails (Some x) None left accepted number now next below so_far h = absurd so_far
@@ -370,7 +354,7 @@ module _ (first : Seen) where
 
   -- a line whose call is refused
   refuses : (known middle left : Option (List ℕ)) (accepted number : ℕ) (now next : Seen) (refusal : Refusal) → number < last_number →
-      IsKnownSoFar known middle accepted number now → MakesCall middle left (Err refusal) now next →
+      IsKnownSoFar first known middle accepted number now → MakesCall middle left (Err refusal) now next →
       IfSome known (λ input. RunsOver (input_lines input) accepted (Some (record { line = number; cause = Refused refusal })) first next.writer)
   refuses None middle left accepted number now next refusal below so_far m = tt
   refuses (Some x) None left accepted number now next refusal below so_far m = absurd so_far
@@ -385,7 +369,7 @@ module _ (first : Seen) where
 
   -- a line that ends the run
   pub stops : (known middle left : Option (List ℕ)) (accepted number : ℕ) (now next : Seen) (cause : LineCause) → number < last_number →
-      IsKnownSoFar known middle accepted number now → JudgesLine middle left (Err cause) now next →
+      IsKnownSoFar first known middle accepted number now → JudgesLine middle left (Err cause) now next →
       IfSome known (λ input. RunsOver (input_lines input) accepted (Some (record { line = number; cause = cause })) first next.writer)
   stops known middle left accepted number now next NoSettings below so_far h = absurd h
   stops known middle left accepted number now next NotACall below so_far h = fails known middle left accepted number now next below so_far h
@@ -395,11 +379,6 @@ module _ (first : Seen) where
       breaks known middle accepted number now next Memory refl (may_end number Memory below) so_far h
   stops known middle left accepted number now next (Refused refusal) below so_far h =
       refuses known middle left accepted number now next refusal below so_far h
-
--- the run so far, in which no write was refused
-pub record GoesOver (known left : Option (List ℕ)) (accepted number : ℕ) (first now : Seen) : Type 0 where
-  pub so_far : IsKnownSoFar first known left accepted number now
-  pub calm : now.writer.faults ≡ first.writer.faults
 
 -- the writer is flushed
 pub goes_on_flushed : (known middle : Option (List ℕ)) (accepted number : ℕ) (first now next : Seen) →
@@ -417,7 +396,7 @@ shown_first known middle left accepted number result judge first now next h k =
     judge first k.shown next (goes_on_flushed known middle accepted number first now k.shown h k.flushed) k.judged
 
 -- one line more, that doesn't end the run
-pub goes_on_skipped : (known middle left : Option (List ℕ)) (accepted number : ℕ) (first now next : Seen) →
+goes_on_skipped : (known middle left : Option (List ℕ)) (accepted number : ℕ) (first now next : Seen) →
     GoesOver known middle accepted number first now → JudgesLine middle left (Ok Skipped) now next →
     GoesOver known left accepted (number + 1) first next
 goes_on_skipped known middle left accepted number first now next h k = record {
@@ -425,13 +404,21 @@ goes_on_skipped known middle left accepted number first now next h k = record {
   calm = calm_line middle left Skipped now next k ∙ h.calm;
 }
 
-pub goes_on_accepted : (known middle left : Option (List ℕ)) (accepted number : ℕ) (first now next : Seen) →
+goes_on_accepted : (known middle left : Option (List ℕ)) (accepted number : ℕ) (first now next : Seen) →
     GoesOver known middle accepted number first now → JudgesLine middle left (Ok Accepted) now next →
     GoesOver known left (accepted + 1) (number + 1) first next
 goes_on_accepted known middle left accepted number first now next h k = record {
   so_far = accepts first known middle left accepted number now next h.so_far k;
   calm = calm_line middle left Accepted now next k ∙ h.calm;
 }
+
+-- the same, as it is counted
+pub goes_on : (known middle left : Option (List ℕ)) (run : Progress) (judged : Judged) → (judged ≡ End → ⊥) → (first now next : Seen) →
+    GoesOver known middle run.accepted run.number first now → JudgesLine middle left (Ok judged) now next →
+    GoesOver known left (counted judged run).accepted (counted judged run).number first next
+goes_on known middle left run End more first now next h k = absurd (more refl)
+goes_on known middle left run Skipped more first now next h k = goes_on_skipped known middle left run.accepted run.number first now next h k
+goes_on known middle left run Accepted more first now next h k = goes_on_accepted known middle left run.accepted run.number first now next h k
 
 -- the end of the run
 pub ends_input : (known middle left : Option (List ℕ)) (accepted number : ℕ) → number < last_number → (first now next : Seen) →

@@ -4,6 +4,7 @@ pub mod Values
 pub mod Runs
 pub mod Reads
 pub mod Steps
+pub mod SoFar
 pub mod CallKinds
 pub mod Borrowed
 pub mod FieldList

@@ -12,19 +12,23 @@ mod settings;
 mod skip;
 mod value;
 
-ghost use Rattle.std.specs.Prelude.{◌≡◌, ℕ, List, Option, IfErr, IfSome, MatchResult, option_map};
+ghost use Rattle.std.specs.Prelude.{◌≡◌, ℕ, ◌+◌, ◌<◌, ◌≤◌, List, length, slice_range, Option, IfErr, IfOk, IfSome, IsTrue, MatchResult, option_map};
+ghost use Rattle.std.specs.Str.{IsCharBoundary};
 ghost use Rattle.std.specs.Io.Buffered.{reader_remaining};
 ghost use Rattle.tracing_tree_layer.specs.Layer.Layers.{seen, Changes};
 ghost use Rattle.tracing_tree_lines.specs.Lines.Reads.{IsBeforeCalls, OpensWith, TakesLine};
-ghost use Rattle.tracing_tree_lines.specs.Lines.Runs.{CountsEnd, EndsAtFirst, LeavesRun, status_of};
+ghost use Rattle.tracing_tree_lines.specs.Lines.Runs.{CountsEnd, EndsAtFirst, LeavesRun, last_number, status_of};
+ghost use Rattle.tracing_tree_lines.specs.Lines.SoFar.{counted, IsTextOf, RunsHeld, RunsSome};
+ghost use Rattle.tracing_tree_lines.specs.declared.lines.Judged.TheVariants.{End};
 ghost use Rattle.tracing_tree_lines.specs.Lines.Steps.{EndsLines, JudgesLine, ShowsAndJudges};
 ghost use Rattle.tracing_tree_output.specs.Writers.{seen_writer};
 
 use call::make_call;
 use json::{Invalid, Scratch};
-use read::line_end;
+use read::{line_end, whole_lines};
 pub use read::{BLOCK, holds_line, is_skipped, read_line};
 use settings::{Setup, settings_of_line};
+use simdutf8::basic::from_utf8;
 use std::alloc::{AllocError, AllocFailed, Global};
 use std::fmt;
 use std::io::{BufRead, BufReader, Read};
@@ -230,18 +234,20 @@ fn run_calls<R: Read, W: Output, FT: FormatTime>(
 {
     let mut line = Vec::new(alloc);
     let mut scratch = Scratch::new(alloc);
-    let mut accepted = 0;
-    for number in 2..u64::MAX {
-        match run_line(alloc, lines, &mut line, &mut scratch, layered) {
-            Ok(Judged::End) => return (accepted, None),
-            Ok(Judged::Skipped) => {}
-            Ok(Judged::Accepted) => accepted += 1,
+    let mut run = Progress {
+        number: 2,
+        accepted: 0,
+    };
+    while run.number < u64::MAX {
+        match run_some(alloc, lines, &mut line, &mut scratch, layered, &mut run) {
+            Ok(true) => {}
+            Ok(false) => return (run.accepted, None),
             Err(cause) => {
                 let fault = LineFault {
-                    line: number,
+                    line: run.number,
                     cause,
                 };
-                return (accepted, Some(fault));
+                return (run.accepted, Some(fault));
             }
         }
     }
@@ -249,7 +255,31 @@ fn run_calls<R: Read, W: Output, FT: FormatTime>(
         line: u64::MAX,
         cause: LineCause::Read,
     };
-    (accepted, Some(fault))
+    (run.accepted, Some(fault))
+}
+
+// How far a run has come.
+#[derive(Drop)]
+struct Progress {
+    // The number of the next line.
+    number: u64,
+    // How many calls were accepted.
+    accepted: u64,
+}
+
+impl Progress {
+    // Counts a line that was judged.
+    fn count(&mut self, judged: Judged)
+        requires room { self.old.accepted + 2 ≤ self.old.number }
+        requires below { self.old.number < last_number }
+        ensures { self.new ≡ counted judged self.old }
+    {
+        match judged {
+            Judged::Accepted => self.accepted += 1,
+            Judged::End | Judged::Skipped => {}
+        }
+        self.number += 1;
+    }
 }
 
 // What became of a line.
@@ -261,8 +291,91 @@ enum Judged {
     Accepted,
 }
 
-// Makes the call of the next line. Where the reader's buffer holds the line whole, it is read there. Else what is drawn is passed on
-// first, since the read may wait.
+// Makes the calls of the whole lines that the reader's buffer holds; where it holds none, the call of the next line. Returns whether
+// there was a line. A line that ends the run isn't counted: its number is that of the next line.
+fn run_some<R: Read, W: Output, FT: FormatTime>(
+    alloc: Global,
+    lines: &mut BufReader<R>,
+    line: &mut Vec<u8>,
+    scratch: &mut Scratch,
+    layered: &mut Layered<W, FT>,
+    run: &mut Progress,
+) -> Result<bool, LineCause>
+    requires room { run.old.accepted + 2 ≤ run.old.number }
+    requires below { run.old.number < last_number }
+    ensures room { (run.new.accepted + 2 ≤ run.new.number) × (run.new.number ≤ last_number) }
+    ensures onward { IfOk result (λ more. IsTrue more → run.old.number < run.new.number) }
+    ensures ran { Changes (seen FT.FormatTime W.Output)
+        (RunsSome (reader_remaining R.remaining lines.old)
+        (reader_remaining R.remaining lines.new) run.old run.new result)
+        layered.old layered.new }
+{
+    let judged = run_held(alloc, whole_lines(lines.buffer()), scratch, layered, run)?;
+    if judged > 0 {
+        lines.consume(judged);
+        return Ok(true);
+    }
+    match run_line(alloc, lines, line, scratch, layered)? {
+        Judged::End => Ok(false),
+        judged => {
+            run.count(judged);
+            Ok(true)
+        }
+    }
+}
+
+// Makes the calls of lines that the reader holds whole. Returns how many bytes were judged. The lines are checked as one text, which
+// costs less than to check each by itself.
+fn run_held<W: Output, FT: FormatTime>(
+    alloc: Global,
+    held: &[u8],
+    scratch: &mut Scratch,
+    layered: &mut Layered<W, FT>,
+    run: &mut Progress,
+) -> Result<usize, LineCause>
+    requires room { run.old.accepted + 2 ≤ run.old.number }
+    requires below { run.old.number < last_number }
+    ensures room { (run.new.accepted + 2 ≤ run.new.number) × (run.new.number ≤ last_number) }
+    ensures within { IfOk result (λ judged. judged ≤ length held.now) }
+    ensures onward { IfOk result (λ judged. 0 < judged → run.old.number < run.new.number) }
+    ensures none { IfOk result (λ judged. judged ≡ 0 → run.new.number ≡ run.old.number) }
+    ensures ran { Changes (seen FT.FormatTime W.Output)
+        (RunsHeld held.now run.old run.new result) layered.old layered.new }
+{
+    let whole = from_utf8(held).ok();
+    let mut start = 0;
+    while let Some(length) = line_end(&held[start..]) {
+        if run.number == u64::MAX {
+            break;
+        }
+        let end = start + length;
+        let text = line_text(held, whole, start, end);
+        let judged = judge(alloc, &held[start..end], text, scratch, layered)?;
+        run.count(judged);
+        start = end + 1;
+    }
+    Ok(start)
+}
+
+// The text of a line, out of that of all held lines. Where they are no text, the line is checked by itself: another may be to blame.
+fn line_text<'a>(
+    held: &'a [u8],
+    whole: Option<&'a str>,
+    start: usize,
+    end: usize,
+) -> Option<&'a str>
+    requires within { (start ≤ end) × (end ≤ length held.now) }
+    requires cut { IfSome whole (λ text. (text.now ≡ held.now)
+        × IsCharBoundary held.now start × IsCharBoundary held.now end) }
+    ensures { IsTextOf (slice_range held.now start end) (option_map (λ text. text.now) result) }
+{
+    match whole {
+        Some(text) => Some(&text[start..end]),
+        None => from_utf8(&held[start..end]).ok(),
+    }
+}
+
+// Makes the call of the next line. What is drawn is passed on first, since the read may wait.
 fn run_line<R: Read, W: Output, FT: FormatTime>(
     alloc: Global,
     lines: &mut BufReader<R>,
@@ -275,33 +388,33 @@ fn run_line<R: Read, W: Output, FT: FormatTime>(
         (reader_remaining R.remaining lines.new) result)
         layered.old layered.new }
 {
-    if let Some(end) = line_end(lines.buffer()) {
-        let judged = judge(alloc, &lines.buffer()[..end], scratch, layered);
-        lines.consume(end + 1);
-        return judged;
-    }
     layered.flush();
     if !read_line(lines, line)? {
         return Ok(Judged::End);
     }
-    judge(alloc, line.as_slice(), scratch, layered)
+    let text = from_utf8(line.as_slice()).ok();
+    judge(alloc, line.as_slice(), text, scratch, layered)
 }
 
-// What becomes of a line: it is skipped, or the call that it spells is made.
+// What becomes of a line with this text: it is skipped, or the call that it spells is made.
 fn judge<W: Output, FT: FormatTime>(
     alloc: Global,
     line: &[u8],
+    text: Option<&str>,
     scratch: &mut Scratch,
     layered: &mut Layered<W, FT>,
 ) -> Result<Judged, LineCause>
-    ensures { (known left : Option (List ℕ)) → TakesLine known left line.now
+    requires { IsTextOf line.now (option_map (λ text. text.now) text) }
+    ensures there { IfOk result (λ judged. judged ≡ End → ⊥) }
+    ensures judged { (known left : Option (List ℕ)) → TakesLine known left line.now
         → Changes (seen FT.FormatTime W.Output) (JudgesLine known left result)
         layered.old layered.new }
 {
     if is_skipped(line) {
         return Ok(Judged::Skipped);
     }
-    make_call(alloc, line, scratch, layered)?;
+    let text = text.ok_or(LineCause::NotACall)?;
+    make_call(alloc, text, scratch, layered)?;
     Ok(Judged::Accepted)
 }
 

@@ -33,6 +33,12 @@ is_from_outside Read = true
 is_from_outside Memory = true
 is_from_outside cause = false
 
+-- these are the whole lines that the bytes begin with
+pub record BeginsWithLines (held lines : List ℕ) : Type 0 where
+  pub rest : List ℕ
+  pub front : held ≡ lines ++ rest
+  pub within : HasNoLineEnd rest
+
 -- what one look at the reader took
 abbrev pub ReadsPart : Option (List ℕ) → Option (List ℕ) → List ℕ → List ℕ → Result Part LineCause
     → Type 0

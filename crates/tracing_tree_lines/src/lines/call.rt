@@ -32,7 +32,7 @@ use tracing_tree_time::FormatTime;
 // Makes the call that a line spells. `NotACall` where it spells none, `Memory` where memory is refused before.
 pub(super) fn make_call<W: Output, FT: FormatTime>(
     alloc: Global,
-    line: &[u8],
+    line: &str,
     scratch: &mut Scratch,
     layered: &mut Layered<W, FT>,
 ) -> Result<Reply, LineCause>
@@ -41,7 +41,7 @@ pub(super) fn make_call<W: Output, FT: FormatTime>(
 {
     let mut parts = Parts::new();
     read_object(alloc, line, scratch, &mut parts)?;
-    refuse_floats(alloc, line, &parts)?;
+    refuse_floats(alloc, line.as_bytes(), &parts)?;
     make_call_of(alloc, &parts, layered)
 }
 

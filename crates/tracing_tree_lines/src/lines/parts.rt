@@ -14,7 +14,6 @@ use super::part::{FieldsPart, Part};
 use super::skip::{MEMBER_DEPTH, skip_rest};
 use super::value::has_float;
 use json::{Invalid, Reader, Scratch, Token};
-use simdutf8::basic::from_utf8;
 use std::alloc::Global;
 
 // What stands at the keys of a call. The last of several members with one key counts.
@@ -106,7 +105,7 @@ impl<'a> Parts<'a> {
 // Fills in the parts of a line. `NotACall` where the line is no object of JSON, `Memory` where memory is refused.
 pub(super) fn read_object<'a>(
     alloc: Global,
-    line: &'a [u8],
+    line: &'a str,
     scratch: &'a mut Scratch,
     parts: &mut Parts<'a>,
 ) -> Result<(), LineCause>
@@ -114,10 +113,7 @@ pub(super) fn read_object<'a>(
     requires whole { parts.old.is_whole ≡ true }
     ensures { ReadsObject line.now parts.new result }
 {
-    let Ok(text) = from_utf8(line) else {
-        return Err(LineCause::NotACall);
-    };
-    let mut reader = Reader::new(text, scratch)?;
+    let mut reader = Reader::new(line, scratch)?;
     let first = reader.next().ok_or(LineCause::NotACall)?;
     if !opens_object(&first) {
         return Err(LineCause::NotACall);

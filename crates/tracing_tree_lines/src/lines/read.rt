@@ -3,10 +3,10 @@
 ghost use Rattle.std.specs.Prelude.{◌≡◌, ◌==◌, is_some, position};
 ghost use Rattle.std.specs.Io.Buffered.{reader_buffer};
 ghost use Rattle.tracing_tree_lines.specs.Lines.Spelled.{is_skipped};
-ghost use Rattle.tracing_tree_lines.specs.Lines.Reads.{ReadsEnded, ReadsPart, ReadsNext};
+ghost use Rattle.tracing_tree_lines.specs.Lines.Reads.{BeginsWithLines, ReadsEnded, ReadsPart, ReadsNext};
 
 use super::LineCause;
-use memchr::memchr;
+use memchr::{memchr, memrchr};
 use std::io::{BufRead, BufReader, ErrorKind, Read};
 use tracing_tree_output::TRIES;
 
@@ -100,6 +100,16 @@ pub(super) fn line_end(held: &[u8]) -> Option<usize>
     ensures { result ≡ position (λ byte. byte == 10) held.now }
 {
     memchr(b'\n', held)
+}
+
+// The whole lines that held bytes begin with.
+pub(super) fn whole_lines(held: &[u8]) -> &[u8]
+    ensures { BeginsWithLines held.now result.now }
+{
+    match memrchr(b'\n', held) {
+        Some(last) => &held[..=last],
+        None => &[],
+    }
 }
 
 /// Whether the line is spaces, tabs and carriage returns alone.

@@ -1,13 +1,18 @@
-use Rattle.std.proofs.Common.{◌+◌, ◌≤◌}
+use Rattle.std.proofs.Common.{◌+◌, ◌-◌, ◌≤◌}
 use Rattle.std.specs.Io.Buffered.{reader_remaining}
 use Rattle.tracing_tree_layer.specs.Layer.Layers.{seen, Changes}
-use Rattle.tracing_tree_lines.proofs.LineRuns.{GoesOver}
+use Rattle.tracing_tree_lines.specs.Lines.Runs.{last_number}
+use Rattle.tracing_tree_lines.specs.Lines.SoFar.{GoesOver}
 use Rattle.tracing_tree_lines.proofs.lines.run_calls.Given as goal
 
--- each line before this one, from the second on, holds at most one accepted call, and the run so far is that of these lines
-abbrev pub invariant-loop-number : goal.invariant-loop-number
-invariant-loop-number g l = record {
-  room : l.accepted + 2 ≤ l.number;
+-- each line before the next, from the second on, holds at most one accepted call, and the run so far is that of these lines
+abbrev pub invariant-loop-run : goal.invariant-loop-run
+invariant-loop-run g l = record {
+  room : (l.run.accepted + 2 ≤ l.run.number) × (l.run.number ≤ last_number);
   change : Changes (seen g.FT.FormatTime g.W.Output)
-      (GoesOver (reader_remaining g.R.Read.remaining l.fn.lines) (reader_remaining g.R.Read.remaining l.lines) l.accepted l.number) l.fn.layered l.layered;
+      (GoesOver (reader_remaining g.R.Read.remaining l.fn.lines) (reader_remaining g.R.Read.remaining l.lines) l.run.accepted l.run.number) l.fn.layered l.layered;
 }
+
+-- each turn judges a line
+abbrev pub decreases-loop-run : goal.decreases-loop-run
+decreases-loop-run g l = last_number - l.run.number

@@ -11,8 +11,7 @@ use Rattle.tracing_tree_lines.proofs.lines.parts.read_object.Goals as goal
 
 pub returns-in_err-first : goal.returns-in_err-first
 returns-in_err-first c =
-    let line : c.in-Ok.text.now ≡ c.args.line.now = search rules in
-    let is : c.in_ok-reader.reader ≡ tokens c.args.line.now = c.in_ok-reader.ensures.ok ∙ ap tokens line in
+    let is : c.in_ok-reader.reader ≡ tokens c.args.line.now = c.in_ok-reader.ensures.ok in
     let none : c.next.result ≡ None = search rules in
     let refused = fault_is c.from_residual-in_err-first.result NotACall c.from_residual-in_err-first.ensures.0 (search rules) in
     subst (ReadsObject c.args.line.now c.args.parts.now) (sym refused)
@@ -20,16 +19,14 @@ returns-in_err-first c =
 
 pub returns-then-not-opens_object : goal.returns-then-not-opens_object
 returns-then-not-opens_object c =
-    let line : c.in-Ok.text.now ≡ c.args.line.now = search rules in
-    let is : c.in_ok-reader.reader ≡ tokens c.args.line.now = c.in_ok-reader.ensures.ok ∙ ap tokens line in
+    let is : c.in_ok-reader.reader ≡ tokens c.args.line.now = c.in_ok-reader.ensures.ok in
     let some : c.next.result ≡ Some c.in_ok-first.first = search rules in
     let other : opens_object c.in_ok-first.first ≡ false = search rules in
     (refl, no_object_call c.args.line.now (other_first c.next.result (tokens c.args.line.now) c.next.new.self (rw (← is) c.next.ensures.value) (rw some (other_token c.in_ok-first.first other))))
 
 pub returns-in_err-read_members : goal.returns-in_err-read_members
 returns-in_err-read_members c =
-    let line : c.in-Ok.text.now ≡ c.args.line.now = search rules in
-    let is : c.in_ok-reader.reader ≡ tokens c.args.line.now = c.in_ok-reader.ensures.ok ∙ ap tokens line in
+    let is : c.in_ok-reader.reader ≡ tokens c.args.line.now = c.in_ok-reader.ensures.ok in
     let opens : opens_object c.in_ok-first.first ≡ true = search rules in
     let read : c.in_ok-reader.reader ≡ token_of c.in_ok-first.first ∷ c.next.new.self = grind arith in
     let first : tokens c.args.line.now ≡ spec.begin_object ∷ c.next.new.self = sym is ∙ read ∙ ap (λ t. t ∷ c.next.new.self) (brace_token c.in_ok-first.first opens) in
@@ -39,8 +36,7 @@ returns-in_err-read_members c =
 
 pub returns-then-is_some : goal.returns-then-is_some
 returns-then-is_some c =
-    let line : c.in-Ok.text.now ≡ c.args.line.now = search rules in
-    let is : c.in_ok-reader.reader ≡ tokens c.args.line.now = c.in_ok-reader.ensures.ok ∙ ap tokens line in
+    let is : c.in_ok-reader.reader ≡ tokens c.args.line.now = c.in_ok-reader.ensures.ok in
     let opens : opens_object c.in_ok-first.first ≡ true = search rules in
     let read : c.in_ok-reader.reader ≡ token_of c.in_ok-first.first ∷ c.next.new.self = grind arith in
     let first : tokens c.args.line.now ≡ spec.begin_object ∷ c.next.new.self = sym is ∙ read ∙ ap (λ t. t ∷ c.next.new.self) (brace_token c.in_ok-first.first opens) in
@@ -48,8 +44,7 @@ returns-then-is_some c =
 
 pub returns : goal.returns
 returns c =
-    let line : c.in-Ok.text.now ≡ c.args.line.now = search rules in
-    let is : c.in_ok-reader.reader ≡ tokens c.args.line.now = c.in_ok-reader.ensures.ok ∙ ap tokens line in
+    let is : c.in_ok-reader.reader ≡ tokens c.args.line.now = c.in_ok-reader.ensures.ok in
     let opens : opens_object c.in_ok-first.first ≡ true = search rules in
     let read : c.in_ok-reader.reader ≡ token_of c.in_ok-first.first ∷ c.next.new.self = grind arith in
     let first : tokens c.args.line.now ≡ spec.begin_object ∷ c.next.new.self = sym is ∙ read ∙ ap (λ t. t ∷ c.next.new.self) (brace_token c.in_ok-first.first opens) in
