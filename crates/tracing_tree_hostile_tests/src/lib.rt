@@ -1,5 +1,5 @@
-//! Tests of hostile use: writers, readers and timers that fault in every way and at every place, odd calls, texts and lines, and how
-//! often a writer, a reader and a timer are asked.
+//! Tests of hostile use: writers, readers and timers that fault in every way and at every place, odd calls, texts and lines, how often a
+//! writer, a reader and a timer are asked, and each quantity at each size.
 #![tactic(auto)]
 
 #[cfg(test)]
@@ -12,6 +12,8 @@ mod lines;
 mod odd;
 #[cfg(test)]
 mod printing;
+#[cfg(test)]
+mod sizes;
 #[cfg(test)]
 mod stops;
 #[cfg(test)]

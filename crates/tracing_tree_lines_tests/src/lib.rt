@@ -1,4 +1,4 @@
-//! Tests of the program's lines, of outputs, and of the faults of both.
+//! Tests of the program's lines, of outputs, of the faults of both, and of reading a drawing back.
 #![tactic(auto)]
 
 #[cfg(test)]
@@ -11,3 +11,7 @@ mod lines;
 mod memory;
 #[cfg(test)]
 mod outputs;
+#[cfg(test)]
+mod readback;
+#[cfg(test)]
+mod rows;

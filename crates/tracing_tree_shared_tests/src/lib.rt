@@ -1,4 +1,4 @@
-//! Tests of one layer for several threads: what no proof shows.
+//! Tests of one layer for several threads, and of their tracers over it: what no proof shows.
 #![tactic(auto)]
 
 #[cfg(test)]
@@ -13,3 +13,5 @@ mod refusals;
 mod streaming;
 #[cfg(test)]
 mod threads;
+#[cfg(test)]
+mod tracers;

@@ -9,12 +9,12 @@ use std::marker::Brand;
 use std::sync::Wait;
 use std::sync::ledger::{Blank, Ledger};
 use std::test::*;
-use tracing_tree_core::format::{Context, Refusal};
+use tracing_tree_core::format::Refusal;
 use tracing_tree_core::style::Level;
 use tracing_tree_core::time::{FormatTime, Moment, TimeFault};
 use tracing_tree_for_tests::{closed, made, told};
 use tracing_tree_layer::call::Call;
-use tracing_tree_shared::{Book, Draft, Finished, Pass, SharedLayer};
+use tracing_tree_shared::{Book, Draft, Finished, Pass, Refused, SharedLayer};
 
 // Shows nothing, and faults at one moment.
 #[derive(Drop)]
@@ -49,17 +49,11 @@ impl FormatTime for StopAt {
 
 // An event outside every span, at this moment.
 fn event_at(alloc: Global, mono: u64) -> Result<Call, AllocError> {
-    let call = told(alloc, Level::Info, "x", None)?;
-    Ok(match call {
-        Call::Event(event, context) => {
-            let moment = Moment {
-                mono,
-                ..context.moment
-            };
-            Call::Event(event, Context { moment, ..context })
-        }
-        other => other,
-    })
+    let mut call = told(alloc, Level::Info, "x", None)?;
+    if let Call::Event(_, context) = &mut call {
+        context.moment.mono = mono;
+    }
+    Ok(call)
 }
 
 // What was answered to events at these moments, and how many calls were accepted in the end.
@@ -99,12 +93,48 @@ fn a_timers_fault_is_the_last_but_failed(rt: HostRuntime) -> Result<(), Fail> {
     Ok(())
 }
 
+// Applies this call, and returns whether it is accepted.
+fn is_applied(alloc: Global, book: &mut Book<()>, call: Call) -> Result<bool, AllocError> {
+    Ok(apply(book, drafted(alloc, call)?).is_ok())
+}
+
+// Applies this call, and returns what comes back where it is refused.
+fn refused(
+    alloc: Global,
+    book: &mut Book<()>,
+    call: Call,
+) -> Result<Option<Box<Refused>>, AllocError> {
+    match apply(book, drafted(alloc, call)?) {
+        Ok(_) => Ok(None),
+        Err(refused) => Ok(Some(Box::new(alloc, refused)?)),
+    }
+}
+
+// Applies the draft that came back, and returns whether it is accepted.
+fn is_applied_again(book: &mut Book<()>, refused: Box<Refused>) -> bool {
+    apply(book, Box::into_inner(refused).draft).is_ok()
+}
+
+// A book in a box, since each step of a test is proved over all that its own values hold.
+fn boxed(alloc: Global, book: Book<()>) -> Result<Box<Book<()>>, AllocError> {
+    Ok(Box::new(alloc, book)?)
+}
+
+// A book over a layer with lines.
+fn lined_book(alloc: Global) -> Result<Box<Book<()>>, AllocError> {
+    boxed(alloc, Book::new(alloc, lined(alloc)))
+}
+
+// The same over one where a row at level 1 is past all memory.
+fn wide_book(alloc: Global) -> Result<Box<Book<()>>, AllocError> {
+    boxed(alloc, Book::new(alloc, wide(alloc)))
+}
+
 #[test]
 fn a_refused_draft_comes_back(rt: HostRuntime) -> Result<(), Fail> {
     let alloc = rt.alloc();
-    let mut book = Book::new(alloc, lined(alloc));
-    let answer = apply(&mut book, drafted(alloc, closed(7))?);
-    let refused = answer.err().expect(&rt, "a refusal");
+    let mut book = lined_book(alloc)?;
+    let refused = refused(alloc, &mut book, closed(7))?.expect(&rt, "a refusal");
     assert_eq!(rt;
         refused.cause,
         Refusal::NotHeld(tracing_tree_core::format::Id(7))
@@ -118,16 +148,15 @@ fn a_refused_draft_comes_back(rt: HostRuntime) -> Result<(), Fail> {
 #[test]
 fn a_draft_that_memory_was_refused_to_is_applied_again(rt: HostRuntime) -> Result<(), Fail> {
     let alloc = rt.alloc();
-    let mut book = Book::new(alloc, wide(alloc));
-    let root = drafted(alloc, made(alloc, "a", None)?)?;
-    assert!(rt; apply(&mut book, root).is_ok());
-    let event = drafted(alloc, told(alloc, Level::Info, "x", Some(1))?)?;
-    let refused = apply(&mut book, event).err().expect(&rt, "a refusal");
+    let mut book = wide_book(alloc)?;
+    assert!(rt; is_applied(alloc, &mut book, made(alloc, "a", None)?)?);
+    let event = told(alloc, Level::Info, "x", Some(1))?;
+    let refused = refused(alloc, &mut book, event)?.expect(&rt, "a refusal");
     assert_eq!(rt; refused.cause, Refusal::Memory);
     assert_eq!(rt; book.history().len(), 1);
     assert_eq!(rt; text(&book), "┐a \n".as_bytes());
-    assert!(rt; apply(&mut book, drafted(alloc, closed(1))?).is_ok());
-    assert!(rt; apply(&mut book, refused.draft).is_ok());
+    assert!(rt; is_applied(alloc, &mut book, closed(1))?);
+    assert!(rt; is_applied_again(&mut book, refused));
     assert_eq!(rt; text(&book), "┐a \n┘\nINFO x\n".as_bytes());
     Ok(())
 }

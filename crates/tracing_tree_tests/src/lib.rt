@@ -1,4 +1,5 @@
-//! Tests of calls on a layer: each public call once on its happy path, and what no proof shows.
+//! Tests of calls on a layer and of the clocks: each public call once on its happy path, the clocks against `jiff`'s own printing, and
+//! what no proof shows.
 #![tactic(auto)]
 
 #[cfg(test)]
@@ -8,9 +9,13 @@ mod calls;
 #[cfg(test)]
 mod checks;
 #[cfg(test)]
+mod clocks;
+#[cfg(test)]
 mod difference;
 #[cfg(test)]
 mod examples;
+#[cfg(test)]
+mod instants;
 #[cfg(test)]
 mod lent;
 #[cfg(test)]

@@ -6,7 +6,7 @@ use std::alloc::{AllocError, Global};
 use std::cell::Cell;
 use std::test::*;
 use tracing_tree::call::{Call, Reply};
-use tracing_tree::format::{Context, Id, Refusal, Tape};
+use tracing_tree::format::{Id, Refusal, Tape};
 use tracing_tree::layer::HierarchicalLayer;
 use tracing_tree::layered::Layered;
 use tracing_tree::style::Level;
@@ -25,15 +25,17 @@ fn timed<FT: FormatTime + Drop>(
 }
 
 // The call at another moment.
-fn then(call: Call, mono: u64, nanosecond: i128) -> Call {
+fn then(mut call: Call, mono: u64, nanosecond: i128) -> Call {
     let wall = Timestamp::from_nanosecond(nanosecond).unwrap_or(Timestamp::UNIX_EPOCH);
     let moment = Moment { mono, wall };
-    match call {
-        Call::New(attributes, context) => Call::New(attributes, Context { moment, ..context }),
-        Call::Event(event, context) => Call::Event(event, Context { moment, ..context }),
-        Call::Close(id, context) => Call::Close(id, Context { moment, ..context }),
-        other => other,
+    match &mut call {
+        Call::New(_, context) => context.moment = moment,
+        Call::Event(_, context) => context.moment = moment,
+        Call::Close(_, context) => context.moment = moment,
+        Call::Clone(_) => {}
+        Call::Record(_, _) => {}
     }
+    call
 }
 
 // Whether a layered with this timer accepts the calls and draws this.

@@ -77,11 +77,18 @@ fn tracer_of<C: Calls>(alloc: Global, thread: u64, calls: C) -> Tracer<C, Moment
     Tracer::new(alloc, calls, START).with_thread(thread, None)
 }
 
+// A thread draws over what takes its calls, and gives that back. It is general, since the proof over one way alone takes far longer.
+fn serve_over<C: Calls>(alloc: Global, thread: u64, calls: C) -> (Result<(), TraceFault>, C) {
+    let mut tracer = tracer_of(alloc, thread, calls);
+    let served = serve(&mut tracer);
+    (served, tracer.into_layered())
+}
+
 // What a thread draws that has the layer to itself.
 fn alone(alloc: Global, thread: u64) -> Result<Layered<Tape, ()>, TraceFault> {
-    let mut tracer = tracer_of(alloc, thread, telling(alloc, NARROW));
-    serve(&mut tracer)?;
-    Ok(tracer.into_layered())
+    let (served, layered) = serve_over(alloc, thread, telling(alloc, NARROW));
+    served?;
+    Ok(layered)
 }
 
 // The rows of a text that begin as the first one does of another, one after another.
@@ -117,9 +124,9 @@ fn serve_with_pass<L: Ledger, R: Wait>(
     thread: u64,
     pass: Pass<L>,
 ) -> (Result<(), TraceFault>, Pass<L>) {
-    let mut tracer = tracer_of(alloc, thread, SharedCalls::new(rt, alloc, layer, pass));
-    let served = serve(&mut tracer);
-    (served, tracer.into_layered().into_pass())
+    let calls = SharedCalls::new(rt, alloc, layer, pass);
+    let (served, calls) = serve_over(alloc, thread, calls);
+    (served, calls.into_pass())
 }
 
 type Session = Result<(bool, Option<Finished>), AllocError>;
@@ -176,8 +183,8 @@ fn serve_streaming<R: Wait>(
     layer: &StreamingLayer<Tape, ()>,
     thread: u64,
 ) -> Result<(), TraceFault> {
-    let mut tracer = tracer_of(alloc, thread, StreamingCalls::new(rt, alloc, layer));
-    serve(&mut tracer)
+    let calls = StreamingCalls::new(rt, alloc, layer);
+    serve_over(alloc, thread, calls).0
 }
 
 #[test]

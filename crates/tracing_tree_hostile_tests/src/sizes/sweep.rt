@@ -1,8 +1,8 @@
 //! Each quantity at each size: what is drawn is what it must be, over each kind of live spans, and it is read back.
 
-use crate::bare::{Keeps, make_all};
-use crate::quantity::Quantity;
-use crate::setting::{Settings, next};
+use crate::sizes::bare::{Keeps, make_all};
+use crate::sizes::quantity::Quantity;
+use crate::sizes::setting::{Settings, next};
 use std::alloc::{AllocError, Global};
 use std::process::Abort;
 use std::str;

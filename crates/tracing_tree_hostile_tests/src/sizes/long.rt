@@ -1,6 +1,6 @@
 //! Single values, calls and drawings that are far larger than any in use.
 
-use crate::run::{event, numbered};
+use crate::sizes::run::{event, numbered};
 use std::alloc::{AllocError, Global};
 use std::io;
 use std::io::Write;

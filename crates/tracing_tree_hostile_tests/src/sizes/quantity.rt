@@ -1,6 +1,6 @@
 //! Runs in which one quantity has a given size.
 
-use crate::run::{Run, event, numbered, shown, span};
+use crate::sizes::run::{Run, event, numbered, shown, span};
 use std::alloc::{AllocError, Global};
 use tracing_tree::call::Call;
 use tracing_tree::field::Fields;
