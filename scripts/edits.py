@@ -1,24 +1,25 @@
 #!/usr/bin/env python3
-"""Tries the edits that the prover must refuse, many in one check: edits.py [--plan] [--lanes N] [--sample N] [--anew] [CRATE..]
+"""Tries the edits that the prover must refuse, many in one check: edits.py [--plan] [--lanes N] [--sample N] [--share N] [--anew] [CRATE..]
 
-The proof of a function rests on the contracts of what it calls, and not on their bodies. So edits of several bodies go into one check of a
-copy of the crate, a round, with at most one edit a function. An edit is refused where its own function fails at a goal of its own; that
-it calls a function that is refused shows nothing. What such a round doesn't settle is tried alone, by the code of `rt must-fail`: an edit
-outside a function, and one that doesn't compile among the others. An edit that is refused only by a type error, only by a limit of the
-prover, or only since a proof file names what it took away, has failed, and so has one that is proved or doesn't apply. harmless.edit
-changes no meaning: it is tried as the others are, and must be let through, else no refusal shows anything.
+The proof of a function rests on the contracts of what it calls, and not on their bodies. So edits are tried in a copy of the crate in which
+each function's body is `unreachable!()`, with no proof. Beside a function stand copies of it with its clauses, each with one edit, and one
+without an edit. An edit is refused where its copy fails at a goal of its own and the copy without an edit is let through; that a copy
+calls a function without a proof shows nothing. A method of a trait or of its impl, and a function in a cycle of calls, can't have such
+copies: it is edited where it stands, one edit a check, and stands there without an edit in one more. An edit of a constant is tried in the
+functions that name it. With --share N one in N of the functions is tried without an edit.
 
-A crate's edits are tried over the proofs of a check without an edit, which must prove the functions that the rounds edit and what they call,
-and the whole crate where an edit goes alone. That check begins with what checks of the crate kept on this machine, and from nothing where
-there is none, where it doesn't prove them over that, and with --anew.
+What such a round doesn't settle is tried alone, by the code of `rt must-fail`: an edit of a definition, and one that doesn't compile among
+the others. An edit that is refused only by a type error, only by a limit of the prover, or only since a proof file names what it took
+away, has failed, and so has one that is proved or doesn't apply. harmless.edit changes no meaning: it is tried as the others are, and must
+be let through, else no refusal shows anything.
 
 Where the kit keeps what it proved, a refusal is kept too, under a sum of all that it rests on: the kit, the crate and those below it, the
 edit, this file and kit.py. An edit whose refusal is kept isn't tried again, unless --anew is given.
 
 It prints a line for each edit, and last 'edits: N passed, M failed'. --plan prints the rounds alone. --sample N tries N of the edits that
 a round refused alone too, and an edit of which `rt must-fail` says otherwise has failed."""
-import argparse, concurrent.futures, functools, hashlib, os, re, shutil, sys, tempfile, threading, time
-from collections import Counter, defaultdict
+import argparse, concurrent.futures, copy, functools, hashlib, os, re, shutil, sys, tempfile, threading, time
+from collections import defaultdict
 from dataclasses import dataclass
 
 import kit as kits
@@ -26,20 +27,20 @@ import kit as kits
 TOP = os.path.dirname(os.path.dirname(os.path.abspath(__file__)))
 # A check of an edit takes up to so much memory, in KiB. None is begun while less is free.
 ROOM = 3_000_000
-# The most edits of a round.
-LONG = 24
+# The most trials of a round: edits, and functions without one.
+LONG = 48
 
 FUNCTION = re.compile(rb"(?m)^[ \t]*(?P<words>(?:[a-z]+(?:\([a-z]+\))? +)*)fn (?P<name>\w+)")
 # An impl, or a trait, whose methods may have bodies.
 OWNER = re.compile(rb"(?m)^(?:impl\b(?P<head>[^{]*)|(?:pub +)?trait +(?P<trait>\w+)[^{]*)\{")
 CLAUSE = re.compile(rb"[ \t]*(requires|ensures|decreases|ghost|where)\b")
+CONST = re.compile(rb"[ \t]*(?:pub(?:\([a-z]+\))? +)?const +(\w+) *:")
 # What the check says of a goal that it couldn't prove, with the file and the line of the function or of its proof's answer.
 GOAL = re.compile(r"note: (?P<file>src/\S+?\.rt):(?P<line>\d+):\d+: (?P<goal>it is not proved that.*|.*`search` gave up.*)")
 ANSWER = re.compile(r"(?:\./)?proofs/(?P<folder>\S+)/(?:Answers|Invariants|Proof)\.antt:\d+:\d+: error: (?P<goal>.*)")
 COMPILES = re.compile(r"(?m)^(src/\S+?\.rt):(\d+):\d+: error")
-# A function that a check names, and the last line of a check that came to a verdict of some functions or of all.
-PROVED = re.compile(r"(?m)^fn \w+::(\S+): proved\b")
-ENDED = re.compile(r"(?m)^(logic=not-proved|only=\d+ proved=)")
+# The last line of a check that came to a verdict of some functions or of all.
+ENDED = re.compile(r"(?m)^(logic=not-proved|only=\d+ proved=|logic=proved)")
 # The status of a check that is asked for a function by words that fit none, or several.
 UNKNOWN = 2
 # What antt says of a proof that names what an edit took away. It is no answer about a contract.
@@ -52,54 +53,69 @@ ONLY_NAMES = "only because a proof file names what the edit took away"
 KEPT = "kept: "
 # What `rt must-fail` says of an edit with which the crate is still proved.
 LET_THROUGH = "NOT REFUSED"
+# What stands in a function's place where it isn't tried, and the parts of a proof, of which it has none.
+NO_BODY = b"{\n    unreachable!()\n}"
+PROOF = ("Invariants.antt", "Answers.antt", "Proof.antt")
 # The edit that must be let through, and its crate.
 HARMLESS, ITS_CRATE = f"{TOP}/scripts/harmless.edit", "tracing_tree_text"
 
 
 @dataclass(frozen=True)
 class Body:
-    """A function's body: its file, its name, the folder of its proofs, its lines, where its signature stands, which ends before its clauses,
-    and the place of its braces."""
+    """A function's body: its file, its name, the folder of its proofs, its lines, and the places at which what stands above it begins, then
+    its signature, and its braces, and at which they end. A method of a trait or of its impl is of a trait."""
 
     file: str
     name: str
     folder: str
     first: int
     last: int
+    top: int
     head: int
-    signed: int
     start: int
     end: int
     is_const: bool
-
-    @property
-    def path(self):
-        """The path by which the check knows the function, but where an impl stands in another module than its type."""
-        return self.folder.replace("/", "::")
+    is_of_trait: bool
 
     @property
     def tail(self):
-        """The end of that path, which the check's name ends in wherever an impl stands."""
-        return "::".join(self.path.split("::")[-2:])
+        """The end of the path by which the check knows the function, wherever an impl stands."""
+        return "::".join(self.folder.split("/")[-2:])
 
-    def holds(self, at, end):
-        """Returns whether these places lie in the body, or in the signature and what follows it without a clause between."""
-        signed = self.end if self.signed == self.start else self.signed
-        return self.start < at and end <= self.end or self.head <= at and end <= signed
+
+@dataclass(frozen=True)
+class Change:
+    """A new text in place of an old one, at a place of a source file as it stands."""
+
+    file: str
+    at: int
+    old: bytes
+    new: bytes
 
 
 @dataclass(frozen=True)
 class Edit:
-    """An edit: its crate and file, its pairs of texts by source file, and the function in which they stand, if they stand in one."""
+    """An edit: its crate and file, what it changes, and the functions in which it is tried: none if it goes alone. Where it stands in one
+    function, `is_copied` says whether it is tried in a copy of it."""
 
     crate: str
     path: str
-    pairs: tuple
-    body: Body | None
+    changes: tuple
+    bodies: tuple
+    is_copied: bool
 
     @property
     def name(self):
         return f"{self.crate}/{os.path.basename(self.path)}"
+
+
+@dataclass(frozen=True)
+class Tried:
+    """What a round tries: an edit in these functions, or these functions without one."""
+
+    edit: Edit | None
+    bodies: tuple
+    is_copied: bool
 
 
 @dataclass(frozen=True)
@@ -125,16 +141,15 @@ def closing(text, at):
 
 
 def body_after(text, at):
-    """Returns where a function's signature ends and where the braces of its body stand, or None if it has no body."""
-    signed = None
+    """Returns where the braces of a function's body stand, or None if it has no body."""
     while True:
         stop = re.compile(rb"[;{]").search(text, at)
         if not stop or stop[0] == b";":
             return None
         end, line = closing(text, stop.start()), text.rfind(b"\n", 0, stop.start()) + 1
         if not CLAUSE.match(text[line : stop.start()]):
-            return signed or stop.start(), stop.start(), end
-        signed, at = signed or line, end
+            return stop.start(), end
+        at = end
 
 
 def owner_of(head):
@@ -162,24 +177,24 @@ def owner_of(head):
 
 def bodies_of(file, text):
     """Returns the bodies of a source file, whose text has blanks in place of comments, strings and characters."""
-    owners = [
-        (it.start(), closing(text, it.end() - 1), it["trait"].decode() if it["trait"] else owner_of(it["head"].decode()))
-        for it in OWNER.finditer(text)
-    ]
+    owners = []
+    for it in OWNER.finditer(text):
+        name = it["trait"].decode() if it["trait"] else owner_of(it["head"].decode())
+        owners.append((it.start(), closing(text, it.end() - 1), name, bool(it["trait"]) or b" for " in it["head"]))
     module = file.removeprefix("src/").removesuffix(".rt")
     found = []
     for fn in FUNCTION.finditer(text):
         places = body_after(text, fn.end())
         if not places:
             continue
-        owner = next((it for start, end, it in owners if start <= fn.start() < end), "")
+        owner, is_of_trait = next(((it, of) for start, end, it, of in owners if start <= fn.start() < end), ("", False))
         name = fn["name"].decode()
         folder = "/".join(it for it in ("" if module in ("lib", "main") else module, owner, name) if it)
         # A note stands at the function's attributes if it has some, and those may stand above its comment.
         above = re.search(rb"(?m)^(?:[ \t]*(?:#\[[^\n]*)?\n)*\Z", text[: fn.start()])
-        first = text.count(b"\n", 0, above.start() if above else fn.start()) + 1
-        last = text.count(b"\n", 0, places[2]) + 1
-        found.append(Body(file, name, folder, first, last, fn.start(), *places, b"const" in fn["words"]))
+        top = above.start() if above else fn.start()
+        first, last = (text.count(b"\n", 0, it) + 1 for it in (top, places[1]))
+        found.append(Body(file, name, folder, first, last, top, fn.start(), *places, b"const" in fn["words"], is_of_trait))
     return found
 
 
@@ -206,24 +221,45 @@ def pairs_of(path):
     return tuple(pairs)
 
 
-def body_of(pair, texts, bodies):
-    """Returns the one function whose body or signature has a pair's old text, if that stands once in its file."""
-    file, old, _ = pair
-    text = texts.get(file)
-    if not text or not old or text.count(old) != 1:
-        return None
-    at = text.index(old)
-    around = [it for it in bodies.get(file, []) if it.holds(at, at + len(old))]
-    is_macro = b"macro_rules" in text[:at]
-    return None if len(around) != 1 or around[0].is_const or is_macro else around[0]
+def changes_of(pairs, texts):
+    """Returns an edit's changes, or none if it doesn't apply. Each pair's old text stands once in what the pairs before it made."""
+    made, found = dict(texts), []
+    for file, old, new in pairs:
+        if not old or made.get(file, b"").count(old) != 1:
+            return ()
+        at = made[file].index(old)
+        before = [it for it in found if it.file == file and it.at < at]
+        made[file] = made[file].replace(old, new)
+        found.append(Change(file, at - sum(len(it.new) - len(it.old) for it in before), old, new))
+    return tuple(found)
+
+
+def is_in_cycle(crate, body, text):
+    """Returns whether the function calls itself, or is one of several that call one another. Their proofs have a folder of their own."""
+    at, _, name = body.folder.rpartition("/")
+    return b"#[cycle" in text[body.top : body.head] or os.path.isdir(f"{crate.folder}/proofs/{at}/+{name}")
+
+
+def bodies_at(change, texts, bodies):
+    """Returns the function in which a change stands, or the functions that name the constant that it changes, or none."""
+    text, end = texts[change.file], change.at + len(change.old)
+    within = [it for it in bodies[change.file] if it.head <= change.at and end <= it.end]
+    const = CONST.match(text, text.rfind(b"\n", 0, change.at) + 1)
+    if within or not const or b"macro_rules" in text[: change.at]:
+        return [it for it in within if not it.is_const and b"macro_rules" not in text[: it.head]]
+    named = re.compile(rb"\b" + const[1] + rb"\b")
+    return [it for file, found in bodies.items() for it in found if named.search(texts[file], it.start, it.end)]
 
 
 def edit_at(path, crate, bodies):
     """Returns the edit in a file, of a crate with these bodies."""
     texts = {file: read(f"{crate.folder}/{file}") for file in bodies}
-    pairs = pairs_of(path)
-    places = {body_of(it, texts, bodies) for it in pairs}
-    return Edit(crate.name, path, pairs, places.pop() if len(places) == 1 else None)
+    changes = changes_of(pairs_of(path), texts)
+    found = [bodies_at(it, texts, bodies) for it in changes]
+    every = tuple(dict.fromkeys(it for near in found for it in near)) if all(found) else ()
+    is_within = len(every) == 1 and all(every[0].head <= it.at <= every[0].end for it in changes)
+    is_copied = is_within and not every[0].is_of_trait and not is_in_cycle(crate, every[0], texts[every[0].file])
+    return Edit(crate.name, path, changes, every, is_copied)
 
 
 def edits_of(crate, folder, bodies):
@@ -232,33 +268,29 @@ def edits_of(crate, folder, bodies):
     return [edit_at(f"{folder}/{it}", crate, bodies) for it in names]
 
 
-def rounds_of(edits):
-    """Returns rounds with at most one edit a body, the largest first, and the edits that go alone. A long round goes in parts of much the
-    same length, since one processor tries a round."""
-    nth, rounds = Counter(), defaultdict(list)
-    for it in edits:
-        if it.body:
-            rounds[nth[it.body]].append(it)
-            nth[it.body] += 1
-    parts = []
-    for n in sorted(rounds):
-        count = -(-len(rounds[n]) // LONG)
-        parts += [rounds[n][at::count] for at in range(count)]
-    return parts, [it for it in edits if not it.body]
+def rounds_of(edits, share):
+    """Returns rounds of much the same length, and the edits that go alone. Of the functions with edits one in `share` is tried without an edit
+    too. Where a function is edited as it stands, no other trial of the round is of it."""
+    edited = [Tried(it, it.bodies, it.is_copied) for it in edits if it.bodies]
+    functions = [Tried(None, *it) for it in dict.fromkeys((it.bodies, it.is_copied) for it in edited)][::share]
+    rounds = [[] for _ in range(-(-(len(edited) + len(functions)) // LONG))]
+    # What stands where the function does comes first, since it can't go everywhere.
+    for it in sorted(edited + functions, key=lambda it: it.is_copied):
+        free = [found for found in rounds if it.is_copied or not any(set(it.bodies) & set(other.bodies) for other in found)]
+        # No round is made for a function without an edit alone, unless all are to be tried.
+        if not free and (it.edit or share == 1):
+            rounds.append([])
+            free = rounds[-1:]
+        if free:
+            min(free, key=len).append(it)
+    return rounds, [it for it in edits if not it.bodies]
 
 
-def edited(crate, edits):
-    """Returns the sources with these edits, by path. Old texts are looked for in the unchanged text."""
-    places = defaultdict(list)
-    for file, old, new in (pair for edit in edits for pair in edit.pairs):
-        places[file].append((read(f"{crate.folder}/{file}").index(old), old, new))
-    texts = {}
-    for file, found in places.items():
-        text = read(f"{crate.folder}/{file}")
-        for at, old, new in sorted(found, reverse=True):
-            text = text[:at] + new + text[at + len(old) :]
-        texts[file] = text.decode()
-    return texts
+def applied(text, at, changes):
+    """Returns a part of a source file, which stands at this place there, with these changes."""
+    for it in sorted(changes, key=lambda it: -it.at):
+        text = text[: it.at - at] + it.new + text[it.at - at + len(it.old) :]
+    return text
 
 
 def folders_told(folder, goal):
@@ -330,116 +362,156 @@ class Refusals:
             self.store.keep_tried(name, self.kit.refused, verdict.why)
 
 
-class Trial:
-    """The edits of one crate: the check without an edit, whose work the others are done over, the rounds, and the edits alone."""
+class Room:
+    """A copy of a crate for a round: each function that isn't tried where it stands has no body and no proof."""
 
-    def __init__(self, kit, crate, folder, room, say, known=lambda edit: None, is_anew=False):
-        self.kit, self.crate, self.room, self.say, self.is_anew = kit, crate, room, say, is_anew
+    def __init__(self, kit, crate, bodies, trials, folder):
+        self.kit, self.crate, self.bodies, self.folder = kit, crate, bodies, folder
+        self.made = copy.copy(crate)
+        self.made.folder = folder
+        self.texts = {file: read(f"{crate.folder}/{file}") for file in bodies}
+        self.placed = [it for it in trials if not it.is_copied]
+        # The copies of each function, with their names, and what is tried in each folder of proofs.
+        self.copies, self.trials = defaultdict(list), defaultdict(list)
+        for n, it in enumerate(trials):
+            for body in it.bodies:
+                above, name = os.path.dirname(body.folder), f"{body.name}_{'edited' if it.edit else 'unedited'}_{n}"
+                self.trials[os.path.join(above, name) if it.is_copied else body.folder].append(it)
+                if it.is_copied:
+                    self.copies[body].append((name, it))
+        self.names = [name for found in self.copies.values() for name, _ in found]
+        self.lay_out()
+
+    def lay_out(self):
+        for part in self.kit.rtlib.PARTS:
+            if os.path.isdir(f"{self.crate.folder}/{part}"):
+                shutil.copytree(f"{self.crate.folder}/{part}", f"{self.folder}/{part}")
+        stay = {body for it in self.placed for body in it.bodies}
+        for file, found in self.bodies.items():
+            # A macro's functions stay as they are: their text may not be a function's.
+            macros = self.texts[file].find(b"macro_rules")
+            gone = [it for it in found if it not in stay and not it.is_const and not (0 <= macros < it.head)]
+            self.write_source(file, [it for it in gone if not is_in_cycle(self.crate, it, self.texts[file])])
+
+    def write_source(self, file, gone):
+        """Writes a source file without the bodies of some functions, with the copies of functions, and with what is edited in its place."""
+        text = self.texts[file]
+        changes = [it for trial in self.placed if trial.edit for it in trial.edit.changes if it.file == file]
+        for body in gone:
+            self.drop_proof(body)
+            changes.append(Change(file, body.start, text[body.start : body.end], NO_BODY))
+        for body, found in self.copies.items():
+            beside = b"".join(self.copied(body, name, trial.edit) for name, trial in found)
+            if body.file == file:
+                changes.append(Change(file, body.end, b"", beside))
+        with open(f"{self.folder}/{file}", "wb") as made:
+            made.write(applied(text, 0, changes))
+
+    def copied(self, body, name, edit):
+        """Returns a copy of a function under another name, with an edit of it if there is one, and copies its proof."""
+        part = applied(self.texts[body.file][body.top : body.end], body.top, edit.changes if edit else ())
+        own, old = f"{self.folder}/proofs/{body.folder}", f".{body.folder.replace('/', '.')}"
+        proof = f"{self.crate.folder}/proofs/{body.folder}"
+        for it in PROOF:
+            if os.path.isfile(f"{proof}/{it}"):
+                text = re.sub(rf"(?<=\.proofs){re.escape(old)}(?![\w-])", f"{old[: -len(body.name)]}{name}", read(f"{proof}/{it}").decode())
+                os.makedirs(f"{os.path.dirname(own)}/{name}", exist_ok=True)
+                with open(f"{os.path.dirname(own)}/{name}/{it}", "w", encoding="utf-8") as made:
+                    made.write(text.replace(f"{body.name}_spec", f"{name}_spec"))
+        return b"\n" + re.sub(rb"\bfn +" + body.name.encode() + rb"\b", b"fn " + name.encode(), part, count=1)
+
+    def drop_proof(self, body):
+        """Leaves a function with a proof that says nothing, so that the check doesn't look for one."""
+        own = f"{self.folder}/proofs/{body.folder}"
+        os.makedirs(own, exist_ok=True)
+        for it in PROOF:
+            if os.path.isfile(f"{own}/{it}"):
+                os.remove(f"{own}/{it}")
+        with open(f"{own}/Proof.antt", "w", encoding="utf-8"):
+            pass
+
+    def check(self):
+        """Checks what is tried, and returns what was said. The ends of two functions' paths may be the same: then all is checked."""
+        tails = [*self.names, *(body.tail for it in self.placed for body in it.bodies)]
+        only = [word for it in tails for word in ("--only", it)]
+        ran = self.kit.checked(self.made, {}, ["--jobs", "1", *only], None)
+        return ran.stdout if ran.returncode != UNKNOWN else self.kit.checked(self.made, {}, ["--jobs", "1"], None).stdout
+
+    def told(self, output):
+        """Returns the goal at which each trial is refused, and what the check said of other functions."""
+        own, strange = goals_in(output, all_bodies(self.kit, self.made))
+        known = {it.folder for found in self.bodies.values() for it in found}
+        beyond = [it.folder for it in own if it.folder not in self.trials and it.folder not in known]
+        return {trial: goal for body, goal in own.items() for trial in self.trials.get(body.folder, [])}, strange + beyond
+
+    def not_compiled(self, output):
+        """Returns the trials in whose functions the check found errors before any proof."""
+        bodies, places = all_bodies(self.kit, self.made), [(file, int(line)) for file, line in COMPILES.findall(output)]
+        folders = {it.folder for file, n in places for it in bodies.get(file, []) if it.first <= n <= it.last}
+        return [it for folder in folders for it in self.trials.get(folder, [])]
+
+
+class Trial:
+    """The edits of one crate: the rounds, and the edits alone."""
+
+    def __init__(self, kit, crate, folder, room, say, known=lambda edit: None, share=1):
+        self.kit, self.crate, self.room, self.say = kit, crate, room, say
         self.bodies = all_bodies(kit, crate)
         self.edits = edits_of(crate, folder, self.bodies)
         told = {it: known(it) for it in self.edits}
         self.refused = [Verdict(it, True, f"{KEPT}{why}") for it, why in told.items() if why]
-        self.rounds, self.alone = rounds_of([it for it in self.edits if not told[it]])
-        self.kept = f"{room}/{crate.name}"
-        # What an edit alone is tried over is the whole crate, as the harmless edit is in the end.
-        self.is_whole = bool(self.alone) or crate.name == ITS_CRATE
-        # The names of the functions that are proved without an edit.
-        self.functions = []
+        self.rounds, self.alone = rounds_of([it for it in self.edits if not told[it]], share)
+        # The functions that were refused without an edit, with the goal: a refusal of an edit of theirs shows nothing.
+        self.bad = {}
 
     def plan(self):
         kept = f", and {len(self.refused)} whose refusal is kept" if self.refused else ""
-        return f"{self.crate.name}: {len(self.edits)} edits, in rounds of {[len(it) for it in self.rounds]}, {len(self.alone)} alone{kept}"
-
-    def check_unchanged(self):
-        """Returns whether the functions that rounds edit are proved without an edit, and the whole crate where edits are tried alone. Unless
-        all is to be tried anew, the check begins with what others of the crate kept on this machine."""
-        start, work = time.time(), None if self.is_anew else self.kit.work_for(self.crate)
-        ran = self.check_over(work)
-        if ran.returncode and work:
-            ran = self.check_over(None)
-        self.say(f"{self.crate.name} without an edit: {'proved' if not ran.returncode else 'NOT PROVED'}", start)
-        if ran.returncode:
-            self.say("\n".join(ran.stdout.split("\n")[-30:]))
-        self.functions = PROVED.findall(ran.stdout)
-        return not ran.returncode
-
-    def check_over(self, work):
-        """Checks the crate without an edit, over a copy of what is kept in this folder, if there is one. It checks the functions that rounds
-        edit and what they call, where that is enough and the end of each one's path fits no other function."""
-        self.begin_with(work)
-        tails = sorted({it.body.tail for edits in self.rounds for it in edits})
-        only = [] if self.is_whole else [word for it in tails for word in ("--only", it)]
-        ran = self.kit.checked(self.crate, {}, ["--jobs", "1", *only], self.kept)
-        return self.kit.checked(self.crate, {}, ["--jobs", "1"], self.kept) if only and ran.returncode == UNKNOWN else ran
-
-    def begin_with(self, work):
-        """Makes the folder anew in which the check without an edit keeps what it proved."""
-        shutil.rmtree(self.kept, ignore_errors=True)
-        try:
-            if work:
-                return self.kit.copy_kept(work, self.kept)
-        except (OSError, shutil.Error):
-            # Another command may write what is copied here.
-            shutil.rmtree(self.kept, ignore_errors=True)
-        return os.makedirs(self.kept)
-
-    def over_kept(self, call):
-        """Calls with a copy of what the check without an edit kept, since checks side by side can't share one."""
-        wait_for_memory()
-        with tempfile.TemporaryDirectory(dir=self.room) as copy:
-            self.kit.copy_kept(self.kept, f"{copy}/kept")
-            return call(f"{copy}/kept")
-
-    def name_of(self, body):
-        """Returns the name that the check gives a body's function, or None where it can't be told."""
-        # An impl may stand in another module than its type, and its name may go on with the type's own.
-        plain = {it: re.sub(r"\+[^:]+", "", it) for it in self.functions}
-        near = [it for it in plain if plain[it] == body.path] or [it for it in plain if plain[it].endswith(f"::{body.tail}")]
-        return near[0] if len(near) == 1 else None
-
-    def check_edited(self, edits):
-        """Checks the edited functions and what they call. A check of the whole crate would try each caller of an edited function again, and
-        show nothing by it; it is made only where an edited function can't be named."""
-        texts, names = edited(self.crate, edits), [it.body and self.name_of(it.body) for it in edits]
-        only = [word for it in names for word in ("--only", it)] if all(names) else []
-        return self.over_kept(lambda kept: self.kit.checked(self.crate, texts, ["--jobs", "1", *only], kept))
+        rounds = [f"{sum(bool(it.edit) for it in found)} and {sum(not it.edit for it in found)} functions" for found in self.rounds]
+        return f"{self.crate.name}: {len(self.edits)} edits, in rounds of {', '.join(rounds) or 'none'}, {len(self.alone)} alone{kept}"
 
     def try_alone(self, edit):
         """Returns the verdict of `rt must-fail`. An edit that only a proof file's names or a limit of the prover refuse has failed."""
-        is_refused, said = self.over_kept(lambda kept: self.kit.must_fail(self.crate, edit.path, ["--jobs", "1"], kept))
+        wait_for_memory()
+        is_refused, said = self.kit.must_fail(self.crate, edit.path, ["--jobs", "1"], None)
         why = said.partition(": ")[2]
         if is_refused and CUT.search(why) and self.is_by_names(edit):
             why = f"{ONLY_NAMES}: {why}"
         return Verdict(edit, is_refused and ONLY_NAMES not in why, f"alone: {why}")
 
     def is_by_names(self, edit):
-        """Returns whether no goal of the edit's own function is refused, or of any function where it edits none."""
-        own, _ = goals_in(self.check_edited([edit]).stdout, self.bodies)
-        return edit.body not in own if edit.body else not own
+        """Returns whether no goal of the edit's own functions is refused, or of any function where it stands in none."""
+        texts = {it.file: applied(read(f"{self.crate.folder}/{it.file}"), 0, [i for i in edit.changes if i.file == it.file]) for it in edit.changes}
+        output = self.kit.checked(self.crate, {file: it.decode() for file, it in texts.items()}, ["--jobs", "1"], None).stdout
+        own, _ = goals_in(output, self.bodies)
+        return not own if not edit.bodies else not any(it in own for it in edit.bodies)
 
-    def try_round(self, edits):
-        """Checks the crate with all of these edits, and returns a verdict of each that the check refused, and the edits of which it says
-        nothing."""
-        output = self.check_edited(edits).stdout
-        if ENDED.search(output):
-            own, strange = goals_in(output, self.bodies)
-            beyond = set(own) - {it.body for it in edits}
-            if not strange and not beyond:
-                refused = [Verdict(it, True, f"refused at {own[it.body]}") for it in edits if it.body in own]
-                return refused, [it for it in edits if it.body not in own]
-            self.say(f"{self.crate.name}: beyond the edits: {(strange or [it.folder for it in beyond])[0]}")
-        places = [(file, int(line)) for file, line in COMPILES.findall(output)]
-        bad = [it for it in edits if any(it.body.file == file and it.body.first <= n <= it.body.last for file, n in places)]
-        return self.halves(edits, bad)
+    def try_round(self, trials):
+        """Tries a round. Returns a verdict of each edit that the check refused, and the edits of which it says nothing."""
+        wait_for_memory()
+        with tempfile.TemporaryDirectory(dir=self.room) as folder:
+            room = Room(self.kit, self.crate, self.bodies, trials, folder)
+            output = room.check()
+            told, strange = room.told(output) if ENDED.search(output) else ({}, [])
+            if not ENDED.search(output) or strange:
+                self.say(f"{self.crate.name}: beyond the edits: {(strange or output.strip().splitlines()[-1:] or ['no word'])[0]}")
+                return self.halves(trials, room.not_compiled(output))
+        self.bad.update({body.folder: goal for it, goal in told.items() if not it.edit for body in it.bodies})
+        edits = [it for it in trials if it.edit]
+        return [Verdict(it.edit, True, f"refused at {told[it]}") for it in edits if it in told], [it.edit for it in edits if it not in told]
 
-    def halves(self, edits, bad):
-        """Tries the edits of a round that shows nothing again, without those that don't compile, or else in two halves."""
-        if len(edits) == 1 or len(bad) == len(edits):
-            return [], edits
-        good = [it for it in edits if it not in bad]
-        parts = [good] if bad else [edits[: len(edits) // 2], edits[len(edits) // 2 :]]
+    def halves(self, trials, bad):
+        """Tries a round that shows nothing again, without what doesn't compile, or else in two halves."""
+        if len(trials) == 1 or len(bad) == len(trials):
+            return [], [it.edit for it in trials if it.edit]
+        good = [it for it in trials if it not in bad]
+        parts = [good] if bad else [trials[: len(trials) // 2], trials[len(trials) // 2 :]]
         tried = [self.try_round(it) for it in parts]
-        return [it for found, _ in tried for it in found], bad + [it for _, left in tried for it in left]
+        return [it for found, _ in tried for it in found], [it.edit for it in bad if it.edit] + [it for _, left in tried for it in left]
+
+    def doubt(self, verdict):
+        """Returns the verdict, or that it shows nothing where a function of the edit is refused without it too."""
+        goal = next((self.bad[it.folder] for it in verdict.edit.bodies if it.folder in self.bad), None)
+        return verdict if not goal else Verdict(verdict.edit, False, f"shows nothing, since its function is refused without it too, at {goal}")
 
 
 def wait_for_memory():
@@ -455,8 +527,8 @@ def available():
 class Edits:
     """All edits of crates, tried in lanes. A crate's are tried once it is handed in, with all that it stands on built."""
 
-    def __init__(self, kit, crates, lanes, say, sample=0, is_anew=False):
-        self.kit, self.say, self.sample, self.is_anew = kit, say, sample, is_anew
+    def __init__(self, kit, crates, lanes, say, sample=0, is_anew=False, share=1):
+        self.kit, self.say, self.sample, self.share = kit, say, sample, share
         self.refusals = Refusals(kit, crates, is_anew)
         self.room = tempfile.TemporaryDirectory(prefix="edits-")
         self.pool = concurrent.futures.ThreadPoolExecutor(lanes)
@@ -465,35 +537,37 @@ class Edits:
 
     def take(self, crate, folder):
         """Tries a crate's edits, in the background."""
-        trial = Trial(self.kit, crate, folder, self.room.name, self.say, lambda edit: self.refusals.known(crate, edit), self.is_anew)
+        trial = Trial(self.kit, crate, folder, self.room.name, self.say, lambda edit: self.refusals.known(crate, edit), self.share)
         self.trials.append(trial)
         self.say(trial.plan())
         self.verdicts += trial.refused
         # The harmless edit is tried by each run.
-        if trial.rounds or trial.alone or crate.name == ITS_CRATE:
-            self.start(self.run, trial)
+        self.run(trial)
 
     def start(self, call, *given):
         with self.lock:
             self.tasks.append(self.pool.submit(call, *given))
 
     def run(self, trial):
-        if not trial.check_unchanged():
-            self.bad.append(f"{trial.crate.name} is not proved without an edit")
-            return
+        """Tries a crate's edits. What rounds refuse is told once all of them have ended, since a function may be tried without an edit in
+        another round than with one."""
         if trial.crate.name == ITS_CRATE:
             self.start(self.try_harmless, trial)
+        ended, lock = [], threading.Lock()
         for n, it in enumerate(trial.rounds):
-            self.start(self.round, trial, n, it)
+            self.start(self.round, trial, n, it, ended, lock)
         for it in trial.alone:
             self.start(self.alone, trial, it)
 
-    def round(self, trial, n, edits):
+    def round(self, trial, n, trials, ended, lock):
         start = time.time()
-        refused, left = trial.try_round(edits)
-        self.say(f"{trial.crate.name} round {n + 1} of {len(trial.rounds)}: {len(refused)} of {len(edits)} refused", start)
-        for it in refused:
-            self.add(trial, it)
+        refused, left = trial.try_round(trials)
+        self.say(f"{trial.crate.name} round {n + 1} of {len(trial.rounds)}: {len(refused)} of {len(refused) + len(left)} refused", start)
+        with lock:
+            ended.append(refused)
+            is_last = len(ended) == len(trial.rounds)
+        for it in [it for found in ended for it in found] if is_last else []:
+            self.add(trial, trial.doubt(it))
         for it in left:
             self.alone(trial, it)
 
@@ -503,7 +577,7 @@ class Edits:
     def try_harmless(self, trial):
         """Tries the edit that changes no meaning as the others are tried. It fails all where it isn't let through."""
         edit = edit_at(HARMLESS, trial.crate, trial.bodies)
-        refused, left = trial.try_round([edit]) if edit.body else ([], [edit])
+        refused, left = trial.try_round([Tried(edit, edit.bodies, edit.is_copied)]) if edit.bodies else ([], [edit])
         told = refused + [trial.try_alone(it) for it in left]
         is_well = not told[0].is_refused and LET_THROUGH in told[0].why
         self.say(f"harmless edit of {trial.crate.name}: {'let through, as it must be' if is_well else f'FAILED: {told[0].why[:240]}'}")
@@ -558,6 +632,7 @@ def main():
     asked.add_argument("--plan", action="store_true")
     asked.add_argument("--lanes", type=int, default=len(os.sched_getaffinity(0)))
     asked.add_argument("--sample", type=int, default=0)
+    asked.add_argument("--share", type=int, default=1)
     asked.add_argument("--anew", action="store_true")
     asked.add_argument("crates", nargs="*")
     asked = asked.parse_args()
@@ -572,9 +647,9 @@ def main():
     if asked.plan:
         with tempfile.TemporaryDirectory() as room:
             for it in crates:
-                say(Trial(kit, it, folder_of(it), room, say).plan())
+                say(Trial(kit, it, folder_of(it), room, say, share=asked.share).plan())
         return 0
-    edits = Edits(kit, every, asked.lanes, say, asked.sample, asked.anew)
+    edits = Edits(kit, every, asked.lanes, say, asked.sample, asked.anew, asked.share)
     for crate in crates:
         if any(dep.build_rlib(["--jobs", "1"], anew=False) for dep in crate.below()):
             return 1

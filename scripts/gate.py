@@ -16,6 +16,8 @@ import kit as kits
 TOP = edit_trials.TOP
 START = time.time()
 PRINTING = threading.Lock()
+# Of so many functions with edits one is tried without an edit.
+SHARE = 8
 # What is copied: what git has, and what was added to it since.
 LISTED = ["git", "ls-files", "-z", "--cached", "--others", "--exclude-standard"]
 
@@ -45,7 +47,7 @@ class Gate:
         self.passed, self.failed, self.proved, self.counting = 0, [], 0, threading.Lock()
         self.crates = {it.name: it for it in kit.rtlib.crates_below(room)}
         lanes = len(os.sched_getaffinity(0))
-        self.edits = edit_trials.Edits(kit, self.crates.values(), lanes, say, sample, is_anew)
+        self.edits = edit_trials.Edits(kit, self.crates.values(), lanes, say, sample, is_anew, SHARE)
         self.handed_in = set()
 
     def count(self, step, passed, failed, start):
@@ -179,7 +181,7 @@ class Gate:
 
 def main():
     asked = argparse.ArgumentParser(description=__doc__, formatter_class=argparse.RawDescriptionHelpFormatter)
-    asked.add_argument("--sample", type=int, default=5)
+    asked.add_argument("--sample", type=int, default=0)
     asked.add_argument("--anew", action="store_true")
     asked = asked.parse_args()
     for word in ("rt", "bash", "git"):

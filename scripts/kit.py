@@ -19,12 +19,6 @@ class Kit:
         told, said = self.rt.must_fail(crate, path, flags, kept)
         return told == self.refused, said
 
-    def work_for(self, crate):
-        """Returns a folder of what checks of the crate kept, in this checkout or in another, that one of it can begin with, or None."""
-        own = f"{crate.folder}/out/incremental"
-        found = self.rt.work_for(crate) if hasattr(self.rt, "work_for") else own
-        return found if found and os.path.isdir(found) else None
-
     def is_proved_here(self, crate):
         """Returns whether a check on this machine proved the crate's text as it stands, and left work with which a build is done soon. A kit
         that notes no such check proves each build from nothing."""
@@ -32,11 +26,6 @@ class Kit:
             return False
         stamp = crate.stamp()
         return any(proved == stamp and os.path.isdir(f"{it}/out/incremental") for it, proved in self.rt.places_of(crate))
-
-    def copy_kept(self, kept, to):
-        """Copies what a check kept. A kit that has links for it replaces such files and never changes them."""
-        copy = getattr(self.rt, "linked", shutil.copytree)
-        copy(kept, to)
 
     def store(self, crates, is_anew):
         """Returns the store in which the kit keeps the results of `rt ci`, or None if it keeps none."""
