@@ -122,15 +122,15 @@ struct Trial {
 }
 
 impl Trial {
-    fn starting_at(alloc: Global, first: u64) -> Trial {
-        Trial {
-            both: Both::starting_at(alloc, first),
+    fn starting_at(alloc: Global, first: u64) -> Result<Trial, AllocError> {
+        Ok(Trial {
+            both: Both::starting_at(alloc, first)?,
             list: List {
                 spans: Vec::new(alloc),
                 next: Some(Id(first)),
             },
             seed: 1,
-        }
+        })
     }
 
     // A random number below 2^31.
@@ -276,7 +276,7 @@ impl Trial {
 
 // Whether the registries and the list answer so many random calls alike, and show the same of a random id after each.
 fn agrees(alloc: Global, first: u64, count: u64) -> Result<bool, AllocError> {
-    let mut trial = Trial::starting_at(alloc, first);
+    let mut trial = Trial::starting_at(alloc, first)?;
     for number in 0..count {
         let same = trial.call(alloc, number / 500 % 2 == 0)?;
         let id = trial.any_id();

@@ -2,26 +2,50 @@
 
 use std::alloc::{AllocError, Global};
 use std::test::*;
-use tracing_tree::call::Call;
-use tracing_tree::format::{Context, Id};
-use tracing_tree::registry::{Attributes, LookupSpan, Parent, Record, Registry, SpanRef, Walked};
+use tracing_tree::format::{Context, Id, Refusal};
+use tracing_tree::registry::{Attributes, Data, LookupSpan, Parent, Registry, SpanRef, Walked};
 use tracing_tree::style::Level;
-use tracing_tree_for_tests::{Step, at, attributes, calls, recorded};
+use tracing_tree_for_tests::{Step, at, attributes, recorded};
 
-/// Two registries that are called alike.
+/// Two registries that are called alike. They are boxed, since each step of a test is proved over all that its own values hold.
 #[derive(Drop)]
 pub struct Both {
-    pub lent: Registry,
-    pub walked: Walked,
+    pub lent: Box<Registry>,
+    pub walked: Box<Walked>,
+}
+
+// Makes a span. Like the function below it promises nothing, so that what calls it is soon proved.
+fn lent_span(
+    lent: &mut Registry,
+    attributes: Attributes,
+    context: &Context,
+) -> Result<Id, Refusal> {
+    lent.new_span(attributes, context)
+}
+
+// Makes a span.
+fn walked_span(
+    walked: &mut Walked,
+    attributes: Attributes,
+    context: &Context,
+) -> Result<Id, Refusal> {
+    walked.new_span(attributes, context)
+}
+
+// What a span of this name is made of, with a field that says its name.
+fn named(alloc: Global, name: &str, parent: Parent) -> Result<Attributes, AllocError> {
+    let mut made = attributes(alloc, name, parent)?;
+    made.fields = recorded(alloc, "key", name)?;
+    Ok(made)
 }
 
 impl Both {
     /// Without spans; the first id is this.
-    pub fn starting_at(alloc: Global, first: u64) -> Both {
-        Both {
-            lent: Registry::starting_at(alloc, first),
-            walked: Walked::starting_at(alloc, first),
-        }
+    pub fn starting_at(alloc: Global, first: u64) -> Result<Both, AllocError> {
+        Ok(Both {
+            lent: Box::new(alloc, Registry::starting_at(alloc, first))?,
+            walked: Box::new(alloc, Walked::starting_at(alloc, first))?,
+        })
     }
 
     /// Whether both show the same of this id.
@@ -42,44 +66,45 @@ impl Both {
         )
     }
 
-    // Whether both answer this call alike. It is made twice, since a call is used up. An event only looks at its current span.
-    fn agree(&mut self, alloc: Global, call: Call, again: Call) -> Result<bool, AllocError> {
-        match call {
-            Call::New(attributes, context) => Ok(self.agree_on_new(attributes, again, &context)),
-            Call::Clone(id) => {
-                let cloned = self.lent.clone_span(id);
-                Ok(cloned.is_ok() && cloned == self.walked.clone_span(id))
-            }
-            Call::Record(id, record) => self.record(id, record, again),
-            Call::Event(_, context) => match context.current {
-                Some(id) => self.agree_on(alloc, id),
+    // Whether both answer this step alike. An event only looks at its current span.
+    fn agree(&mut self, alloc: Global, step: Step<'_>) -> Result<bool, AllocError> {
+        match step {
+            Step::New(name, current) => self.agree_on_new(alloc, name, Parent::Current, current),
+            Step::NewIn(name, parent, current) => self.agree_on_new(alloc, name, parent, current),
+            Step::Clone(id) => Ok(self.agree_on_clone(Id(id))),
+            Step::Record(id, value) => self.record(alloc, Id(id), value),
+            Step::Told(_, _, current) | Step::ToldIn(_, _, current) => match current {
+                Some(id) => self.agree_on(alloc, Id(id)),
                 None => Ok(true),
             },
-            Call::Close(id, _) => self.agree_on_close(alloc, id),
+            Step::Close(id) => self.agree_on_close(alloc, Id(id)),
         }
     }
 
     // Whether both make this span, and give it the same id.
-    fn agree_on_new(&mut self, attributes: Attributes, again: Call, context: &Context) -> bool {
-        match again {
-            Call::New(again, _) => {
-                let made = self.lent.new_span(attributes, context);
-                made.is_ok() && made == self.walked.new_span(again, context)
-            }
-            _ => false,
-        }
+    fn agree_on_new(
+        &mut self,
+        alloc: Global,
+        name: &str,
+        parent: Parent,
+        current: Option<u64>,
+    ) -> Result<bool, AllocError> {
+        let here = at(current);
+        let made = lent_span(&mut self.lent, named(alloc, name, parent)?, &here);
+        let again = walked_span(&mut self.walked, named(alloc, name, parent)?, &here);
+        Ok(made.is_ok() && made == again)
     }
 
-    // Puts the same fields into both.
-    fn record(&mut self, id: Id, record: Record, again: Call) -> Result<bool, AllocError> {
-        match again {
-            Call::Record(_, again) => {
-                self.lent.record(id, record.fields)?;
-                self.walked.record(id, again.fields)?;
-                Ok(true)
-            }
-            _ => Ok(false),
-        }
+    fn agree_on_clone(&mut self, id: Id) -> bool {
+        let cloned = self.lent.clone_span(id);
+        cloned.is_ok() && cloned == self.walked.clone_span(id)
+    }
+
+    // Puts the same field into both.
+    fn record(&mut self, alloc: Global, id: Id, value: &str) -> Result<bool, AllocError> {
+        self.lent.record(id, recorded(alloc, "k", value)?)?;
+        self.walked.record(id, recorded(alloc, "k", value)?)?;
+        Ok(true)
     }
 
     // Whether both show the same of this span, and let go of it alike.
@@ -98,20 +123,22 @@ fn are_alike(look: Option<SpanRef<'_>>, other: Option<SpanRef<'_>>) -> bool {
                 && look.parent() == other.parent()
                 && look.name() == other.name()
                 && look.target() == other.target()
-                && look.data().start == other.data().start
-                && look.data().written == other.data().written
-                && look.data().fields == other.data().fields
+                && is_same(look.data(), other.data())
         }
         (None, None) => true,
         _ => false,
     }
 }
 
-// Whether both registries answer these calls alike, and show the same of the first ids after each.
-fn all_agree(alloc: Global, calls: Vec<Call>, again: Vec<Call>) -> Result<bool, AllocError> {
-    let mut both = Both::starting_at(alloc, 1);
-    for (call, again) in calls.into_iter().zip(again) {
-        if !both.agree(alloc, call, again)? || !agree_on_first(alloc, &both)? {
+fn is_same(data: &Data, other: &Data) -> bool {
+    data.start == other.start && data.written == other.written && data.fields == other.fields
+}
+
+// Whether both registries answer these steps alike, and show the same of the first ids after each.
+fn all_agree(alloc: Global, steps: &[Step<'_>]) -> Result<bool, AllocError> {
+    let mut both = Both::starting_at(alloc, 1)?;
+    for step in steps {
+        if !both.agree(alloc, *step)? || !agree_on_first(alloc, &both)? {
             return Ok(false);
         }
     }
@@ -182,8 +209,10 @@ const HELD: [Step<'static>; 7] = [
     Step::Close(1),
 ];
 
-// A span in each of two tasks, which take turns, and their end.
-const TURNS: [Step<'static>; 8] = [
+// Two tasks, a span in each, which take turns, and their end.
+const TURNS: [Step<'static>; 10] = [
+    Step::NewIn("a", Parent::Root, None),
+    Step::NewIn("b", Parent::Root, None),
     Step::NewIn("a", Parent::Of(Id(1)), None),
     Step::NewIn("b", Parent::Of(Id(2)), None),
     Step::Told(Level::Info, "a", Some(3)),
@@ -194,61 +223,38 @@ const TURNS: [Step<'static>; 8] = [
     Step::Close(1),
 ];
 
-// A new root of this key, for a task.
-fn task(alloc: Global, key: &str) -> Result<Call, AllocError> {
-    let mut attributes = attributes(alloc, "spawn_fut", Parent::Root)?;
-    attributes.fields = recorded(alloc, "key", key)?;
-    Ok(Call::New(attributes, at(None)))
-}
-
-// Two tasks that take turns.
-fn tasks(alloc: Global) -> Result<Vec<Call>, AllocError> {
-    let mut all = Vec::new(alloc);
-    all.push(task(alloc, "a")?)?;
-    all.push(task(alloc, "b")?)?;
-    for step in TURNS {
-        all.push(step.call(alloc)?)?;
-    }
-    Ok(all)
-}
-
-// One of these runs.
-fn run_of(alloc: Global, number: u32) -> Result<Vec<Call>, AllocError> {
-    match number {
-        0 => calls(alloc, CHILD.as_slice()),
-        1 => calls(alloc, CHAIN.as_slice()),
-        2 => calls(alloc, ROOTS.as_slice()),
-        3 => calls(alloc, STRANGER.as_slice()),
-        4 => calls(alloc, LATE.as_slice()),
-        5 => tasks(alloc),
-        _ => calls(alloc, HELD.as_slice()),
-    }
-}
+const RUNS: [&[Step<'static>]; 7] = [&CHILD, &CHAIN, &ROOTS, &STRANGER, &LATE, &TURNS, &HELD];
 
 #[test]
 fn answers_alike(rt: HostRuntime) -> Result<(), Fail> {
-    let alloc = rt.alloc();
-    for number in 0..7 {
-        let calls = run_of(alloc, number)?;
-        let again = run_of(alloc, number)?;
-        assert!(rt; all_agree(alloc, calls, again)?, "{number}");
+    for (number, steps) in RUNS.iter().enumerate() {
+        assert!(rt; all_agree(rt.alloc(), steps)?, "{number}");
     }
     Ok(())
+}
+
+// Makes a root, and a span in it, and returns their ids.
+fn root_and_child(alloc: Global, walked: &mut Walked) -> Result<[Option<Id>; 2], AllocError> {
+    let root = walked_span(walked, named(alloc, "a", Parent::Root)?, &at(None));
+    let child = walked_span(walked, named(alloc, "b", Parent::Current)?, &at(Some(1)));
+    Ok([root.ok(), child.ok()])
+}
+
+fn is_written(walked: &Walked, id: Id) -> bool {
+    walked.data(id).is_some_and(|data| data.written)
 }
 
 #[test]
 fn walks_its_paths(rt: HostRuntime) -> Result<(), Fail> {
     let alloc = rt.alloc();
-    let mut walked = Walked::new(alloc);
-    let root = attributes(alloc, "a", Parent::Root)?;
-    assert_eq!(rt; walked.new_span(root, &at(None)), Ok(Id(1)));
-    let child = attributes(alloc, "b", Parent::Current)?;
-    assert_eq!(rt; walked.new_span(child, &at(Some(1))), Ok(Id(2)));
+    let mut walked = Box::new(alloc, Walked::new(alloc))?;
+    let ids = [Some(Id(1)), Some(Id(2))];
+    assert_eq!(rt; root_and_child(alloc, &mut walked)?, ids);
     let path = [Id(1), Id(2)];
     assert_eq!(rt; walked.path(alloc, Id(2))?.as_slice(), path.as_slice());
     assert_eq!(rt; walked.path(alloc, Id(3))?.len(), 0);
     assert!(rt; walked.kept_path(Id(2)).is_none());
     walked.set_written(Id(2));
-    assert!(rt; walked.data(Id(2)).ok_or("no data")?.written);
+    assert!(rt; is_written(&walked, Id(2)));
     Ok(())
 }
