@@ -132,39 +132,32 @@ fn long_lines(rt: HostRuntime) -> Result<(), Fail> {
     Ok(())
 }
 
-// Lines longer than the buffer of the input, which spell no settings or no call.
+// What stands before and after 200,000 spaces in lines that spell no settings or no call, longer than the buffer of the input.
+const WRONG: [(&str, &str, u64, LineCause); 6] = [
+    ("{", "\n", 1, LineCause::Settings),
+    ("{\"ansi\":", "1}\n", 1, LineCause::Settings),
+    ("{}\n{", "\n", 2, LineCause::NotACall),
+    ("{}\n{\"x\":\"", "", 2, LineCause::NotACall),
+    (
+        "{}\n{\"call\":\"new\",\"name\":\"",
+        "\",\"x\":1.5}",
+        2,
+        LineCause::NotACall,
+    ),
+    (
+        "{}\n{\"call\":\"close\",\"id\":",
+        "\"1\"}",
+        2,
+        LineCause::NotACall,
+    ),
+];
+
 #[test]
 fn long_lines_that_are_wrong(rt: HostRuntime) -> Result<(), Fail> {
     let alloc = rt.alloc();
     let long = " ".repeat(alloc, 200_000)?;
-    for (text, line, cause) in [
-        (format!(in alloc; "{{{long}\n")?, 1, LineCause::Settings),
-        (
-            format!(in alloc; "{{\"ansi\":{long}1}}\n")?,
-            1,
-            LineCause::Settings,
-        ),
-        (
-            format!(in alloc; "{{}}\n{{{long}\n")?,
-            2,
-            LineCause::NotACall,
-        ),
-        (
-            format!(in alloc; "{{}}\n{{\"x\":\"{long}")?,
-            2,
-            LineCause::NotACall,
-        ),
-        (
-            format!(in alloc; "{{}}\n{{\"call\":\"new\",\"name\":\"{long}\",\"x\":1.5}}")?,
-            2,
-            LineCause::NotACall,
-        ),
-        (
-            format!(in alloc; "{{}}\n{{\"call\":\"close\",\"id\":{long}\"1\"}}")?,
-            2,
-            LineCause::NotACall,
-        ),
-    ] {
+    for (head, tail, line, cause) in WRONG {
+        let text = format!(in alloc; "{head}{long}{tail}")?;
         let ran = run_lines(alloc, text.as_bytes(), Tape::new(alloc));
         assert_eq!(rt; ran.fault, Some(LineFault { line, cause }));
         assert_eq!(rt; ran.writer.bytes().is_empty(), true);

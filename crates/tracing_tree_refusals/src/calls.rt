@@ -9,11 +9,12 @@ use tracing_tree::Layered;
 use tracing_tree::call::Call;
 use tracing_tree::format::{Output, Refusal, Tape};
 
-/// A call with a copy of it, and what it is answered.
+/// A call with a copy of it, and what it is answered. The calls are boxed, since each step of what moves them is proved over all that they
+/// hold.
 #[derive(Drop)]
 pub struct Trial {
-    pub call: Call,
-    pub again: Call,
+    pub call: Box<Call>,
+    pub again: Box<Call>,
     pub answer: Answer,
 }
 
@@ -22,8 +23,8 @@ pub fn trials(alloc: Global, script: Script) -> Result<Vec<Trial>, AllocError> {
     let mut trials = Vec::new(alloc);
     for (step, answer) in script.steps() {
         trials.push(Trial {
-            call: step.call(alloc)?,
-            again: step.call(alloc)?,
+            call: Box::new(alloc, step.call(alloc)?)?,
+            again: Box::new(alloc, step.call(alloc)?)?,
             answer: *answer,
         })?;
     }
@@ -34,9 +35,9 @@ pub fn trials(alloc: Global, script: Script) -> Result<Vec<Trial>, AllocError> {
 pub fn both(alloc: Global, script: Script) -> Result<(Vec<Call>, Vec<Call>), AllocError> {
     let mut first = Vec::new(alloc);
     let mut second = Vec::new(alloc);
-    for Trial { call, again, .. } in trials(alloc, script)? {
-        first.push(call)?;
-        second.push(again)?;
+    for (step, _) in script.steps() {
+        first.push(step.call(alloc)?)?;
+        second.push(step.call(alloc)?)?;
     }
     Ok((first, second))
 }
@@ -145,8 +146,8 @@ fn told_twice(layered: &mut Layered<Board, ()>, trial: Trial) -> anyhow::Result<
 }
 
 // What a call is answered. The contract says nothing, since only the answer is looked at here.
-fn told<W: Output>(layered: &mut Layered<W, ()>, call: Call) -> Answer {
-    layered.call(call)
+fn told<W: Output>(layered: &mut Layered<W, ()>, call: Box<Call>) -> Answer {
+    layered.call(Box::into_inner(call))
 }
 
 // The same of a run.

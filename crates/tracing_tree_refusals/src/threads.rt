@@ -29,9 +29,9 @@ fn opened<L: Ledger>(alloc: Global, blank: Blank) -> Option<(SharedLayer<(), L>,
 fn draft<L: Ledger>(
     alloc: Global,
     layer: &SharedLayer<(), L>,
-    call: Call,
+    call: Box<Call>,
 ) -> Result<Draft, Refusal> {
-    layer.draft(alloc, call)
+    layer.draft(alloc, Box::into_inner(call))
 }
 
 // What a draft is answered, and the draft where it came back.
@@ -115,8 +115,8 @@ fn hand_in_all<L: Ledger, R: Wait>(
 fn draft_twice<L: Ledger>(
     alloc: Global,
     layer: &SharedLayer<(), L>,
-    call: Call,
-    again: Call,
+    call: Box<Call>,
+    again: Box<Call>,
 ) -> (Option<Draft>, u32) {
     match draft(alloc, layer, call) {
         Ok(drafted) => {

@@ -16,11 +16,12 @@ use tracing_tree_shared::{Draft, Receipt, Refused};
 // How often a draft is handed in that is refused for want of memory.
 const TRIES: u64 = 8;
 
-/// An accepted call, with its place among all accepted calls, and its reply.
+/// An accepted call, with its place among all accepted calls, and its reply. A call is boxed, since each step of what moves it is proved
+/// over all that it holds.
 #[derive(Drop)]
 pub struct Told {
     pub place: usize,
-    pub call: Call,
+    pub call: Box<Call>,
     pub reply: Reply,
 }
 
@@ -61,10 +62,10 @@ impl Caller {
 
     // Makes a call, and keeps it if it is accepted. On an `Err` it was not handed in.
     fn turn<R: Wait, D: Desk>(&mut self, rt: &R, desk: &mut D) -> Result<(), Refusal> {
-        let call = self.call()?;
-        let kept = call.copied()?;
+        let call = Box::new(self.alloc, self.call()?)?;
+        let kept = copied(self.alloc, &call)?;
         self.told.reserve(1)?;
-        let draft = desk.draft(self.alloc, call)?;
+        let draft = drafted(self.alloc, desk, call)?;
         if self.random.next_word() % 4 == 0 {
             thread::yield_now();
         }
@@ -145,19 +146,28 @@ impl Caller {
         receipts.len() == self.told.len()
             && receipts.iter().zip(&self.told).all(|(receipt, told)| {
                 receipt.place() == told.place
-                    && *receipt.call() == told.call
+                    && *receipt.call() == *told.call
                     && receipt.reply() == told.reply
             })
     }
+}
+
+fn copied(alloc: Global, call: &Call) -> Result<Box<Call>, AllocError> {
+    Ok(Box::new(alloc, call.copied()?)?)
+}
+
+fn drafted<D: Desk>(alloc: Global, desk: &D, call: Box<Call>) -> Result<Box<Draft>, Refusal> {
+    let draft = desk.draft(alloc, Box::into_inner(call))?;
+    Ok(Box::new(alloc, draft)?)
 }
 
 // Hands a draft in. One that is refused for want of memory comes back, and is handed in again.
 fn handed_in<R: Wait, D: Desk>(
     rt: &R,
     desk: &mut D,
-    draft: Draft,
+    draft: Box<Draft>,
 ) -> Result<(usize, Reply), Refused> {
-    let mut answer = desk.submit(rt, draft);
+    let mut answer = desk.submit(rt, Box::into_inner(draft));
     for _ in 1..TRIES {
         match answer {
             Err(

@@ -226,7 +226,8 @@ fn all_told(alloc: Global, callers: Vec<Caller>) -> anyhow::Result<Vec<Told>> {
 }
 
 fn is_history(history: &[(Call, Reply)], told: &[Told]) -> bool {
-    history.iter().zip(told).all(|((call, reply), told)| *call == told.call && *reply == told.reply)
+    history.iter().zip(told).all(|((call, reply), told)| *call == *told.call
+        && *reply == told.reply)
 }
 
 // Has a layer of one thread make the calls: it has to answer them as they were answered, and to
@@ -234,7 +235,7 @@ fn is_history(history: &[(Call, Reply)], told: &[Told]) -> bool {
 fn draw_again(mut layered: Layered<Tape, ()>, told: Vec<Told>, text: &[u8]) -> anyhow::Result<()> {
     for Told { place, call, reply } in told {
         anyhow::ensure!(
-            layered.call(call) == Ok(reply),
+            layered.call(Box::into_inner(call)) == Ok(reply),
             "a layer of one thread answers call {place} otherwise"
         );
     }
