@@ -72,7 +72,10 @@ impl Both {
             Step::New(name, current) => self.agree_on_new(alloc, name, Parent::Current, current),
             Step::NewIn(name, parent, current) => self.agree_on_new(alloc, name, parent, current),
             Step::Clone(id) => Ok(self.agree_on_clone(Id(id))),
-            Step::Record(id, value) => self.record(alloc, Id(id), value),
+            Step::Record(id, value) => {
+                self.record(alloc, Id(id), value)?;
+                Ok(true)
+            }
             Step::Told(_, _, current) | Step::ToldIn(_, _, current) => match current {
                 Some(id) => self.agree_on(alloc, Id(id)),
                 None => Ok(true),
@@ -101,10 +104,9 @@ impl Both {
     }
 
     // Puts the same field into both.
-    fn record(&mut self, alloc: Global, id: Id, value: &str) -> Result<bool, AllocError> {
+    fn record(&mut self, alloc: Global, id: Id, value: &str) -> Result<(), AllocError> {
         self.lent.record(id, recorded(alloc, "k", value)?)?;
-        self.walked.record(id, recorded(alloc, "k", value)?)?;
-        Ok(true)
+        self.walked.record(id, recorded(alloc, "k", value)?)
     }
 
     // Whether both show the same of this span, and let go of it alike.
