@@ -26,4 +26,6 @@ impl Output for Sink {
     fn faults(&self) -> u64 {
         0
     }
+
+    fn flush(&mut self) {}
 }

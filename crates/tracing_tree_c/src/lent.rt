@@ -79,6 +79,8 @@ impl Output for Lent {
         self.faults
     }
 
+    fn flush(&mut self) {}
+
     fn keep(&mut self, text: &mut String) -> bool {
         if !self.text.is_empty() {
             return false;

@@ -9,6 +9,7 @@ ghost use Rattle.tracing_tree_layer.specs.Layer.Layers.{seen, Changes, Flushes};
 ghost use Rattle.tracing_tree_layer.specs.Layered.Answered.{IsAnswered};
 ghost use Rattle.tracing_tree_layer.specs.Layered.Headline.{IsRunOf};
 ghost use Rattle.tracing_tree_layer.specs.Layer.Block.{event_tail};
+ghost use Rattle.tracing_tree_output.specs.Writers.{IsShown};
 
 use crate::call::{Call, Reply};
 use crate::layer::HierarchicalLayer;
@@ -137,9 +138,10 @@ impl<W: Output, FT: FormatTime> Layered<W, FT> {
         self.layer.recover(writer)
     }
 
-    /// Has the writer pass on what it holds back (`Output::flush`). Nothing else changes.
+    /// Flushes the writer (`Output::flush`). Nothing else changes.
     pub fn flush(&mut self)
-        ensures { Changes (seen FT.FormatTime W.Output) Flushes self.old self.new }
+        ensures flushed { Changes (seen FT.FormatTime W.Output) Flushes self.old self.new }
+        ensures shown { IsShown W.Output self.new.layer.writer }
     {
         self.layer.flush();
     }

@@ -23,8 +23,10 @@ pub record TapeView : Type 0 where
   pub bytes : List ℕ
   pub faults : ℕ
 
--- an output over a writer, how many writes were refused, and whether a flush was
+-- an output over a writer: how many writes were refused, whether the writer has taken bytes that no
+-- flush has passed on, and whether a flush was refused
 pub record WrapView (W : Type 0) : Type 0 where
   pub writer : W
   pub faults : ℕ
+  pub holds_back : Bool
   pub stuck : Bool

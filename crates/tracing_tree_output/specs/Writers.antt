@@ -16,6 +16,10 @@ abbrev pub seen_writer : {W : Type 0} → Output W → W → SeenWriter
 seen_writer output it =
     record { bytes = output.contents it; faults = output.fault_count it; whole = output.WHOLE }
 
+-- an output holds nothing back of what it has taken, unless it has refused a flush
+abbrev pub IsShown : {W : Type 0} → Output W → W → Type 0
+IsShown output it = IsTrue (output.holds_back it) → IsTrue (output.stuck it)
+
 -- a beginning of a text that isn't the whole
 pub record IsCutShort (text front : List ℕ) : Type 0 where
   pub rest : List ℕ

@@ -1,6 +1,6 @@
 //! Outputs, which take bytes and count the writes that they refuse.
 
-ghost use Rattle.std.specs.Prelude.{◌≡◌, ℕ, ◌+◌, ◌-◌, ◌<◌, ◌≤◌, List, [], Bool, false, Option, Some, IfOk, IfSome, IfNone, length, take, string_bytes};
+ghost use Rattle.std.specs.Prelude.{◌≡◌, ℕ, ◌+◌, ◌-◌, ◌<◌, ◌≤◌, List, [], Bool, false, IsErr, IsTrue, Option, Some, IfOk, IfSome, IfNone, length, take, string_bytes};
 ghost use Rattle.std.specs.Io.KnownBytes.{Appends, Keeps, WriteAppends};
 ghost use Rattle.tracing_tree_output.specs.Outputs.{TakesSome, CountsFault, KeepsText};
 
@@ -36,6 +36,8 @@ pub struct OutputFault;
 ///     fn faults(&self) -> u64 {
 ///         0
 ///     }
+///
+///     fn flush(&mut self) {}
 /// }
 /// ```
 pub trait Output {
@@ -45,6 +47,12 @@ pub trait Output {
     /// How many writes it has refused.
     ghost fault_count: { Self → ℕ };
 
+    /// Whether it may hold back some of what it has taken.
+    ghost holds_back: { Self → Bool } = { λ _. false };
+
+    /// Whether it has refused a flush.
+    ghost stuck: { Self → Bool } = { λ _. false };
+
     ghost WHOLE: { Bool };
 
     /// Whether each accepted write is taken whole.
@@ -52,23 +60,25 @@ pub trait Output {
 
     /// Takes some of the bytes: at least one and at most all of a nonempty slice, and all where
     /// `WHOLE`. Returns how many. A refused write leaves what was taken, and raises the count of
-    /// faults by one.
+    /// faults by one. After a refused flush each write is refused.
     fn write(&mut self, bytes: &[u8]) -> Result<usize, OutputFault>
         requires { fault_count self.old < u64.MAX }
         ensures taken { IfOk result (TakesSome WHOLE bytes.now) }
         ensures contents { WriteAppends (contents self.old) (contents self.new) result bytes.now }
-        ensures count { CountsFault (fault_count self.old) (fault_count self.new) result };
+        ensures count { CountsFault (fault_count self.old) (fault_count self.new) result }
+        ensures stuck { IsTrue (stuck self.old) → IsErr result }
+        ensures stays { stuck self.new ≡ stuck self.old };
 
     /// How many writes it has refused.
     fn faults(&self) -> u64
         ensures { result ≡ fault_count self.now };
 
-    /// Passes on what it has taken and holds back. An output that holds nothing back does nothing. Where it can't be passed
-    /// on, it is still held; no fault is counted here, and a later write may be refused for it.
+    /// Passes on what it has taken and holds back. An output that holds nothing back does nothing. If it can't be passed on, it is
+    /// still held back, and each later write is refused. No fault is counted here.
     fn flush(&mut self)
         ensures contents { Keeps (contents self.old) (contents self.new) }
         ensures count { fault_count self.new ≡ fault_count self.old }
-    {}
+        ensures shown { IsTrue (holds_back self.new) → IsTrue (stuck self.new) };
 
     /// Keeps a text as it is, where that can be done without a copy, and leaves an empty one in its place. Returns whether the
     /// text was kept; else nothing has changed, and it is to be written.
@@ -76,6 +86,8 @@ pub trait Output {
         ensures kept { KeepsText result (string_bytes text.old) (string_bytes text.new)
             (contents self.old) (contents self.new) }
         ensures count { fault_count self.new ≡ fault_count self.old }
+        ensures stuck { IsTrue (stuck self.old) → IsTrue result → ⊥ }
+        ensures stays { stuck self.new ≡ stuck self.old }
     {
         let _ = text;
         false
@@ -140,6 +152,8 @@ impl Output for Tape {
     fn faults(&self) -> u64 {
         self.faults
     }
+
+    fn flush(&mut self) {}
 }
 
 /// An output over a writer of std. An interrupted write or flush is tried again at most 8 times; a write that is still
@@ -148,6 +162,8 @@ impl Output for Tape {
 pub struct Wrap<W: Write> {
     writer: W,
     faults: u64,
+    // Whether the writer has taken bytes since the last flush that it accepted.
+    holds_back: bool,
     // Whether a flush was refused.
     stuck: bool,
 }
@@ -157,17 +173,28 @@ impl<W: Write> Model for Wrap<W> {
 
     ghost Value = { WrapView W };
 
-    ghost view = { λ w. record { writer = w.writer; faults = w.faults; stuck = w.stuck } };
+    ghost view = { λ w. record {
+      writer = w.writer;
+      faults = w.faults;
+      holds_back = w.holds_back;
+      stuck = w.stuck;
+    } };
 }
 
 impl<W: Write> Wrap<W> {
     /// Makes an output over this writer, without faults.
     pub fn new(writer: W) -> Wrap<W>
-        ensures { result ≡ record { writer = writer; faults = 0; stuck = false } }
+        ensures { result ≡ record {
+          writer = writer;
+          faults = 0;
+          holds_back = false;
+          stuck = false;
+        } }
     {
         Wrap {
             writer,
             faults: 0,
+            holds_back: false,
             stuck: false,
         }
     }
@@ -194,6 +221,10 @@ impl<W: Write> Output for Wrap<W> {
 
     ghost fault_count = { λ w. w.faults };
 
+    ghost holds_back = { λ w. w.holds_back };
+
+    ghost stuck = { λ w. w.stuck };
+
     ghost WHOLE = { false };
 
     const WHOLE: bool = false;
@@ -201,6 +232,7 @@ impl<W: Write> Output for Wrap<W> {
     fn write(&mut self, bytes: &[u8]) -> Result<usize, OutputFault> {
         if !self.stuck {
             if let Some(taken) = write_tried(&mut self.writer, bytes) {
+                self.holds_back = true;
                 return Ok(taken);
             }
         }
@@ -213,7 +245,9 @@ impl<W: Write> Output for Wrap<W> {
     }
 
     fn flush(&mut self) {
-        if !flush_tried(&mut self.writer) {
+        if flush_tried(&mut self.writer) {
+            self.holds_back = false;
+        } else {
             self.stuck = true;
         }
     }

@@ -65,6 +65,8 @@ impl Output for Board {
     fn faults(&self) -> u64 {
         self.faults
     }
+
+    fn flush(&mut self) {}
 }
 
 impl Write for Board {

@@ -1,6 +1,7 @@
 //! A layer for several threads that keeps no history.
 
 ghost use Rattle.std.specs.Prelude.{◌≡◌, IfOk, IfErr};
+ghost use Rattle.tracing_tree_output.specs.Writers.{IsShown};
 ghost use Rattle.tracing_tree_layer.specs.Layer.Layers.{seen, Changes, Flushes};
 ghost use Rattle.tracing_tree_shared.specs.Drafts.{tail_under};
 ghost use Rattle.tracing_tree_shared.specs.Streamed.{IsStreamed, IsStreamedOnSome};
@@ -81,10 +82,11 @@ impl<W: Output, FT: FormatTime> Counted<W, FT> {
         }
     }
 
-    /// Has the writer pass on what it holds back (`Output::flush`). Nothing else changes.
+    /// Flushes the writer (`Output::flush`). Nothing else changes.
     pub fn flush(&mut self)
         ensures layered { Changes
             (seen FT.FormatTime W.Output) Flushes self.old.layered self.new.layered }
+        ensures shown { IsShown W.Output self.new.layered.layer.writer }
         ensures accepted { self.new.accepted ≡ self.old.accepted }
     {
         self.layered.flush();

@@ -191,6 +191,8 @@ impl Output for Counter {
     fn faults(&self) -> u64 {
         0
     }
+
+    fn flush(&mut self) {}
 }
 
 #[test]

@@ -6,7 +6,7 @@ use Rattle.tracing_tree_spans.specs.Registry.Forest.{Forest}
 use Rattle.tracing_tree_context.specs.declared.context.Id.{Id}
 use Rattle.tracing_tree_output.specs.declared.output.Output.{Ghosts as Output}
 use Rattle.tracing_tree_time.specs.declared.timer.FormatTime.{Ghosts as FormatTime}
-use Rattle.tracing_tree_output.specs.Writers.{seen_writer}
+use Rattle.tracing_tree_output.specs.Writers.{IsShown, seen_writer}
 use Rattle.tracing_tree_layer.specs.Layered.Seen.{Seen}
 
 -- a layer: its settings, its writer and timer, the last span, and whether it has failed
@@ -21,12 +21,13 @@ pub record LayerView (W FT : Type 0) : Type 0 where
 abbrev pub is_fresh : {W FT : Type 0} → LayerView W FT → Bool
 is_fresh layer = not layer.failed && is_none layer.last
 
--- a layer's writer passed on what it held back; its known bytes, its count of faults and all else
--- stay
+-- a layer's writer passed on what it held back, or has refused to; its known bytes, its count of
+-- faults and all else stay
 pub record IsFlushed {W FT : Type 0} (output : Output W) (old new : LayerView W FT) : Type 0 where
   pub kept : Keeps (output.contents old.writer) (output.contents new.writer)
   pub calm : output.fault_count new.writer ≡ output.fault_count old.writer
   pub same : new ≡ record old { writer = new.writer }
+  pub shown : IsShown output new.writer
 
 -- a registry with a layer
 pub record LayeredView (W FT : Type 0) : Type 0 where
