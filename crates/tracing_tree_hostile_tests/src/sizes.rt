@@ -2,6 +2,7 @@
 //! and single values that are far larger.
 
 mod bare;
+mod deep;
 mod long;
 mod quantity;
 mod run;

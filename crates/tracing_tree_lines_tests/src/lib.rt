@@ -15,3 +15,5 @@ mod outputs;
 mod readback;
 #[cfg(test)]
 mod rows;
+#[cfg(test)]
+mod shown;

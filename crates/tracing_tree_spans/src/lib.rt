@@ -1,7 +1,9 @@
 //! Live spans with their paths.
 //!
-//! [`registry::Registry`] keeps spans with their paths, so that a path is there at once. [`registry::Walked`] keeps parents alone, and
-//! walks up for each path: the same calls and answers, for comparison. Any other [`registry::LookupSpan`] will do for a layer alone.
+//! [`registry::Registry`] keeps spans with their paths, so that a path is there at once.
+//! [`registry::Walked`] is such a registry that lends no path: a layer over it walks up to the root
+//! for each one. Both have the same calls and answers. A layer without a `Layered` works over any
+//! other [`registry::LookupSpan`] too.
 #![tactic(auto)]
 
 pub mod registry;

@@ -14,7 +14,7 @@ use tracing_tree::layered::Layered;
 use tracing_tree::registry::{Attributes, Event, LookupSpan, Parent, Record, Registry, Walked};
 use tracing_tree::style::Level;
 use tracing_tree::text::Text;
-use tracing_tree_for_tests::{at, calls, recorded, run};
+use tracing_tree_for_tests::{at, attributes, calls, recorded, run};
 
 // What both registries can do.
 trait Keeps: LookupSpan {
@@ -351,21 +351,21 @@ enum Told {
     Close(u64),
 }
 
-// Tells it to a layer over the registry of one root.
-fn tell(
+// Tells it to a layer over these spans.
+fn tell<S: LookupSpan>(
     alloc: Global,
     layer: &mut HierarchicalLayer<Tape, ()>,
-    lone: &mut Lone,
+    spans: &mut S,
     told: Told,
 ) -> Result<(), Refusal> {
     match told {
-        Told::New(id) => layer.on_new_span(Id(id), lone, &at(None)),
-        Told::Close(id) => layer.on_close(Id(id), lone, &at(None)),
+        Told::New(id) => layer.on_new_span(Id(id), spans, &at(None)),
+        Told::Close(id) => layer.on_close(Id(id), spans, &at(None)),
         Told::Record(id) => {
             let values = Record {
                 fields: recorded(alloc, "k", "1")?,
             };
-            layer.on_record(Id(id), &values, lone)
+            layer.on_record(Id(id), &values, spans)
         }
     }
 }
@@ -381,17 +381,37 @@ const OF_ONE_ROOT: [(Told, Result<(), Refusal>); 7] = [
     (Told::Close(1), Ok(())),
 ];
 
-// What is told in turn, each answered as it stands beside it, and after each the layer is used.
-fn tells_each(
+// Tells each in turn, and compares its answer. After each the layer is no longer fresh.
+fn tells_each<S: LookupSpan>(
     rt: &impl Abort,
     alloc: Global,
     layer: &mut HierarchicalLayer<Tape, ()>,
-    lone: &mut Lone,
+    spans: &mut S,
 ) {
     for (told, wanted) in OF_ONE_ROOT {
-        assert_eq!(rt; tell(alloc, layer, lone, told), wanted);
+        assert_eq!(rt; tell(alloc, layer, spans, told), wanted);
         assert_eq!(rt; layer.is_fresh(), false);
     }
+}
+
+// A registry with a root that no layer has drawn.
+fn rooted(alloc: Global) -> Result<Registry, Fail> {
+    let mut registry = Registry::new(alloc);
+    let root = attributes(alloc, "a", Parent::Root)?;
+    match registry.new_span(root, &at(None)) {
+        Ok(_) => Ok(registry),
+        Err(_) => Err(Fail::from("the root is refused")),
+    }
+}
+
+#[test]
+fn draws_over_a_registry_alone(rt: HostRuntime) -> Result<(), Fail> {
+    let alloc = rt.alloc();
+    let mut registry = rooted(alloc)?;
+    let mut layer = layer(alloc, 2);
+    tells_each(&rt, alloc, &mut layer, &mut registry);
+    assert_eq!(rt; text(&layer), "┐a \n┘\n┘\n".as_bytes());
+    Ok(())
 }
 
 #[test]

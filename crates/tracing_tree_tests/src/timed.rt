@@ -146,11 +146,15 @@ const ASKING: [(Step<'static>, u32); 14] = [
     (Step::Told(Level::Info, "x", Some(1)), 7),
 ];
 
-// A layered whose new and closed spans are drawn once more, with this timer.
+// A layered with this timer, under the settings of the Rust crate's test `format_time_num_calls`.
 fn asking(alloc: Global, asked: &Asked) -> Result<Box<Layered<Tape, &Asked>>, AllocError> {
     let layer = HierarchicalLayer::new(alloc, 2, false, Tape::new(alloc))
+        .with_indent_lines(true)
+        .with_thread_ids(true)
+        .with_thread_names(true)
         .with_verbose_entry(true)
         .with_verbose_exit(true)
+        .with_targets(true)
         .with_timer(asked);
     Ok(Box::new(alloc, Layered::new(alloc, layer))?)
 }

@@ -177,7 +177,7 @@ fn spans_are_nested(rt: HostRuntime) -> Result<(), Fail> {
 
 #[test]
 fn spans_close_at_once(rt: HostRuntime) -> Result<(), Fail> {
-    sweep(&rt, Quantity::AtOnce, 32, 128)?;
+    sweep(&rt, Quantity::AtOnce, 32, 1_024)?;
     Ok(())
 }
 
