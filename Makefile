@@ -107,9 +107,9 @@ soak: need-python need-cc build bin/tracing_tree_bench
 	@python3 scripts/soak_calls.py bin/tracing_tree_bench $(SOAKED_CALLS)
 
 # Outside the gate: writes the figures anew that the gate compares with what the library takes of memory.
-counts: need-python need-cc bin/tracing_tree_bench
+counts: need-python need-cc build bin/tracing_tree_bench bin/tracing_tree_service
 	@$(CC) -O1 -shared -fPIC -o bin/count.so scripts/count.c -ldl
-	@python3 scripts/counts.py bin/tracing_tree_bench bin/count.so --write
+	@python3 scripts/counts.py bin/tracing_tree_bench bin/tracing_tree bin/ttree bin/tracing_tree_service bin/count.so --write
 
 # Outside the gate: the programs under valgrind, on all worked cases and some drawings.
 memcheck: need-python build

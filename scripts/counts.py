@@ -1,18 +1,22 @@
 #!/usr/bin/env python3
-"""Counts what fixed works of the library take of memory, and compares it with the figures that stand in counts.txt beside this script.
+"""Counts what fixed works take of memory, and compares it with the figures in counts.txt beside this script.
 
-PROGRAM is crates/tracing_tree_bench, and COUNTER is scripts/count.c. Of each work three numbers are compared, exactly: how often it asks
-for memory, how many bytes it asks for, and how many it holds at most at once, its calls and their answers with it. No contract says them.
-They are the same on each machine, and change where the code or the toolchain does: then --write writes them anew. The last line is
-'N of M runs ended as they must'.
+BENCH is crates/tracing_tree_bench, which makes calls of the library, by itself and through the layers for several threads. CLI, TTREE
+and SERVICE are the programs of those crates: they read lines of calls, other tools' output, and requests from which a tracer makes
+calls. COUNTER is scripts/count.c. Three numbers of each work are compared, exactly: how often it asks for memory, how many bytes it
+asks for, and how many it holds at most at once, its calls and their answers with it. No contract says them. They are the same on each
+machine, and change if the code or the toolchain does: then --write writes them again. The last line is 'N of M runs ended as they must'.
 
-usage: counts.py PROGRAM COUNTER [--write]
+usage: counts.py BENCH CLI TTREE SERVICE COUNTER [--write]
 """
-import os, re, subprocess, sys
+import collections, json, os, re, subprocess, sys
 
 FIGURES = os.path.join(os.path.dirname(os.path.abspath(__file__)), "counts.txt")
-# Each work with the rounds in which it is counted.
-WORKS = (
+PROGRAMS = ("bench", "cli", "ttree", "service")
+# A work by its name and its number of rounds: the program, its arguments, its input, and what its output ends with.
+Work = collections.namedtuple("Work", "program words given ending")
+# Works of the library's calls, each with the rounds in which it is counted.
+CALLS = (
     ("nested", 64), ("nested", 640), ("nested-styled", 640), ("nested-retraced", 640),
     ("alternating-10", 64), ("alternating-100", 64), ("alternating-1000", 4),
     ("close-oldest", 2000), ("close-newest", 2000), ("close-shuffled", 2000), ("close-leaf", 2000),
@@ -20,16 +24,83 @@ WORKS = (
     ("spread-1000", 64), ("spread-1000", 4000), ("records", 500), ("records", 1000), ("records", 2000), ("gaps", 400), ("gaps", 700),
     ("event", 640), ("event-utc", 640), ("event-local", 640), ("event-uptime", 640), ("long-text", 3),
 )
+# Works of one thread through the layers for several.
+THREADS = ("shared", "shared-drafted", "streaming", "streaming-drafted")
 
 
-def counted(program, counter, work, rounds):
+def json_lines(values):
+    return "".join(json.dumps(it) + "\n" for it in values).encode()
+
+
+def line_calls(rounds):
+    """Two spans, an event and two closes a round, after the settings."""
+    yield {"indent_lines": True}
+    for number in range(rounds):
+        root = 2 * number + 1
+        fields = [["message", "something happened"], ["n", str(number % 10)]]
+        yield {"call": "new", "name": "a", "target": "web", "fields": [["key", "1"]]}
+        yield {"call": "new", "name": "b", "current": root}
+        yield {"call": "event", "level": "INFO", "fields": fields, "current": root + 1}
+        yield {"call": "close", "id": root + 1}
+        yield {"call": "close", "id": root}
+
+
+def go_tests(rounds):
+    """A test that prints two lines, of which one comes in two parts, a round."""
+    for number in range(rounds):
+        test = {"Package": "example.com/p", "Test": f"Test{number:06}"}
+        yield {"Action": "run", **test}
+        for text in ("one line\n", "the first part ", "and the second\n"):
+            yield {"Action": "output", **test, "Output": text}
+        yield {"Action": "pass", **test, "Elapsed": 0}
+    yield {"Action": "pass", "Package": "example.com/p", "Elapsed": 1}
+
+
+def tracing_events(rounds):
+    """An event in two spans a round, the second of which is another in each round."""
+    for number in range(rounds):
+        spans = [{"name": "server", "port": 8080}, {"name": "request", "id": number % 1000}]
+        yield {"level": "INFO", "fields": {"message": "served"}, "target": "web", "span": spans[-1], "spans": spans}
+
+
+def trace(rounds):
+    """A span of each round in one that spans all."""
+    yield {"ph": "X", "name": "all", "pid": 1, "tid": 1, "ts": 0, "dur": 10 * rounds}
+    for number in range(rounds):
+        yield {"ph": "X", "name": "step", "pid": 1, "tid": 1, "ts": 10 * number, "dur": 5}
+
+
+def requests(rounds):
+    return b"put 12 apples\ntake 5 apples\n" * rounds
+
+
+def works():
+    """All works, by name and rounds."""
+    found = {(name, rounds): Work("bench", [name, str(rounds)], b"", rb" 0 refused") for name, rounds in CALLS}
+    for rounds in (64, 640):
+        for name in THREADS:
+            # Without the span of the events, which is a call of its own.
+            told = rounds + (name.startswith("shared"))
+            ending = rb"1 threads, %d events, \d+ ns an event" % told
+            found[f"threads-{name}", rounds] = Work("bench", ["threads", name, "1", str(rounds), "2"], b"", ending)
+    for rounds in (200, 2000):
+        found["lines", rounds] = Work("cli", [], json_lines(line_calls(rounds)), "┘".encode())
+        found["go-test", rounds] = Work("ttree", [], json_lines(go_tests(rounds)), rb"unfinished=0")
+        found["tracing", rounds] = Work("ttree", [], json_lines(tracing_events(rounds)), "┘".encode())
+        found["chrome", rounds] = Work("ttree", [], json.dumps(list(trace(rounds))).encode(), "┘".encode())
+        found["tracer", rounds] = Work("service", [], requests(rounds), "┘".encode())
+    return found
+
+
+def counted(programs, counter, work):
     """How often a work asks for memory, for how many bytes, and how many it holds at most."""
-    # The program's name is one of the texts that it keeps.
-    run = subprocess.run(["bench", work, str(rounds)], executable=program, env={"LD_PRELOAD": counter}, stdout=subprocess.PIPE,
-                         stderr=subprocess.PIPE, timeout=120, check=False)
+    # The program's name is one of the strings that it keeps.
+    run = subprocess.run([work.program, *work.words], executable=programs[work.program], input=work.given, env={"LD_PRELOAD": counter},
+                         stdout=subprocess.PIPE, stderr=subprocess.PIPE, timeout=120, check=False)
     told = re.fullmatch(rb"(\d+) (\d+) (\d+)\n", run.stderr)
-    done = re.search(rb"(\d+) refused\n$", run.stdout)
-    if run.returncode or not told or not done or done[1] != b"0" or told[1] == b"0":
+    done = re.search(work.ending + rb"\n$", run.stdout)
+    if run.returncode or not told or not done or told[1] == b"0":
+        print(f"counts: status {run.returncode}, ends with {run.stdout[-80:]!r} and {run.stderr[-80:]!r}")
         return None
     return tuple(int(it) for it in told.groups())
 
@@ -45,13 +116,14 @@ def write(found):
     with open(FIGURES, "w", encoding="utf-8") as file:
         print("# work, rounds, requests for memory, bytes asked for, bytes held at most: counts.py --write", file=file)
         for (work, rounds), numbers in found.items():
-            print(work, rounds, *numbers, file=file)
+            print(work, rounds, *numbers or [], file=file)
 
 
 def main():
-    program, counter = os.path.abspath(sys.argv[1]), os.path.abspath(sys.argv[2])
-    found = {it: counted(program, counter, *it) for it in WORKS}
-    if sys.argv[3:] == ["--write"]:
+    *paths, counter = (os.path.abspath(it) for it in sys.argv[1:6])
+    programs = dict(zip(PROGRAMS, paths))
+    found = {name: counted(programs, counter, work) for name, work in works().items()}
+    if sys.argv[6:] == ["--write"]:
         write(found)
     kept, wrong = written(), 0
     for (work, rounds), numbers in found.items():

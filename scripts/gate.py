@@ -153,7 +153,8 @@ class Gate:
             compiled = subprocess.run([compiler, "-O1", "-shared", "-fPIC", "-o", made, f"{TOP}/scripts/{source}", "-ldl"], check=False)
             if compiled.returncode:
                 return self.count("refused calls", 0, [f"scripts/{source} does not compile"], time.time())
-        self.programs("scripts/counts.py", "tracing_tree_bench", more=[counter])
+        counted = ("tracing_tree_bench", "tracing_tree_cli", "tracing_tree_ttree", "tracing_tree_service")
+        self.programs("scripts/counts.py", *counted, more=[counter])
         self.programs("scripts/steps.py", "tracing_tree_bench", more=[stepper])
         self.programs("scripts/refuse_calls.py", "tracing_tree_refusals", more=[shim])
         data = f"{TOP}/crates/tracing_tree_cases/data"
