@@ -180,7 +180,12 @@ module _ {W FT : Type 0} (see : LayeredView W FT → Seen) where
       (old between new : LayeredView W FT) → Changes see First old between → Changes see Second between new → Changes see Both old new
   change_then join old between new h k = record {
     changed = join (see old) (see between) (see new) h.changed k.changed;
-    fixed = k.fixed ∙ (λ i. record (h.fixed i) { writer = new.layer.writer; last = new.layer.last; failed = new.layer.failed });
+    fixed = k.fixed ∙ (λ i. record (h.fixed i) {
+      writer = new.layer.writer;
+      last = new.layer.last;
+      failed = new.layer.failed;
+      unwritten = new.layer.unwritten;
+    });
   }
 
   -- what is seen of answered calls is answered in order

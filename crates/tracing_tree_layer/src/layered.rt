@@ -132,7 +132,7 @@ impl<W: Output, FT: FormatTime> Layered<W, FT> {
         requires { W.fault_count writer ≡ 0 }
         ensures before { result ≡ self.old.layer.writer }
         ensures layer { self.new ≡ record self.old {
-          layer = record self.old.layer { writer = writer; failed = false };
+          layer = record self.old.layer { writer = writer; failed = false; unwritten = [] };
         } }
     {
         self.layer.recover(writer)
