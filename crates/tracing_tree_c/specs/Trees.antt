@@ -63,6 +63,7 @@ pub record IsCalled (call : Call) (answer : Result Reply Refusal) (old new : Dra
     writer = new.layered.layer.writer;
     last = new.layered.layer.last;
     failed = new.layered.layer.failed;
+    unwritten = new.layered.layer.unwritten;
   }
 
 -- a box with what was kept

@@ -53,6 +53,7 @@ module _ {W FT : Type 0} (time : FormatTime FT) (output : Output W) where
       writer = new.writer;
       last = sym (ap (λ (l : LayerView W FT). l.last) does.layer) i;
       failed = sym (ap (λ (l : LayerView W FT). l.failed) does.layer) i;
+      unwritten = new.unwritten;
     });
   }
     where

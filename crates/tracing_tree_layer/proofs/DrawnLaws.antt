@@ -335,13 +335,13 @@ pub gives_up : {W FT : Type 0} → (see : W → SeenWriter) (settings : Settings
     Drafts settings forest turn faults quiet drawn a b plan → a ≡ [] → Sends drawn sent b c (see writer) (see next) →
     failed ≡ failed_by sent → is_ok sent ≡ false →
     DoesTurn see turn faults quiet sent
-    (record { settings = settings; writer = writer; timer = timer; last = last; failed = was })
-    (record { settings = settings; writer = next; timer = timer; last = last; failed = failed })
+    (record { settings = settings; writer = writer; timer = timer; last = last; failed = was; unwritten = a })
+    (record { settings = settings; writer = next; timer = timer; last = last; failed = failed; unwritten = c })
     forest forest
 gives_up see settings forest turn faults quiet drawn sent a b c plan writer next timer last was failed drafts clear sends fails refused =
     let stays = refused-same sent turn.last last refused in
     record {
       written = written settings turn.rows faults quiet drawn sent a b c _ _ (drafts-drawn settings forest turn faults quiet drawn a b plan drafts) clear sends;
-      layer = (λ i. record { settings = settings; writer = next; timer = timer; last = stays i; failed = fails i });
+      layer = (λ i. record { settings = settings; writer = next; timer = timer; last = stays i; failed = fails i; unwritten = c });
       marked = refused-same sent turn.forest forest refused;
     }

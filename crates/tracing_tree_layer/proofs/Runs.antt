@@ -136,7 +136,14 @@ runs_first call calls (Err Failed) answers old new writer may wrote sound h = ru
 
 -- ---- calls one after another
 
-sound_from : (calls : List Call) (answers : List (Result Reply Refusal)) (old new : Seen) → AreAnswered calls answers old new →
+-- what is seen of calls that are answered
+abbrev AreSeenAnswered : List Call → List (Result Reply Refusal) → Seen → Seen → Type 0
+AreSeenAnswered [] [] old new = new ≡ old
+AreSeenAnswered (call ∷ calls) (answer ∷ answers) old new =
+    (between : Seen) × IsAnswered call answer old between × AreSeenAnswered calls answers between new
+AreSeenAnswered calls answers old new = ⊥
+
+sound_from : (calls : List Call) (answers : List (Result Reply Refusal)) (old new : Seen) → AreSeenAnswered calls answers old new →
     new.state.failed ≡ false → old.state.failed ≡ false
 sound_from [] [] old new h sound = ap (λ (s : Seen). s.state.failed) (sym h) ∙ sound
 sound_from [] (answer ∷ answers) old new h sound = absurd h
@@ -146,7 +153,7 @@ sound_from (call ∷ calls) (answer ∷ answers) old new (between, h, rest) soun
     (ap (λ (s : Seen). s.state.failed) (sym h.left) ∙ sound_from calls answers between new rest sound)
 
 -- they are the run of those that were accepted
-runs : (calls : List Call) (answers : List (Result Reply Refusal)) (old new : Seen) → AreAnswered calls answers old new →
+runs : (calls : List Call) (answers : List (Result Reply Refusal)) (old new : Seen) → AreSeenAnswered calls answers old new →
     new.state.failed ≡ false → Runs (accepted_calls calls answers) (replies_among answers) old new
 runs [] [] old new h sound =
     let P : Seen → Type 0 = λ s. Runs [] [] old s in
@@ -167,37 +174,56 @@ runs (call ∷ calls) (answer ∷ answers) old new (between, h, rest) sound =
     (ap (λ (s : Seen). s.state.failed) (sym h.left) ∙ sound_from calls answers between new rest sound)
     (subst Q h.left (runs calls answers between new rest sound))
 
--- a run of calls that were answered
-pub is_run : (calls : List Call) (answers : List (Result Reply Refusal)) (old new : Seen) → AreAnswered calls answers old new →
-    IsRunOf calls answers old new
-is_run calls answers old new h = record {
-  runs = runs calls answers old new h;
-  reads = λ first earlier begun. reading-laws old.settings old.timer first (earlier ++ accepted_calls calls answers);
-  answered = h;
-}
-
--- one more answered call
-pub answered_more : (calls : List Call) (answers : List (Result Reply Refusal)) (call : Call) (answer : Result Reply Refusal) (old between new : Seen) →
-    AreAnswered calls answers old between → IsAnswered call answer between new →
-    AreAnswered (calls ++ call ∷ []) (answers ++ answer ∷ []) old new
-answered_more [] [] call answer old between new h k =
-    let P : Seen → Type 0 = λ s. IsAnswered call answer s new in
-    (new, subst P h k, refl)
-answered_more [] (other ∷ answers) call answer old between new h k = absurd h
-answered_more (other ∷ calls) [] call answer old between new h k = absurd h
-answered_more (one ∷ calls) (other ∷ answers) call answer old between new (next, h, rest) k =
-    (next, h, answered_more calls answers call answer next between new rest k)
-
--- ---- changes
-
 module _ {W FT : Type 0} (see : LayeredView W FT → Seen) where
   -- one change and then another
   pub change_then : {First Second Both : Seen → Seen → Type 0} → ((a b c : Seen) → First a b → Second b c → Both a c) →
       (old between new : LayeredView W FT) → Changes see First old between → Changes see Second between new → Changes see Both old new
   change_then join old between new h k = record {
     changed = join (see old) (see between) (see new) h.changed k.changed;
-    fixed = k.fixed ∙ (λ i. record (h.fixed i) { writer = new.layer.writer; last = new.layer.last; failed = new.layer.failed });
+    fixed = k.fixed ∙ (λ i. record (h.fixed i) {
+      writer = new.layer.writer;
+      last = new.layer.last;
+      failed = new.layer.failed;
+      unwritten = new.layer.unwritten;
+    });
   }
+
+  -- what is seen of answered calls is answered in order
+  answers_seen : (calls : List Call) (answers : List (Result Reply Refusal)) (old new : LayeredView W FT) → AreAnswered see calls answers old new →
+      Changes see (AreSeenAnswered calls answers) old new
+  answers_seen [] [] old new h =
+      let P : LayeredView W FT → Type 0 = λ v. Changes see (AreSeenAnswered [] []) old v in
+      subst P (sym h) (record { changed = refl; fixed = refl })
+  answers_seen [] (answer ∷ answers) old new h = absurd h
+  answers_seen (call ∷ calls) [] old new h = absurd h
+  answers_seen (call ∷ calls) (answer ∷ answers) old new (between, h, rest) =
+      change_then (λ a b c first others. (b, first, others)) old between new h (answers_seen calls answers between new rest)
+
+  -- a run of calls that were answered
+  pub is_run : (calls : List Call) (answers : List (Result Reply Refusal)) (old new : LayeredView W FT) → AreAnswered see calls answers old new →
+      Changes see (IsRunOf calls answers) old new
+  is_run calls answers old new h =
+      let change = answers_seen calls answers old new h in
+      let from : Seen = see old in
+      record {
+        changed = record {
+          runs = runs calls answers from (see new) change.changed;
+          reads = λ first earlier begun. reading-laws from.settings from.timer first (earlier ++ accepted_calls calls answers);
+        };
+        fixed = change.fixed;
+      }
+
+  -- one more answered call
+  pub answered_more : (calls : List Call) (answers : List (Result Reply Refusal)) (call : Call) (answer : Result Reply Refusal)
+      (old between new : LayeredView W FT) → AreAnswered see calls answers old between → Changes see (IsAnswered call answer) between new →
+      AreAnswered see (calls ++ call ∷ []) (answers ++ answer ∷ []) old new
+  answered_more [] [] call answer old between new h k =
+      let P : LayeredView W FT → Type 0 = λ v. Changes see (IsAnswered call answer) v new in
+      (new, subst P h k, refl)
+  answered_more [] (other ∷ answers) call answer old between new h k = absurd h
+  answered_more (other ∷ calls) [] call answer old between new h k = absurd h
+  answered_more (one ∷ calls) (other ∷ answers) call answer old between new (next, h, rest) k =
+      (next, h, answered_more calls answers call answer next between new rest k)
 
 -- ---- calls that are answered where they lie
 

@@ -93,7 +93,7 @@ module _ {W FT : Type 0} (time : FormatTime FT) (output : Output W) where
       call_text before.settings before.timer before.state call ≡ draw before.settings rows →
       (quiet ≡ false → (before.state.failed || takes_no_memory before.settings before.timer before.state.forest call) ≡ false) →
       IsWritten old.layer.settings rows faults quiet (Err refusal) (seen_writer output old.layer.writer) (seen_writer output new.layer.writer) →
-      new.layer ≡ record old.layer { writer = new.layer.writer; failed = failed_by {A = Unit {0}} (Err refusal) } → new.forest ≡ old.forest →
+      new.layer ≡ record old.layer { writer = new.layer.writer; failed = failed_by {A = Unit {0}} (Err refusal); unwritten = new.layer.unwritten } → new.forest ≡ old.forest →
       Changes (seen time output) (IsAnswered call (Err refusal)) old new
   turn_refused call rows faults quiet refusal old new sound cause text memory written layer forest = record {
     changed = answered_refused call rows faults quiet refusal (seen time output old) (seen time output new) sound cause text memory written
@@ -102,6 +102,7 @@ module _ {W FT : Type 0} (time : FormatTime FT) (output : Output W) where
       writer = new.layer.writer;
       last = sym (ap (λ (l : LayerView W FT). l.last) layer) i;
       failed = sym (ap (λ (l : LayerView W FT). l.failed) layer) i;
+      unwritten = new.layer.unwritten;
     });
   }
 
@@ -110,7 +111,7 @@ module _ {W FT : Type 0} (time : FormatTime FT) (output : Output W) where
       old.layer.failed ≡ false → IsNewSpan attributes context (Ok i) old.forest made →
       let turn = turn_of_new old.layer.settings context made old.layer.last i in
       IsWritten old.layer.settings turn.rows false quiet (Err refusal) (seen_writer output old.layer.writer) (seen_writer output new.layer.writer) →
-      new.layer ≡ record old.layer { writer = new.layer.writer; failed = failed_by {A = Unit {0}} (Err refusal) } → new.forest ≡ old.forest →
+      new.layer ≡ record old.layer { writer = new.layer.writer; failed = failed_by {A = Unit {0}} (Err refusal); unwritten = new.layer.unwritten } → new.forest ≡ old.forest →
       Changes (seen time output) (IsAnswered (New attributes context) (Err refusal)) old new
   new_refused attributes context i quiet refusal old new made sound is_new written layer forest =
       let settings = old.layer.settings in
@@ -143,8 +144,8 @@ module _ {W FT : Type 0} (time : FormatTime FT) (output : Output W) where
       let same : turn ≡ turn_of_new settings context made old.layer.last i = (λ k. turn_of_new settings context (grown k) old.layer.last (id k)) in
       let P : Turn → Type 0 = λ t. DoesTurn (seen_writer output) t false quiet (Ok done) old.layer new.layer made new.forest in
       let does : P turn = subst P (sym same) does in
-      let layer : new.layer ≡ record old.layer { writer = new.layer.writer; last = turn.last; failed = old.layer.failed } =
-      does.layer ∙ (λ k. record old.layer { writer = new.layer.writer; last = turn.last; failed = sym sound k }) in
+      let layer : new.layer ≡ record old.layer { writer = new.layer.writer; last = turn.last; failed = old.layer.failed; unwritten = new.layer.unwritten } =
+      does.layer ∙ (λ k. record old.layer { writer = new.layer.writer; last = turn.last; failed = sym sound k; unwritten = new.layer.unwritten }) in
       record {
         changed = record {
           allowed = (
@@ -158,6 +159,7 @@ module _ {W FT : Type 0} (time : FormatTime FT) (output : Output W) where
           writer = new.layer.writer;
           last = sym (ap (λ (l : LayerView W FT). l.last) layer) k;
           failed = sym (ap (λ (l : LayerView W FT). l.failed) layer) k;
+          unwritten = new.layer.unwritten;
         });
       }
 
@@ -181,8 +183,8 @@ module _ {W FT : Type 0} (time : FormatTime FT) (output : Output W) where
       let same : closing_of marked i ≡ all = ap (λ f. closing_of f i) marks ∙ closing_of-marked (plan_of_closes settings forest all (empty_plan last)).fresh forest i in
       let left : new.forest ≡ without_spans all (take_handle i turn.forest) =
       closed.2 ∙ (λ k. without_spans (same k) (take_handle i (does.marked k))) in
-      let layer : new.layer ≡ record old.layer { writer = new.layer.writer; last = turn.last; failed = old.layer.failed } =
-      does.layer ∙ (λ k. record old.layer { writer = new.layer.writer; last = turn.last; failed = sym sound k }) in
+      let layer : new.layer ≡ record old.layer { writer = new.layer.writer; last = turn.last; failed = old.layer.failed; unwritten = new.layer.unwritten } =
+      does.layer ∙ (λ k. record old.layer { writer = new.layer.writer; last = turn.last; failed = sym sound k; unwritten = new.layer.unwritten }) in
       record {
         changed = record {
           allowed = (
@@ -196,6 +198,7 @@ module _ {W FT : Type 0} (time : FormatTime FT) (output : Output W) where
           writer = new.layer.writer;
           last = sym (ap (λ (l : LayerView W FT). l.last) layer) k;
           failed = sym (ap (λ (l : LayerView W FT). l.failed) layer) k;
+          unwritten = new.layer.unwritten;
         });
       }
 

@@ -68,6 +68,7 @@ impl<W: Output, FT: FormatTime> Model for HierarchicalLayer<W, FT> {
       timer = l.timer;
       last = l.last;
       failed = l.failed;
+      unwritten = string_bytes l.page;
     } };
 
     // A layer that has not failed has written all that it built, and its writer has never refused a
@@ -92,6 +93,7 @@ impl<W: Output> HierarchicalLayer<W, ()> {
           timer = tt;
           last = None;
           failed = false;
+          unwritten = [];
         } }
     {
         HierarchicalLayer::with_config(alloc, Config::new(indent_amount, ansi), writer)
@@ -107,6 +109,7 @@ impl<W: Output> HierarchicalLayer<W, ()> {
           timer = tt;
           last = None;
           failed = false;
+          unwritten = [];
         } }
     {
         HierarchicalLayer {
@@ -144,11 +147,12 @@ impl<W: Output, FT: FormatTime> HierarchicalLayer<W, FT> {
         self.last
     }
 
-    /// Returns whether a call was refused for the timer or the writer. The writer of a layer that
-    /// has not failed has no faults.
+    /// Returns whether a call was refused for the timer or the writer. A layer that has not failed
+    /// has written all that it built, and its writer has no faults.
     pub fn failed(&self) -> bool
         ensures failed { result ≡ self.now.failed }
         ensures calm { result ≡ false → W.fault_count self.now.writer ≡ 0 }
+        ensures written { result ≡ false → self.now.unwritten ≡ [] }
     {
         self.failed
     }
@@ -202,7 +206,11 @@ impl<W: Output, FT: FormatTime> HierarchicalLayer<W, FT> {
     pub fn recover(&mut self, writer: W) -> W
         requires { W.fault_count writer ≡ 0 }
         ensures before { result ≡ self.old.writer }
-        ensures layer { self.new ≡ record self.old { writer = writer; failed = false } }
+        ensures layer { self.new ≡ record self.old {
+          writer = writer;
+          failed = false;
+          unwritten = [];
+        } }
     {
         let before = self.replace_writer(writer);
         self.page.clear();

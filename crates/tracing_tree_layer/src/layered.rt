@@ -7,7 +7,7 @@ ghost use Rattle.tracing_tree_spans.specs.Registry.Ids.{id_of};
 ghost use Rattle.tracing_tree_spans.specs.Registry.Forest.{empty_forest, if_live, path_of_any};
 ghost use Rattle.tracing_tree_layer.specs.Layer.Layers.{seen, Changes, Flushes};
 ghost use Rattle.tracing_tree_layer.specs.Layered.Answered.{IsAnswered};
-ghost use Rattle.tracing_tree_layer.specs.Layered.Headline.{IsRunOf};
+ghost use Rattle.tracing_tree_layer.specs.Layered.Headline.{AreAnswered, IsRunOf};
 ghost use Rattle.tracing_tree_layer.specs.Layer.Block.{event_tail};
 ghost use Rattle.tracing_tree_output.specs.Writers.{IsShown};
 
@@ -132,7 +132,7 @@ impl<W: Output, FT: FormatTime> Layered<W, FT> {
         requires { W.fault_count writer ≡ 0 }
         ensures before { result ≡ self.old.layer.writer }
         ensures layer { self.new ≡ record self.old {
-          layer = record self.old.layer { writer = writer; failed = false };
+          layer = record self.old.layer { writer = writer; failed = false; unwritten = [] };
         } }
     {
         self.layer.recover(writer)
@@ -190,6 +190,8 @@ impl<W: Output, FT: FormatTime> Layered<W, FT> {
     ) -> Result<Vec<Result<Reply, Refusal>>, AllocError>
         ensures run { IfOk result (λ answers. Changes (seen FT.FormatTime W.Output)
             (IsRunOf calls.items answers.items) self.old self.new) }
+        ensures answered { IfOk result (λ answers. AreAnswered (seen FT.FormatTime W.Output)
+            calls.items answers.items self.old self.new) }
         ensures err { OnErr result (self.new ≡ self.old) }
         ensures room { OnErr result (calls.items ≢ []) }
     {

@@ -16,12 +16,12 @@ ghost use Rattle.std.specs.Prelude.{◌≡◌, ℕ, ◌+◌, ◌<◌, ◌≤◌,
 ghost use Rattle.std.specs.Str.{IsCharBoundary};
 ghost use Rattle.std.specs.Io.Buffered.{reader_remaining};
 ghost use Rattle.tracing_tree_layer.specs.Layer.Layers.{seen, Changes};
-ghost use Rattle.tracing_tree_lines.specs.Lines.Reads.{IsBeforeCalls, OpensWith, TakesLine};
+ghost use Rattle.tracing_tree_lines.specs.Lines.Reads.{IsBeforeCalls, OpensWith, ReadsNext, TakesLine};
 ghost use Rattle.tracing_tree_lines.specs.Lines.Runs.{CountsEnd, EndsAtFirst, LeavesRun, last_number, status_of};
 ghost use Rattle.tracing_tree_lines.specs.Lines.SoFar.{counted, IsTextOf, RunsHeld, RunsSome};
 ghost use Rattle.tracing_tree_lines.specs.declared.lines.Judged.TheVariants.{End};
 ghost use Rattle.tracing_tree_lines.specs.Lines.Steps.{EndsLines, JudgesLine, ShowsAndJudges};
-ghost use Rattle.tracing_tree_output.specs.Writers.{seen_writer};
+ghost use Rattle.tracing_tree_output.specs.Writers.{IsShown, seen_writer};
 
 use call::make_call;
 use json::{Invalid, Scratch};
@@ -375,7 +375,7 @@ fn line_text<'a>(
     }
 }
 
-// Makes the call of the next line. What is drawn is passed on first, since the read may wait.
+// Makes the call of the next line.
 fn run_line<R: Read, W: Output, FT: FormatTime>(
     alloc: Global,
     lines: &mut BufReader<R>,
@@ -389,11 +389,25 @@ fn run_line<R: Read, W: Output, FT: FormatTime>(
         layered.old layered.new }
 {
     layered.flush();
-    if !read_line(lines, line)? {
+    if !read_next(lines, line, layered)? {
         return Ok(Judged::End);
     }
     let text = from_utf8(line.as_slice()).ok();
     judge(alloc, line.as_slice(), text, scratch, layered)
+}
+
+// Reads the next line, as `read_line` does. The read may wait: the caller must ensure that the writer of the layer holds nothing
+// back that was drawn, so that who follows the input sees each row before.
+fn read_next<R: Read, W: Output, FT: FormatTime>(
+    lines: &mut BufReader<R>,
+    line: &mut Vec<u8>,
+    _layered: &Layered<W, FT>,
+) -> Result<bool, LineCause>
+    requires { IsShown W.Output _layered.now.layer.writer }
+    ensures { ReadsNext (reader_remaining R.remaining lines.old)
+        (reader_remaining R.remaining lines.new) line.new.items result }
+{
+    read_line(lines, line)
 }
 
 // What becomes of a line with this text: it is skipped, or the call that it spells is made.

@@ -125,5 +125,6 @@ module _ {W FT : Type 0} where
       writer = new.writer;
       last = when_ok result turn.last old.last;
       failed = failed_by result;
+      unwritten = new.unwritten;
     }
     pub marked : after ≡ when_ok result turn.forest forest

@@ -1,5 +1,5 @@
 -- What contracts see of a layer, and of a registry with a layer.
-use Rattle.std.specs.Prelude.{◌≡◌, Bool, not, ◌&&◌, Option, is_none}
+use Rattle.std.specs.Prelude.{◌≡◌, ℕ, Bool, not, ◌&&◌, List, Option, is_none}
 use Rattle.std.specs.Io.KnownBytes.{Keeps}
 use Rattle.tracing_tree_drawing.specs.Format.Settings.{Settings}
 use Rattle.tracing_tree_spans.specs.Registry.Forest.{Forest}
@@ -9,13 +9,15 @@ use Rattle.tracing_tree_time.specs.declared.timer.FormatTime.{Ghosts as FormatTi
 use Rattle.tracing_tree_output.specs.Writers.{IsShown, seen_writer}
 use Rattle.tracing_tree_layer.specs.Layered.Seen.{Seen}
 
--- a layer: its settings, its writer and timer, the last span, and whether it has failed
+-- a layer: its settings, its writer and timer, the last span, whether it has failed, and what it has
+-- built of a call's text and not written
 pub record LayerView (W FT : Type 0) : Type 0 where
   pub settings : Settings
   pub writer : W
   pub timer : FT
   pub last : Option Id
   pub failed : Bool
+  pub unwritten : List ℕ
 
 -- no last span, and nothing has failed
 abbrev pub is_fresh : {W FT : Type 0} → LayerView W FT → Bool
@@ -51,8 +53,12 @@ module _ {W FT : Type 0} where
       (old new : LayeredView W FT) : Type 0 where
     pub changed : Holds (see old) (see new)
     pub fixed : new.layer
-        ≡ record old.layer
-        { writer = new.layer.writer; last = new.layer.last; failed = new.layer.failed }
+        ≡ record old.layer {
+          writer = new.layer.writer;
+          last = new.layer.last;
+          failed = new.layer.failed;
+          unwritten = new.layer.unwritten;
+        }
 
 -- what is seen of it where its writer passed on what it held back: its known bytes, its count of
 -- faults and all else stay.

@@ -10,6 +10,7 @@ use Rattle.tracing_tree_layer.specs.Layered.Seen.{Seen}
 use Rattle.tracing_tree_layer.specs.Layered.Run.{Run, run, then_run, accepted_calls, replies_among}
 use Rattle.tracing_tree_layer.specs.Layered.Step.{turn_of}
 use Rattle.tracing_tree_layer.specs.Layered.Answered.{IsAnswered}
+use Rattle.tracing_tree_layer.specs.Layer.Layers.{LayeredView, Changes}
 use Rattle.tracing_tree_layer.specs.declared.call.Call.{Call}
 use Rattle.tracing_tree_layer.specs.declared.call.Reply.{Reply}
 
@@ -28,12 +29,16 @@ pub record Runs (calls : List Call) (given : List Reply) (old new : Seen) : Type
       let from = run old.settings old.timer in
       from begun (earlier ++ calls) ≡ then_run (from begun earlier) (λ state. from state calls)
 
--- one call after another is answered, each by its answer
-abbrev pub AreAnswered : List Call → List (Result Reply Refusal) → Seen → Seen → Type 0
-AreAnswered [] [] old new = new ≡ old
-AreAnswered (call ∷ calls) (answer ∷ answers) old new =
-    (between : Seen) × IsAnswered call answer old between × AreAnswered calls answers between new
-AreAnswered calls answers old new = ⊥
+module _ {W FT : Type 0} (see : LayeredView W FT → Seen) where
+  -- The calls are made one after another, and each gets its answer: between them stand values of
+  -- the registry with its layer, of which each call makes the next as a call by itself does.
+  abbrev pub AreAnswered : List Call → List (Result Reply Refusal) → LayeredView W FT
+      → LayeredView W FT → Type 0
+  AreAnswered [] [] old new = new ≡ old
+  AreAnswered (call ∷ calls) (answer ∷ answers) old new =
+      (between : LayeredView W FT) × Changes see (IsAnswered call answer) old between
+      × AreAnswered calls answers between new
+  AreAnswered calls answers old new = ⊥
 
 -- Where these calls are made in the state to which a run comes that began empty, the reading laws
 -- hold of the joined calls: the rows above an event open its ancestors.
@@ -44,14 +49,12 @@ Reads old calls =
     ReadingLaws old.settings old.timer first (earlier ++ calls)
 
 -- While neither timer nor writer has failed, bytes, state and replies are those of the run of the
--- accepted calls. Whatever happens, the rows of that run keep the reading laws, and each call is
--- answered in order.
+-- accepted calls. Whatever happens, the rows of that run keep the reading laws.
 pub record IsRunOf (calls : List Call) (answers : List (Result Reply Refusal))
     (old new : Seen) : Type 0 where
   pub runs : new.state.failed ≡ false
       → Runs (accepted_calls calls answers) (replies_among answers) old new
   pub reads : Reads old (accepted_calls calls answers)
-  pub answered : AreAnswered calls answers old new
 
 -- ---- one call
 

@@ -156,6 +156,7 @@ impl<W: Output, FT: FormatTime> HierarchicalLayer<W, FT> {
           timer = timer;
           last = self.last;
           failed = self.failed;
+          unwritten = self.unwritten;
         } }
     {
         HierarchicalLayer {
@@ -181,6 +182,7 @@ impl<W: Output, FT: FormatTime> HierarchicalLayer<W, FT> {
           timer = self.timer;
           last = self.last;
           failed = self.failed;
+          unwritten = self.unwritten;
         } }
     {
         HierarchicalLayer {
