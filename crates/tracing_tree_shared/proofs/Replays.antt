@@ -19,6 +19,7 @@ use Rattle.tracing_tree_layer.specs.Layered.Refused.{cause_of, first_of_all, id_
 use Rattle.tracing_tree_layer.proofs.Causes.{first_cause, Causes}
 use Rattle.tracing_tree_layer.specs.Layered.Run.{Run, run, state_after_answer, MayAnswer, call_text}
 use Rattle.tracing_tree_layer.specs.Layered.Answered.{IsAnswered, Writes}
+use Rattle.tracing_tree_layer.specs.Layer.Layers.{LayeredView}
 use Rattle.tracing_tree_shared.specs.History.{Entry, Slip, IsKept, calls_in, replay}
 use Rattle.tracing_tree_layer.specs.declared.call.Call.{Call}
 use Rattle.tracing_tree_layer.specs.declared.call.Reply.{Reply}
@@ -26,7 +27,7 @@ use Rattle.tracing_tree_layer.proofs.DrawnLaws.{draw-append}
 use Rattle.tracing_tree_layer.proofs.Runs.{run_more}
 use Rattle.tracing_tree_layer.proofs.Reading.Ancestors.{reading-laws}
 use Rattle.tracing_tree_shared.specs.Finish.{IsReplay}
-use Rattle.tracing_tree_shared.specs.Kept.{KeepsReplay, IsAnsweredOrLacks, entries_of, BookView, answer_shown, IsApplied, IsAnsweredOnSome}
+use Rattle.tracing_tree_shared.specs.Kept.{KeepsReplay, IsAnsweredOrLacks, entries_of, BookView, answer_shown, IsApplied, IsAnsweredOnSome, seen_on_tape}
 use Rattle.tracing_tree_shared.specs.declared.draft.Refused as Answers
 use Rattle.tracing_tree_output.specs.Outputs.{TapeView}
 use Rattle.tracing_tree_time.specs.declared.timer.FormatTime.{Ghosts as FormatTime}
@@ -161,12 +162,17 @@ pub answered_on_some : {FT : Type 0} {time : FormatTime FT} {call : Call} {resul
 answered_on_some {old = old} {new = new} applied = (old.layered, new.layered, applied.answered)
 
 -- A book's history with its drawing.
-pub replay_of : (first : Option Id) (history : List Entry) (seen : Seen) (written : List ℕ) → seen.writer.bytes ≡ Some written → KeepsReplay first history seen →
-    IsReplay seen.settings history written
-replay_of first history seen written e k = record {
-  timer = seen.timer;
-  first = first;
-  state = seen.state;
-  kept = subst (λ bytes. IsKept seen.settings seen.timer first history seen.state bytes) e k;
-  reads = reading-laws seen.settings seen.timer first (calls_in history);
-}
+pub replay_of : {FT : Type 0} (time : FormatTime FT) (first : Option Id) (history : List Entry) (layered : LayeredView TapeView FT) (written : List ℕ) →
+    layered.layer.writer.bytes ≡ written → KeepsReplay first history (seen_on_tape time layered) → IsReplay time layered.layer.settings history written
+replay_of time first history layered written e k =
+    let settings = layered.layer.settings in
+    let timer = time.timer layered.layer.timer in
+    let state = (seen_on_tape time layered).state in
+    let Keeps' : List ℕ → Type 0 = λ bytes. IsKept settings timer first history state (Some bytes) in
+    record {
+      timer = layered.layer.timer;
+      first = first;
+      state = state;
+      kept = subst Keeps' e k;
+      reads = reading-laws settings timer first (calls_in history);
+    }

@@ -3,13 +3,14 @@ use Rattle.std.specs.Prelude.{◌≡◌, ◌<◌, ◌≤◌, ◌&&◌, ◌||◌,
 use Rattle.std.specs.Option.{option_map_or}
 use Rattle.tracing_tree_drawing.specs.Format.Settings.{Settings}
 use Rattle.tracing_tree_output.specs.Outputs.{TapeView}
-use Rattle.tracing_tree_time.specs.Clock.{Timer}
+use Rattle.tracing_tree_time.specs.declared.timer.FormatTime.{Ghosts as FormatTime}
 use Rattle.tracing_tree_context.specs.declared.context.Id.{Id}
 use Rattle.tracing_tree_layer.specs.Layered.State.{State}
 use Rattle.tracing_tree_layer.specs.Laws.Reading.{ReadingLaws}
 use Rattle.tracing_tree_layer.specs.contracts.call.CallPartialEq.TheImpl.{ghosts as call}
 use Rattle.tracing_tree_layer.specs.contracts.call.ReplyPartialEq.TheImpl.{ghosts as reply}
 use Rattle.tracing_tree_shared.specs.History.{Entry, Slip, Slips, IsKept, IsFirstStrange, IsOneHistory, calls_in}
+use Rattle.tracing_tree_shared.specs.Drafts.{SharedView}
 use Rattle.tracing_tree_shared.specs.Kept.{BookView}
 use Rattle.tracing_tree_shared.specs.declared.finish.Finished.{Finished}
 use Rattle.tracing_tree_shared.specs.declared.finish.FinishFault.{FinishFault}
@@ -17,21 +18,27 @@ use Rattle.tracing_tree_shared.specs.declared.finish.FinishFault.TheVariants.{Mi
 
 -- ---- what is found
 
--- A history with its drawing under these settings: with some timer, from some first id, each reply is that of the replay, the text is
--- the drawing of its rows, and the rows keep the reading laws.
-pub record IsReplay (settings : Settings) (history : List Entry) (written : List ℕ) : Type 0 where
-  pub timer : Timer
+-- A history with its drawing under these settings: with some timer of this type, from some first
+-- id, each reply is that of the replay, the text is the drawing of its rows, and the rows keep the
+-- reading laws.
+pub record IsReplay {FT : Type 0} (time : FormatTime FT) (settings : Settings)
+    (history : List Entry) (written : List ℕ) : Type 0 where
+  pub timer : FT
   pub first : Option Id
   pub state : State
-  pub kept : IsKept settings timer first history state (Some written)
-  pub reads : ReadingLaws settings timer first (calls_in history)
+  pub kept : IsKept settings (time.timer timer) first history state (Some written)
+  pub reads : ReadingLaws settings (time.timer timer) first (calls_in history)
 
--- all passes were there, and their receipts are the history
-pub record IsFinished (passes : List Slips) (finished : Finished) : Type 0 where
+-- all passes were there, their receipts are the history, and it was drawn with ansi and targets as
+-- the layer was opened with
+pub record IsFinished {FT : Type 0} (time : FormatTime FT) (shared : SharedView)
+    (passes : List Slips) (finished : Finished) : Type 0 where
   pub one : IsOneHistory finished.history.items passes
   pub counted : length finished.history.items ≡ sum_by length passes
   pub accepted : finished.accepted ≡ sum_by length passes
-  pub replay : IsReplay finished.config finished.history.items finished.output.bytes
+  pub replay : IsReplay time finished.config finished.history.items finished.output.bytes
+  pub ansi : finished.config.ansi ≡ shared.ansi
+  pub targets : finished.config.targets ≡ shared.targets
 
 -- all passes were there, but this is the first place that is wrong
 pub record IsStranger {FT : Type 0} (passes : List Slips) (place : ℕ)
@@ -39,13 +46,14 @@ pub record IsStranger {FT : Type 0} (passes : List Slips) (place : ℕ)
   pub first : IsFirstStrange book.history passes place
   pub counted : length book.history ≡ sum_by length passes
 
--- what taking passes back answers, where this count of passes was opened
-abbrev pub IsFinishAnswer : {FT : Type 0} → ℕ → List Slips → Result Finished (FinishFault FT)
-    → Type 0
-IsFinishAnswer opened passes (Ok finished) = (opened ≤ length passes) × IsFinished passes finished
-IsFinishAnswer opened passes (Err MissingPass) = length passes < opened
-IsFinishAnswer opened passes (Err (Stranger place book)) =
-    (opened ≤ length passes) × IsStranger passes place book
+-- what taking back the passes of this layer returns
+abbrev pub IsFinishAnswer : {FT : Type 0} → FormatTime FT → SharedView → List Slips
+    → Result Finished (FinishFault FT) → Type 0
+IsFinishAnswer time shared passes (Ok finished) =
+    (shared.passes ≤ length passes) × IsFinished time shared passes finished
+IsFinishAnswer time shared passes (Err MissingPass) = length passes < shared.passes
+IsFinishAnswer time shared passes (Err (Stranger place book)) =
+    (shared.passes ≤ length passes) × IsStranger passes place book
 
 -- ---- how it is found
 

@@ -7,7 +7,7 @@ use Rattle.tracing_tree_output.specs.Outputs.{TapeView}
 use Rattle.tracing_tree_time.specs.declared.timer.FormatTime.{Ghosts as FormatTime}
 use Rattle.tracing_tree_layer.specs.Layered.Answered.{IsAnswered}
 use Rattle.tracing_tree_layer.specs.Layered.Seen.{Seen}
-use Rattle.tracing_tree_layer.specs.Layer.Layers.{LayeredView}
+use Rattle.tracing_tree_layer.specs.Layer.Layers.{LayeredView, Changes}
 use Rattle.tracing_tree_layer.specs.declared.call.Call.{Call}
 use Rattle.tracing_tree_layer.specs.declared.call.Reply.{Reply}
 use Rattle.tracing_tree_shared.specs.History.{Entry, Slip, IsKept}
@@ -71,8 +71,8 @@ ShowsCall call place (Err refused) = ⊤
 -- its reply, which the receipt shows with their place, and keeps all else.
 pub record IsApplied {FT : Type 0} (time : FormatTime FT) (call : Call)
     (result : Result Slip Refused) (old new : BookView TapeView FT) : Type 0 where
-  pub answered : IsAnsweredOrLacks call (answer_shown result) (seen_on_tape time old.layered)
-      (seen_on_tape time new.layered)
+  pub answered : Changes (seen_on_tape time) (IsAnsweredOrLacks call (answer_shown result))
+      old.layered new.layered
   pub history : new.history ≡ old.history ++ entries_of call (answer_shown result)
   pub shown : ShowsCall call (length old.history) result
   pub first : new.first ≡ old.first
@@ -87,4 +87,4 @@ answer_given (Err refused) = Err refused.cause
 abbrev pub IsAnsweredOnSome : {FT : Type 0} → FormatTime FT → Call → Result Reply Refusal → Type 0
 IsAnsweredOnSome {FT} time call answer =
     (old : LayeredView TapeView FT) × (new : LayeredView TapeView FT)
-    × IsAnsweredOrLacks call answer (seen_on_tape time old) (seen_on_tape time new)
+    × Changes (seen_on_tape time) (IsAnsweredOrLacks call answer) old new

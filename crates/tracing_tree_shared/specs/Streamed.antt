@@ -3,7 +3,7 @@ use Rattle.std.specs.Prelude.{◌≡◌, ◌+◌, ◌-◌, ◌^◌, ℕ, min, Bo
 use Rattle.tracing_tree_context.specs.declared.context.Refusal.{Refusal}
 use Rattle.tracing_tree_output.specs.declared.output.Output.{Ghosts as Output}
 use Rattle.tracing_tree_time.specs.declared.timer.FormatTime.{Ghosts as FormatTime}
-use Rattle.tracing_tree_layer.specs.Layer.Layers.{LayeredView, seen}
+use Rattle.tracing_tree_layer.specs.Layer.Layers.{LayeredView, seen, Changes}
 use Rattle.tracing_tree_layer.specs.declared.call.Call.{Call}
 use Rattle.tracing_tree_layer.specs.declared.call.Reply.{Reply}
 use Rattle.tracing_tree_shared.specs.Kept.{IsAnsweredOrLacks}
@@ -33,8 +33,8 @@ IsCounted (Err refused) old new = new ≡ old
 -- A draft is applied: its call is answered as `Layered::call` answers it, or room for it was lacking.
 pub record IsStreamed {W FT : Type 0} (time : FormatTime FT) (output : Output W) (call : Call)
     (result : Result Numbered Refused) (old new : CountedView W FT) : Type 0 where
-  pub answered : IsAnsweredOrLacks call (answer_numbered result) (seen time output old.layered)
-      (seen time output new.layered)
+  pub answered : Changes (seen time output) (IsAnsweredOrLacks call (answer_numbered result))
+      old.layered new.layered
   pub counted : IsCounted result old.accepted new.accepted
 
 -- There is a registry with a layer, and a count, to which a draft is applied so. Of those behind a

@@ -1,7 +1,7 @@
 //! Calls on their way, drawn as far as they can be before the layer is held.
 
 ghost use Rattle.std.specs.Prelude.{◌≡◌, IfOk, IfSome, false, option_map};
-ghost use Rattle.tracing_tree_layer.specs.Layer.Layers.{seen};
+ghost use Rattle.tracing_tree_layer.specs.Layer.Layers.{seen, Changes};
 ghost use Rattle.tracing_tree_shared.specs.Drafts.{IsTailOf, tail_under, tail_text};
 ghost use Rattle.tracing_tree_shared.specs.Kept.{IsAnsweredOrLacks};
 
@@ -129,8 +129,8 @@ impl Draft {
         layered: &mut Layered<W, FT>,
     ) -> Result<Reply, Refusal>
         requires { layered.old.layer.failed ≡ false }
-        ensures { IsAnsweredOrLacks self.now.call result
-            (seen FT.FormatTime W.Output layered.old) (seen FT.FormatTime W.Output layered.new) }
+        ensures { Changes (seen FT.FormatTime W.Output) (IsAnsweredOrLacks self.now.call result)
+            layered.old layered.new }
     {
         let tail = self.tail_under(layered.layer().config());
         match self.call.as_ref() {

@@ -44,7 +44,8 @@ pub enum FinishFault<FT: FormatTime> {
 pub(crate) fn finish_book<FT: FormatTime + Drop>(book: Book<FT>) -> Finished
     ensures history { result.history.items ≡ book.history }
     ensures accepted { result.accepted ≡ length book.history }
-    ensures replay { IsReplay result.config book.history result.output.bytes }
+    ensures replay { IsReplay FT.FormatTime result.config book.history result.output.bytes }
+    ensures settings { result.config ≡ book.layered.layer.settings }
 {
     let (config, history, output) = book.into_parts();
     let accepted = history.len();

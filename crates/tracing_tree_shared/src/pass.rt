@@ -1,16 +1,17 @@
 //! Passes, and the lock.
 
-ghost use Rattle.std.specs.Prelude.{◌≡◌, ◌⊎◌, Err, ◌+◌, ◌<◌, ◌≤◌, ℕ, [], ◌∷◌, ◌++◌, false, None, All, length, IfOk, OnOk, OnErr, IfErr, vec_len, sum_by};
+ghost use Rattle.std.specs.Prelude.{◌≡◌, ◌⊎◌, Err, ◌+◌, ◌*◌, ◌<◌, ◌≤◌, ℕ, [], ◌∷◌, ◌++◌, false, None, All, length, IfOk, OnOk, OnErr, IfErr, vec_len, sum_by};
 ghost use Rattle.tracing_tree_shared.specs.Drafts.{tail_under};
 ghost use Rattle.tracing_tree_shared.specs.Kept.{IsApplied, IsAnsweredOnSome, answer_given};
 ghost use Rattle.tracing_tree_shared.specs.Finish.{IsFinishAnswer};
+ghost use Rattle.tracing_tree_shared.specs.Tickets.{full_amount, settings_code};
 
 use crate::book::{Book, Receipt};
 use crate::draft::{Draft, Refused};
 use crate::finish::{FinishFault, Finished, finish_book, first_strange};
 use std::alloc::{AllocError, Global};
 use std::marker::Model;
-use std::sync::ledger::{Blank, Book as Total, Ledger, Share};
+use std::sync::ledger::{Blank, Ledger, Share, Total};
 use std::sync::{Mutex, Wait};
 use tracing_tree_context::Refusal;
 use tracing_tree_drawing::format::Config;
@@ -19,7 +20,10 @@ use tracing_tree_layer::call::{Call, Reply};
 use tracing_tree_output::Tape;
 use tracing_tree_time::FormatTime;
 
-/// A thread's pass, which contracts see as its receipts. Its share of the ledger is their number.
+// A pass's share gains this amount with each receipt.
+const EACH: u64 = 4;
+
+/// A thread's pass, which contracts see as its receipts. Its share of the ledger counts them.
 #[derive(Drop)]
 pub struct Pass<L: Ledger> {
     share: Share<L>,
@@ -27,14 +31,14 @@ pub struct Pass<L: Ledger> {
 }
 
 impl<L: Ledger> Model for Pass<L> {
-    ghost use Rattle.std.specs.Prelude.{◌≡◌, List, length};
+    ghost use Rattle.std.specs.Prelude.{◌≡◌, ◌*◌, List, length};
     ghost use Rattle.tracing_tree_shared.specs.History.{Slip};
 
     ghost Value = { List Slip };
 
     ghost view = { λ p. p.receipts.items };
 
-    ghost invariant = { λ p. (p.share.parts ≡ 1) × (p.share.amount ≡ length p.receipts.items) };
+    ghost invariant = { λ p. (p.share.parts ≡ 1) × (p.share.amount ≡ 4 * length p.receipts.items) };
 }
 
 impl<L: Ledger> Pass<L> {
@@ -50,7 +54,7 @@ impl<L: Ledger> Pass<L> {
 
     fn into_parts(self) -> (Share<L>, Vec<Receipt>)
         ensures parts { result.0.parts ≡ 1 }
-        ensures amount { result.0.amount ≡ length self }
+        ensures amount { result.0.amount ≡ 4 * length self }
         ensures receipts { result.1.items ≡ self }
     {
         let Pass { share, receipts } = self;
@@ -65,61 +69,51 @@ impl<L: Ledger> Pass<L> {
     }
 }
 
-// What stands under the lock.
+// What the lock holds. The share starts with the ledger's total, and each accepted call moves
+// `EACH` of it to a pass. The total modulo `EACH` encodes ansi and targets of the layer, so `finish`
+// knows them as well as the number of receipts.
 #[derive(Drop)]
 struct Locked<FT: FormatTime, L: Ledger> {
     book: Book<FT>,
-    calls: Total<L>,
     kept: Share<L>,
-    ghost counted: { length book.history ≡ calls.total },
     ghost one_part: { kept.parts ≡ 1 },
-    ghost no_call: { kept.amount ≡ 0 },
+    ghost counted: { kept.amount + 4 * length book.history
+        ≡ full_amount book.layered.layer.settings.ansi book.layered.layer.settings.targets },
 }
 
 impl<FT: FormatTime, L: Ledger> Locked<FT, L> {
-    fn new(book: Book<FT>, calls: Total<L>, kept: Share<L>) -> Locked<FT, L>
-        requires counted { length book.history ≡ calls.total }
-        requires kept { (kept.parts ≡ 1) × (kept.amount ≡ 0) }
+    fn new(book: Book<FT>, kept: Share<L>) -> Locked<FT, L>
+        requires part { kept.parts ≡ 1 }
+        requires counted { kept.amount + 4 * length book.history
+            ≡ full_amount book.layered.layer.settings.ansi book.layered.layer.settings.targets }
     {
-        Locked { book, calls, kept }
-    }
-
-    // A share with no part, and the bound on all others.
-    fn kept_nothing(&mut self) -> Share<L>
-        ensures nothing { (result.parts ≡ 0) × (result.amount ≡ 0) }
-        ensures book { self.new.book ≡ self.old.book }
-    {
-        self.kept.empty()
-    }
-
-    // Who has every other part knows that the history has as many calls as the share counts.
-    fn last(self, mut all: Share<L>) -> Book<FT>
-        requires { L.parts ≤ all.parts + 1 }
-        ensures book { result ≡ self.book }
-        ensures counted { length result.history ≡ all.amount }
-    {
-        let Locked {
-            book,
-            mut calls,
-            kept,
-        } = self;
-        all.merge(kept);
-        calls.audit(&mut all);
-        book
+        Locked { book, kept }
     }
 
     fn apply(&mut self, share: &mut Share<L>, draft: Draft) -> Result<Receipt, Refused>
         requires { 0 < share.old.parts }
         ensures applied { IsApplied FT.FormatTime draft.call result self.old.book self.new.book }
         ensures call { IfOk result (λ r. r.entry.0 ≡ draft.call) }
-        ensures amount { OnOk result (share.new.amount ≡ share.old.amount + 1) }
+        ensures amount { OnOk result (share.new.amount ≡ share.old.amount + 4) }
         ensures parts { share.new.parts ≡ share.old.parts }
         ensures err { OnErr result (share.new.amount ≡ share.old.amount) }
         ensures draft { IfErr result (λ e. e.draft ≡ draft) }
     {
         let receipt = self.book.apply(draft)?;
-        self.calls.add(share, 1);
+        // A place is below 2^64, so `EACH` is left.
+        let _place = receipt.place();
+        self.kept.transfer(share, EACH);
         Ok(receipt)
+    }
+
+    fn into_parts(self) -> (Book<FT>, Share<L>)
+        ensures part { result.1.parts ≡ 1 }
+        ensures counted { result.1.amount + 4 * length result.0.history
+            ≡ full_amount result.0.layered.layer.settings.ansi
+            result.0.layered.layer.settings.targets }
+    {
+        let Locked { book, kept } = self;
+        (book, kept)
     }
 }
 
@@ -127,13 +121,17 @@ impl<FT: FormatTime, L: Ledger> Locked<FT, L> {
 #[derive(Drop)]
 pub struct SharedLayer<FT: FormatTime, L: Ledger> {
     lock: Mutex<Locked<FT, L>>,
+    // The ledger's parts and amount, which fix the number of passes and the two settings.
+    total: Total<L>,
     passes: usize,
-    // Of these settings a draft needs ansi and targets alone, which are the layer's.
+    // A draft needs only ansi and targets, which are the layer's.
     config: Config,
 }
 
 impl<FT: FormatTime, L: Ledger> Model for SharedLayer<FT, L> {
+    ghost use Rattle.std.specs.Prelude.{◌≡◌, ◌+◌};
     ghost use Rattle.tracing_tree_shared.specs.Drafts.{SharedView};
+    ghost use Rattle.tracing_tree_shared.specs.Tickets.{full_amount};
 
     ghost Value = { SharedView };
 
@@ -142,6 +140,9 @@ impl<FT: FormatTime, L: Ledger> Model for SharedLayer<FT, L> {
       ansi = s.config.ansi;
       targets = s.config.targets;
     } };
+
+    ghost invariant = { λ s. (s.total.parts ≡ s.passes + 1)
+        × (s.total.amount ≡ full_amount s.config.ansi s.config.targets) };
 }
 
 impl<FT: FormatTime + Drop, L: Ledger> SharedLayer<FT, L> {
@@ -170,11 +171,12 @@ impl<FT: FormatTime + Drop, L: Ledger> SharedLayer<FT, L> {
     {
         let settings = layered.layer().config();
         let config = Config::new(2, settings.ansi()).with_targets(settings.targets());
-        let (calls, mut share) = blank.open::<L>();
+        let (total, mut share) = fill::<L>(blank, &config);
         let all = fresh_passes(alloc, &mut share, passes)?;
         let book = Book::new(alloc, layered);
         let layer = SharedLayer {
-            lock: Mutex::new(Locked::new(book, calls, share)),
+            lock: Mutex::new(Locked::new(book, share)),
+            total,
             passes,
             config,
         };
@@ -223,31 +225,63 @@ impl<FT: FormatTime + Drop, L: Ledger> SharedLayer<FT, L> {
         Ok(reply)
     }
 
-    /// Takes all passes back, and gives the history out with what was written and the settings under which it was drawn. Takes no
-    /// memory.
+    /// Takes all passes back. Returns the history, what was written, and the settings under which
+    /// it was drawn: ansi and targets are those of the layer that was opened. Never allocates.
     ///
-    /// `MissingPass` where there are fewer passes than were opened; the layer is given up then. `Stranger` where the receipts are
-    /// not one history, which public calls can't bring about: the layer's book, and the first place that is wrong.
+    /// # Errors
+    ///
+    /// `MissingPass` if there are fewer passes than were opened; the layer is dropped then.
+    /// `Stranger` if the receipts aren't one history, with the first place that is wrong and the
+    /// layer's book. Public calls can't cause it.
     pub fn finish(self, passes: Vec<Pass<L>>) -> Result<Finished, FinishFault<FT>>
-        requires { self.passes + 1 ≡ L.parts }
-        ensures { IsFinishAnswer self.passes passes.items result }
+        ensures { IsFinishAnswer FT.FormatTime self passes.items result }
     {
         if passes.len() < self.passes {
             return Err(FinishFault::MissingPass);
         }
         let SharedLayer {
             lock,
+            total,
             passes: _,
             config: _,
         } = self;
-        let mut locked = lock.into_inner();
-        let strange = first_strange(locked.book.history(), passes.as_slice());
-        let all = gather(locked.kept_nothing(), passes);
-        let book = locked.last(all);
+        let (book, kept) = lock.into_inner().into_parts();
+        let strange = first_strange(book.history(), passes.as_slice());
+        gather(&total, kept, passes);
         match strange {
             Some(place) => Err(FinishFault::Stranger(place, book)),
             None => Ok(finish_book(book)),
         }
+    }
+}
+
+// Closes the ledger at its full amount. Returns its total, and the share that has all of it.
+fn fill<L: Ledger>(blank: Blank, config: &Config) -> (Total<L>, Share<L>)
+    requires name { blank.name ≡ L.name }
+    requires parts { blank.parts ≡ L.parts }
+    requires some { 0 < L.parts }
+    ensures parts { result.0.parts ≡ L.parts }
+    ensures all { result.1.parts ≡ L.parts }
+    ensures amount { result.0.amount ≡ full_amount config.now.ansi config.now.targets }
+    ensures share { result.1.amount ≡ full_amount config.now.ansi config.now.targets }
+{
+    let (mut book, mut share) = blank.open::<L>();
+    for _ in 0..EACH {
+        book.add(&mut share, u64::MAX);
+    }
+    book.add(&mut share, EACH + code(config));
+    (book.close(), share)
+}
+
+// The two settings as a number less than `EACH`.
+fn code(config: &Config) -> u64
+    ensures { result ≡ settings_code config.now.ansi config.now.targets }
+{
+    match (config.ansi(), config.targets()) {
+        (false, false) => 0,
+        (true, false) => 1,
+        (false, true) => 2,
+        (true, true) => 3,
     }
 }
 
@@ -257,11 +291,10 @@ fn fresh_passes<L: Ledger>(
     count: usize,
 ) -> Result<Vec<Pass<L>>, AllocError>
     requires parts { share.old.parts ≡ count + 1 }
-    requires amount { share.old.amount ≡ 0 }
     ensures len { IfOk result (λ all. vec_len all ≡ count) }
     ensures fresh { IfOk result (λ all. All (λ p. p ≡ []) all.items) }
     ensures parts { OnOk result (share.new.parts ≡ 1) }
-    ensures amount { OnOk result (share.new.amount ≡ 0) }
+    ensures amount { OnOk result (share.new.amount ≡ share.old.amount) }
 {
     let mut all = Vec::with_capacity(alloc, count)?;
     for _pass in 0..count {
@@ -270,15 +303,18 @@ fn fresh_passes<L: Ledger>(
     Ok(all)
 }
 
-// Adds the shares of all passes to one.
-fn gather<L: Ledger>(share: Share<L>, passes: Vec<Pass<L>>) -> Share<L>
-    ensures parts { result.parts ≡ share.parts + vec_len passes }
-    ensures amount { result.amount ≡ share.amount + sum_by length passes.items }
+// Adds the shares of all passes to this one, which then has the total.
+fn gather<L: Ledger>(total: &Total<L>, share: Share<L>, passes: Vec<Pass<L>>)
+    requires part { share.parts ≡ 1 }
+    requires some { 0 < total.now.parts }
+    requires all { total.now.parts ≤ vec_len passes + 1 }
+    ensures { share.amount + 4 * sum_by length passes.items ≡ total.now.amount }
 {
     let mut share = share;
+    total.audit(&mut share);
     for pass in passes {
         let (part, _) = pass.into_parts();
         share.merge(part);
+        total.audit(&mut share);
     }
-    share
 }

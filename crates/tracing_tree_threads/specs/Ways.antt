@@ -4,7 +4,7 @@ use Rattle.tracing_tree_context.specs.declared.context.Refusal.{Refusal}
 use Rattle.tracing_tree_context.specs.declared.context.Refusal.TheVariants.{Memory}
 use Rattle.tracing_tree_output.specs.declared.output.Output.{Ghosts as Output}
 use Rattle.tracing_tree_time.specs.declared.timer.FormatTime.{Ghosts as FormatTime}
-use Rattle.tracing_tree_layer.specs.Layer.Layers.{LayeredView, seen}
+use Rattle.tracing_tree_layer.specs.Layer.Layers.{LayeredView, seen, Changes}
 use Rattle.tracing_tree_layer.specs.declared.call.Call.{Call}
 use Rattle.tracing_tree_layer.specs.declared.call.Reply.{Reply}
 use Rattle.tracing_tree_shared.specs.Drafts.{SharedView}
@@ -37,7 +37,7 @@ abbrev pub IsAnsweredOnSomeLayer : {W FT : Type 0} → FormatTime FT → Output 
     → Result Reply Refusal → Type 0
 IsAnsweredOnSomeLayer {W} {FT} time output call answer =
     (old : LayeredView W FT) × (new : LayeredView W FT)
-    × IsAnsweredOrLacks call answer (seen time output old) (seen time output new)
+    × Changes (seen time output) (IsAnsweredOrLacks call answer) old new
 
 -- A call is answered as some registry with a layer answers it, or memory was refused. Of a layer
 -- behind a lock no more can be said.
