@@ -12,7 +12,7 @@ use tracing_tree_context::{Context, Id};
 use tracing_tree_drawing::format::push_event_texts;
 use tracing_tree_layer::call::Call;
 use tracing_tree_layer::told::ToldEvent;
-use tracing_tree_spans::registry::{Attributes, Parent, Record};
+use tracing_tree_spans::registry::{Attributes, Event, Parent, Record};
 use tracing_tree_text::field::{Field, Fields};
 use tracing_tree_text::style::Level;
 use tracing_tree_text::text::Text;
@@ -353,6 +353,18 @@ impl ToldEvent for EventTexts<'_> {
             push_event_texts(out, &mut comma, name, value)?;
         }
         Ok(())
+    }
+
+    fn to_event(&self, alloc: Global) -> Result<Event, AllocError> {
+        let Ok(fields) = fields_in(alloc, self.fields, true) else {
+            return Err(AllocError);
+        };
+        Ok(Event {
+            level: self.level,
+            target: Text::from_str(alloc, self.target)?,
+            parent: self.parent,
+            fields,
+        })
     }
 }
 

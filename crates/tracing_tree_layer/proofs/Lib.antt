@@ -1,4 +1,4 @@
-pub mod Calls
+pub mod WorkedCalls
 pub mod Causes
 pub mod Equality
 pub mod FieldTexts

@@ -61,8 +61,8 @@ impl Call {
     }
 }
 
-// A copy of what is handed in with a call.
-fn copied_context(context: &Context) -> Result<Context, AllocError>
+/// Returns a copy of what is handed in with a call.
+pub fn copied_context(context: &Context) -> Result<Context, AllocError>
     ensures { IfOk result (λ copy. copy ≡ context.now) }
 {
     let thread_name = match &context.thread_name {

@@ -1,7 +1,5 @@
 //! A registry with a layer, which take each call whole, or refuse it and say why.
 
-mod lent;
-
 ghost use Rattle.std.specs.Prelude.{◌≡◌, ◌≢◌, ◌<◌, [], false, None, OnErr, IfOk, IfSome, length};
 ghost use Rattle.tracing_tree_spans.specs.Registry.Ids.{id_of};
 ghost use Rattle.tracing_tree_spans.specs.Registry.Forest.{empty_forest, if_live, path_of_any};
@@ -9,6 +7,7 @@ ghost use Rattle.tracing_tree_layer.specs.Layer.Layers.{seen, Changes, Flushes};
 ghost use Rattle.tracing_tree_layer.specs.Layered.Answered.{IsAnswered};
 ghost use Rattle.tracing_tree_layer.specs.Layered.Headline.{AreAnswered, IsRunOf};
 ghost use Rattle.tracing_tree_layer.specs.Layer.Block.{event_tail};
+ghost use Rattle.tracing_tree_layer.specs.Replies.{answer_as, cloned, closed, done, span};
 ghost use Rattle.tracing_tree_output.specs.Writers.{IsShown};
 
 use crate::call::{Call, Reply};
@@ -177,7 +176,8 @@ impl<W: Output, FT: FormatTime> Layered<W, FT> {
         if failed {
             Err(Refusal::Failed)
         } else {
-            self.event(event, context, tail)
+            self.draw_event(event, context, tail)?;
+            Ok(Reply::Done)
         }
     }
 
@@ -216,79 +216,90 @@ impl<W: Output, FT: FormatTime> Layered<W, FT> {
         match call {
             Call::New(attributes, context) => {
                 let attributes = mem::replace(attributes, no_attributes(alloc));
-                self.new_span(attributes, context)
+                Ok(Reply::Span(self.add_span(attributes, context)?))
             }
-            Call::Clone(id) => self.clone_span(*id),
+            Call::Clone(id) => Ok(Reply::Cloned(self.add_handle(*id)?)),
             Call::Record(id, Record { fields }) => {
                 let fields = mem::replace(fields, Fields::new(alloc));
-                self.record(*id, fields)
+                self.add_fields(*id, fields)?;
+                Ok(Reply::Done)
             }
-            Call::Event(event, context) => self.event(&*event, context, None),
-            Call::Close(id, context) => self.close(*id, context),
+            Call::Event(event, context) => {
+                self.draw_event(&*event, context, None)?;
+                Ok(Reply::Done)
+            }
+            Call::Close(id, context) => Ok(Reply::Closed(self.close_handle(*id, context)?)),
         }
     }
 
     // A refusal of the layer takes the new span and its id back.
-    fn new_span(&mut self, attributes: Attributes, context: &Context) -> Result<Reply, Refusal>
+    pub(crate) fn add_span(
+        &mut self,
+        attributes: Attributes,
+        context: &Context,
+    ) -> Result<Id, Refusal>
         requires { self.old.layer.failed ≡ false }
         ensures { Changes (seen FT.FormatTime W.Output)
-            (IsAnswered (Call.New attributes context.now) result) self.old self.new }
+            (IsAnswered (Call.New attributes context.now) (answer_as span result))
+            self.old self.new }
     {
         let id = self.registry.new_span(attributes, context)?;
         if let Err(refusal) = self.layer.write_new_span(id, &mut self.registry, context) {
             self.registry.take_back(id);
             return Err(refusal);
         }
-        Ok(Reply::Span(id))
+        Ok(id)
     }
 
     // The rows of all that closes are written before anything is removed.
-    fn close(&mut self, id: Id, context: &Context) -> Result<Reply, Refusal>
+    pub(crate) fn close_handle(&mut self, id: Id, context: &Context) -> Result<bool, Refusal>
         requires { self.old.layer.failed ≡ false }
         ensures { Changes (seen FT.FormatTime W.Output)
-            (IsAnswered (Call.Close id context.now) result) self.old self.new }
+            (IsAnswered (Call.Close id context.now) (answer_as closed result)) self.old self.new }
     {
         self.registry.closing_into(id, &mut self.closing)?;
         let ids = self.closing.as_slice();
         self.layer.write_closes(ids, &mut self.registry, context)?;
-        Ok(Reply::Closed(self.registry.close_listed(id, ids)))
+        Ok(self.registry.close_listed(id, ids))
     }
 
     // Nothing is drawn.
-    fn clone_span(&mut self, id: Id) -> Result<Reply, Refusal>
+    pub(crate) fn add_handle(&mut self, id: Id) -> Result<Id, Refusal>
         requires { self.old.layer.failed ≡ false }
         ensures { Changes (seen FT.FormatTime W.Output)
-            (IsAnswered (Call.Clone id) result) self.old self.new }
+            (IsAnswered (Call.Clone id) (answer_as cloned result)) self.old self.new }
     {
-        Ok(Reply::Cloned(self.registry.clone_span(id)?))
+        self.registry.clone_span(id)
     }
 
     // Nothing is drawn.
-    fn record(&mut self, id: Id, fields: Fields) -> Result<Reply, Refusal>
+    pub(crate) fn add_fields(&mut self, id: Id, fields: Fields) -> Result<(), Refusal>
         requires { self.old.layer.failed ≡ false }
         ensures { Changes (seen FT.FormatTime W.Output)
-            (IsAnswered (Call.Record id (record { fields = fields })) result) self.old self.new }
+            (IsAnswered (Call.Record id (record { fields = fields })) (answer_as done result))
+            self.old self.new }
     {
         self.registry.record(id, fields)?;
-        Ok(Reply::Done)
+        Ok(())
     }
 
     // The spans stay. Retracing may mark them as printed and change the last span.
-    fn event<E: ToldEvent>(
+    pub(crate) fn draw_event<E: ToldEvent>(
         &mut self,
         event: &E,
         context: &Context,
         tail: Option<&str>,
-    ) -> Result<Reply, Refusal>
+    ) -> Result<(), Refusal>
         requires sound { self.old.layer.failed ≡ false }
         requires tail { IfSome tail (λ t. t.now ≡ event_tail self.old.layer.settings (E.told event.now)) }
         ensures { Changes (seen FT.FormatTime W.Output)
-            (IsAnswered (Call.Event (E.told event.now) context.now) result) self.old self.new }
+            (IsAnswered (Call.Event (E.told event.now) context.now) (answer_as done result))
+            self.old self.new }
     {
         let depth = depth(&self.registry, event.parent().named(context.current));
         let spans = &mut self.registry;
         self.layer.write_event(event, tail, depth, spans, context)?;
-        Ok(Reply::Done)
+        Ok(())
     }
 }
 

@@ -6,12 +6,14 @@
 #![tactic(auto)]
 
 pub mod call;
+pub mod calls;
 pub mod difference;
 pub mod layer;
 pub mod layered;
 pub mod told;
 
 pub use call::{Call, Reply};
+pub use calls::Calls;
 pub use difference::DifferenceIter;
 pub use layer::HierarchicalLayer;
 pub use layered::Layered;

@@ -2,11 +2,11 @@
 
 mod texts;
 
-ghost use Rattle.std.specs.Prelude.{◌≡◌, ◌++◌, OnOk, string_bytes};
+ghost use Rattle.std.specs.Prelude.{◌≡◌, ◌++◌, IfOk, OnOk, string_bytes};
 ghost use Rattle.tracing_tree_drawing.specs.Format.Texts.{event_fields};
 ghost use Rattle.tracing_tree_spans.specs.declared.registry.Event.{Event};
 
-use std::alloc::AllocError;
+use std::alloc::{AllocError, Global};
 pub use texts::{EventTexts, FieldTexts};
 use tracing_tree_drawing::format::push_event_field;
 use tracing_tree_spans::registry::{Event, Parent};
@@ -34,6 +34,10 @@ pub trait ToldEvent {
     fn push_fields(&self, out: &mut String) -> Result<(), AllocError>
         ensures { OnOk result (string_bytes out.new
             ≡ string_bytes out.old ++ event_fields (told self.now).fields) };
+
+    /// A copy with texts of its own, for one that must keep it.
+    fn to_event(&self, alloc: Global) -> Result<Event, AllocError>
+        ensures { IfOk result (λ event. event ≡ told self.now) };
 }
 
 impl ToldEvent for Event {
@@ -57,5 +61,14 @@ impl ToldEvent for Event {
             push_event_field(out, &mut comma, field)?;
         }
         Ok(())
+    }
+
+    fn to_event(&self, _alloc: Global) -> Result<Event, AllocError> {
+        Ok(Event {
+            level: self.level,
+            target: self.target.clone()?,
+            parent: self.parent,
+            fields: self.fields.clone()?,
+        })
     }
 }

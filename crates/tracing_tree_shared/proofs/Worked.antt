@@ -5,7 +5,7 @@ use Rattle.std.specs.Char.{encode_utf8}
 use Rattle.tracing_tree_spans.specs.Registry.Ids.{id_of}
 use Rattle.tracing_tree_time.specs.Clock.{no_timer}
 use Rattle.tracing_tree_layer.specs.declared.call.Reply.TheVariants.{Span, Closed}
-use Rattle.tracing_tree_layer.proofs.Calls.{lined, outside, made, closed, left_by}
+use Rattle.tracing_tree_layer.proofs.WorkedCalls.{lined, outside, made, closed, left_by}
 use Rattle.tracing_tree_shared.specs.History.{Entry, IsKept, Slip, IsLateIn}
 
 -- a root that was made and closed

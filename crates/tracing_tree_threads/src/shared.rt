@@ -7,11 +7,13 @@ use std::alloc::Global;
 use std::marker::Model;
 use std::sync::Wait;
 use std::sync::ledger::Ledger;
-use tracing_tree_context::Refusal;
-use tracing_tree_layer::call::{Call, Reply};
+use tracing_tree_context::{Context, Id, Refusal};
+use tracing_tree_layer::call::{Call, Reply, copied_context};
+use tracing_tree_layer::calls::Calls;
+use tracing_tree_layer::told::ToldEvent;
 use tracing_tree_shared::{Pass, Refused, SharedLayer};
+use tracing_tree_spans::registry::Attributes;
 use tracing_tree_time::FormatTime;
-use tracing_tree_tracer::Calls;
 
 /// A thread's way to a [`SharedLayer`], with the thread's pass. Each call is drafted before the lock is waited for, and the pass gains
 /// the receipt of each call that is accepted.
@@ -74,6 +76,33 @@ impl<'a, R: Wait, FT: FormatTime + Drop, L: Ledger> Calls for SharedCalls<'a, R,
         let draft = self.layer.draft(self.alloc, call)?;
         answer(self.layer.submit(self.rt, &mut self.pass, draft))
     }
+
+    fn new_span(&mut self, attributes: Attributes, context: &Context) -> Result<Id, Refusal> {
+        let context = copied_context(context)?;
+        let Reply::Span(id) = self.call(Call::New(attributes, context))? else {
+            unreachable!()
+        };
+        Ok(id)
+    }
+
+    fn event<E: ToldEvent>(&mut self, event: &E, context: &Context) -> Result<(), Refusal> {
+        let event = event.to_event(self.alloc)?;
+        let context = copied_context(context)?;
+        let Reply::Done = self.call(Call::Event(event, context))? else {
+            unreachable!()
+        };
+        Ok(())
+    }
+
+    fn close(&mut self, id: Id, context: &Context) -> Result<bool, Refusal> {
+        let context = copied_context(context)?;
+        let Reply::Closed(went) = self.call(Call::Close(id, context))? else {
+            unreachable!()
+        };
+        Ok(went)
+    }
+
+    fn flush(&mut self) {}
 }
 
 // The reply, or the cause for which the draft came back.

@@ -6,12 +6,14 @@ ghost use Rattle.tracing_tree_shared.specs.Streamed.{answer_numbered};
 use std::alloc::Global;
 use std::marker::Model;
 use std::sync::Wait;
-use tracing_tree_context::Refusal;
-use tracing_tree_layer::call::{Call, Reply};
+use tracing_tree_context::{Context, Id, Refusal};
+use tracing_tree_layer::call::{Call, Reply, copied_context};
+use tracing_tree_layer::calls::Calls;
+use tracing_tree_layer::told::ToldEvent;
 use tracing_tree_output::Output;
 use tracing_tree_shared::{Numbered, Refused, StreamingLayer};
+use tracing_tree_spans::registry::Attributes;
 use tracing_tree_time::FormatTime;
-use tracing_tree_tracer::Calls;
 
 /// A thread's way to a [`StreamingLayer`]. Each call is drafted before the lock is waited for.
 #[derive(Drop)]
@@ -52,6 +54,33 @@ impl<'a, R: Wait, W: Output, FT: FormatTime> Calls for StreamingCalls<'a, R, W, 
         let draft = self.layer.draft(self.alloc, call)?;
         answer(self.layer.submit(self.rt, draft))
     }
+
+    fn new_span(&mut self, attributes: Attributes, context: &Context) -> Result<Id, Refusal> {
+        let context = copied_context(context)?;
+        let Reply::Span(id) = self.call(Call::New(attributes, context))? else {
+            unreachable!()
+        };
+        Ok(id)
+    }
+
+    fn event<E: ToldEvent>(&mut self, event: &E, context: &Context) -> Result<(), Refusal> {
+        let event = event.to_event(self.alloc)?;
+        let context = copied_context(context)?;
+        let Reply::Done = self.call(Call::Event(event, context))? else {
+            unreachable!()
+        };
+        Ok(())
+    }
+
+    fn close(&mut self, id: Id, context: &Context) -> Result<bool, Refusal> {
+        let context = copied_context(context)?;
+        let Reply::Closed(went) = self.call(Call::Close(id, context))? else {
+            unreachable!()
+        };
+        Ok(went)
+    }
+
+    fn flush(&mut self) {}
 }
 
 // The reply, or the cause for which the draft came back.

@@ -7,7 +7,7 @@ use Rattle.tracing_tree_context.specs.declared.context.Id.{Id}
 use Rattle.tracing_tree_context.specs.declared.context.Moment.{Moment}
 use Rattle.tracing_tree_text.specs.declared.style.Level.TheVariants.{Info, Warn}
 use Rattle.tracing_tree_spans.specs.Registry.Ids.{id_of}
-use Rattle.tracing_tree_layer.proofs.Calls.{lined, start_of_1970, written}
+use Rattle.tracing_tree_layer.proofs.WorkedCalls.{lined, start_of_1970, written}
 use Rattle.tracing_tree_tracer.specs.Tracers.{Teller, after_close, after_open, close_call, current_of, event_call, open_call, outer_of, record_call}
 use Rattle.tracing_tree_tracer.specs.Values.{escaped_char}
 use Rattle.tracing_tree_tracer.specs.declared.tracer.TraceFault.TheVariants.{NoSpan}

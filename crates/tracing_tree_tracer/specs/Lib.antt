@@ -1,4 +1,3 @@
 pub mod Values
-pub mod Replies
 pub mod Tracers
 pub mod Within

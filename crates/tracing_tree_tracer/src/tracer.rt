@@ -1,10 +1,9 @@
 //! A tracer: what takes its calls, the spans in which a service is, and what each call is handed.
 
-ghost use Rattle.std.specs.Prelude.{◌≡◌, [], Some, None, IfOk, MatchResult, length};
-ghost use Rattle.tracing_tree_tracer.specs.Values.{fields_of};
-ghost use Rattle.tracing_tree_tracer.specs.Tracers.{current_of, context_in, open_call, event_call, close_call, AreClosedTo, IsOpened, IsTold, IsClosed, IsRecorded};
+ghost use Rattle.std.specs.Prelude.{◌≡◌, [], ◌∷◌, Some, None, IfOk, MatchResult, length};
+ghost use Rattle.tracing_tree_tracer.specs.Values.{fields_of, message_field};
+ghost use Rattle.tracing_tree_tracer.specs.Tracers.{current_of, outer_of, context_in, AreClosedTo, IsOpened, IsTold, IsClosed, IsRecorded};
 
-use crate::calls::Calls;
 use crate::clock::Now;
 use crate::spans::Spans;
 use crate::value::{Value, event_fields, span_fields};
@@ -12,7 +11,7 @@ use std::alloc::{AllocError, Global};
 use std::marker::Model;
 use thiserror::Error;
 use tracing_tree_context::{Context, Id, Refusal};
-use tracing_tree_layer::call::{Call, Reply};
+use tracing_tree_layer::calls::Calls;
 use tracing_tree_spans::registry::{Attributes, Event, Parent, Record};
 use tracing_tree_text::style::Level;
 use tracing_tree_text::text::Text;
@@ -160,11 +159,10 @@ impl<C: Calls, N: Now> Tracer<C, N> {
             result self.old self.new }
     {
         let moment = self.moment()?;
-        let call = self.open_call(name, fields, moment)?;
+        let attributes = self.attributes(name, fields)?;
+        let context = self.context(self.current(), moment)?;
         self.spans.reserve(1)?;
-        let Reply::Span(id) = self.layered.call(call)? else {
-            unreachable!()
-        };
+        let id = self.layered.new_span(attributes, &context)?;
         self.spans.push_reserved(id);
         Ok(id)
     }
@@ -180,12 +178,10 @@ impl<C: Calls, N: Now> Tracer<C, N> {
             return Err(TraceFault::NoSpan);
         };
         let moment = self.moment()?;
-        let call = self.close_call(id, moment)?;
-        let Reply::Closed(went) = self.layered.call(call)? else {
-            unreachable!()
-        };
+        let context = self.context(self.outer(), moment)?;
+        let was_removed = self.layered.close(id, &context)?;
         self.spans.pop();
-        Ok(went)
+        Ok(was_removed)
     }
 
     /// Tells an event with a message and these fields, in the current span.
@@ -199,10 +195,9 @@ impl<C: Calls, N: Now> Tracer<C, N> {
             (fields_of fields.now) result self.old self.new }
     {
         let moment = self.moment()?;
-        let call = self.event_call(level, message, fields, moment)?;
-        let Reply::Done = self.layered.call(call)? else {
-            unreachable!()
-        };
+        let event = self.new_event(level, message, fields)?;
+        let context = self.context(self.current(), moment)?;
+        self.layered.event(&event, &context)?;
         Ok(())
     }
 
@@ -257,9 +252,7 @@ impl<C: Calls, N: Now> Tracer<C, N> {
             return Err(TraceFault::NoSpan);
         };
         let fields = span_fields(self.alloc, fields)?;
-        let Reply::Done = self.layered.call(Call::Record(id, Record { fields }))? else {
-            unreachable!()
-        };
+        self.layered.record(id, Record { fields })?;
         Ok(())
     }
 
@@ -281,53 +274,51 @@ impl<C: Calls, N: Now> Tracer<C, N> {
         self.clock.now().ok_or(TraceFault::NoMoment)
     }
 
-    fn open_call(
-        &self,
-        name: &str,
-        fields: &[(&str, Value<'_>)],
-        moment: Moment,
-    ) -> Result<Call, AllocError>
-        ensures { IfOk result (λ call. call
-            ≡ open_call self.now.teller self.now.spans name.now (fields_of fields.now) moment) }
+    // What a span that opens in the current one is made of.
+    fn attributes(&self, name: &str, fields: &[(&str, Value<'_>)]) -> Result<Attributes, AllocError>
+        ensures { IfOk result (λ attributes. attributes ≡ record {
+          name = name.now;
+          target = self.now.teller.target;
+          parent = Parent.Current;
+          fields = fields_of fields.now;
+        }) }
     {
-        let attributes = Attributes {
+        Ok(Attributes {
             name: Text::from_str(self.alloc, name)?,
             target: self.target.clone()?,
             parent: Parent::Current,
             fields: span_fields(self.alloc, fields)?,
-        };
-        let context = self.context(self.current(), moment)?;
-        Ok(Call::New(attributes, context))
+        })
     }
 
-    fn event_call(
+    // An event in the current span.
+    fn new_event(
         &self,
         level: Level,
         message: &str,
         fields: &[(&str, Value<'_>)],
-        moment: Moment,
-    ) -> Result<Call, AllocError>
-        ensures { IfOk result (λ call. call ≡ event_call self.now.teller self.now.spans level
-            message.now (fields_of fields.now) moment) }
+    ) -> Result<Event, AllocError>
+        ensures { IfOk result (λ event. event ≡ record {
+          level = level;
+          target = self.now.teller.target;
+          parent = Parent.Current;
+          fields = message_field message.now ∷ fields_of fields.now;
+        }) }
     {
-        let event = Event {
+        Ok(Event {
             level,
             target: self.target.clone()?,
             parent: Parent::Current,
             fields: event_fields(self.alloc, message, fields)?,
-        };
-        let context = self.context(self.current(), moment)?;
-        Ok(Call::Event(event, context))
+        })
     }
 
-    // A span is left before it is closed, so that the one around it is the current one then.
-    fn close_call(&self, id: Id, moment: Moment) -> Result<Call, AllocError>
-        ensures { IfOk result (λ call. call
-            ≡ close_call self.now.teller self.now.spans id moment) }
+    // The span around the current one, which is the current one once that is closed.
+    fn outer(&self) -> Option<Id>
+        ensures { result ≡ current_of (outer_of self.now.spans) }
     {
         let outer = self.spans.len().saturating_sub(1);
-        let around = self.spans.as_slice()[..outer].last().copied();
-        Ok(Call::Close(id, self.context(around, moment)?))
+        self.spans.as_slice()[..outer].last().copied()
     }
 
     fn context(&self, current: Option<Id>, moment: Moment) -> Result<Context, AllocError>

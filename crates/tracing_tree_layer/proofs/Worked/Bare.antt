@@ -9,7 +9,7 @@ use Rattle.tracing_tree_context.specs.declared.context.Refusal.TheVariants.{NotH
 use Rattle.tracing_tree_spans.specs.declared.registry.Parent.TheVariants.{Root}
 use Rattle.tracing_tree_layer.specs.Layered.State.{State}
 use Rattle.tracing_tree_layer.specs.Layer.Bare.{BareCall, on_new_span, on_record, on_close, bare_text, bare_state_after, bare_cause_of}
-use Rattle.tracing_tree_layer.proofs.Calls.{lined, outside}
+use Rattle.tracing_tree_layer.proofs.WorkedCalls.{lined, outside}
 
 -- the root `a` in a registry, about which the layer has not been told
 abbrev pub untold : State

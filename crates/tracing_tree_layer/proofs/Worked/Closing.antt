@@ -12,7 +12,7 @@ use Rattle.tracing_tree_layer.specs.Layered.State.{State, opening_state}
 use Rattle.tracing_tree_layer.specs.Layered.Run.{answers_of, MayAnswer}
 use Rattle.tracing_tree_layer.specs.declared.call.Call.TheVariants.{New, Clone, Record}
 use Rattle.tracing_tree_layer.specs.declared.call.Reply.TheVariants.{Cloned, Done, Closed}
-use Rattle.tracing_tree_layer.proofs.Calls.{plain, lined, outside, inside, made, message, told, informed, closed, left_by, written_after, root_and_child, two_roots, written_after_root}
+use Rattle.tracing_tree_layer.proofs.WorkedCalls.{plain, lined, outside, inside, made, message, told, informed, closed, left_by, written_after, root_and_child, two_roots, written_after_root}
 
 -- a handle that is cloned keeps the parent
 pub cloned_parent : answers_of lined no_timer (left_by lined root_and_child) (Clone (id_of 1) ∷ closed 1 ∷ closed 2 ∷ closed 1 ∷ [])

@@ -12,7 +12,7 @@ use Rattle.tracing_tree_spans.specs.declared.registry.Parent.TheVariants.{Curren
 use Rattle.tracing_tree_text.specs.declared.style.Level.TheVariants.{Info}
 use Rattle.tracing_tree_layer.specs.declared.call.Call.TheVariants.{New, Event, Close}
 use Rattle.tracing_tree_layer.specs.Difference.Items.{differing}
-use Rattle.tracing_tree_layer.proofs.Calls.{lined, outside, inside, made, message, informed, closed, written, written_after}
+use Rattle.tracing_tree_layer.proofs.WorkedCalls.{lined, outside, inside, made, message, informed, closed, written, written_after}
 
 -- a root after another has gone
 pub root_after_close : written (record lined { span_retrace = true }) (made (codes "a") outside ∷ closed 1 ∷ made (codes "b") outside ∷ informed (codes "x") (inside 2) ∷ [])

@@ -12,7 +12,7 @@ use Rattle.tracing_tree_layer.specs.Layered.State.{opening_state}
 use Rattle.tracing_tree_layer.specs.Layered.Run.{text_of, answers_of}
 use Rattle.tracing_tree_layer.specs.declared.call.Call.TheVariants.{Record}
 use Rattle.tracing_tree_layer.specs.declared.call.Reply.TheVariants.{Span, Closed}
-use Rattle.tracing_tree_layer.proofs.Calls.{plain, lined, outside, inside, made_with, made, told, informed, warned, closed, written, left_by, written_after, root_and_child, two_roots, written_after_root, at_mono}
+use Rattle.tracing_tree_layer.proofs.WorkedCalls.{plain, lined, outside, inside, made_with, made, told, informed, warned, closed, written, left_by, written_after, root_and_child, two_roots, written_after_root, at_mono}
 
 -- a tree of two spans with an event
 pub a_tree : written lined (made (codes "a") outside ∷ made (codes "b") (inside 1) ∷ warned (codes "x") (inside 2) ∷ closed 2 ∷ closed 1 ∷ [])

@@ -6,9 +6,10 @@ use super::ToldEvent;
 use std::alloc::{AllocError, Global};
 use std::marker::Model;
 use tracing_tree_drawing::format::push_event_texts;
-use tracing_tree_spans::registry::Parent;
-use tracing_tree_text::field::Field;
+use tracing_tree_spans::registry::{Event, Parent};
+use tracing_tree_text::field::{Field, Fields};
 use tracing_tree_text::style::Level;
+use tracing_tree_text::text::Text;
 
 /// A field whose texts the caller lends. Contracts see the field.
 #[derive(Drop)]
@@ -91,4 +92,24 @@ impl ToldEvent for EventTexts<'_> {
         }
         Ok(())
     }
+
+    fn to_event(&self, alloc: Global) -> Result<Event, AllocError> {
+        Ok(Event {
+            level: self.level,
+            target: Text::from_str(alloc, self.target)?,
+            parent: self.parent,
+            fields: to_fields(alloc, self.fields)?,
+        })
+    }
+}
+
+// These fields, with texts of their own.
+fn to_fields(alloc: Global, texts: &[FieldTexts<'_>]) -> Result<Fields, AllocError>
+    ensures { IfOk result (λ fields. fields ≡ texts.now) }
+{
+    let mut fields = Vec::new(alloc);
+    for field in texts {
+        fields.push(field.to_field(alloc)?)?;
+    }
+    Ok(Fields::from(fields))
 }

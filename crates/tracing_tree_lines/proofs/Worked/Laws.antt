@@ -10,7 +10,7 @@ use Rattle.tracing_tree_text.specs.declared.style.Level.TheVariants.{Info}
 use Rattle.tracing_tree_layer.specs.Layered.State.{opening_state}
 use Rattle.tracing_tree_layer.specs.Laws.Reading.{EventInRun, ReadingLaw, run_is_on_path, latest, rows_of}
 use Rattle.tracing_tree_layer.specs.declared.call.Call.{Call}
-use Rattle.tracing_tree_layer.proofs.Calls.{lined, outside, inside, made, message, informed, closed}
+use Rattle.tracing_tree_layer.proofs.WorkedCalls.{lined, outside, inside, made, message, informed, closed}
 use Rattle.tracing_tree_lines.proofs.Worked.Readings.{close_off_path, stranger_above}
 use Rattle.tracing_tree_layer.proofs.Reading.Laws.{reading-law}
 

@@ -12,7 +12,7 @@ use Rattle.tracing_tree_layer.specs.declared.call.Call.{Call}
 use Rattle.tracing_tree_lines.specs.Lines.Runs.{LeavesRun}
 use Rattle.tracing_tree_lines.specs.declared.lines.LineCause.TheVariants.{Settings as NoSettings, NotACall}
 use Rattle.tracing_tree_lines.specs.Lines.Spelled.{Asked, object_settings, object_call, SpellsCall, SpellsNothing, input_lines, is_skipped, ◌>>=◌}
-use Rattle.tracing_tree_layer.proofs.Calls.{plain, lined, start_of_1970, outside, inside, made, warned, closed, holding}
+use Rattle.tracing_tree_layer.proofs.WorkedCalls.{plain, lined, start_of_1970, outside, inside, made, warned, closed, holding}
 
 -- what a first line asks for
 abbrev settings_of : List ℕ → Option Asked

@@ -13,7 +13,7 @@ use Rattle.tracing_tree_drawing.specs.Rows.Readable.{IsReadable, text_rows}
 use Rattle.tracing_tree_layer.specs.Laws.Reading.{run_is_on_path, latest, rows_of}
 use Rattle.tracing_tree_drawing.specs.declared.rows.row.Shape.{Shape}
 use Rattle.tracing_tree_drawing.specs.declared.rows.row.Shape.TheVariants.{PreOpen, OpenRoot, Open, CloseRoot, Close, Event}
-use Rattle.tracing_tree_layer.proofs.Calls.{lined, outside, inside, made, informed, warned, closed}
+use Rattle.tracing_tree_layer.proofs.WorkedCalls.{lined, outside, inside, made, informed, warned, closed}
 
 abbrev pub row : Shape → ℕ → List (List ℕ) → TextRow
 row shape level lines = record { shape = shape; level = level; lines = lines }

@@ -4,17 +4,17 @@ use Rattle.tracing_tree_tracer.specs.Tracers.{after_close, close_call, current_o
 use Rattle.tracing_tree_tracer.proofs.Made.{closed_as, made_at, leaves_refused}
 use Rattle.tracing_tree_tracer.proofs.tracer.Tracer.close.Goals as goal
 
-pub returns-in_err-went : goal.returns-in_err-went
-returns-in_err-went g c =
+pub returns-in_err-was_removed : goal.returns-in_err-was_removed
+returns-in_err-was_removed g c =
     let self = c.args.self.now in
     closed_as g.C.Calls.answers g.N.Now.tells (current_of self.spans) c.in-Some.id (search rules) _ self _
-    (leaves_refused _ _ (after_close self.spans) (λ went. Closed went) self _ c.in_err-went.field-0.0
-    c.from_residual-in_err-went.result (search rules)
+    (leaves_refused _ _ (after_close self.spans) (λ went. Closed went) self _ c.in_err-was_removed.field-0.0
+    c.from_residual-in_err-was_removed.result (search rules)
     (made_at g.C.Calls.answers (g.N.Now.tells self.clock)
     (close_call self.teller self.spans c.in-Some.id)
     c.in_ok-moment.moment (search rules) _ (search rules)
-    _ (Err c.in_err-went.field-0.0) (search rules)
-    _ self.layered _ (search rules) c.call.ensures.answered)
+    _ (Err c.in_err-was_removed.field-0.0) (search rules)
+    _ self.layered _ (search rules) c.close.ensures)
     (search rules))
 
 pub returns : goal.returns
@@ -25,7 +25,7 @@ returns g c =
       made = made_at g.C.Calls.answers (g.N.Now.tells self.clock)
           (close_call self.teller self.spans c.in-Some.id)
           c.in_ok-moment.moment (search rules) _ (search rules)
-          _ (Ok (Closed c.in-Closed.went)) (search rules)
-          _ self.layered _ (search rules) c.call.ensures.answered;
+          _ (Ok (Closed c.in_ok-was_removed.was_removed)) (search rules)
+          _ self.layered _ (search rules) c.close.ensures;
       left = search rules;
     })

@@ -13,7 +13,7 @@ returns-in_err-id g c =
     (open_call self.teller self.spans c.args.name.now (fields_of c.args.fields.now))
     c.in_ok-moment.moment (search rules) _ (search rules)
     _ (Err c.in_err-id.field-0.0) (search rules)
-    _ self.layered _ (search rules) c.call-2.ensures.answered)
+    _ self.layered _ (search rules) c.new_span.ensures)
     (search rules)
 
 pub returns : goal.returns
@@ -23,7 +23,7 @@ returns g c =
       made = made_at g.C.Calls.answers (g.N.Now.tells self.clock)
           (open_call self.teller self.spans c.args.name.now (fields_of c.args.fields.now))
           c.in_ok-moment.moment (search rules) _ (search rules)
-          _ (Ok (Span c.in-Span.id)) (search rules)
-          _ self.layered _ (search rules) c.call-2.ensures.answered;
+          _ (Ok (Span c.in_ok-id.id)) (search rules)
+          _ self.layered _ (search rules) c.new_span.ensures;
       left = search rules;
     }

@@ -1,7 +1,7 @@
 use Rattle.std.proofs.Common.{◌≡◌, false, ap, ◌∙◌}
 use Rattle.tracing_tree_layer.specs.Layer.Drawn.{has_no_id}
 use Rattle.tracing_tree_layer.proofs.TurnLaws.{closes, closes_held, closes_listed}
-use Rattle.tracing_tree_layer.proofs.layered.Layered.close.Goals as goal
+use Rattle.tracing_tree_layer.proofs.layered.Layered.close_handle.Goals as goal
 
 pub close_listed-requires-clause-held : goal.close_listed-requires-clause-held
 close_listed-requires-clause-held g c =

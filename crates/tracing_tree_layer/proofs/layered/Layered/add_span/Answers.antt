@@ -1,7 +1,7 @@
 use Rattle.std.proofs.Common.{◌≡◌, false, ap, ◌∙◌}
 use Rattle.tracing_tree_spans.specs.Registry.Forest.{take_back}
 use Rattle.tracing_tree_layer.proofs.TurnLaws.{new_refused, new_drawn}
-use Rattle.tracing_tree_layer.proofs.layered.Layered.new_span.Goals as goal
+use Rattle.tracing_tree_layer.proofs.layered.Layered.add_span.Goals as goal
 
 pub returns-in-Err : goal.returns-in-Err
 returns-in-Err g c =

@@ -6,7 +6,7 @@ use Rattle.tracing_tree_layer.specs.Layer.Drawn.{is_event_too_wide}
 use Rattle.tracing_tree_layer.specs.Layered.Refused.{timer_faults_at}
 use Rattle.tracing_tree_layer.specs.declared.call.Call.TheVariants.{Event}
 use Rattle.tracing_tree_layer.proofs.TurnLaws.{cause-turn, turn_refused}
-use Rattle.tracing_tree_layer.proofs.layered.Layered.event.Goals as goal
+use Rattle.tracing_tree_layer.proofs.layered.Layered.draw_event.Goals as goal
 
 pub returns-in_err-write_event : goal.returns-in_err-write_event
 returns-in_err-write_event g c =

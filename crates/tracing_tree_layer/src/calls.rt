@@ -1,0 +1,157 @@
+//! Receivers of calls.
+
+use crate::call::{Call, Reply};
+use crate::layered::Layered;
+use crate::told::ToldEvent;
+use tracing_tree_context::{Context, Id, Refusal};
+use tracing_tree_output::Output;
+use tracing_tree_spans::registry::{Attributes, Record};
+use tracing_tree_time::FormatTime;
+
+/// A receiver of calls, which answers each of them: a [`Layered`], a thread's way to a layer of
+/// several threads, a counter, or an adapter of another receiver.
+///
+/// A maker of calls knows only this trait. It makes a call by its parts if it has them, so that no
+/// whole [`Call`] is built: the strings of an event stay where the maker has them.
+pub trait Calls {
+    ghost use Rattle.std.specs.Prelude.{IfOk, Result, ◌≡◌};
+    ghost use Rattle.tracing_tree_context.specs.declared.context.Refusal.{Refusal};
+    ghost use Rattle.tracing_tree_layer.specs.declared.call.Call.{Call};
+    ghost use Rattle.tracing_tree_layer.specs.declared.call.Reply.{Reply};
+    ghost use Rattle.tracing_tree_layer.specs.Replies.{IsReplyTo, answer_as, cloned, closed, done, span};
+
+    /// The answers that a call may get, and what each leaves.
+    ghost answers: { Call → Result Reply Refusal → Self → Self → Type 0 };
+
+    /// What a flush leaves.
+    ghost flushes: { Self → Self → Type 0 } = { λ old new. new ≡ old };
+
+    /// Makes a call. The reply to an accepted one is of the call's kind.
+    ///
+    /// # Errors
+    ///
+    /// The refusals of the receiver, for each of these methods: those of a [`Layered`] are at
+    /// [`Layered::call`].
+    fn call(&mut self, call: Call) -> Result<Reply, Refusal>
+        ensures answered { answers call result self.old self.new }
+        ensures kind { IfOk result (λ reply. IsReplyTo call reply) };
+
+    /// Makes the call of a new span. Returns its id.
+    fn new_span(&mut self, attributes: Attributes, context: &Context) -> Result<Id, Refusal>
+        ensures { answers (Call.New attributes context.now) (answer_as span result)
+            self.old self.new };
+
+    /// Makes the call of one more handle to a span. Returns the span's id.
+    fn clone_span(&mut self, id: Id) -> Result<Id, Refusal>
+        ensures { answers (Call.Clone id) (answer_as cloned result) self.old self.new };
+
+    /// Makes the call of a record: these fields come after those of the span.
+    fn record(&mut self, id: Id, record: Record) -> Result<(), Refusal>
+        ensures { answers (Call.Record id «record») (answer_as done result) self.old self.new };
+
+    /// Makes the call of an event, whose strings stay the caller's.
+    fn event<E: ToldEvent>(&mut self, event: &E, context: &Context) -> Result<(), Refusal>
+        ensures { answers (Call.Event (E.told event.now) context.now) (answer_as done result)
+            self.old self.new };
+
+    /// Makes the call of a close. Returns whether the span was removed.
+    fn close(&mut self, id: Id, context: &Context) -> Result<bool, Refusal>
+        ensures { answers (Call.Close id context.now) (answer_as closed result)
+            self.old self.new };
+
+    /// Passes on what the receiver holds back. It does nothing if nothing is held back.
+    fn flush(&mut self)
+        ensures { flushes self.old self.new };
+}
+
+/// A registry with a layer answers as [`Layered::call`] does.
+impl<W: Output, FT: FormatTime> Calls for Layered<W, FT> {
+    ghost use Rattle.tracing_tree_layer.specs.Layered.Answered.{IsAnswered};
+    ghost use Rattle.tracing_tree_layer.specs.Layer.Layers.{Changes, Flushes, seen};
+
+    ghost answers = { λ call answer old new.
+        Changes (seen FT.FormatTime W.Output) (IsAnswered call answer) old new };
+
+    ghost flushes = { λ old new. Changes (seen FT.FormatTime W.Output) Flushes old new };
+
+    fn call(&mut self, call: Call) -> Result<Reply, Refusal> {
+        self.call(call)
+    }
+
+    #[inline(always)]
+    fn new_span(&mut self, attributes: Attributes, context: &Context) -> Result<Id, Refusal> {
+        if self.layer().failed() {
+            drop(attributes);
+            return Err(Refusal::Failed);
+        }
+        self.add_span(attributes, context)
+    }
+
+    fn clone_span(&mut self, id: Id) -> Result<Id, Refusal> {
+        if self.layer().failed() {
+            return Err(Refusal::Failed);
+        }
+        self.add_handle(id)
+    }
+
+    fn record(&mut self, id: Id, record: Record) -> Result<(), Refusal> {
+        if self.layer().failed() {
+            drop(record);
+            return Err(Refusal::Failed);
+        }
+        self.add_fields(id, record.fields)
+    }
+
+    fn event<E: ToldEvent>(&mut self, event: &E, context: &Context) -> Result<(), Refusal> {
+        if self.layer().failed() {
+            return Err(Refusal::Failed);
+        }
+        self.draw_event(event, context, None)
+    }
+
+    fn close(&mut self, id: Id, context: &Context) -> Result<bool, Refusal> {
+        if self.layer().failed() {
+            return Err(Refusal::Failed);
+        }
+        self.close_handle(id, context)
+    }
+
+    fn flush(&mut self) {
+        self.flush();
+    }
+}
+
+/// A receiver that is lent answers as it does itself.
+impl<C: Calls> Calls for &mut C {
+    ghost answers = { λ call answer old new. C.answers call answer old.now new.now };
+
+    ghost flushes = { λ old new. C.flushes old.now new.now };
+
+    fn call(&mut self, call: Call) -> Result<Reply, Refusal> {
+        (**self).call(call)
+    }
+
+    fn new_span(&mut self, attributes: Attributes, context: &Context) -> Result<Id, Refusal> {
+        (**self).new_span(attributes, context)
+    }
+
+    fn clone_span(&mut self, id: Id) -> Result<Id, Refusal> {
+        (**self).clone_span(id)
+    }
+
+    fn record(&mut self, id: Id, record: Record) -> Result<(), Refusal> {
+        (**self).record(id, record)
+    }
+
+    fn event<E: ToldEvent>(&mut self, event: &E, context: &Context) -> Result<(), Refusal> {
+        (**self).event(event, context)
+    }
+
+    fn close(&mut self, id: Id, context: &Context) -> Result<bool, Refusal> {
+        (**self).close(id, context)
+    }
+
+    fn flush(&mut self) {
+        (**self).flush();
+    }
+}
