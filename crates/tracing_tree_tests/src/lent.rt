@@ -2,9 +2,9 @@
 
 use std::alloc::Global;
 use std::test::*;
-use tracing_tree::call::Reply;
 use tracing_tree::field::Field;
 use tracing_tree::format::{Context, Id, Refusal, Tape};
+use tracing_tree::calls::Calls;
 use tracing_tree::layered::Layered;
 use tracing_tree::registry::Parent;
 use tracing_tree::style::Level;
@@ -22,24 +22,23 @@ fn told(layered: &mut Layered<Tape, ()>, here: &Context) -> Result<(), Refusal> 
             value: "listening",
         }],
     };
-    layered.call_told(&event, here)?;
-    Ok(())
+    layered.event(&event, here)
 }
 
 // A root span, an event in it, and its close.
-fn root(alloc: Global, layered: &mut Layered<Tape, ()>) -> Result<Reply, Refusal> {
+fn root(alloc: Global, layered: &mut Layered<Tape, ()>) -> Result<Id, Refusal> {
     let attributes = attributes(alloc, "a", Parent::Root)?;
-    let made = layered.call_new_span(attributes, &at(None))?;
+    let id = layered.new_span(attributes, &at(None))?;
     told(layered, &at(Some(1)))?;
-    layered.call_close(Id(1), &at(None))?;
-    Ok(made)
+    layered.close(id, &at(None))?;
+    Ok(id)
 }
 
 #[test]
 fn draws_what_is_lent(rt: HostRuntime) -> Result<(), Fail> {
     let alloc = rt.alloc();
     let mut layered = lined(alloc)?;
-    assert_eq!(rt; root(alloc, &mut layered), Ok(Reply::Span(Id(1))));
+    assert_eq!(rt; root(alloc, &mut layered), Ok(Id(1)));
     let text = "┐a \n├─ INFO listening\n┘\n";
     assert_eq!(rt; layered.writer().bytes(), text.as_bytes());
     Ok(())

@@ -20,6 +20,7 @@ use json::Scratch;
 use std::alloc::{AllocError, Global};
 use tracing_tree_context::{Context, Id};
 use tracing_tree_layer::call::{Call, Reply};
+use tracing_tree_layer::calls::Calls;
 use tracing_tree_layer::layered::Layered;
 use tracing_tree_layer::told::{EventTexts, FieldTexts};
 use tracing_tree_output::Output;
@@ -99,17 +100,18 @@ fn make_call_of_kind<W: Output, FT: FormatTime>(
     match kind {
         Kind::New => {
             let attributes = attributes_in(alloc, parts)?;
-            Ok(layered.call_new_span(attributes, context)?)
+            Ok(Reply::Span(layered.new_span(attributes, context)?))
         }
         Kind::Clone => make_clone(parts, layered),
         Kind::Record => make_record(alloc, parts, layered),
         Kind::Event => {
             let event = event_in(parts).ok_or(LineCause::NotACall)?;
-            Ok(layered.call_told(&event, context)?)
+            layered.event(&event, context)?;
+            Ok(Reply::Done)
         }
         Kind::Close => {
             let id = id_in(parts).ok_or(LineCause::NotACall)?;
-            Ok(layered.call_close(id, context)?)
+            Ok(Reply::Closed(layered.close(id, context)?))
         }
     }
 }
