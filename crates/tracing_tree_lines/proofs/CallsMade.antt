@@ -22,7 +22,7 @@ flush_then a b c h k = record {
 }
 
 module _ {W FT : Type 0} (see : LayeredView W FT → Seen) where
-  pub still : (layered : LayeredView W FT) → Changes see Flushes layered layered
+  still : (layered : LayeredView W FT) → Changes see Flushes layered layered
   still layered = record { changed = nothing_passed (see layered); fixed = refl }
 
   -- the writer is flushed after calls
@@ -31,17 +31,22 @@ module _ {W FT : Type 0} (see : LayeredView W FT → Seen) where
   made_flushed [] [] old now next h k = change_then see flush_then old now next h k
   made_flushed [] (answer ∷ answers) old now next h k = absurd h
   made_flushed (call ∷ calls) [] old now next h k = absurd h
-  made_flushed (call ∷ calls) (answer ∷ answers) old now next (between, one, rest) k =
-      (between, one, made_flushed calls answers between now next rest k)
+  made_flushed (call ∷ calls) (answer ∷ answers) old now next (shown, between, passed, one, rest) k =
+      (shown, between, passed, one, made_flushed calls answers between now next rest k)
 
   -- one call more
   made_more : (calls : List Call) (answers : List (Result Reply Refusal)) (call : Call) (answer : Result Reply Refusal) (old now next : LayeredView W FT) →
       AreMade see calls answers old now → Changes see (IsAnswered call answer) now next → AreMade see (calls ++ call ∷ []) (answers ++ answer ∷ []) old next
-  made_more [] [] call answer old now next h k = (next, record { shown = now; flushed = h; answered = k }, still next)
+  made_more [] [] call answer old now next h k = (now, next, h, k, still next)
   made_more [] (other ∷ answers) call answer old now next h k = absurd h
   made_more (one ∷ calls) [] call answer old now next h k = absurd h
-  made_more (one ∷ calls) (other ∷ answers) call answer old now next (between, first, rest) k =
-      (between, first, made_more calls answers call answer between now next rest k)
+  made_more (one ∷ calls) (other ∷ answers) call answer old now next (shown, between, passed, first, rest) k =
+      (shown, between, passed, first, made_more calls answers call answer between now next rest k)
+
+  -- one call alone
+  pub made_once : (call : Call) (answer : Result Reply Refusal) (now next : LayeredView W FT) → Changes see (IsAnswered call answer) now next →
+      AreMade see (call ∷ []) (answer ∷ []) now next
+  made_once call answer now next k = (now, next, still now, k, still next)
 
   -- ---- accepted calls
 

@@ -32,7 +32,7 @@ use Rattle.tracing_tree_lines.specs.declared.lines.Progress.{Progress}
 use Rattle.tracing_tree_lines.specs.declared.lines.LineCause.TheVariants.{Settings as NoSettings, NotACall, Read, Memory, Refused}
 use Rattle.tracing_tree_layer.proofs.DrawnLaws.{draw-append}
 use Rattle.tracing_tree_layer.proofs.RunLaws.{run-append}
-use Rattle.tracing_tree_lines.proofs.CallsMade.{still, none_made, accepted_more, accepted_flushed, accepted_unseen}
+use Rattle.tracing_tree_lines.proofs.CallsMade.{none_made, made_once, accepted_more, accepted_flushed, accepted_unseen}
 
 -- ---- one line
 
@@ -400,7 +400,7 @@ module _ {W FT : Type 0} (see : LayeredView W FT → Seen) where
 
   -- the calls that were made, by the cause and the line that end the run
   abbrev Ends : LayeredView W FT → LayeredView W FT → Option LineCause → Option (List ℕ) → List Call → Type 0
-  Ends first now cause line calls = MakesCalls see cause line calls first now
+  Ends first now = MakesCalls see first now
 
   -- a line that ends the run
   stops : (known middle left : Option (List ℕ)) (accepted number : ℕ) (first now next : LayeredView W FT) (cause : LineCause) → number < last_number →
@@ -424,7 +424,7 @@ module _ {W FT : Type 0} (see : LayeredView W FT → Seen) where
         made,
         m.made.call,
         m.made.spelled,
-        record { shown = now; flushed = still see now; answered = record { changed = m.made.answered; fixed = h.fixed } },
+        made_once see m.made.call (Err refusal) now next (record { changed = m.made.answered; fixed = h.fixed }),
       ))
 
   -- no line is judged yet

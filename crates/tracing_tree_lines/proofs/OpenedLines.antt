@@ -17,7 +17,7 @@ use Rattle.tracing_tree_layer.specs.Layered.Answered.{IsAnswered}
 use Rattle.tracing_tree_layer.specs.Layered.Seen.{Seen}
 use Rattle.tracing_tree_layer.specs.declared.call.Call.{Call}
 use Rattle.tracing_tree_layer.specs.declared.call.Reply.{Reply}
-use Rattle.tracing_tree_lines.specs.Lines.Runs.{AreAccepted, AreMade, EndsAtFirst, CountsEnd, IsMade, MakesCalls, RunsOver, LeavesRun, opened_with, seen_over}
+use Rattle.tracing_tree_lines.specs.Lines.Runs.{AreAccepted, AreMade, EndsAtFirst, CountsEnd, MakesCalls, RunsOver, LeavesRun, opened_with, seen_over}
 use Rattle.tracing_tree_lines.specs.Lines.Reads.{TakesLine, IsBeforeCalls, OpensWith}
 use Rattle.tracing_tree_lines.specs.Lines.Values.{IsUnlessMemory, asked_timer}
 use Rattle.tracing_tree_lines.specs.declared.lines.settings.timer.Timer.{Timer as AskedTimer}
@@ -109,28 +109,25 @@ module _ {W : Type 0} (output : Output W) where
       fixed = (λ i. (stated time (record { forest = old.forest; layer = h.fixed i })).layer);
     }
 
-    is_made-stated : (call : Call) (answer : Result Reply Refusal) (old new : LayeredView W FT) → IsMade (seen time output) call answer old new →
-        IsMade (seen_over output) call answer (stated time old) (stated time new)
-    is_made-stated call answer old new h = record {
-      shown = stated time h.shown;
-      flushed = changes-stated Flushes old h.shown h.flushed;
-      answered = changes-stated (IsAnswered call answer) h.shown new h.answered;
-    }
-
     are_made-stated : (calls : List Call) (answers : List (Result Reply Refusal)) (old new : LayeredView W FT) → AreMade (seen time output) calls answers old new →
         AreMade (seen_over output) calls answers (stated time old) (stated time new)
     are_made-stated [] [] old new h = changes-stated Flushes old new h
     are_made-stated [] (answer ∷ answers) old new h = absurd h
     are_made-stated (call ∷ calls) [] old new h = absurd h
-    are_made-stated (call ∷ calls) (answer ∷ answers) old new (between, one, rest) =
-        (stated time between, is_made-stated call answer old between one, are_made-stated calls answers between new rest)
+    are_made-stated (call ∷ calls) (answer ∷ answers) old new (shown, between, passed, one, rest) = (
+      stated time shown,
+      stated time between,
+      changes-stated Flushes old shown passed,
+      changes-stated (IsAnswered call answer) shown between one,
+      are_made-stated calls answers between new rest,
+    )
 
     accepted-stated : (calls : List Call) (old new : LayeredView W FT) → AreAccepted (seen time output) calls old new →
         AreAccepted (seen_over output) calls (stated time old) (stated time new)
     accepted-stated calls old new (replies, made) = (replies, are_made-stated calls (map Ok replies) old new made)
 
     makes-stated : (cause : Option LineCause) (line : Option (List ℕ)) (calls : List Call) (old new : LayeredView W FT) →
-        MakesCalls (seen time output) cause line calls old new → MakesCalls (seen_over output) cause line calls (stated time old) (stated time new)
+        MakesCalls (seen time output) old new cause line calls → MakesCalls (seen_over output) (stated time old) (stated time new) cause line calls
     makes-stated None line calls old new h = accepted-stated calls old new h
     makes-stated (Some NoSettings) line calls old new h = accepted-stated calls old new h
     makes-stated (Some NotACall) line calls old new h = accepted-stated calls old new h
@@ -138,13 +135,13 @@ module _ {W : Type 0} (output : Output W) where
     makes-stated (Some Memory) line calls old new h = accepted-stated calls old new h
     makes-stated (Some (Refused refusal)) None calls old new h = accepted-stated calls old new h
     makes-stated (Some (Refused refusal)) (Some line) calls old new (last, made, call, spelled, one) =
-        (stated time last, accepted-stated calls old last made, call, spelled, is_made-stated call (Err refusal) last new one)
+        (stated time last, accepted-stated calls old last made, call, spelled, are_made-stated (call ∷ []) (Err refusal ∷ []) last new one)
 
     -- a run that makes its calls in one way makes them in the other
     runs-stated : (lines : List (List ℕ)) (accepted : ℕ) (fault : Option LineFault) (old new : LayeredView W FT) →
-        RunsOver lines accepted fault (seen time output old) (seen time output new).writer (λ cause line calls. MakesCalls (seen time output) cause line calls old new) →
+        RunsOver lines accepted fault (seen time output old) (seen time output new).writer (MakesCalls (seen time output) old new) →
         RunsOver lines accepted fault (seen time output old) (seen time output new).writer
-        (λ cause line calls. MakesCalls (seen_over output) cause line calls (stated time old) (stated time new))
+        (MakesCalls (seen_over output) (stated time old) (stated time new))
     runs-stated lines accepted fault old new h = record {
       judged = h.judged;
       within = h.within;
@@ -168,14 +165,14 @@ module _ {W : Type 0} (output : Output W) where
     pub concludes : (known left : Option (List ℕ)) (setup : Settings × AskedTimer) (accepted : ℕ) (fault : Option LineFault) (writer end : W)
         (old new : LayeredView W FT) → OpensWith known left setup → stated time old ≡ opened_with setup.0 (asked_timer setup.1) writer → new.layer.writer ≡ end →
         IfSome left (λ rest. RunsOver (input_lines rest) accepted fault (seen time output old) (seen time output new).writer
-        (λ cause line calls. MakesCalls (seen time output) cause line calls old new)) →
+        (MakesCalls (seen time output) old new)) →
         IfSome known (λ input. LeavesRun output input accepted fault writer end)
     concludes None left setup accepted fault writer end old new opened opens ends r = tt
     concludes (Some input) None setup accepted fault writer end old new opened opens ends r = absurd opened.first
     concludes (Some input) (Some rest) setup accepted fault writer end old new opened opens ends r =
         let see = seen_over output in
         let P : LayeredView W Timer → Type 0 = λ o. RunsOver (input_lines rest) accepted fault (see o) (see (stated time new)).writer
-        (λ cause line calls. MakesCalls see cause line calls o (stated time new)) in
+        (MakesCalls see o (stated time new)) in
         inr (
           setup.0,
           asked_timer setup.1,

@@ -63,21 +63,14 @@ module _ (settings : Settings) (timer : Timer) (state : State) where
   IsLeft whole cause line front = front ≡ []
 
 module _ {W FT : Type 0} (see : LayeredView W FT → Seen) where
-  -- a call gets its answer, as a call by itself does; the writer may be flushed before
-  pub record IsMade (call : Call) (answer : Result Reply Refusal)
-      (old new : LayeredView W FT) : Type 0 where
-    pub shown : LayeredView W FT
-    pub flushed : Changes see Flushes old shown
-    pub answered : Changes see (IsAnswered call answer) shown new
-
-  -- the calls are made one after another, and each gets its answer; the writer may be flushed at
-  -- last
+  -- The calls are made one after another, and each gets its answer, as a call by itself does. Before
+  -- each, and after the last, the writer may be flushed.
   abbrev pub AreMade : List Call → List (Result Reply Refusal) → LayeredView W FT
       → LayeredView W FT → Type 0
   AreMade [] [] old new = Changes see Flushes old new
   AreMade (call ∷ calls) (answer ∷ answers) old new =
-      (between : LayeredView W FT) × IsMade call answer old between
-      × AreMade calls answers between new
+      (shown : LayeredView W FT) × (between : LayeredView W FT) × Changes see Flushes old shown
+      × Changes see (IsAnswered call answer) shown between × AreMade calls answers between new
   AreMade calls answers old new = ⊥
 
   -- these calls are made, and each is accepted
@@ -86,12 +79,12 @@ module _ {W FT : Type 0} (see : LayeredView W FT → Seen) where
 
   -- The same, and then, if the cause is a refusal, the call that this line spells is made and gets
   -- that refusal.
-  abbrev pub MakesCalls : Option LineCause → Option (List ℕ) → List Call → LayeredView W FT
-      → LayeredView W FT → Type 0
-  MakesCalls (Some (Refused refusal)) (Some line) calls old new =
-      (last : LayeredView W FT) × AreAccepted calls old last
-      × (call : Call) × SpellsCall line call × IsMade call (Err refusal) last new
-  MakesCalls cause line calls old new = AreAccepted calls old new
+  abbrev pub MakesCalls : LayeredView W FT → LayeredView W FT → Option LineCause
+      → Option (List ℕ) → List Call → Type 0
+  MakesCalls old new (Some (Refused refusal)) (Some line) calls =
+      (last : LayeredView W FT) × AreAccepted calls old last × (call : Call)
+      × SpellsCall line call × AreMade (call ∷ []) (Err refusal ∷ []) last new
+  MakesCalls old new cause line calls = AreAccepted calls old new
 
 -- A run over the lines after the first. The first `judged` of them were judged: those that aren't
 -- skipped spell these calls, and each was accepted. A cause blames the line after them, which is
@@ -153,8 +146,7 @@ LeavesRun {W = W} output input accepted fault old new =
     × (ended : LayeredView W Timer) × (ended.layer.writer ≡ new)
     × (let see = seen_over output in
     let opened = opened_with settings timer old in
-    RunsOver others accepted fault (see opened) (see ended).writer
-    (λ cause line calls. MakesCalls see cause line calls opened ended)))
+    RunsOver others accepted fault (see opened) (see ended).writer (MakesCalls see opened ended)))
 
 -- the count of the writer's faults, by the cause that ended the run: it rose by one where the
 -- writer is to blame, and stayed elsewhere

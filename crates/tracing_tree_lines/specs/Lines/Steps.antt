@@ -84,6 +84,6 @@ pub record EndsLines {W FT : Type 0} (see : LayeredView W FT → Seen) (known : 
     (accepted : ℕ) (fault : Option LineFault) (old new : LayeredView W FT) : Type 0 where
   pub ran : IfSome known (λ input.
       RunsOver (input_lines input) accepted fault (see old) (see new).writer
-      (λ cause line calls. MakesCalls see cause line calls old new))
+      (MakesCalls see old new))
   pub counted : CountsEnd (option_map (λ fault. fault.cause) fault) (see old).writer.faults
       (see new).writer.faults
