@@ -27,15 +27,8 @@ use Rattle.tracing_tree_lines.proofs.LineRuns.{goes_on, ends_at, ends_input, sho
 -- ---- one line
 
 -- what becomes of this line wherever it comes first
-abbrev pub JudgesFirst : List ℕ → Result Judged LineCause → Seen → Seen → Type 0
-JudgesFirst line result old new = (known left : Option (List ℕ)) → TakesLine known left line → JudgesLine known left result old new
-
-pub judges_first : {W FT : Type 0} (see : LayeredView W FT → Seen) (line : List ℕ) (result : Result Judged LineCause) (old new : LayeredView W FT) →
-    ((known left : Option (List ℕ)) → TakesLine known left line → Changes see (JudgesLine known left result) old new) → Changes see (JudgesFirst line result) old new
-judges_first see line result old new judged = record {
-  changed = λ known left first. (judged known left first).changed;
-  fixed = (judged None None tt).fixed;
-}
+abbrev pub JudgesFirst : {W FT : Type 0} → (LayeredView W FT → Seen) → List ℕ → Result Judged LineCause → LayeredView W FT → LayeredView W FT → Type 0
+JudgesFirst see line result old new = (known left : Option (List ℕ)) → TakesLine known left line → Changes see (JudgesLine known left result) old new
 
 -- the line at this place of the held bytes is the first of what is left there
 line_at : (held : List ℕ) (inner : Option (List ℕ)) (start n : ℕ) → position is_end (drop start held) ≡ Some n →
@@ -117,23 +110,24 @@ onward (suc start) first number next some none more = omega (arith, some (omega 
 
 -- ---- the held lines
 
--- no line is judged yet
-pub none_held : (held : List ℕ) (run : Progress) (now : Seen) → RunsHeld held run run (Ok 0) now now
-none_held held run now = λ known inner first so_far. so_far
+module _ {W FT : Type 0} (see : LayeredView W FT → Seen) where
+  -- no line is judged yet
+  pub none_held : (held : List ℕ) (run : Progress) (now : LayeredView W FT) → RunsHeld see held run run (Ok 0) now now
+  none_held held run now = λ known inner first so_far. so_far
 
--- one line more, that doesn't end the run
-pub held_more : (held : List ℕ) (before run : Progress) (start n : ℕ) (judged : Judged) → position is_end (drop start held) ≡ Some n → (judged ≡ End → ⊥) →
-    (old now next : Seen) → RunsHeld held before run (Ok start) old now → JudgesFirst (slice_range held start (start + n)) (Ok judged) now next →
-    RunsHeld held before (counted judged run) (Ok (start + n + 1)) old next
-held_more held before run start n judged found more old now next so_far line = λ known inner first from.
-    goes_on known _ _ run judged more first now next (so_far known inner first from) (line _ _ (line_at held inner start n found))
+  -- one line more, that doesn't end the run
+  pub held_more : (held : List ℕ) (before run : Progress) (start n : ℕ) (judged : Judged) → position is_end (drop start held) ≡ Some n → (judged ≡ End → ⊥) →
+      (old now next : LayeredView W FT) → RunsHeld see held before run (Ok start) old now → JudgesFirst see (slice_range held start (start + n)) (Ok judged) now next →
+      RunsHeld see held before (counted judged run) (Ok (start + n + 1)) old next
+  held_more held before run start n judged found more old now next so_far line = λ known inner first from.
+      goes_on see known _ _ run judged more first now next (so_far known inner first from) (line _ _ (line_at held inner start n found))
 
--- one that ends it
-pub held_ends : (held : List ℕ) (before run : Progress) (start n : ℕ) (cause : LineCause) → position is_end (drop start held) ≡ Some n → run.number < last_number →
-    (old now next : Seen) → RunsHeld held before run (Ok start) old now → JudgesFirst (slice_range held start (start + n)) (Err cause) now next →
-    RunsHeld held before run (Err cause) old next
-held_ends held before run start n cause found below old now next so_far line = λ known inner first from.
-    ends_at known _ _ run.accepted run.number cause below first now next (so_far known inner first from) (line _ _ (line_at held inner start n found))
+  -- one that ends it
+  pub held_ends : (held : List ℕ) (before run : Progress) (start n : ℕ) (cause : LineCause) → position is_end (drop start held) ≡ Some n → run.number < last_number →
+      (old now next : LayeredView W FT) → RunsHeld see held before run (Ok start) old now → JudgesFirst see (slice_range held start (start + n)) (Err cause) now next →
+      RunsHeld see held before run (Err cause) old next
+  held_ends held before run start n cause found below old now next so_far line = λ known inner first from.
+      ends_at see known _ _ run.accepted run.number cause below first now next (so_far known inner first from) (line _ _ (line_at held inner start n found))
 
 -- ---- what the buffer holds, and what follows
 
@@ -154,60 +148,61 @@ remaining_is remaining lines held rest holds =
     ap (λ bytes. if reader_capacity lines == 0 then None else prepend_known bytes (remaining (reader_inner lines))) holds
     ∙ split (reader_capacity lines == 0) held rest (remaining (reader_inner lines))
 
--- the held lines that were judged are consumed
-pub consumed : {T : Type 0} (remaining : T → Option (List ℕ)) (old new : BufReader T Global) (held rest : List ℕ) (before after : Progress) (judged : ℕ) →
-    reader_buffer old ≡ held ++ rest → judged ≤ length held → reader_buffer new ≡ drop judged (reader_buffer old) → reader_inner new ≡ reader_inner old →
-    reader_capacity new ≡ reader_capacity old → (first now : Seen) → RunsHeld held before after (Ok judged) first now →
-    RunsSome (reader_remaining remaining old) (reader_remaining remaining new) before after (Ok true) first now
-consumed remaining old new held rest before after judged holds within drops inner room first now ran =
-    let left : reader_buffer new ≡ drop judged held ++ rest = drops ∙ ap (drop judged) holds ∙ drop-append-le judged held rest within in
-    let same : beyond remaining new ≡ beyond remaining old = (λ i. if room i == 0 then None else remaining (inner i)) in
-    let is : reader_remaining remaining new ≡ prepend_known (drop judged held) (prepend_known rest (beyond remaining old)) =
-    remaining_is remaining new (drop judged held) rest left ∙ ap (λ more. prepend_known (drop judged held) (prepend_known rest more)) same in
-    λ known start from. subst (λ l. GoesOver known l after.accepted after.number start now) (sym is)
-    (ran known (prepend_known rest (beyond remaining old)) start
-    (subst (λ l. GoesOver known l before.accepted before.number start first) (remaining_is remaining old held rest holds) from))
+module _ {W FT : Type 0} (see : LayeredView W FT → Seen) where
+  -- the held lines that were judged are consumed
+  pub consumed : {T : Type 0} (remaining : T → Option (List ℕ)) (old new : BufReader T Global) (held rest : List ℕ) (before after : Progress) (judged : ℕ) →
+      reader_buffer old ≡ held ++ rest → judged ≤ length held → reader_buffer new ≡ drop judged (reader_buffer old) → reader_inner new ≡ reader_inner old →
+      reader_capacity new ≡ reader_capacity old → (first now : LayeredView W FT) → RunsHeld see held before after (Ok judged) first now →
+      RunsSome see (reader_remaining remaining old) (reader_remaining remaining new) before after (Ok true) first now
+  consumed remaining old new held rest before after judged holds within drops inner room first now ran =
+      let left : reader_buffer new ≡ drop judged held ++ rest = drops ∙ ap (drop judged) holds ∙ drop-append-le judged held rest within in
+      let same : beyond remaining new ≡ beyond remaining old = (λ i. if room i == 0 then None else remaining (inner i)) in
+      let is : reader_remaining remaining new ≡ prepend_known (drop judged held) (prepend_known rest (beyond remaining old)) =
+      remaining_is remaining new (drop judged held) rest left ∙ ap (λ more. prepend_known (drop judged held) (prepend_known rest more)) same in
+      λ known start from. subst (λ l. GoesOver see known l after.accepted after.number start now) (sym is)
+      (ran known (prepend_known rest (beyond remaining old)) start
+      (subst (λ l. GoesOver see known l before.accepted before.number start first) (remaining_is remaining old held rest holds) from))
 
--- a held line ended the run
-pub held_fault : {T : Type 0} (remaining : T → Option (List ℕ)) (old : BufReader T Global) (left : Option (List ℕ)) (held rest : List ℕ) (before after : Progress) (cause : LineCause) →
-    reader_buffer old ≡ held ++ rest → (first now : Seen) → RunsHeld held before after (Err cause) first now →
-    RunsSome (reader_remaining remaining old) left before after (Err cause) first now
-held_fault remaining old left held rest before after cause holds first now ran =
-    λ known start from. ran known (prepend_known rest (beyond remaining old)) start
-    (subst (λ l. GoesOver known l before.accepted before.number start first) (remaining_is remaining old held rest holds) from)
+  -- a held line ended the run
+  pub held_fault : {T : Type 0} (remaining : T → Option (List ℕ)) (old : BufReader T Global) (left : Option (List ℕ)) (held rest : List ℕ) (before after : Progress) (cause : LineCause) →
+      reader_buffer old ≡ held ++ rest → (first now : LayeredView W FT) → RunsHeld see held before after (Err cause) first now →
+      RunsSome see (reader_remaining remaining old) left before after (Err cause) first now
+  held_fault remaining old left held rest before after cause holds first now ran =
+      λ known start from. ran known (prepend_known rest (beyond remaining old)) start
+      (subst (λ l. GoesOver see known l before.accepted before.number start first) (remaining_is remaining old held rest holds) from)
 
--- no held line was judged
-none_judged : {T : Type 0} (remaining : T → Option (List ℕ)) (old : BufReader T Global) (held rest : List ℕ) (before after : Progress) →
-    reader_buffer old ≡ held ++ rest → (first now : Seen) → RunsHeld held before after (Ok 0) first now →
-    RunsSome (reader_remaining remaining old) (reader_remaining remaining old) before after (Ok true) first now
-none_judged remaining old held rest before after holds first now ran =
-    consumed remaining old old held rest before after 0 holds (omega arith) refl refl refl first now ran
+  -- no held line was judged
+  none_judged : {T : Type 0} (remaining : T → Option (List ℕ)) (old : BufReader T Global) (held rest : List ℕ) (before after : Progress) →
+      reader_buffer old ≡ held ++ rest → (first now : LayeredView W FT) → RunsHeld see held before after (Ok 0) first now →
+      RunsSome see (reader_remaining remaining old) (reader_remaining remaining old) before after (Ok true) first now
+  none_judged remaining old held rest before after holds first now ran =
+      consumed remaining old old held rest before after 0 holds (omega arith) refl refl refl first now ran
 
--- ---- the next line, where none was held
+  -- ---- the next line, where none was held
 
--- it doesn't end the run
-pub next_more : {T : Type 0} (remaining : T → Option (List ℕ)) (old : BufReader T Global) (left : Option (List ℕ)) (held rest : List ℕ) (before run : Progress) (judged : Judged) →
-    reader_buffer old ≡ held ++ rest → (judged ≡ End → ⊥) → (first now next : Seen) → RunsHeld held before run (Ok 0) first now →
-    ShowsAndJudges (reader_remaining remaining old) left (Ok judged) now next →
-    RunsSome (reader_remaining remaining old) left before (counted judged run) (Ok true) first next
-next_more remaining old left held rest before run judged holds more first now next ran line = λ known start from.
-    shown_first known (reader_remaining remaining old) left run.accepted run.number (Ok judged) (goes_on known (reader_remaining remaining old) left run judged more) start now next
-    (none_judged remaining old held rest before run holds first now ran known start from) line
+  -- it doesn't end the run
+  pub next_more : {T : Type 0} (remaining : T → Option (List ℕ)) (old : BufReader T Global) (left : Option (List ℕ)) (held rest : List ℕ) (before run : Progress) (judged : Judged) →
+      reader_buffer old ≡ held ++ rest → (judged ≡ End → ⊥) → (first now next : LayeredView W FT) → RunsHeld see held before run (Ok 0) first now →
+      ShowsAndJudges see (reader_remaining remaining old) left (Ok judged) now next →
+      RunsSome see (reader_remaining remaining old) left before (counted judged run) (Ok true) first next
+  next_more remaining old left held rest before run judged holds more first now next ran line = λ known start from.
+      shown_first see known (reader_remaining remaining old) left run.accepted run.number (Ok judged) (goes_on see known (reader_remaining remaining old) left run judged more) start now next
+      (none_judged remaining old held rest before run holds first now ran known start from) line
 
--- there is none
-pub next_none : {T : Type 0} (remaining : T → Option (List ℕ)) (old : BufReader T Global) (left : Option (List ℕ)) (held rest : List ℕ) (before run : Progress) →
-    reader_buffer old ≡ held ++ rest → run.number < last_number → (first now next : Seen) → RunsHeld held before run (Ok 0) first now →
-    ShowsAndJudges (reader_remaining remaining old) left (Ok End) now next →
-    RunsSome (reader_remaining remaining old) left before run (Ok false) first next
-next_none remaining old left held rest before run holds below first now next ran line = λ known start from.
-    shown_first known (reader_remaining remaining old) left run.accepted run.number (Ok End) (ends_input known (reader_remaining remaining old) left run.accepted run.number below) start now next
-    (none_judged remaining old held rest before run holds first now ran known start from) line
+  -- there is none
+  pub next_none : {T : Type 0} (remaining : T → Option (List ℕ)) (old : BufReader T Global) (left : Option (List ℕ)) (held rest : List ℕ) (before run : Progress) →
+      reader_buffer old ≡ held ++ rest → run.number < last_number → (first now next : LayeredView W FT) → RunsHeld see held before run (Ok 0) first now →
+      ShowsAndJudges see (reader_remaining remaining old) left (Ok End) now next →
+      RunsSome see (reader_remaining remaining old) left before run (Ok false) first next
+  next_none remaining old left held rest before run holds below first now next ran line = λ known start from.
+      shown_first see known (reader_remaining remaining old) left run.accepted run.number (Ok End) (ends_input see known (reader_remaining remaining old) left run.accepted run.number below) start now next
+      (none_judged remaining old held rest before run holds first now ran known start from) line
 
--- it ends the run
-pub next_fault : {T : Type 0} (remaining : T → Option (List ℕ)) (old : BufReader T Global) (left : Option (List ℕ)) (held rest : List ℕ) (before run : Progress) (cause : LineCause) →
-    reader_buffer old ≡ held ++ rest → run.number < last_number → (first now next : Seen) → RunsHeld held before run (Ok 0) first now →
-    ShowsAndJudges (reader_remaining remaining old) left (Err cause) now next →
-    RunsSome (reader_remaining remaining old) left before run (Err cause) first next
-next_fault remaining old left held rest before run cause holds below first now next ran line = λ known start from.
-    shown_first known (reader_remaining remaining old) left run.accepted run.number (Err cause) (ends_at known (reader_remaining remaining old) left run.accepted run.number cause below) start now next
-    (none_judged remaining old held rest before run holds first now ran known start from) line
+  -- it ends the run
+  pub next_fault : {T : Type 0} (remaining : T → Option (List ℕ)) (old : BufReader T Global) (left : Option (List ℕ)) (held rest : List ℕ) (before run : Progress) (cause : LineCause) →
+      reader_buffer old ≡ held ++ rest → run.number < last_number → (first now next : LayeredView W FT) → RunsHeld see held before run (Ok 0) first now →
+      ShowsAndJudges see (reader_remaining remaining old) left (Err cause) now next →
+      RunsSome see (reader_remaining remaining old) left before run (Err cause) first next
+  next_fault remaining old left held rest before run cause holds below first now next ran line = λ known start from.
+      shown_first see known (reader_remaining remaining old) left run.accepted run.number (Err cause) (ends_at see known (reader_remaining remaining old) left run.accepted run.number cause below) start now next
+      (none_judged remaining old held rest before run holds first now ran known start from) line

@@ -1,3 +1,4 @@
+pub mod CallsMade
 pub mod Choices
 pub mod Pairs
 pub mod MadeCalls

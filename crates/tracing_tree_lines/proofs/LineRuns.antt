@@ -18,9 +18,9 @@ use Rattle.tracing_tree_layer.specs.Layered.Run.{Run, run_by_cause, no_call, the
 use Rattle.tracing_tree_layer.specs.Layered.Answered.{IsAnswered, Writes}
 use Rattle.tracing_tree_layer.specs.Layered.Headline.{run_from}
 use Rattle.tracing_tree_lines.specs.Lines.Spelled.{input_lines, is_skipped, SpellsCall, SpellCalls}
-use Rattle.tracing_tree_lines.specs.Lines.Runs.{EndsRun, IsLeft, last_number, RunsOver, CountsEnd}
+use Rattle.tracing_tree_lines.specs.Lines.Runs.{AreAccepted, EndsRun, IsLeft, last_number, MakesCalls, RunsOver, CountsEnd}
 use Rattle.tracing_tree_lines.specs.Lines.Reads.{TakesLine, HasNoLine, is_from_outside}
-use Rattle.tracing_tree_layer.specs.Layer.Layers.{Flushes}
+use Rattle.tracing_tree_layer.specs.Layer.Layers.{LayeredView, Changes, Flushes}
 use Rattle.tracing_tree_lines.specs.Lines.SoFar.{IsSoFar, IsKnownSoFar, GoesOver, counted}
 use Rattle.tracing_tree_lines.specs.Lines.Steps.{MakesCall, MakesSpelled, SkipsLine, FailsLine, JudgesLine, ShowsAndJudges, EndsLines}
 use Rattle.tracing_tree_layer.specs.declared.call.Call.{Call}
@@ -32,6 +32,7 @@ use Rattle.tracing_tree_lines.specs.declared.lines.Progress.{Progress}
 use Rattle.tracing_tree_lines.specs.declared.lines.LineCause.TheVariants.{Settings as NoSettings, NotACall, Read, Memory, Refused}
 use Rattle.tracing_tree_layer.proofs.DrawnLaws.{draw-append}
 use Rattle.tracing_tree_layer.proofs.RunLaws.{run-append}
+use Rattle.tracing_tree_lines.proofs.CallsMade.{none_made, made_once, accepted_more, accepted_flushed, accepted_unseen}
 
 -- ---- one line
 
@@ -48,6 +49,14 @@ unmade_line old new known left line NotACall first judged made = (record { line 
 unmade_line old new known left line Read first judged made = absurd made
 unmade_line old new known left line Memory first judged made = made
 unmade_line old new known left line (Refused refusal) first judged made = record { line = line; first = first; judged = judged; made = made }
+
+-- a line that could not be read
+pub outside_line : (known left : Option (List ℕ)) (cause : LineCause) (seen : Seen) → is_from_outside cause ≡ true → JudgesLine known left (Err cause) seen seen
+outside_line known left NoSettings seen outside = cc
+outside_line known left NotACall seen outside = cc
+outside_line known left Read seen outside = refl
+outside_line known left Memory seen outside = refl
+outside_line known left (Refused refusal) seen outside = cc
 
 -- the count of the writer's faults after a line that ends no run
 pub calm_line : (known left : Option (List ℕ)) (judged : Judged) (old new : Seen) → JudgesLine known left (Ok judged) old new →
@@ -118,9 +127,9 @@ module _ (first : Seen) where
       ∙ (λ i. record { state = state_after first.settings first.timer r.state last; rows = r.rows ++ append-nil added i; replies = r.replies ++ reply_of r.state.forest last ∷ [] })
 
   -- no line is judged yet
-  pub starts : (known : Option (List ℕ)) → IsKnownSoFar first known known 0 2 first
-  starts None = tt
-  starts (Some input) = record {
+  pub starts : (Made : List Call → Type 0) → Made [] → (known : Option (List ℕ)) → IsKnownSoFar first Made known known 0 2 first
+  starts Made none None = tt
+  starts Made none (Some input) = record {
     done = [];
     apart = refl;
     number_is = refl;
@@ -130,6 +139,7 @@ module _ (first : Seen) where
     left = refl;
     taken = refl;
     appends = Appends-nil first.writer.bytes;
+    made = none;
   }
 
   -- one line more is done
@@ -137,13 +147,14 @@ module _ (first : Seen) where
   one_done lines done others after line apart e = apart ∙ ap (λ rest. done ++ rest) e ∙ sym (append_assoc done (line ∷ []) after)
 
   -- a skipped line more
-  pub skips : (known middle left : Option (List ℕ)) (accepted number : ℕ) (now next : Seen) →
-      IsKnownSoFar first known middle accepted number now → SkipsLine middle left × (next ≡ now) → IsKnownSoFar first known left accepted (number + 1) next
-  skips None middle left accepted number now next so_far h = tt
-  skips (Some x) None left accepted number now next so_far h = absurd so_far
-  skips (Some x) (Some y) None accepted number now next so_far h = absurd h.0.first
-  skips (Some x) (Some y) (Some z) accepted number now next so_far h =
-      let longer : IsSoFar first (input_lines x) (input_lines z) accepted (number + 1) now = record {
+  pub skips : (Made Next : List Call → Type 0) → ((calls : List Call) → Made calls → Next calls) →
+      (known middle left : Option (List ℕ)) (accepted number : ℕ) (now next : Seen) →
+      IsKnownSoFar first Made known middle accepted number now → SkipsLine middle left × (next ≡ now) → IsKnownSoFar first Next known left accepted (number + 1) next
+  skips Made Next more None middle left accepted number now next so_far h = tt
+  skips Made Next more (Some x) None left accepted number now next so_far h = absurd so_far
+  skips Made Next more (Some x) (Some y) None accepted number now next so_far h = absurd h.0.first
+  skips Made Next more (Some x) (Some y) (Some z) accepted number now next so_far h =
+      let longer : IsSoFar first Next (input_lines x) (input_lines z) accepted (number + 1) now = record {
         done = so_far.done ++ h.0.line ∷ [];
         apart = one_done _ so_far.done _ _ h.0.line so_far.apart h.0.first;
         number_is = omega (arith, so_far.number_is, length-append so_far.done (h.0.line ∷ []));
@@ -153,15 +164,17 @@ module _ (first : Seen) where
         left = so_far.left;
         taken = so_far.taken;
         appends = so_far.appends;
+        made = more so_far.calls so_far.made;
       } in
-      subst (IsSoFar first (input_lines x) (input_lines z) accepted (number + 1)) (sym h.1) longer
+      subst (IsSoFar first Next (input_lines x) (input_lines z) accepted (number + 1)) (sym h.1) longer
 
   -- the writer is flushed
-  pub flushes : (known middle : Option (List ℕ)) (accepted number : ℕ) (now next : Seen) →
-      IsKnownSoFar first known middle accepted number now → Flushes now next → IsKnownSoFar first known middle accepted number next
-  flushes None middle accepted number now next so_far h = tt
-  flushes (Some x) None accepted number now next so_far h = absurd so_far
-  flushes (Some x) (Some y) accepted number now next so_far h = record {
+  pub flushes : (Made Next : List Call → Type 0) → ((calls : List Call) → Made calls → Next calls) →
+      (known middle : Option (List ℕ)) (accepted number : ℕ) (now next : Seen) →
+      IsKnownSoFar first Made known middle accepted number now → Flushes now next → IsKnownSoFar first Next known middle accepted number next
+  flushes Made Next more None middle accepted number now next so_far h = tt
+  flushes Made Next more (Some x) None accepted number now next so_far h = absurd so_far
+  flushes Made Next more (Some x) (Some y) accepted number now next so_far h = record {
     done = so_far.done;
     apart = so_far.apart;
     number_is = so_far.number_is;
@@ -172,6 +185,7 @@ module _ (first : Seen) where
         ∙ ap (λ faults. seen_later first (run_from first so_far.calls).state (record next.writer { faults = faults })) (sym (ap (λ (s : Seen). s.writer.faults) h.same));
     taken = so_far.taken;
     appends = Appends-kept first.writer.bytes now.writer.bytes next.writer.bytes _ so_far.appends h.kept;
+    made = more so_far.calls so_far.made;
   }
 
   -- the text of a call behind the text of the run so far
@@ -183,13 +197,14 @@ module _ (first : Seen) where
       (Appends-trans old mid new (draw first.settings r.rows) (draw first.settings added) before more)
 
   -- an accepted call more
-  pub accepts : (known middle left : Option (List ℕ)) (accepted number : ℕ) (now next : Seen) →
-      IsKnownSoFar first known middle accepted number now → (reply : Reply) × MakesCall middle left (Ok reply) now next →
-      IsKnownSoFar first known left (accepted + 1) (number + 1) next
-  accepts None middle left accepted number now next so_far h = tt
-  accepts (Some x) None left accepted number now next so_far h = absurd so_far
-  accepts (Some x) (Some y) None accepted number now next so_far h = absurd h.1.first
-  accepts (Some x) (Some y) (Some z) accepted number now next so_far h =
+  pub accepts : (Made Next : List Call → Type 0) (known middle left : Option (List ℕ)) (accepted number : ℕ) (now next : Seen) →
+      IsKnownSoFar first Made known middle accepted number now → (h : (reply : Reply) × MakesCall middle left (Ok reply) now next) →
+      ((calls : List Call) → Made calls → Next (calls ++ h.1.made.call ∷ [])) →
+      IsKnownSoFar first Next known left (accepted + 1) (number + 1) next
+  accepts Made Next None middle left accepted number now next so_far h more = tt
+  accepts Made Next (Some x) None left accepted number now next so_far h more = absurd so_far
+  accepts Made Next (Some x) (Some y) None accepted number now next so_far h more = absurd h.1.first
+  accepts Made Next (Some x) (Some y) (Some z) accepted number now next so_far h more =
       let m = h.1 in
       let r : Run = run_from first so_far.calls in
       let from : IsAnswered m.made.call (Ok h.0) (seen_later first r.state now.writer) next =
@@ -207,6 +222,7 @@ module _ (first : Seen) where
             ∙ omega (arith, so_far.taken, length-append so_far.calls (m.made.call ∷ []), length-append r.replies (reply_of r.state.forest m.made.call ∷ []));
         appends = subst (λ (r : Run). Appends first.writer.bytes next.writer.bytes (draw first.settings r.rows)) (sym longer)
             (adds_call r m.made.call first.writer.bytes now.writer.bytes next.writer.bytes so_far.appends from.written.0);
+        made = more so_far.calls so_far.made;
       }
 
   -- ---- the end of a run
@@ -249,12 +265,13 @@ module _ (first : Seen) where
       subst P (sym e) (subst (Appends first.writer.bytes now.writer.bytes) (sym (append-nil text)) h)
 
   -- the end of the input
-  pub finishes : (known middle : Option (List ℕ)) (accepted number : ℕ) (now next : Seen) → number < last_number →
-      IsKnownSoFar first known middle accepted number now → HasNoLine middle × (next ≡ now) →
-      IfSome known (λ input. RunsOver (input_lines input) accepted None first next.writer)
-  finishes None middle accepted number now next below so_far h = tt
-  finishes (Some x) None accepted number now next below so_far h = absurd so_far
-  finishes (Some x) (Some y) accepted number now next below so_far h =
+  pub finishes : (Made : List Call → Type 0) (Makes : Option LineCause → Option (List ℕ) → List Call → Type 0) → ((line : Option (List ℕ)) (calls : List Call) → Made calls → Makes None line calls) →
+      (known middle : Option (List ℕ)) (accepted number : ℕ) (now next : Seen) → number < last_number →
+      IsKnownSoFar first Made known middle accepted number now → HasNoLine middle × (next ≡ now) →
+      IfSome known (λ input. RunsOver (input_lines input) accepted None first next.writer Makes)
+  finishes Made Makes more None middle accepted number now next below so_far h = tt
+  finishes Made Makes more (Some x) None accepted number now next below so_far h = absurd so_far
+  finishes Made Makes more (Some x) (Some y) accepted number now next below so_far h =
       let lines = input_lines x in
       let all : lines ≡ so_far.done = so_far.apart ∙ ap (λ rest. so_far.done ++ rest) h.0 ∙ append-nil so_far.done in
       record {
@@ -273,15 +290,17 @@ module _ (first : Seen) where
         front = [];
         left = refl;
         appends = kept now next _ h.1 so_far.appends;
+        made = more _ so_far.calls so_far.made;
       }
 
   -- a fault from outside
-  pub breaks : (known middle : Option (List ℕ)) (accepted number : ℕ) (now next : Seen) (cause : LineCause) → is_from_outside cause ≡ true →
-      MayEndAt number cause → IsKnownSoFar first known middle accepted number now → next ≡ now →
-      IfSome known (λ input. RunsOver (input_lines input) accepted (Some (record { line = number; cause = cause })) first next.writer)
-  breaks None middle accepted number now next cause outside reached so_far same = tt
-  breaks (Some x) None accepted number now next cause outside reached so_far same = absurd so_far
-  breaks (Some x) (Some y) accepted number now next cause outside reached so_far same = record {
+  pub breaks : (Made : List Call → Type 0) (Makes : Option LineCause → Option (List ℕ) → List Call → Type 0) (cause : LineCause) → ((line : Option (List ℕ)) (calls : List Call) → Made calls → Makes (Some cause) line calls) →
+      (known middle : Option (List ℕ)) (accepted number : ℕ) (now next : Seen) → is_from_outside cause ≡ true →
+      MayEndAt number cause → IsKnownSoFar first Made known middle accepted number now → next ≡ now →
+      IfSome known (λ input. RunsOver (input_lines input) accepted (Some (record { line = number; cause = cause })) first next.writer Makes)
+  breaks Made Makes cause more None middle accepted number now next outside reached so_far same = tt
+  breaks Made Makes cause more (Some x) None accepted number now next outside reached so_far same = absurd so_far
+  breaks Made Makes cause more (Some x) (Some y) accepted number now next outside reached so_far same = record {
     judged = length so_far.done;
     within = omega (arith, ap length so_far.apart, length-append so_far.done (input_lines y));
     cause = Some cause;
@@ -297,15 +316,17 @@ module _ (first : Seen) where
     front = [];
     left = left_outside (run_from first so_far.calls).state _ cause outside;
     appends = kept now next _ same so_far.appends;
+    made = more _ so_far.calls so_far.made;
   }
 
   -- a line that was read whole is to blame
-  blames : (lines others after : List (List ℕ)) (line : List ℕ) (accepted number : ℕ) (now next : Seen) (cause : LineCause) (front : List ℕ) →
-      number < last_number → (so_far : IsSoFar first lines others accepted number now) → others ≡ line ∷ after →
+  blames : (Made : List Call → Type 0) (Makes : Option LineCause → Option (List ℕ) → List Call → Type 0) (lines others after : List (List ℕ)) (line : List ℕ) (accepted number : ℕ) (now next : Seen) (cause : LineCause) (front : List ℕ) →
+      number < last_number → (so_far : IsSoFar first Made lines others accepted number now) → others ≡ line ∷ after →
       EndsRun first.settings first.timer (run_from first so_far.calls).state (Some line) cause →
       IsLeft first.settings first.timer (run_from first so_far.calls).state first.writer.whole (Some cause) (Some line) front →
-      Appends now.writer.bytes next.writer.bytes front → RunsOver lines accepted (Some (record { line = number; cause = cause })) first next.writer
-  blames lines others after line accepted number now next cause front below so_far e ends left appends =
+      Appends now.writer.bytes next.writer.bytes front → Makes (Some cause) (Some line) so_far.calls →
+      RunsOver lines accepted (Some (record { line = number; cause = cause })) first next.writer Makes
+  blames Made Makes lines others after line accepted number now next cause front below so_far e ends left appends makes =
       let r : Run = run_from first so_far.calls in
       let apart : lines ≡ so_far.done ++ line ∷ after = so_far.apart ∙ ap (λ rest. so_far.done ++ rest) e in
       let at : slice_get lines (length so_far.done) ≡ Some line =
@@ -326,6 +347,7 @@ module _ (first : Seen) where
         front = front;
         left = subst (λ o. IsLeft first.settings first.timer r.state first.writer.whole (Some cause) o front) (sym at) left;
         appends = Appends-trans first.writer.bytes now.writer.bytes next.writer.bytes _ front so_far.appends appends;
+        made = subst (λ o. Makes (Some cause) o so_far.calls) (sym at) makes;
       }
 
   -- what a refused call leaves behind the text
@@ -341,107 +363,143 @@ module _ (first : Seen) where
   leaves state line call Refusals.Failed old new spelled h = ([], refl, Appends-kept old.bytes old.bytes new.bytes [] (Appends-nil old.bytes) h.0)
 
   -- a line that spells nothing
-  fails : (known middle left : Option (List ℕ)) (accepted number : ℕ) (now next : Seen) → number < last_number →
-      IsKnownSoFar first known middle accepted number now → FailsLine middle left × (next ≡ now) →
-      IfSome known (λ input. RunsOver (input_lines input) accepted (Some (record { line = number; cause = NotACall })) first next.writer)
-  fails None middle left accepted number now next below so_far h = tt
-  fails (Some x) None left accepted number now next below so_far h = absurd so_far
-  fails (Some x) (Some y) None accepted number now next below so_far h = absurd h.0.first
-  fails (Some x) (Some y) (Some z) accepted number now next below so_far h =
+  pub fails : (Made : List Call → Type 0) (Makes : Option LineCause → Option (List ℕ) → List Call → Type 0) → ((line : Option (List ℕ)) (calls : List Call) → Made calls → Makes (Some NotACall) line calls) →
+      (known middle left : Option (List ℕ)) (accepted number : ℕ) (now next : Seen) → number < last_number →
+      IsKnownSoFar first Made known middle accepted number now → FailsLine middle left × (next ≡ now) →
+      IfSome known (λ input. RunsOver (input_lines input) accepted (Some (record { line = number; cause = NotACall })) first next.writer Makes)
+  fails Made Makes more None middle left accepted number now next below so_far h = tt
+  fails Made Makes more (Some x) None left accepted number now next below so_far h = absurd so_far
+  fails Made Makes more (Some x) (Some y) None accepted number now next below so_far h = absurd h.0.first
+  fails Made Makes more (Some x) (Some y) (Some z) accepted number now next below so_far h =
       let P : Seen → Type 0 = λ s. Appends now.writer.bytes s.writer.bytes [] in
-      blames (input_lines x) (input_lines y) (input_lines z) h.0.line accepted number now next NotACall [] below so_far h.0.first h.0.nothing refl
-      (subst P (sym h.1) (Appends-nil now.writer.bytes))
+      blames Made Makes (input_lines x) (input_lines y) (input_lines z) h.0.line accepted number now next NotACall [] below so_far h.0.first h.0.nothing refl
+      (subst P (sym h.1) (Appends-nil now.writer.bytes)) (more (Some h.0.line) so_far.calls so_far.made)
 
   -- a line whose call is refused
-  refuses : (known middle left : Option (List ℕ)) (accepted number : ℕ) (now next : Seen) (refusal : Refusal) → number < last_number →
-      IsKnownSoFar first known middle accepted number now → MakesCall middle left (Err refusal) now next →
-      IfSome known (λ input. RunsOver (input_lines input) accepted (Some (record { line = number; cause = Refused refusal })) first next.writer)
-  refuses None middle left accepted number now next refusal below so_far m = tt
-  refuses (Some x) None left accepted number now next refusal below so_far m = absurd so_far
-  refuses (Some x) (Some y) None accepted number now next refusal below so_far m = absurd m.first
-  refuses (Some x) (Some y) (Some z) accepted number now next refusal below so_far m =
+  pub refuses : (Made : List Call → Type 0) (Makes : Option LineCause → Option (List ℕ) → List Call → Type 0) (known middle left : Option (List ℕ)) (accepted number : ℕ) (now next : Seen) (refusal : Refusal) →
+      number < last_number → IsKnownSoFar first Made known middle accepted number now → (m : MakesCall middle left (Err refusal) now next) →
+      ((calls : List Call) → Made calls → Makes (Some (Refused refusal)) (Some m.line) calls) →
+      IfSome known (λ input. RunsOver (input_lines input) accepted (Some (record { line = number; cause = Refused refusal })) first next.writer Makes)
+  refuses Made Makes None middle left accepted number now next refusal below so_far m more = tt
+  refuses Made Makes (Some x) None left accepted number now next refusal below so_far m more = absurd so_far
+  refuses Made Makes (Some x) (Some y) None accepted number now next refusal below so_far m more = absurd m.first
+  refuses Made Makes (Some x) (Some y) (Some z) accepted number now next refusal below so_far m more =
       let r : Run = run_from first so_far.calls in
       let from : IsAnswered m.made.call (Err refusal) (seen_later first r.state now.writer) next =
       subst (λ s. IsAnswered m.made.call (Err refusal) s next) so_far.left m.made.answered in
       let (front, left, appends) = leaves r.state m.line m.made.call refusal (seen_later first r.state now.writer).writer next.writer m.made.spelled from.written in
-      blames (input_lines x) (input_lines y) (input_lines z) m.line accepted number now next (Refused refusal) front below so_far m.first
-      (m.made.call, m.made.spelled, from.allowed) left appends
+      blames Made Makes (input_lines x) (input_lines y) (input_lines z) m.line accepted number now next (Refused refusal) front below so_far m.first
+      (m.made.call, m.made.spelled, from.allowed) left appends (more so_far.calls so_far.made)
+
+-- ---- a registry with a layer
+
+module _ {W FT : Type 0} (see : LayeredView W FT → Seen) where
+  -- the calls that were accepted from the first on
+  abbrev AcceptedTo : LayeredView W FT → LayeredView W FT → List Call → Type 0
+  AcceptedTo first now calls = AreAccepted see calls first now
+
+  -- the calls that were made, by the cause and the line that end the run
+  abbrev Ends : LayeredView W FT → LayeredView W FT → Option LineCause → Option (List ℕ) → List Call → Type 0
+  Ends first now = MakesCalls see first now
 
   -- a line that ends the run
-  pub stops : (known middle left : Option (List ℕ)) (accepted number : ℕ) (now next : Seen) (cause : LineCause) → number < last_number →
-      IsKnownSoFar first known middle accepted number now → JudgesLine middle left (Err cause) now next →
-      IfSome known (λ input. RunsOver (input_lines input) accepted (Some (record { line = number; cause = cause })) first next.writer)
-  stops known middle left accepted number now next NoSettings below so_far h = absurd h
-  stops known middle left accepted number now next NotACall below so_far h = fails known middle left accepted number now next below so_far h
-  stops known middle left accepted number now next Read below so_far h =
-      breaks known middle accepted number now next Read refl (may_end number Read below) so_far h
-  stops known middle left accepted number now next Memory below so_far h =
-      breaks known middle accepted number now next Memory refl (may_end number Memory below) so_far h
-  stops known middle left accepted number now next (Refused refusal) below so_far h =
-      refuses known middle left accepted number now next refusal below so_far h
+  stops : (known middle left : Option (List ℕ)) (accepted number : ℕ) (first now next : LayeredView W FT) (cause : LineCause) → number < last_number →
+      IsKnownSoFar (see first) (AcceptedTo first now) known middle accepted number (see now) → Changes see (JudgesLine middle left (Err cause)) now next →
+      IfSome known (λ input. RunsOver (input_lines input) accepted (Some (record { line = number; cause = cause })) (see first) (see next).writer (Ends first next))
+  stops known middle left accepted number first now next NoSettings below so_far h = absurd h.changed
+  stops known middle left accepted number first now next NotACall below so_far h =
+      fails (see first) (AcceptedTo first now) (Ends first next) (λ line calls made. accepted_unseen see calls first now next made h.fixed h.changed.1)
+      known middle left accepted number (see now) (see next) below so_far h.changed
+  stops known middle left accepted number first now next Read below so_far h =
+      breaks (see first) (AcceptedTo first now) (Ends first next) Read (λ line calls made. accepted_unseen see calls first now next made h.fixed h.changed)
+      known middle accepted number (see now) (see next) refl (may_end (see first) number Read below) so_far h.changed
+  stops known middle left accepted number first now next Memory below so_far h =
+      breaks (see first) (AcceptedTo first now) (Ends first next) Memory (λ line calls made. accepted_unseen see calls first now next made h.fixed h.changed)
+      known middle accepted number (see now) (see next) refl (may_end (see first) number Memory below) so_far h.changed
+  stops known middle left accepted number first now next (Refused refusal) below so_far h =
+      let m = h.changed in
+      refuses (see first) (AcceptedTo first now) (Ends first next) known middle left accepted number (see now) (see next) refusal below so_far m
+      (λ calls made. (
+        now,
+        made,
+        m.made.call,
+        m.made.spelled,
+        made_once see m.made.call (Err refusal) now next (record { changed = m.made.answered; fixed = h.fixed }),
+      ))
 
--- the writer is flushed
-pub goes_on_flushed : (known middle : Option (List ℕ)) (accepted number : ℕ) (first now next : Seen) →
-    GoesOver known middle accepted number first now → Flushes now next → GoesOver known middle accepted number first next
-goes_on_flushed known middle accepted number first now next h k = record {
-  so_far = flushes first known middle accepted number now next h.so_far k;
-  calm = ap (λ (s : Seen). s.writer.faults) k.same ∙ h.calm;
-}
+  -- no line is judged yet
+  pub starts_over : (known : Option (List ℕ)) (first : LayeredView W FT) → GoesOver see known known 0 2 first first
+  starts_over known first = record { so_far = starts (see first) (AcceptedTo first first) (none_made see first) known; calm = refl }
 
--- what was drawn may be passed on before a line is judged
-pub shown_first : (known middle left : Option (List ℕ)) (accepted number : ℕ) (result : Result Judged LineCause) {Both : Seen → Seen → Type 0} →
-    ((first now next : Seen) → GoesOver known middle accepted number first now → JudgesLine middle left result now next → Both first next) →
-    (first now next : Seen) → GoesOver known middle accepted number first now → ShowsAndJudges middle left result now next → Both first next
-shown_first known middle left accepted number result judge first now next h k =
-    judge first k.shown next (goes_on_flushed known middle accepted number first now k.shown h k.flushed) k.judged
+  -- the writer is flushed
+  goes_on_flushed : (known middle : Option (List ℕ)) (accepted number : ℕ) (first now next : LayeredView W FT) →
+      GoesOver see known middle accepted number first now → Changes see Flushes now next → GoesOver see known middle accepted number first next
+  goes_on_flushed known middle accepted number first now next h k = record {
+    so_far = flushes (see first) (AcceptedTo first now) (AcceptedTo first next) (λ calls made. accepted_flushed see calls first now next made k)
+        known middle accepted number (see now) (see next) h.so_far k.changed;
+    calm = ap (λ (s : Seen). s.writer.faults) k.changed.same ∙ h.calm;
+  }
 
--- one line more, that doesn't end the run
-goes_on_skipped : (known middle left : Option (List ℕ)) (accepted number : ℕ) (first now next : Seen) →
-    GoesOver known middle accepted number first now → JudgesLine middle left (Ok Skipped) now next →
-    GoesOver known left accepted (number + 1) first next
-goes_on_skipped known middle left accepted number first now next h k = record {
-  so_far = skips first known middle left accepted number now next h.so_far k;
-  calm = calm_line middle left Skipped now next k ∙ h.calm;
-}
+  -- what was drawn may be passed on before a line is judged
+  pub shown_first : (known middle left : Option (List ℕ)) (accepted number : ℕ) (result : Result Judged LineCause) {Both : LayeredView W FT → LayeredView W FT → Type 0} →
+      ((first now next : LayeredView W FT) → GoesOver see known middle accepted number first now → Changes see (JudgesLine middle left result) now next → Both first next) →
+      (first now next : LayeredView W FT) → GoesOver see known middle accepted number first now → ShowsAndJudges see middle left result now next → Both first next
+  shown_first known middle left accepted number result judge first now next h k =
+      judge first k.shown next (goes_on_flushed known middle accepted number first now k.shown h k.flushed) k.judged
 
-goes_on_accepted : (known middle left : Option (List ℕ)) (accepted number : ℕ) (first now next : Seen) →
-    GoesOver known middle accepted number first now → JudgesLine middle left (Ok Accepted) now next →
-    GoesOver known left (accepted + 1) (number + 1) first next
-goes_on_accepted known middle left accepted number first now next h k = record {
-  so_far = accepts first known middle left accepted number now next h.so_far k;
-  calm = calm_line middle left Accepted now next k ∙ h.calm;
-}
+  -- one line more, that doesn't end the run
+  goes_on_skipped : (known middle left : Option (List ℕ)) (accepted number : ℕ) (first now next : LayeredView W FT) →
+      GoesOver see known middle accepted number first now → Changes see (JudgesLine middle left (Ok Skipped)) now next →
+      GoesOver see known left accepted (number + 1) first next
+  goes_on_skipped known middle left accepted number first now next h k = record {
+    so_far = skips (see first) (AcceptedTo first now) (AcceptedTo first next) (λ calls made. accepted_unseen see calls first now next made k.fixed k.changed.1)
+        known middle left accepted number (see now) (see next) h.so_far k.changed;
+    calm = calm_line middle left Skipped (see now) (see next) k.changed ∙ h.calm;
+  }
 
--- the same, as it is counted
-pub goes_on : (known middle left : Option (List ℕ)) (run : Progress) (judged : Judged) → (judged ≡ End → ⊥) → (first now next : Seen) →
-    GoesOver known middle run.accepted run.number first now → JudgesLine middle left (Ok judged) now next →
-    GoesOver known left (counted judged run).accepted (counted judged run).number first next
-goes_on known middle left run End more first now next h k = absurd (more refl)
-goes_on known middle left run Skipped more first now next h k = goes_on_skipped known middle left run.accepted run.number first now next h k
-goes_on known middle left run Accepted more first now next h k = goes_on_accepted known middle left run.accepted run.number first now next h k
+  goes_on_accepted : (known middle left : Option (List ℕ)) (accepted number : ℕ) (first now next : LayeredView W FT) →
+      GoesOver see known middle accepted number first now → Changes see (JudgesLine middle left (Ok Accepted)) now next →
+      GoesOver see known left (accepted + 1) (number + 1) first next
+  goes_on_accepted known middle left accepted number first now next h k =
+      let m = k.changed.1 in
+      record {
+        so_far = accepts (see first) (AcceptedTo first now) (AcceptedTo first next) known middle left accepted number (see now) (see next) h.so_far k.changed
+            (λ calls made. accepted_more see calls m.made.call k.changed.0 first now next made (record { changed = m.made.answered; fixed = k.fixed }));
+        calm = calm_line middle left Accepted (see now) (see next) k.changed ∙ h.calm;
+      }
 
--- the end of the run
-pub ends_input : (known middle left : Option (List ℕ)) (accepted number : ℕ) → number < last_number → (first now next : Seen) →
-    GoesOver known middle accepted number first now → JudgesLine middle left (Ok End) now next → EndsLines known accepted None first next
-ends_input known middle left accepted number below first now next h k = record {
-  ran = finishes first known middle accepted number now next below h.so_far k;
-  counted = calm_line middle left End now next k ∙ h.calm;
-}
+  -- the same, as it is counted
+  pub goes_on : (known middle left : Option (List ℕ)) (run : Progress) (judged : Judged) → (judged ≡ End → ⊥) → (first now next : LayeredView W FT) →
+      GoesOver see known middle run.accepted run.number first now → Changes see (JudgesLine middle left (Ok judged)) now next →
+      GoesOver see known left (counted judged run).accepted (counted judged run).number first next
+  goes_on known middle left run End more first now next h k = absurd (more refl)
+  goes_on known middle left run Skipped more first now next h k = goes_on_skipped known middle left run.accepted run.number first now next h k
+  goes_on known middle left run Accepted more first now next h k = goes_on_accepted known middle left run.accepted run.number first now next h k
 
-pub ends_at : (known middle left : Option (List ℕ)) (accepted number : ℕ) (cause : LineCause) → number < last_number → (first now next : Seen) →
-    GoesOver known middle accepted number first now → JudgesLine middle left (Err cause) now next →
-    EndsLines known accepted (Some (record { line = number; cause = cause })) first next
-ends_at known middle left accepted number cause below first now next h k =
-    let P : ℕ → Type 0 = λ faults. CountsEnd (Some cause) faults next.writer.faults in
-    record {
-      ran = stops first known middle left accepted number now next cause below h.so_far k;
-      counted = subst P h.calm (counts_line middle left cause now next k);
-    }
+  -- the end of the run
+  pub ends_input : (known middle left : Option (List ℕ)) (accepted number : ℕ) → number < last_number → (first now next : LayeredView W FT) →
+      GoesOver see known middle accepted number first now → Changes see (JudgesLine middle left (Ok End)) now next → EndsLines see known accepted None first next
+  ends_input known middle left accepted number below first now next h k = record {
+    ran = finishes (see first) (AcceptedTo first now) (Ends first next) (λ line calls made. accepted_unseen see calls first now next made k.fixed k.changed.1)
+        known middle accepted number (see now) (see next) below h.so_far k.changed;
+    counted = calm_line middle left End (see now) (see next) k.changed ∙ h.calm;
+  }
 
--- at the last number the line isn't judged
-pub ends_unjudged : (known middle : Option (List ℕ)) (accepted : ℕ) (first now : Seen) → GoesOver known middle accepted last_number first now →
-    EndsLines known accepted (Some (record { line = last_number; cause = Read })) first now
-ends_unjudged known middle accepted first now h = record {
-  ran = breaks first known middle accepted last_number now now Read refl (omega arith, λ last. refl) h.so_far refl;
-  counted = h.calm;
-}
+  pub ends_at : (known middle left : Option (List ℕ)) (accepted number : ℕ) (cause : LineCause) → number < last_number → (first now next : LayeredView W FT) →
+      GoesOver see known middle accepted number first now → Changes see (JudgesLine middle left (Err cause)) now next →
+      EndsLines see known accepted (Some (record { line = number; cause = cause })) first next
+  ends_at known middle left accepted number cause below first now next h k =
+      let P : ℕ → Type 0 = λ faults. CountsEnd (Some cause) faults (see next).writer.faults in
+      record {
+        ran = stops known middle left accepted number first now next cause below h.so_far k;
+        counted = subst P h.calm (counts_line middle left cause (see now) (see next) k.changed);
+      }
+
+  -- at the last number the line isn't judged
+  pub ends_unjudged : (known middle : Option (List ℕ)) (accepted : ℕ) (first now : LayeredView W FT) → GoesOver see known middle accepted last_number first now →
+      EndsLines see known accepted (Some (record { line = last_number; cause = Read })) first now
+  ends_unjudged known middle accepted first now h = record {
+    ran = breaks (see first) (AcceptedTo first now) (Ends first now) Read (λ line calls made. made)
+        known middle accepted last_number (see now) (see now) refl (omega arith, λ last. refl) h.so_far refl;
+    counted = h.calm;
+  }

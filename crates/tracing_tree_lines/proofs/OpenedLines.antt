@@ -1,5 +1,5 @@
 -- What opening the input leaves.
-use Rattle.std.specs.Prelude.{◌≡◌, ℕ, ◌==◌, true, false, List, [], ◌∷◌, Option, Some, None, IfSome, is_some, if◌then◌else◌}
+use Rattle.std.specs.Prelude.{◌≡◌, ℕ, ◌==◌, true, false, List, [], ◌∷◌, map, slice_get, Option, Some, None, Result, Ok, Err, IfSome, is_some, if◌then◌else◌}
 use Rattle.std.proofs.Common.{refl, sym, ap, ◌∙◌, subst, inr}
 use Rattle.std.specs.Io.Buffered.{reader_remaining, reader_inner, reader_buffer, reader_capacity}
 use Rattle.std.specs.declared.io.buffered.BufReader.{BufReader}
@@ -9,9 +9,16 @@ use Rattle.serde_json.specs.Data.{Data, null, boolean, number, string, array, ob
 use Rattle.serde_json.specs.Find.{as_null}
 use Rattle.tracing_tree_drawing.specs.Format.Settings.{Settings}
 use Rattle.tracing_tree_time.specs.Clock.{Timer}
-use Rattle.tracing_tree_lines.specs.Lines.Runs.{EndsAtFirst, CountsEnd, RunsOver, LeavesRun, opened_with}
+use Rattle.tracing_tree_time.specs.declared.timer.FormatTime.{Ghosts as FormatTime}
+use Rattle.tracing_tree_context.specs.declared.context.Refusal.{Refusal}
+use Rattle.tracing_tree_output.specs.declared.output.Output.{Ghosts as Output}
+use Rattle.tracing_tree_layer.specs.Layer.Layers.{LayeredView, Changes, Flushes, seen}
+use Rattle.tracing_tree_layer.specs.Layered.Answered.{IsAnswered}
+use Rattle.tracing_tree_layer.specs.Layered.Seen.{Seen}
+use Rattle.tracing_tree_layer.specs.declared.call.Call.{Call}
+use Rattle.tracing_tree_layer.specs.declared.call.Reply.{Reply}
+use Rattle.tracing_tree_lines.specs.Lines.Runs.{AreAccepted, AreMade, EndsAtFirst, CountsEnd, MakesCalls, RunsOver, LeavesRun, opened_with, seen_over}
 use Rattle.tracing_tree_lines.specs.Lines.Reads.{TakesLine, IsBeforeCalls, OpensWith}
-use Rattle.tracing_tree_output.specs.Writers.{SeenWriter}
 use Rattle.tracing_tree_lines.specs.Lines.Values.{IsUnlessMemory, asked_timer}
 use Rattle.tracing_tree_lines.specs.declared.lines.settings.timer.Timer.{Timer as AskedTimer}
 use Rattle.tracing_tree_lines.specs.Lines.Spelled.{SpellsSettings, input_lines, unless_null}
@@ -78,12 +85,100 @@ calm_early (Refused refusal) faults early = absurd early
 
 -- ---- the whole run
 
--- the first line spells settings that can be set, and the run over the others is the whole run
-pub concludes : (known left : Option (List ℕ)) (setup : Settings × AskedTimer) (accepted : ℕ) (fault : Option LineFault)
-    (old new : SeenWriter) → OpensWith known left setup →
-    IfSome left (λ rest. RunsOver (input_lines rest) accepted fault (opened_with setup.0 (asked_timer setup.1) old) new) →
-    IfSome known (λ input. LeavesRun input accepted fault old new)
-concludes None left setup accepted fault old new opened r = tt
-concludes (Some input) None setup accepted fault old new opened r = absurd opened.first
-concludes (Some input) (Some rest) setup accepted fault old new opened r =
-    inr (setup.0, asked_timer setup.1, input_lines rest, (opened.line, opened.first, opened.spelled), r)
+module _ {W : Type 0} (output : Output W) where
+  -- a layered whose timer is what it states
+  abbrev stated : {FT : Type 0} → FormatTime FT → LayeredView W FT → LayeredView W Timer
+  stated time layered = record {
+    forest = layered.forest;
+    layer = record {
+      settings = layered.layer.settings;
+      writer = layered.layer.writer;
+      timer = time.timer layered.layer.timer;
+      last = layered.layer.last;
+      failed = layered.layer.failed;
+      unwritten = layered.layer.unwritten;
+    };
+  }
+
+  module _ {FT : Type 0} (time : FormatTime FT) where
+    -- what is changed, and calls that are made, where the timers are what they state
+    changes-stated : (Holds : Seen → Seen → Type 0) (old new : LayeredView W FT) → Changes (seen time output) Holds old new →
+        Changes (seen_over output) Holds (stated time old) (stated time new)
+    changes-stated Holds old new h = record {
+      changed = h.changed;
+      fixed = (λ i. (stated time (record { forest = old.forest; layer = h.fixed i })).layer);
+    }
+
+    are_made-stated : (calls : List Call) (answers : List (Result Reply Refusal)) (old new : LayeredView W FT) → AreMade (seen time output) calls answers old new →
+        AreMade (seen_over output) calls answers (stated time old) (stated time new)
+    are_made-stated [] [] old new h = changes-stated Flushes old new h
+    are_made-stated [] (answer ∷ answers) old new h = absurd h
+    are_made-stated (call ∷ calls) [] old new h = absurd h
+    are_made-stated (call ∷ calls) (answer ∷ answers) old new (shown, between, passed, one, rest) = (
+      stated time shown,
+      stated time between,
+      changes-stated Flushes old shown passed,
+      changes-stated (IsAnswered call answer) shown between one,
+      are_made-stated calls answers between new rest,
+    )
+
+    accepted-stated : (calls : List Call) (old new : LayeredView W FT) → AreAccepted (seen time output) calls old new →
+        AreAccepted (seen_over output) calls (stated time old) (stated time new)
+    accepted-stated calls old new (replies, made) = (replies, are_made-stated calls (map Ok replies) old new made)
+
+    makes-stated : (cause : Option LineCause) (line : Option (List ℕ)) (calls : List Call) (old new : LayeredView W FT) →
+        MakesCalls (seen time output) old new cause line calls → MakesCalls (seen_over output) (stated time old) (stated time new) cause line calls
+    makes-stated None line calls old new h = accepted-stated calls old new h
+    makes-stated (Some NoSettings) line calls old new h = accepted-stated calls old new h
+    makes-stated (Some NotACall) line calls old new h = accepted-stated calls old new h
+    makes-stated (Some Read) line calls old new h = accepted-stated calls old new h
+    makes-stated (Some Memory) line calls old new h = accepted-stated calls old new h
+    makes-stated (Some (Refused refusal)) None calls old new h = accepted-stated calls old new h
+    makes-stated (Some (Refused refusal)) (Some line) calls old new (last, made, call, spelled, one) =
+        (stated time last, accepted-stated calls old last made, call, spelled, are_made-stated (call ∷ []) (Err refusal ∷ []) last new one)
+
+    -- a run that makes its calls in one way makes them in the other
+    runs-stated : (lines : List (List ℕ)) (accepted : ℕ) (fault : Option LineFault) (old new : LayeredView W FT) →
+        RunsOver lines accepted fault (seen time output old) (seen time output new).writer (MakesCalls (seen time output) old new) →
+        RunsOver lines accepted fault (seen time output old) (seen time output new).writer
+        (MakesCalls (seen_over output) (stated time old) (stated time new))
+    runs-stated lines accepted fault old new h = record {
+      judged = h.judged;
+      within = h.within;
+      cause = h.cause;
+      blamed = h.blamed;
+      counted = h.counted;
+      unjudged = h.unjudged;
+      calls = h.calls;
+      spelled = h.spelled;
+      count = h.count;
+      taken = h.taken;
+      all = h.all;
+      ends = h.ends;
+      front = h.front;
+      left = h.left;
+      appends = h.appends;
+      made = makes-stated h.cause (slice_get lines h.judged) h.calls old new h.made;
+    }
+
+    -- the first line spells settings that can be set, and the run over the others is the whole run
+    pub concludes : (known left : Option (List ℕ)) (setup : Settings × AskedTimer) (accepted : ℕ) (fault : Option LineFault) (writer end : W)
+        (old new : LayeredView W FT) → OpensWith known left setup → stated time old ≡ opened_with setup.0 (asked_timer setup.1) writer → new.layer.writer ≡ end →
+        IfSome left (λ rest. RunsOver (input_lines rest) accepted fault (seen time output old) (seen time output new).writer
+        (MakesCalls (seen time output) old new)) →
+        IfSome known (λ input. LeavesRun output input accepted fault writer end)
+    concludes None left setup accepted fault writer end old new opened opens ends r = tt
+    concludes (Some input) None setup accepted fault writer end old new opened opens ends r = absurd opened.first
+    concludes (Some input) (Some rest) setup accepted fault writer end old new opened opens ends r =
+        let see = seen_over output in
+        let P : LayeredView W Timer → Type 0 = λ o. RunsOver (input_lines rest) accepted fault (see o) (see (stated time new)).writer
+        (MakesCalls see o (stated time new)) in
+        inr (
+          setup.0,
+          asked_timer setup.1,
+          input_lines rest,
+          (opened.line, opened.first, opened.spelled),
+          stated time new,
+          ends,
+          subst P opens (runs-stated (input_lines rest) accepted fault old new r),
+        )

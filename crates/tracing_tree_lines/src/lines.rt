@@ -21,7 +21,7 @@ ghost use Rattle.tracing_tree_lines.specs.Lines.Runs.{CountsEnd, EndsAtFirst, Le
 ghost use Rattle.tracing_tree_lines.specs.Lines.SoFar.{counted, IsTextOf, RunsHeld, RunsSome};
 ghost use Rattle.tracing_tree_lines.specs.declared.lines.Judged.TheVariants.{End};
 ghost use Rattle.tracing_tree_lines.specs.Lines.Steps.{EndsLines, JudgesLine, ShowsAndJudges};
-ghost use Rattle.tracing_tree_output.specs.Writers.{IsShown, seen_writer};
+ghost use Rattle.tracing_tree_output.specs.Writers.{IsShown};
 
 use call::make_call;
 use json::{Invalid, Scratch};
@@ -173,8 +173,7 @@ where
     W: Drop,
     requires { W.fault_count writer ≡ 0 }
     ensures ran { IfSome (R.remaining reader) (λ input.
-        LeavesRun input result.accepted result.fault
-        (seen_writer W.Output writer) (seen_writer W.Output result.writer)) }
+        LeavesRun W.Output input result.accepted result.fault writer result.writer) }
     ensures counted { CountsEnd (option_map (λ fault. fault.cause) result.fault)
         (W.fault_count writer) (W.fault_count result.writer) }
 {
@@ -228,9 +227,8 @@ fn run_calls<R: Read, W: Output, FT: FormatTime>(
     lines: &mut BufReader<R>,
     layered: &mut Layered<W, FT>,
 ) -> (u64, Option<LineFault>)
-    ensures { Changes (seen FT.FormatTime W.Output)
-        (EndsLines (reader_remaining R.remaining lines.old) result.0 result.1)
-        layered.old layered.new }
+    ensures { EndsLines (seen FT.FormatTime W.Output) (reader_remaining R.remaining lines.old)
+        result.0 result.1 layered.old layered.new }
 {
     let mut line = Vec::new(alloc);
     let mut scratch = Scratch::new(alloc);
@@ -305,10 +303,8 @@ fn run_some<R: Read, W: Output, FT: FormatTime>(
     requires below { run.old.number < last_number }
     ensures room { (run.new.accepted + 2 ≤ run.new.number) × (run.new.number ≤ last_number) }
     ensures onward { IfOk result (λ more. IsTrue more → run.old.number < run.new.number) }
-    ensures ran { Changes (seen FT.FormatTime W.Output)
-        (RunsSome (reader_remaining R.remaining lines.old)
-        (reader_remaining R.remaining lines.new) run.old run.new result)
-        layered.old layered.new }
+    ensures ran { RunsSome (seen FT.FormatTime W.Output) (reader_remaining R.remaining lines.old)
+        (reader_remaining R.remaining lines.new) run.old run.new result layered.old layered.new }
 {
     let judged = run_held(alloc, whole_lines(lines.buffer()), scratch, layered, run)?;
     if judged > 0 {
@@ -339,8 +335,8 @@ fn run_held<W: Output, FT: FormatTime>(
     ensures within { IfOk result (λ judged. judged ≤ length held.now) }
     ensures onward { IfOk result (λ judged. 0 < judged → run.old.number < run.new.number) }
     ensures none { IfOk result (λ judged. judged ≡ 0 → run.new.number ≡ run.old.number) }
-    ensures ran { Changes (seen FT.FormatTime W.Output)
-        (RunsHeld held.now run.old run.new result) layered.old layered.new }
+    ensures ran { RunsHeld (seen FT.FormatTime W.Output) held.now run.old run.new result
+        layered.old layered.new }
 {
     let whole = from_utf8(held).ok();
     let mut start = 0;
@@ -383,10 +379,8 @@ fn run_line<R: Read, W: Output, FT: FormatTime>(
     scratch: &mut Scratch,
     layered: &mut Layered<W, FT>,
 ) -> Result<Judged, LineCause>
-    ensures { Changes (seen FT.FormatTime W.Output)
-        (ShowsAndJudges (reader_remaining R.remaining lines.old)
-        (reader_remaining R.remaining lines.new) result)
-        layered.old layered.new }
+    ensures { ShowsAndJudges (seen FT.FormatTime W.Output) (reader_remaining R.remaining lines.old)
+        (reader_remaining R.remaining lines.new) result layered.old layered.new }
 {
     layered.flush();
     if !read_next(lines, line, layered)? {

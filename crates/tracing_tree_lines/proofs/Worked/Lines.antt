@@ -6,13 +6,20 @@ use Rattle.serde_json.proofs.OnLiterals.{serde_json_on_literals}
 use Rattle.serde_json.specs.Data.{string, object, member, no_members}
 use Rattle.serde_json.specs.Read.{read}
 use Rattle.serde_json.specs.Written.{has_float}
-use Rattle.tracing_tree_time.specs.Clock.{no_timer, local_timer, uptime_timer}
+use Rattle.tracing_tree_time.specs.Clock.{Timer, no_timer, local_timer, uptime_timer}
 use Rattle.tracing_tree_context.specs.declared.context.Moment.{Moment}
 use Rattle.tracing_tree_layer.specs.declared.call.Call.{Call}
-use Rattle.tracing_tree_lines.specs.Lines.Runs.{LeavesRun}
+use Rattle.tracing_tree_layer.specs.Layer.Layers.{LayeredView}
+use Rattle.tracing_tree_layer.specs.Layered.State.{State, opening_state}
+use Rattle.tracing_tree_layer.specs.Layered.Step.{state_after}
+use Rattle.tracing_tree_layer.specs.declared.call.Reply.TheVariants.{Span}
+use Rattle.tracing_tree_output.specs.declared.output.Output.{Ghosts as Output}
+use Rattle.tracing_tree_spans.specs.Registry.Ids.{id_of}
+use Rattle.tracing_tree_lines.specs.Lines.Runs.{LeavesRun, opened_with, seen_over}
+use Rattle.tracing_tree_lines.proofs.CallsMade.{accepted_more, none_made}
 use Rattle.tracing_tree_lines.specs.declared.lines.LineCause.TheVariants.{Settings as NoSettings, NotACall}
 use Rattle.tracing_tree_lines.specs.Lines.Spelled.{Asked, object_settings, object_call, SpellsCall, SpellsNothing, input_lines, is_skipped, ◌>>=◌}
-use Rattle.tracing_tree_layer.proofs.WorkedCalls.{plain, lined, start_of_1970, outside, inside, made, warned, closed, holding}
+use Rattle.tracing_tree_layer.proofs.WorkedCalls.{plain, lined, start_of_1970, outside, inside, made, warned, closed}
 
 -- what a first line asks for
 abbrev settings_of : List ℕ → Option Asked
@@ -146,23 +153,35 @@ three_lines = refl
 pub blank_line : is_skipped (codes " \t\r") ≡ true
 blank_line = refl
 
+-- a writer in memory, which is what it holds
+abbrev in_memory : Output (List ℕ)
+in_memory = record {
+  contents = λ bytes. Some bytes;
+  fault_count = λ bytes. 0;
+  WHOLE = true;
+  holds_back = λ bytes. false;
+  stuck = λ bytes. false;
+}
+
 -- no line at all is the settings fault
 no_first_line : {A : Type 0} {x : A} {xs : List A} → [] ≡ x ∷ xs → ⊥
 no_first_line e = cc
 
-pub empty_input : LeavesRun [] 0 (Some (record { line = 1; cause = NoSettings })) (holding []) (holding [])
+pub empty_input : LeavesRun in_memory [] 0 (Some (record { line = 1; cause = NoSettings })) [] []
 empty_input = inl (NoSettings, (λ settings timer others begins. no_first_line begins.1), refl, refl, refl)
 
 -- ---- whole inputs
 
 -- settings alone
-pub settings_alone : LeavesRun (codes "{}") 0 None (holding []) (holding [])
+pub settings_alone : LeavesRun in_memory (codes "{}") 0 None [] []
 unfolding serde_json_on_literals encode_utf8
 settings_alone = inr (
   plain,
   no_timer,
   [],
   (codes "{}", refl, ((codes "{}", (refl, refl)), refl)),
+  opened_with plain no_timer [],
+  refl,
   record {
     judged = 0;
     within = omega arith;
@@ -179,6 +198,7 @@ settings_alone = inr (
     front = [];
     left = refl;
     appends = refl;
+    made = none_made (seen_over in_memory) (opened_with plain no_timer []);
   },
 )
 
@@ -193,15 +213,27 @@ pub cut_short_spells_nothing : SpellsNothing (codes "{\"call\":")
 unfolding serde_json_on_literals
 cut_short_spells_nothing = (refl, λ call spelled. not_none spelled.reads)
 
+-- what the first call leaves
+abbrev after_first : LayeredView (List ℕ) Timer
+after_first =
+    let opened : LayeredView (List ℕ) Timer = opened_with lined no_timer [] in
+    let state : State = state_after lined no_timer (opening_state (Some (id_of 1))) (made (codes "a") outside) in
+    record {
+      forest = state.forest;
+      layer = record opened.layer { writer = encode_utf8_all (codes "┐a \n"); last = state.last };
+    }
+
 -- the run ends at such a line, with what was drawn before it
-pub ended_early : LeavesRun (codes "{\"indent_lines\":true}\n{\"call\":\"new\",\"name\":\"a\"}\n{\"call\":") 1
-    (Some (record { line = 3; cause = NotACall })) (holding []) (holding (encode_utf8_all (codes "┐a \n")))
+pub ended_early : LeavesRun in_memory (codes "{\"indent_lines\":true}\n{\"call\":\"new\",\"name\":\"a\"}\n{\"call\":") 1
+    (Some (record { line = 3; cause = NotACall })) [] (encode_utf8_all (codes "┐a \n"))
 unfolding serde_json_on_literals encode_utf8
 ended_early = inr (
   lined,
   no_timer,
   codes "{\"call\":\"new\",\"name\":\"a\"}" ∷ codes "{\"call\":" ∷ [],
   (codes "{\"indent_lines\":true}", refl, ((codes "{\"indent_lines\":true}", (refl, refl)), refl)),
+  after_first,
+  refl,
   record {
     judged = 1;
     within = omega arith;
@@ -218,5 +250,8 @@ ended_early = inr (
     front = [];
     left = refl;
     appends = refl;
+    made = accepted_more (seen_over in_memory) [] (made (codes "a") outside) (Span (id_of 1)) (opened_with lined no_timer []) (opened_with lined no_timer []) after_first
+        (none_made (seen_over in_memory) (opened_with lined no_timer []))
+        (record { changed = record { allowed = (refl, refl); left = refl; written = (refl, refl) }; fixed = refl });
   },
 )

@@ -1,18 +1,24 @@
 -- A run over the program's lines.
-use Rattle.std.specs.Prelude.{◌≡◌, ℕ, ◌+◌, ◌<◌, ◌≤◌, ◌⊎◌, Bool, if◌then◌else◌, List, [], ◌∷◌, ◌++◌, length, take, slice_get, Option, Some, None, Err, option_map, IfSome, IsSomeAnd, IsTrue, ⊤, ◌^◌, ◌-◌}
+use Rattle.std.specs.Prelude.{◌≡◌, ℕ, ◌+◌, ◌<◌, ◌≤◌, ◌⊎◌, Bool, false, if◌then◌else◌, List, [], ◌∷◌, ◌++◌, length, map, take, slice_get, Option, Some, None, Result, Ok, Err, option_map, IfSome, IsSomeAnd, IsTrue, ⊤, ◌^◌, ◌-◌}
 use Rattle.std.specs.Io.KnownBytes.{Appends, Keeps}
 use Rattle.tracing_tree_drawing.specs.Format.Settings.{Settings}
 use Rattle.tracing_tree_time.specs.Clock.{Timer}
 use Rattle.tracing_tree_spans.specs.Registry.Ids.{id_of}
+use Rattle.tracing_tree_spans.specs.Registry.Forest.{empty_forest}
 use Rattle.tracing_tree_drawing.specs.Format.Picture.{draw}
 use Rattle.tracing_tree_output.specs.Writers.{IsCutShort, SeenWriter}
+use Rattle.tracing_tree_output.specs.declared.output.Output.{Ghosts as Output}
+use Rattle.tracing_tree_context.specs.declared.context.Refusal.{Refusal}
 use Rattle.tracing_tree_context.specs.declared.context.Refusal.TheVariants.{Writer}
-use Rattle.tracing_tree_layer.specs.Layered.State.{State, opening_state}
+use Rattle.tracing_tree_layer.specs.Layer.Layers.{LayeredView, Changes, Flushes, seen}
+use Rattle.tracing_tree_layer.specs.Layered.Answered.{IsAnswered}
+use Rattle.tracing_tree_layer.specs.Layered.State.{State}
 use Rattle.tracing_tree_layer.specs.Layered.Run.{call_text, MayAnswer}
 use Rattle.tracing_tree_layer.specs.Layered.Seen.{Seen}
 use Rattle.tracing_tree_layer.specs.Layered.Headline.{run_from}
 use Rattle.tracing_tree_lines.specs.Lines.Spelled.{input_lines, SpellsSettings, SpellsCall, SpellCalls, SpellsNothing}
 use Rattle.tracing_tree_layer.specs.declared.call.Call.{Call}
+use Rattle.tracing_tree_layer.specs.declared.call.Reply.{Reply}
 use Rattle.tracing_tree_lines.specs.declared.lines.LineCause.{LineCause}
 use Rattle.tracing_tree_lines.specs.declared.lines.LineCause.TheVariants.{Settings as NoSettings, NotACall, Read, Memory, Refused}
 use Rattle.tracing_tree_lines.specs.declared.lines.LineFault.{LineFault}
@@ -56,12 +62,38 @@ module _ (settings : Settings) (timer : Timer) (state : State) where
       × (IsTrue whole → front ≡ [])
   IsLeft whole cause line front = front ≡ []
 
+module _ {W FT : Type 0} (see : LayeredView W FT → Seen) where
+  -- The calls are made one after another, and each gets its answer, as a call by itself does. Before
+  -- each, and after the last, the writer may be flushed.
+  abbrev pub AreMade : List Call → List (Result Reply Refusal) → LayeredView W FT
+      → LayeredView W FT → Type 0
+  AreMade [] [] old new = Changes see Flushes old new
+  AreMade (call ∷ calls) (answer ∷ answers) old new =
+      (shown : LayeredView W FT) × (between : LayeredView W FT) × Changes see Flushes old shown
+      × Changes see (IsAnswered call answer) shown between × AreMade calls answers between new
+  AreMade calls answers old new = ⊥
+
+  -- these calls are made, and each is accepted
+  abbrev pub AreAccepted : List Call → LayeredView W FT → LayeredView W FT → Type 0
+  AreAccepted calls old new = (replies : List Reply) × AreMade calls (map Ok replies) old new
+
+  -- The same, and then, if the cause is a refusal, the call that this line spells is made and gets
+  -- that refusal.
+  abbrev pub MakesCalls : LayeredView W FT → LayeredView W FT → Option LineCause
+      → Option (List ℕ) → List Call → Type 0
+  MakesCalls old new (Some (Refused refusal)) (Some line) calls =
+      (last : LayeredView W FT) × AreAccepted calls old last × (call : Call)
+      × SpellsCall line call × AreMade (call ∷ []) (Err refusal ∷ []) last new
+  MakesCalls old new cause line calls = AreAccepted calls old new
+
 -- A run over the lines after the first. The first `judged` of them were judged: those that aren't
 -- skipped spell these calls, and each was accepted. A cause blames the line after them, which is
 -- `judged + 2` since line 1 has the settings; where the input has no such line, it is the one that
--- was awaited. The drawing of the calls is written, and then what the fault leaves.
+-- was awaited. The drawing of the calls is written, and then what the fault leaves; and so they are
+-- made.
 pub record RunsOver (lines : List (List ℕ)) (accepted : ℕ) (fault : Option LineFault)
-    (old : Seen) (new : SeenWriter) : Type 0 where
+    (old : Seen) (new : SeenWriter)
+    (Makes : Option LineCause → Option (List ℕ) → List Call → Type 0) : Type 0 where
   pub judged : ℕ
   pub within : judged ≤ length lines
   pub cause : Option LineCause
@@ -80,24 +112,41 @@ pub record RunsOver (lines : List (List ℕ)) (accepted : ℕ) (fault : Option L
       (slice_get lines judged) front
   pub appends : Appends old.writer.bytes new.bytes
       (draw old.settings (run_from old calls).rows ++ front)
+  pub made : Makes cause (slice_get lines judged) calls
 
--- what is seen of a layer that opens with these settings and this timer over a writer; the first
--- span gets the id 1
-abbrev pub opened_with : Settings → Timer → SeenWriter → Seen
-opened_with settings timer writer =
-    let state = opening_state (Some (id_of 1)) in
-    record { settings = settings; timer = timer; state = state; writer = writer }
+-- what is seen of a layered with a writer, whose timer is what it states
+abbrev pub seen_over : {W : Type 0} → Output W → LayeredView W Timer → Seen
+seen_over output = seen (record { timer = λ timer. timer }) output
 
--- what a run over lines leaves: it ended at line 1, accepted no call and wrote nothing, or the
--- first line spells settings, and the run goes over the others
-abbrev pub LeavesRun : List ℕ → ℕ → Option LineFault → SeenWriter → SeenWriter → Type 0
-LeavesRun input accepted fault old new =
+-- a layered that opens with these settings and this timer over a writer; the first span gets the id
+-- 1
+abbrev pub opened_with : {W : Type 0} → Settings → Timer → W → LayeredView W Timer
+opened_with settings timer writer = record {
+  forest = empty_forest (id_of 1);
+  layer = record {
+    settings = settings;
+    writer = writer;
+    timer = timer;
+    last = None;
+    failed = false;
+    unwritten = [];
+  };
+}
+
+-- What a run over lines leaves in its writer: it ended at line 1, accepted no call and wrote
+-- nothing, or the first line spells settings, and the run goes over the others. Its calls are made
+-- on a layered that opens with the writer as it was, and ends with the writer as it is.
+abbrev pub LeavesRun : {W : Type 0} → Output W → List ℕ → ℕ → Option LineFault → W → W → Type 0
+LeavesRun {W = W} output input accepted fault old new =
     ((cause : LineCause) × EndsAtFirst input cause
     × (fault ≡ Some (record { line = 1; cause = cause })) × (accepted ≡ 0)
-    × Keeps old.bytes new.bytes)
+    × Keeps (output.contents old) (output.contents new))
     ⊎ ((settings : Settings) × (timer : Timer) × (others : List (List ℕ))
     × BeginsWith input settings timer others
-    × RunsOver others accepted fault (opened_with settings timer old) new)
+    × (ended : LayeredView W Timer) × (ended.layer.writer ≡ new)
+    × (let see = seen_over output in
+    let opened = opened_with settings timer old in
+    RunsOver others accepted fault (see opened) (see ended).writer (MakesCalls see opened ended)))
 
 -- the count of the writer's faults, by the cause that ended the run: it rose by one where the
 -- writer is to blame, and stayed elsewhere

@@ -4,10 +4,10 @@ use Rattle.serde_json.specs.Data.{Data}
 use Rattle.tracing_tree_context.specs.declared.context.Context.{Context}
 use Rattle.tracing_tree_context.specs.declared.context.Refusal.{Refusal}
 use Rattle.tracing_tree_layer.specs.Layered.Seen.{Seen}
-use Rattle.tracing_tree_layer.specs.Layer.Layers.{Flushes}
+use Rattle.tracing_tree_layer.specs.Layer.Layers.{LayeredView, Changes, Flushes}
 use Rattle.tracing_tree_layer.specs.Layered.Answered.{IsAnswered}
 use Rattle.tracing_tree_lines.specs.Lines.Spelled.{input_lines, is_skipped, call_named, SpellsCall, SpellsNothing}
-use Rattle.tracing_tree_lines.specs.Lines.Runs.{RunsOver, CountsEnd}
+use Rattle.tracing_tree_lines.specs.Lines.Runs.{RunsOver, CountsEnd, MakesCalls}
 use Rattle.tracing_tree_lines.specs.Lines.Reads.{TakesLine, HasNoLine}
 use Rattle.tracing_tree_layer.specs.declared.call.Call.{Call}
 use Rattle.tracing_tree_layer.specs.declared.call.Reply.{Reply}
@@ -72,15 +72,18 @@ JudgesLine known left (Err Memory) old new = new ≡ old
 JudgesLine known left (Err (Refused refusal)) old new = MakesCall known left (Err refusal) old new
 
 -- the writer may have passed on what it held back, before the first line of the input was judged
-pub record ShowsAndJudges (known left : Option (List ℕ)) (result : Result Judged LineCause)
-    (old new : Seen) : Type 0 where
-  pub shown : Seen
-  pub flushed : Flushes old shown
-  pub judged : JudgesLine known left result shown new
+pub record ShowsAndJudges {W FT : Type 0} (see : LayeredView W FT → Seen)
+    (known left : Option (List ℕ)) (result : Result Judged LineCause)
+    (old new : LayeredView W FT) : Type 0 where
+  pub shown : LayeredView W FT
+  pub flushed : Changes see Flushes old shown
+  pub judged : Changes see (JudgesLine known left result) shown new
 
 -- a run over what is left of the input, where that is known, and the count of the writer's faults
-pub record EndsLines (known : Option (List ℕ)) (accepted : ℕ) (fault : Option LineFault)
-    (old new : Seen) : Type 0 where
-  pub ran : IfSome known (λ input. RunsOver (input_lines input) accepted fault old new.writer)
-  pub counted : CountsEnd (option_map (λ fault. fault.cause) fault) old.writer.faults
-      new.writer.faults
+pub record EndsLines {W FT : Type 0} (see : LayeredView W FT → Seen) (known : Option (List ℕ))
+    (accepted : ℕ) (fault : Option LineFault) (old new : LayeredView W FT) : Type 0 where
+  pub ran : IfSome known (λ input.
+      RunsOver (input_lines input) accepted fault (see old) (see new).writer
+      (MakesCalls see old new))
+  pub counted : CountsEnd (option_map (λ fault. fault.cause) fault) (see old).writer.faults
+      (see new).writer.faults

@@ -1,6 +1,6 @@
 use Rattle.std.proofs.Common.{◌+◌, ◌-◌, ◌≤◌}
 use Rattle.std.specs.Io.Buffered.{reader_remaining}
-use Rattle.tracing_tree_layer.specs.Layer.Layers.{seen, Changes}
+use Rattle.tracing_tree_layer.specs.Layer.Layers.{seen}
 use Rattle.tracing_tree_lines.specs.Lines.Runs.{last_number}
 use Rattle.tracing_tree_lines.specs.Lines.SoFar.{GoesOver}
 use Rattle.tracing_tree_lines.proofs.lines.run_calls.Given as goal
@@ -9,8 +9,8 @@ use Rattle.tracing_tree_lines.proofs.lines.run_calls.Given as goal
 abbrev pub invariant-loop-run : goal.invariant-loop-run
 invariant-loop-run g l = record {
   room : (l.run.accepted + 2 ≤ l.run.number) × (l.run.number ≤ last_number);
-  change : Changes (seen g.FT.FormatTime g.W.Output)
-      (GoesOver (reader_remaining g.R.Read.remaining l.fn.lines) (reader_remaining g.R.Read.remaining l.lines) l.run.accepted l.run.number) l.fn.layered l.layered;
+  over : GoesOver (seen g.FT.FormatTime g.W.Output) (reader_remaining g.R.Read.remaining l.fn.lines) (reader_remaining g.R.Read.remaining l.lines)
+      l.run.accepted l.run.number l.fn.layered l.layered;
 }
 
 -- each turn judges a line

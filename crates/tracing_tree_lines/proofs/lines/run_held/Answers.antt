@@ -1,11 +1,10 @@
-use Rattle.std.proofs.Common.{◌≡◌, ◌+◌, ◌<◌, drop, slice_range, position, Some, Ok, Err, refl, ap, ◌∙◌, arith}
+use Rattle.std.proofs.Common.{◌≡◌, ◌+◌, ◌<◌, drop, position, Some, refl, ap, ◌∙◌, arith}
 use Rattle.std.proofs.lemmas.Result.{err_from_is_err_and}
 use Rattle.tracing_tree_layer.specs.Layer.Layers.{seen}
-use Rattle.tracing_tree_layer.proofs.Runs.{change_then}
 use Rattle.tracing_tree_lines.specs.Lines.Runs.{last_number}
 use Rattle.tracing_tree_lines.specs.Lines.SoFar.{counted}
 use Rattle.tracing_tree_lines.proofs.LineEnds.{is_end}
-use Rattle.tracing_tree_lines.proofs.HeldLines.{judges_first, none_held, held_more, held_ends, found_at, whole_text, cut_at_end, cut_after_end, place_after_end, counted_number, counted_room, onward as further}
+use Rattle.tracing_tree_lines.proofs.HeldLines.{none_held, held_more, held_ends, found_at, whole_text, cut_at_end, cut_after_end, place_after_end, counted_number, counted_room, onward as further}
 use Rattle.tracing_tree_lines.proofs.lines.run_held.Goals as goal
 
 pub loop-length-init : goal.loop-length-init
@@ -17,7 +16,7 @@ loop-length-init g c =
       cut = rw c.ok-whole.ensures.value (whole_text (λ text. text.now) c.from_utf8.result held c.from_utf8.ensures);
       onward = λ some. absurd (omega (arith, some));
       none = λ none. refl;
-      change = record { changed = none_held held c.args.run.now (seen g.FT.FormatTime g.W.Output c.args.layered.now); fixed = refl };
+      change = none_held (seen g.FT.FormatTime g.W.Output) held c.args.run.now c.args.layered.now;
     }
 
 pub line_text-text-requires-clause-cut : goal.line_text-text-requires-clause-cut
@@ -36,8 +35,8 @@ returns-in_err-judged-clause-ran g c =
     let found : position is_end (drop l.start held) ≡ Some n = found_at held l.start n c.line_end.result c.line_end.ensures c.in-Some.is in
     let below : l.run.number < last_number = omega (arith, l.invariant.room.1) in
     let see = seen g.FT.FormatTime g.W.Output in
-    rw (p.1, p.2) (change_then see (held_ends held c.args.run.now l.run l.start n cause found below) c.args.layered.now l.layered c.judge.new.layered l.invariant.change
-    (judges_first see (slice_range held l.start (l.start + n)) (Err cause) l.layered c.judge.new.layered c.in_err-judged.ensures.judged))
+    rw (p.1, p.2) (held_ends see held c.args.run.now l.run l.start n cause found below c.args.layered.now l.layered c.judge.new.layered l.invariant.change
+    c.in_err-judged.ensures.judged)
 
 pub loop-length-preserved : goal.loop-length-preserved
 loop-length-preserved g c =
@@ -57,6 +56,6 @@ loop-length-preserved g c =
       cut = cut_after_end (λ text. text.now) c.ok-whole.result held l.start n found l.invariant.cut;
       onward = λ some. further l.start c.args.run.now.number l.run.number run.number l.invariant.onward l.invariant.none number;
       none = λ none. absurd (omega (arith, none));
-      change = rw is (change_then see (held_more held c.args.run.now l.run l.start n judged found c.in_ok-judged.ensures.there) c.args.layered.now l.layered c.judge.new.layered
-          l.invariant.change (judges_first see (slice_range held l.start (l.start + n)) (Ok judged) l.layered c.judge.new.layered c.in_ok-judged.ensures.judged));
+      change = rw is (held_more see held c.args.run.now l.run l.start n judged found c.in_ok-judged.ensures.there c.args.layered.now l.layered c.judge.new.layered
+          l.invariant.change c.in_ok-judged.ensures.judged);
     }

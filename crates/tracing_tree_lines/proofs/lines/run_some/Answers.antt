@@ -1,8 +1,7 @@
 use Rattle.std.proofs.Common.{◌≡◌, ◌+◌, ◌<◌, ◌++◌, Ok, sym, ap, subst, ◌∙◌, arith}
 use Rattle.std.specs.Io.Buffered.{reader_buffer, reader_remaining}
 use Rattle.std.proofs.lemmas.Result.{err_from_is_err_and}
-use Rattle.tracing_tree_layer.specs.Layer.Layers.{seen, Changes}
-use Rattle.tracing_tree_layer.proofs.Runs.{change_then}
+use Rattle.tracing_tree_layer.specs.Layer.Layers.{seen}
 use Rattle.tracing_tree_lines.specs.Lines.Runs.{last_number}
 use Rattle.tracing_tree_lines.specs.Lines.SoFar.{counted, RunsHeld}
 use Rattle.tracing_tree_lines.specs.declared.lines.Judged.TheVariants.{End}
@@ -17,10 +16,9 @@ returns-in_err-judged-clause-ran g c =
     let rest = c.whole_lines.ensures.rest in
     let holds : reader_buffer c.args.lines.now ≡ held ++ rest = sym c.buffer.ensures ∙ c.whole_lines.ensures.front in
     let ran = c.in_err-judged.ensures.ran in
-    rw (p.1, p.2) (record {
-      changed = held_fault remaining c.args.lines.now (reader_remaining remaining c.args.lines.now) held rest c.args.run.now c.run_held.new.run c.in_err-judged.field-0.0 holds _ _ ran.changed;
-      fixed = ran.fixed;
-    })
+    let see = seen g.FT.FormatTime g.W.Output in
+    rw (p.1, p.2) (held_fault see remaining c.args.lines.now (reader_remaining remaining c.args.lines.now) held rest c.args.run.now c.run_held.new.run
+    c.in_err-judged.field-0.0 holds _ _ ran)
 
 pub returns-then-judged-gt0-clause-ran : goal.returns-then-judged-gt0-clause-ran
 returns-then-judged-gt0-clause-ran g c =
@@ -29,11 +27,8 @@ returns-then-judged-gt0-clause-ran g c =
     let holds : reader_buffer c.args.lines.now ≡ held ++ rest = sym c.buffer.ensures ∙ c.whole_lines.ensures.front in
     let done = c.in_ok-judged.ensures in
     let left = c.consume.ensures in
-    record {
-      changed = consumed g.R.Read.remaining c.args.lines.now c.consume.new.self held rest c.args.run.now c.run_held.new.run c.in_ok-judged.judged holds done.within
-          left.buffer left.inner left.capacity _ _ done.ran.changed;
-      fixed = done.ran.fixed;
-    }
+    consumed (seen g.FT.FormatTime g.W.Output) g.R.Read.remaining c.args.lines.now c.consume.new.self held rest c.args.run.now c.run_held.new.run c.in_ok-judged.judged holds
+    done.within left.buffer left.inner left.capacity _ _ done.ran
 
 pub returns-in_err-judged-2-clause-ran : goal.returns-in_err-judged-2-clause-ran
 returns-in_err-judged-2-clause-ran g c =
@@ -46,9 +41,8 @@ returns-in_err-judged-2-clause-ran g c =
     let run = c.run_held.new.run in
     let nothing : c.in_ok-judged.judged ≡ 0 = omega arith in
     let below : run.number < last_number = omega (arith, c.in_ok-judged.ensures.none nothing, c.requires.below) in
-    let ran = subst (λ judged. Changes see (RunsHeld held c.args.run.now run (Ok judged)) c.args.layered.now c.run_held.new.layered) nothing c.in_ok-judged.ensures.ran in
-    rw (p.1, p.2) (change_then see
-    (next_fault remaining c.args.lines.now (reader_remaining remaining c.run_line.new.lines) held rest c.args.run.now run c.in_err-judged-2.field-0.0 holds below)
+    let ran = subst (λ judged. RunsHeld see held c.args.run.now run (Ok judged) c.args.layered.now c.run_held.new.layered) nothing c.in_ok-judged.ensures.ran in
+    rw (p.1, p.2) (next_fault see remaining c.args.lines.now (reader_remaining remaining c.run_line.new.lines) held rest c.args.run.now run c.in_err-judged-2.field-0.0 holds below
     c.args.layered.now c.run_held.new.layered c.run_line.new.layered ran c.in_err-judged-2.ensures)
 
 pub returns-in-End-clause-ran : goal.returns-in-End-clause-ran
@@ -61,10 +55,9 @@ returns-in-End-clause-ran g c =
     let run = c.run_held.new.run in
     let nothing : c.in_ok-judged.judged ≡ 0 = omega arith in
     let below : run.number < last_number = omega (arith, c.in_ok-judged.ensures.none nothing, c.requires.below) in
-    let ran = subst (λ judged. Changes see (RunsHeld held c.args.run.now run (Ok judged)) c.args.layered.now c.run_held.new.layered) nothing c.in_ok-judged.ensures.ran in
+    let ran = subst (λ judged. RunsHeld see held c.args.run.now run (Ok judged) c.args.layered.now c.run_held.new.layered) nothing c.in_ok-judged.ensures.ran in
     let line = rw c.in-End.is at c.in_ok-judged-2.ensures in
-    change_then see
-    (next_none remaining c.args.lines.now (reader_remaining remaining c.run_line.new.lines) held rest c.args.run.now run holds below)
+    next_none see remaining c.args.lines.now (reader_remaining remaining c.run_line.new.lines) held rest c.args.run.now run holds below
     c.args.layered.now c.run_held.new.layered c.run_line.new.layered ran line
 
 pub returns-in_default : goal.returns-in_default
@@ -77,7 +70,7 @@ returns-in_default g c =
     let run = c.run_held.new.run in
     let nothing : c.in_ok-judged.judged ≡ 0 = omega arith in
     let below : run.number < last_number = omega (arith, c.in_ok-judged.ensures.none nothing, c.requires.below) in
-    let ran = subst (λ judged. Changes see (RunsHeld held c.args.run.now run (Ok judged)) c.args.layered.now c.run_held.new.layered) nothing c.in_ok-judged.ensures.ran in
+    let ran = subst (λ judged. RunsHeld see held c.args.run.now run (Ok judged) c.args.layered.now c.run_held.new.layered) nothing c.in_ok-judged.ensures.ran in
     let judged = c.in_ok-judged-2.judged in
     let more : judged ≡ End → ⊥ = c.in_default.not-End in
     let is : c.count.new.self ≡ counted judged run = c.count.ensures in
@@ -85,7 +78,6 @@ returns-in_default g c =
     record {
       room = rw is (counted_room judged run c.in_ok-judged.ensures.room.0 below);
       onward = λ more. omega (arith, number, c.in_ok-judged.ensures.none nothing);
-      ran = rw is (change_then see
-          (next_more remaining c.args.lines.now (reader_remaining remaining c.run_line.new.lines) held rest c.args.run.now run judged holds more)
+      ran = rw is (next_more see remaining c.args.lines.now (reader_remaining remaining c.run_line.new.lines) held rest c.args.run.now run judged holds more
           c.args.layered.now c.run_held.new.layered c.run_line.new.layered ran c.in_ok-judged-2.ensures);
     }

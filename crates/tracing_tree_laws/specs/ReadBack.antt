@@ -1,0 +1,26 @@
+-- What is read back of a run, from its text alone.
+use Rattle.std.specs.Prelude.{◌≡◌, ◌&&◌, false, List, [], Option, None, IsTrue}
+use Rattle.tracing_tree_context.specs.declared.context.Id.{Id}
+use Rattle.tracing_tree_drawing.specs.Format.Settings.{Settings, retraces}
+use Rattle.tracing_tree_drawing.specs.Rows.Readable.{IsReadable}
+use Rattle.tracing_tree_drawing.specs.declared.rows.paths.EventPath.{EventPath}
+use Rattle.tracing_tree_layer.specs.Layer.Layers.{LayeredView}
+use Rattle.tracing_tree_layer.specs.Laws.Reading.{EventInRun, IsInCurrent, rows_of}
+use Rattle.tracing_tree_layer.specs.declared.call.Call.{Call}
+use Rattle.tracing_tree_lines.specs.Laws.Ancestry.{FindsAncestors}
+use Rattle.tracing_tree_time.specs.Clock.{Timer}
+
+-- no span is live, there is no last span, and nothing has failed; the first id, if any is left
+pub record IsEmpty {W FT : Type 0} (first : Option Id) (layered : LayeredView W FT) : Type 0 where
+  pub no_span : layered.forest ≡ record { spans = []; next = first }
+  pub no_last : layered.layer.last ≡ None
+  pub sound : layered.layer.failed ≡ false
+
+-- If the rows of a run that began empty are readable, with `close_retrace`, and with `span_retrace`
+-- or `deferred_spans`, the ancestors of each event in its current span are found.
+abbrev pub FindsAll : Settings → Timer → Option Id → List Call → List EventPath → Type 0
+FindsAll settings timer first calls paths =
+    IsReadable settings (rows_of settings timer first calls) →
+    IsTrue (settings.close_retrace && retraces settings) →
+    (e : EventInRun settings timer first calls) (i : Id) → IsInCurrent e i →
+    FindsAncestors e i paths

@@ -1,0 +1,49 @@
+//! Runs whose events are read back from their text alone.
+
+ghost use Rattle.std.specs.Prelude.{◌≡◌, [], IfSome, Option};
+ghost use Rattle.tracing_tree_context.specs.declared.context.Id.{Id};
+ghost use Rattle.tracing_tree_layer.specs.Layered.Run.{accepted_calls};
+ghost use Rattle.tracing_tree_laws.specs.ReadBack.{FindsAll, IsEmpty};
+
+use std::alloc::Global;
+use std::str;
+use tracing_tree::format::{Refusal, Tape};
+use tracing_tree::rows::{EventPath, read_paths};
+use tracing_tree::time::FormatTime;
+use tracing_tree::{Call, Layered, Reply};
+
+/// What a run answered, and the paths of its events as its text shows them.
+#[derive(Drop)]
+pub struct EventsRead {
+    /// The answer to each call, in order.
+    pub answers: Vec<Result<Reply, Refusal>>,
+
+    /// The events, in order, with the places of their ancestors.
+    pub paths: Vec<EventPath>,
+}
+
+/// Makes the calls, and reads the text that they drew. If the layered began empty and drew readable rows, with `close_retrace`, and
+/// with `span_retrace` or `deferred_spans`, each accepted event in its current span finds, in the text alone, the rows that open the
+/// spans on its path.
+///
+/// The contract follows from those of [`Layered::run`] and [`read_paths`]. None if the amount is below 2, memory is refused, the layer
+/// fails or its text isn't read.
+pub fn read_events<FT: FormatTime>(
+    alloc: Global,
+    layered: &mut Layered<Tape, FT>,
+    calls: Vec<Call>,
+) -> Option<EventsRead>
+    ensures { (first : Option Id) → IsEmpty first layered.old → layered.old.layer.writer.bytes ≡ []
+        → IfSome result (λ read. FindsAll layered.old.layer.settings
+        (FT.timer layered.old.layer.timer) first
+        (accepted_calls calls.items read.answers.items) read.paths.items) }
+{
+    let answers = layered.run(alloc, calls).ok()?;
+    let amount = layered.layer().config().indent_amount();
+    if amount < 2 || layered.layer().failed() {
+        return None;
+    }
+    let text = str::from_utf8(layered.writer().bytes()).ok()?;
+    let paths = read_paths(alloc, text, amount).ok()?;
+    Some(EventsRead { answers, paths })
+}
