@@ -70,8 +70,8 @@ impl<L: Ledger> Pass<L> {
 }
 
 // What the lock holds. The share starts with the ledger's total, and each accepted call moves
-// `EACH` of it to a pass. The total modulo `EACH` encodes ansi and targets of the layer, so `finish`
-// knows them as well as the number of receipts.
+// `EACH` of it to a pass. The total modulo `EACH` encodes ansi and targets of the layer, so that
+// `finish` knows them, and how many receipts there are.
 #[derive(Drop)]
 struct Locked<FT: FormatTime, L: Ledger> {
     book: Book<FT>,
