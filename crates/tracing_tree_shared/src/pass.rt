@@ -4,7 +4,7 @@ ghost use Rattle.std.specs.Prelude.{◌≡◌, ◌⊎◌, Err, ◌+◌, ◌*◌,
 ghost use Rattle.tracing_tree_shared.specs.Drafts.{tail_under};
 ghost use Rattle.tracing_tree_shared.specs.Kept.{IsApplied, IsAnsweredOnSome, answer_given};
 ghost use Rattle.tracing_tree_shared.specs.Finish.{IsFinishAnswer};
-ghost use Rattle.tracing_tree_shared.specs.Tickets.{full_amount, settings_code};
+ghost use Rattle.tracing_tree_shared.specs.Amounts.{full_amount, settings_code};
 
 use crate::book::{Book, Receipt};
 use crate::draft::{Draft, Refused};
@@ -131,7 +131,7 @@ pub struct SharedLayer<FT: FormatTime, L: Ledger> {
 impl<FT: FormatTime, L: Ledger> Model for SharedLayer<FT, L> {
     ghost use Rattle.std.specs.Prelude.{◌≡◌, ◌+◌};
     ghost use Rattle.tracing_tree_shared.specs.Drafts.{SharedView};
-    ghost use Rattle.tracing_tree_shared.specs.Tickets.{full_amount};
+    ghost use Rattle.tracing_tree_shared.specs.Amounts.{full_amount};
 
     ghost Value = { SharedView };
 

@@ -3,11 +3,10 @@
 use crate::opened::lined;
 use crate::plain::stream;
 use std::alloc::Global;
-use std::io;
 use std::io::Write;
 use std::sync::Wait;
 use std::test::*;
-use std::thread;
+use std::{io, thread};
 use tracing_tree_core::format::{Refusal, Tape, Wrap};
 use tracing_tree_core::style::Level;
 use tracing_tree_for_tests::{closed, made, told};
@@ -84,15 +83,12 @@ impl Write for Noting {
 }
 
 // A layer without lines over such a writer.
-fn noting(alloc: Global) -> StreamingLayer<Wrap<Noting>, ()> {
+fn over_noting(alloc: Global) -> StreamingLayer<Wrap<Noting>, ()> {
     let writer = Wrap::new(Noting {
         taken: 0,
         flushed: Vec::new(alloc),
     });
-    StreamingLayer::new(Layered::new(
-        alloc,
-        HierarchicalLayer::new(alloc, 2, false, writer),
-    ))
+    StreamingLayer::new(Layered::new(alloc, HierarchicalLayer::new(alloc, 2, false, writer)))
 }
 
 // Opens this many roots, and flushes after each. Returns whether they are numbered from 0.
@@ -125,7 +121,7 @@ fn noted(layer: StreamingLayer<Wrap<Noting>, ()>) -> (u64, Vec<usize>) {
 #[test]
 fn a_flush_reaches_the_writer(rt: HostRuntime) -> Result<(), Fail> {
     let alloc = rt.alloc();
-    let layer = noting(alloc);
+    let layer = over_noting(alloc);
     assert!(rt; flush_each(&rt, alloc, &layer, 3));
     let (accepted, flushed) = noted(layer);
     assert_eq!(rt; accepted, 3);
