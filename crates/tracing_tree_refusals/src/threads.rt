@@ -1,6 +1,6 @@
 //! Drafts of calls, handed in to a layer for several threads by one of them.
 
-ghost use Rattle.std.specs.Prelude.{◌≡◌, ◌+◌, IfSome};
+ghost use Rattle.std.specs.Prelude.{◌≡◌};
 
 use crate::calls::Trial;
 use crate::script::{Answer, Script};
@@ -20,7 +20,6 @@ fn opened<L: Ledger>(alloc: Global, blank: Blank) -> Option<(SharedLayer<(), L>,
     requires name { blank.name ≡ L.name }
     requires parts { blank.parts ≡ L.parts }
     requires two { L.parts ≡ 2 }
-    ensures { IfSome result (λ r. r.0.passes + 1 ≡ L.parts) }
 {
     let layered = Layered::new(alloc, Script::Concurrent.layer(alloc, Tape::new(alloc)));
     SharedLayer::<(), L>::open(alloc, blank, layered, 1).ok()
@@ -47,9 +46,7 @@ fn submit<L: Ledger, R: Wait>(
     }
 }
 
-fn finished<L: Ledger>(layer: SharedLayer<(), L>, passes: Vec<Pass<L>>) -> Option<Finished>
-    requires { layer.passes + 1 ≡ L.parts }
-{
+fn finished<L: Ledger>(layer: SharedLayer<(), L>, passes: Vec<Pass<L>>) -> Option<Finished> {
     layer.finish(passes).ok()
 }
 

@@ -105,3 +105,22 @@ fn finds_it_from_the_end(rt: HostRuntime) -> Result<(), Fail> {
     }
     Ok(())
 }
+
+// A chain of this many spans.
+fn chain(alloc: Global, count: u64) -> Result<Registry, Fail> {
+    let mut spans = Registry::new(alloc);
+    let mut parent = None;
+    for id in 0..count {
+        make(alloc, &mut spans, parent)?;
+        parent = Some(id.wrapping_add(1));
+    }
+    Ok(spans)
+}
+
+#[test]
+fn copies_a_long_path(rt: HostRuntime) -> Result<(), Fail> {
+    let alloc = rt.alloc();
+    let spans = chain(alloc, 5_000)?;
+    assert_eq!(rt; spans.path(alloc, Id(5_000))?.len(), 5_000);
+    Ok(())
+}

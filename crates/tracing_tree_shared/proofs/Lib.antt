@@ -1,5 +1,5 @@
 pub mod Lists
 pub mod Receipts
 pub mod Replays
-pub mod Tickets
+pub mod Amounts
 pub mod Worked

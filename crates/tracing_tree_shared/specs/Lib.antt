@@ -2,5 +2,5 @@ pub mod History
 pub mod Kept
 pub mod Drafts
 pub mod Finish
-pub mod Tickets
+pub mod Amounts
 pub mod Streamed

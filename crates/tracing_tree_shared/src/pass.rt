@@ -4,7 +4,7 @@ ghost use Rattle.std.specs.Prelude.{◌≡◌, ◌⊎◌, Err, ◌+◌, ◌*◌,
 ghost use Rattle.tracing_tree_shared.specs.Drafts.{tail_under};
 ghost use Rattle.tracing_tree_shared.specs.Kept.{IsApplied, IsAnsweredOnSome, answer_given};
 ghost use Rattle.tracing_tree_shared.specs.Finish.{IsFinishAnswer};
-ghost use Rattle.tracing_tree_shared.specs.Tickets.{full_amount, settings_code};
+ghost use Rattle.tracing_tree_shared.specs.Amounts.{full_amount, settings_code};
 
 use crate::book::{Book, Receipt};
 use crate::draft::{Draft, Refused};
@@ -70,8 +70,8 @@ impl<L: Ledger> Pass<L> {
 }
 
 // What the lock holds. The share starts with the ledger's total, and each accepted call moves
-// `EACH` of it to a pass. The total modulo `EACH` encodes ansi and targets of the layer, so `finish`
-// knows them as well as the number of receipts.
+// `EACH` of it to a pass. The total modulo `EACH` encodes ansi and targets of the layer, so that
+// `finish` knows them, and how many receipts there are.
 #[derive(Drop)]
 struct Locked<FT: FormatTime, L: Ledger> {
     book: Book<FT>,
@@ -131,7 +131,7 @@ pub struct SharedLayer<FT: FormatTime, L: Ledger> {
 impl<FT: FormatTime, L: Ledger> Model for SharedLayer<FT, L> {
     ghost use Rattle.std.specs.Prelude.{◌≡◌, ◌+◌};
     ghost use Rattle.tracing_tree_shared.specs.Drafts.{SharedView};
-    ghost use Rattle.tracing_tree_shared.specs.Tickets.{full_amount};
+    ghost use Rattle.tracing_tree_shared.specs.Amounts.{full_amount};
 
     ghost Value = { SharedView };
 

@@ -53,8 +53,8 @@ fn only_an_event_has_a_tail(rt: HostRuntime) -> Result<(), Fail> {
     Ok(())
 }
 
-// How often a thread looks before it gives up: for seconds, also where it has a processor of its own.
-const LIMIT: u64 = 20_000_000;
+// How often a thread looks before it gives up.
+const LIMIT: u64 = 100_000_000;
 
 // Whether the flag was seen before the limit. The other thread may wait for this one's processor.
 fn is_seen(flag: &AtomicBool) -> bool {

@@ -1,11 +1,9 @@
 //! Calls of the crate in functions that promise nothing, so that a test that makes them is soon proved.
 
-ghost use Rattle.std.specs.Prelude.{◌≡◌, ◌+◌};
-
 use std::alloc::{AllocError, Global};
 use std::sync::Wait;
 use std::sync::ledger::Ledger;
-use tracing_tree_core::format::{Config, Tape};
+use tracing_tree_core::format::{Config, Output};
 use tracing_tree_core::time::FormatTime;
 use tracing_tree_layer::call::{Call, Reply};
 use tracing_tree_shared::{
@@ -60,17 +58,15 @@ pub fn make<FT: FormatTime + Drop, L: Ledger, R: Wait>(
 pub fn finish<FT: FormatTime + Drop, L: Ledger>(
     layer: SharedLayer<FT, L>,
     passes: Vec<Pass<L>>,
-) -> Option<Finished>
-    requires { layer.passes + 1 ≡ L.parts }
-{
+) -> Option<Finished> {
     layer.finish(passes).ok()
 }
 
 /// Drafts and submits a call to a layer without a history, and returns its number. None where either is refused.
-pub fn stream<R: Wait>(
+pub fn stream<W: Output, R: Wait>(
     rt: &R,
     alloc: Global,
-    layer: &StreamingLayer<Tape, ()>,
+    layer: &StreamingLayer<W, ()>,
     call: Call,
 ) -> Option<u64> {
     let draft = layer.draft(alloc, call).ok()?;

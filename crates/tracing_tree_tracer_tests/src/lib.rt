@@ -2,9 +2,13 @@
 #![tactic(auto)]
 
 #[cfg(test)]
+mod clock;
+#[cfg(test)]
 mod drawn;
 #[cfg(test)]
 mod faults;
+#[cfg(test)]
+mod large;
 #[cfg(test)]
 mod lined;
 #[cfg(test)]

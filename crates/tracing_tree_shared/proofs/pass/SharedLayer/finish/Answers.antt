@@ -3,7 +3,7 @@ use Rattle.tracing_tree_drawing.specs.Format.Settings.{Settings}
 use Rattle.tracing_tree_shared.specs.History.{Entry, Slips, IsFirstStrange, IsOneHistory}
 use Rattle.tracing_tree_shared.specs.Drafts.{SharedView}
 use Rattle.tracing_tree_shared.specs.Finish.{IsReplay}
-use Rattle.tracing_tree_shared.proofs.Tickets.{same}
+use Rattle.tracing_tree_shared.proofs.Amounts.{same}
 use Rattle.tracing_tree_shared.proofs.pass.SharedLayer.finish.Goals as goal
 
 pub returns-in-Some : goal.returns-in-Some

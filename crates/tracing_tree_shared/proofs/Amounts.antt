@@ -1,6 +1,6 @@
--- The count that is left under the lock shows how many calls were accepted, and the settings.
+-- What is left under the lock shows how many calls were accepted, and the two settings.
 use Rattle.std.proofs.Common.{◌≡◌, ◌∙◌, ℕ, ◌+◌, ◌*◌, ◌<◌, ◌==◌, ◌||◌, Bool, true, false, leb, refl, sym, ap, arith}
-use Rattle.tracing_tree_shared.specs.Tickets.{settings_code, full_amount}
+use Rattle.tracing_tree_shared.specs.Amounts.{settings_code, full_amount}
 
 pub below : (ansi targets : Bool) → settings_code ansi targets < 4
 below false false = omega arith

@@ -1,4 +1,4 @@
--- What the ledger of a layer for several threads counts.
+-- The amounts of the ledger of a layer for several threads.
 use Rattle.std.specs.Prelude.{ℕ, ◌+◌, ◌*◌, ◌^◌, Bool, true, false}
 
 -- two settings as a number below 4
