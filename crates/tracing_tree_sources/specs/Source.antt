@@ -80,8 +80,8 @@ module _ {S : Type 0} where
     abbrev pub source_after : (S → S) → S → List (List ℕ) → S
     source_after ended source lines = ended (hear source lines).source
 
--- Input may be read, which may wait: the output shows all that it has taken, unless the reader's buffer
--- holds the next line.
+-- Input may be read, which may wait: the output shows all that it has taken, unless the reader's
+-- buffer holds the next line.
 abbrev pub MayRead : {W : Type 0} → Output W → List ℕ → W → Type 0
 MayRead output buffer writer =
     is_some (position (λ byte. byte == 10) buffer) ≡ false → IsShown output writer
@@ -184,7 +184,7 @@ module _ {S : Type 0} (takes : S → List ℕ → Option Json → Option (Step S
   HearsLine line before after (Err cause) old new =
       StopsIn (hear_line takes before line).calls cause old new
 
-  -- the notes of these lines, which are numbered from `number` on: one for each of which nothing is known
+  -- the notes of these lines, numbered from `number` on: one for each of which nothing is known
   abbrev pub notes_of : (Option Json → Lack) → ℕ → S → List (List ℕ) → List Note
   notes_of lacks number source [] = []
   notes_of lacks number source (line ∷ lines) =
@@ -197,8 +197,8 @@ module _ {S : Type 0} (takes : S → List ℕ → Option Json → Option (Step S
   next_calls ends source (line ∷ others) = (hear_line takes source line).calls
 
   -- What the next line did, or the end. Where it ended the run, these were calls of its own.
-  abbrev pub HearsNext : (S → List Call) → (S → S) → Option (List ℕ) → Option (List ℕ) → List ℕ → S → S
-      → Result Judged LineCause → Seen → Seen → Type 0
+  abbrev pub HearsNext : (S → List Call) → (S → S) → Option (List ℕ) → Option (List ℕ) → List ℕ → S
+      → S → Result Judged LineCause → Seen → Seen → Type 0
   HearsNext ends ended known left line before after (Ok End) old new =
       IfSome known (λ input. (input_lines input ≡ []) × Makes (ends before) old new
       × (after ≡ ended before))
@@ -229,8 +229,8 @@ module _ {S : Type 0} (takes : S → List ℕ → Option Json → Option (Step S
         (next_unknown (hear takes source before).source others) run.unknown
 
   -- The drawing is that of the calls of the known lines, and of those that the end brings; each was
-  -- accepted, and the source has taken these lines and the end. Where something ended the run, it is
-  -- that of a beginning of these calls.
+  -- accepted, and the source has taken these lines and the end. If something ended the run, it is that
+  -- of a beginning of these calls.
   abbrev pub RunsLines : (S → List Call) → (S → S) → List (List ℕ) → S → S → SourceRun → Seen → Seen
       → Type 0
   RunsLines ends ended lines source after run old new =

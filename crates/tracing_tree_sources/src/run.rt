@@ -180,7 +180,8 @@ fn run_next<S: Source, R: Read, W: Output, FT: FormatTime>(
     }
 }
 
-// Reads one line. What is drawn must be shown, since the read may wait, unless the line is in the buffer.
+// Reads one line. What is drawn must be shown, since the read may wait, unless the buffer holds the
+// line.
 fn read_next<R: Read, W: Output, FT: FormatTime>(
     lines: &mut BufReader<R>,
     line: &mut Vec<u8>,

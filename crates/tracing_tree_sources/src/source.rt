@@ -43,7 +43,8 @@ pub trait Source {
     fn lack(value: Option<&Value<'_>>) -> Lack
         ensures { result ≡ lacks (option_map (λ v. value_view v.now) value.entry) };
 
-    /// The calls that the input's end brings. Nothing is said of the source if memory is refused (`AllocError`).
+    /// The calls that the input's end brings. Nothing is said of the source if memory is refused
+    /// (`AllocError`).
     fn end(&mut self, alloc: Global) -> Result<Vec<Call>, AllocError>
         ensures calls { IfOk result (λ calls. calls.items ≡ ends self.old) }
         ensures after { OnOk result (self.new ≡ ended self.old) };
