@@ -3,4 +3,5 @@ pub mod Places
 mod Leaving
 mod LastInLane
 pub mod Hearing
+pub mod Noting
 mod Worked

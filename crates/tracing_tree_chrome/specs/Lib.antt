@@ -4,4 +4,5 @@ pub mod Gather
 pub mod Length
 pub mod Later
 pub mod Tree
+pub mod Notes
 pub mod Trace

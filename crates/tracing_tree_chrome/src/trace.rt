@@ -1,10 +1,13 @@
 //! Traces in Chrome's trace event format.
 
-ghost use Rattle.std.specs.Prelude.{◌≡◌, IfErr, IfOk, OnOk, Some};
+ghost use Rattle.std.specs.Prelude.{◌≡◌, [], ◌∷◌, IfErr, IfOk, OnOk, Some, is_none, is_ok, true};
 ghost use Rattle.json.specs.Value.{items_view, value_view};
 ghost use Rattle.tracing_tree_layer.specs.Layer.Layers.{seen, Changes};
 ghost use Rattle.tracing_tree_chrome.specs.Trace.{AreCallsOf, DrawsOrEnds, EndsHearing, RunsTrace, heard_all, heard_as, heard_cut, heard_from, heard_mended, heard_unknown, heard_value, nothing_heard_of};
 ghost use Rattle.tracing_tree_chrome.specs.Element.{element_of};
+ghost use Rattle.tracing_tree_chrome.specs.Text.{elements_in};
+ghost use Rattle.tracing_tree_chrome.specs.Notes.{IsNoted, cut_notes, element_note, element_notes, mended_notes, notes_in, trace_notes};
+ghost use Rattle.tracing_tree_sources.specs.Noted.{Note};
 
 use crate::element::element_of;
 use crate::gather::{Gathered, in_order};
@@ -50,6 +53,7 @@ struct Heard {
 /// An element of which nothing is known is counted and left out, and what it lacks is noted by its number from 1 on; so is an
 /// element in which the text ends, and a text that is no trace. Nothing is drawn where memory is refused, and where the notes end
 /// the run: `NotACall` is the cause then. The drawing ends at the first call that is refused. The line of a fault is 1.
+#[tactic(auto, using(crate::proofs::Noting::noted_less))]
 pub fn run_trace<W: Output, FT: FormatTime, N: Notes>(
     alloc: Global,
     next: u64,
@@ -59,8 +63,10 @@ pub fn run_trace<W: Output, FT: FormatTime, N: Notes>(
     layered: &mut Layered<W, FT>,
     notes: &mut N,
 ) -> SourceRun
-    ensures { Changes (seen FT.FormatTime W.Output) (RunsTrace next moment cut text.now result)
+    ensures run { Changes (seen FT.FormatTime W.Output) (RunsTrace next moment cut text.now result)
         layered.old layered.new }
+    ensures noted { IsNoted (notes_in text.now) (is_none result.fault) 0 result.unknown
+        (N.noted notes.old) (N.noted notes.new) }
 {
     let mut heard = Heard::new(alloc);
     if let Err(cause) = hear(alloc, text, &mut heard, notes) {
@@ -130,6 +136,7 @@ fn calls_of(
 }
 
 // Takes what a text says as a trace.
+#[tactic(auto, using(crate::proofs::Noting::noted_not_yet))]
 fn hear<N: Notes>(
     alloc: Global,
     text: &str,
@@ -138,6 +145,8 @@ fn hear<N: Notes>(
 ) -> Result<(), LineCause>
     ensures heard { OnOk result (heard.new ≡ heard_from text.now heard.old) }
     ensures ended { IfErr result (λ cause. EndsHearing cause heard.new (heard_from text.now heard.old)) }
+    ensures noted { IsNoted (notes_in text.now) (is_ok result) heard.old.unknown heard.new.unknown
+        (N.noted notes.old) (N.noted notes.new) }
 {
     let mut scratch = Scratch::new(alloc);
     match value_of(alloc, text, &mut scratch)? {
@@ -147,6 +156,7 @@ fn hear<N: Notes>(
 }
 
 // Takes what a text says that ends early.
+#[tactic(auto, using(crate::proofs::Noting::noted_less, crate::proofs::Noting::noted_not_yet))]
 fn hear_mended<N: Notes>(
     alloc: Global,
     text: &str,
@@ -155,6 +165,8 @@ fn hear_mended<N: Notes>(
 ) -> Result<(), LineCause>
     ensures heard { OnOk result (heard.new ≡ heard_mended text.now heard.old) }
     ensures ended { IfErr result (λ cause. EndsHearing cause heard.new (heard_mended text.now heard.old)) }
+    ensures noted { IsNoted (mended_notes text.now) (is_ok result) heard.old.unknown
+        heard.new.unknown (N.noted notes.old) (N.noted notes.new) }
 {
     let mended = mended(alloc, text)?;
     let mut scratch = Scratch::new(alloc);
@@ -175,7 +187,7 @@ impl Heard {
     }
 
     // Takes what a value says as a trace, of which one more element is lost where it was cut.
-    #[tactic(auto, using(crate::proofs::Hearing::ends_before_cut))]
+    #[tactic(auto, using(crate::proofs::Hearing::ends_before_cut, crate::proofs::Noting::noted_among, crate::proofs::Noting::noted_one, crate::proofs::Noting::noted_then))]
     fn take_value<N: Notes>(
         &mut self,
         alloc: Global,
@@ -186,12 +198,14 @@ impl Heard {
         ensures heard { OnOk result (self.new ≡ heard_value is_cut (value_view value.now) self.old) }
         ensures ended { IfErr result (λ cause. EndsHearing cause self.new
             (heard_value is_cut (value_view value.now) self.old)) }
+        ensures noted { IsNoted (trace_notes is_cut (elements_in (value_view value.now)))
+            (is_ok result) self.old.unknown self.new.unknown (N.noted notes.old) (N.noted notes.new) }
     {
         let Some(elements) = elements_in(value) else {
             return self.lose(1, Lack::Trace, notes);
         };
         self.take_all(alloc, elements, notes)?;
-        self.lose_cut(is_cut, notes)
+        self.lose_cut(is_cut, elements.len(), notes)
     }
 
     fn take_all<N: Notes>(
@@ -203,6 +217,8 @@ impl Heard {
         ensures heard { OnOk result (self.new ≡ heard_all (items_view elements.now.items) self.old) }
         ensures ended { IfErr result (λ cause. EndsHearing cause self.new
             (heard_all (items_view elements.now.items) self.old)) }
+        ensures noted { IsNoted (element_notes 1 (items_view elements.now.items)) (is_ok result)
+            self.old.unknown self.new.unknown (N.noted notes.old) (N.noted notes.new) }
     {
         let mut number: u64 = 0;
         for element in elements {
@@ -213,6 +229,7 @@ impl Heard {
     }
 
     // Takes what one element says.
+    #[tactic(auto, using(crate::proofs::Noting::noted_less, crate::proofs::Noting::noted_none, crate::proofs::Noting::noted_not_yet))]
     fn take<N: Notes>(
         &mut self,
         alloc: Global,
@@ -223,6 +240,8 @@ impl Heard {
         ensures heard { OnOk result (self.new ≡ heard_as (element_of (value_view element.now)) self.old) }
         ensures ended { IfErr result (λ cause. EndsHearing cause self.new
             (heard_as (element_of (value_view element.now)) self.old)) }
+        ensures noted { IsNoted (element_note number (element_of (value_view element.now)))
+            (is_ok result) self.old.unknown self.new.unknown (N.noted notes.old) (N.noted notes.new) }
     {
         match element_of(alloc, element)? {
             Ok(element) => Ok(self.gathered.take(element)?),
@@ -230,27 +249,33 @@ impl Heard {
         }
     }
 
-    // Counts the element in which a text was cut.
-    fn lose_cut<N: Notes>(&mut self, is_cut: bool, notes: &mut N) -> Result<(), LineCause>
+    // Counts the element in which a text was cut, after so many whole ones.
+    #[tactic(auto, using(crate::proofs::Noting::noted_less, crate::proofs::Noting::noted_none))]
+    fn lose_cut<N: Notes>(
+        &mut self,
+        is_cut: bool,
+        count: usize,
+        notes: &mut N,
+    ) -> Result<(), LineCause>
         ensures heard { OnOk result (self.new ≡ heard_cut is_cut self.old) }
         ensures ended { IfErr result (λ cause. EndsHearing cause self.new (heard_cut is_cut self.old)) }
+        ensures noted { IsNoted (cut_notes is_cut count) (is_ok result) self.old.unknown
+            self.new.unknown (N.noted notes.old) (N.noted notes.new) }
     {
         if !is_cut {
             return Ok(());
         }
-        let last = self
-            .gathered
-            .count
-            .saturating_add(self.unknown)
-            .saturating_add(1);
+        let last = (count as u64).saturating_add(1);
         self.lose(last, Lack::Object, notes)
     }
 
     // Counts an element that says nothing that is known, and has it noted. An error ends the run.
-    #[tactic(auto, using(crate::proofs::Hearing::ends_unknown))]
+    #[tactic(auto, using(crate::proofs::Hearing::ends_unknown, crate::proofs::Noting::noted_one))]
     fn lose<N: Notes>(&mut self, number: u64, lack: Lack, notes: &mut N) -> Result<(), LineCause>
         ensures heard { self.new ≡ heard_unknown self.old }
         ensures ended { IfErr result (λ cause. EndsHearing cause self.new (heard_unknown self.old)) }
+        ensures noted { IsNoted ((number, lack) ∷ []) true self.old.unknown self.new.unknown
+            (N.noted notes.old) (N.noted notes.new) }
     {
         self.unknown = self.unknown.saturating_add(1);
         skip(notes, number, Ok(lack))

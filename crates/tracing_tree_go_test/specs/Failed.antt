@@ -5,7 +5,7 @@ use Rattle.json.specs.Json.{Json, document}
 use Rattle.tracing_tree_context.specs.declared.context.Moment.{Moment}
 use Rattle.tracing_tree_layer.specs.declared.call.Call.{Call}
 use Rattle.tracing_tree_sources.specs.Source.{Step}
-use Rattle.tracing_tree_go_test.specs.GoTest.{GoState, all_ended, go_takes, nothing_run, package_of, runs, takes_json, takes_text, tally_call, test_of, timed}
+use Rattle.tracing_tree_go_test.specs.GoTest.{GoState, all_ended, go_ended, go_takes, nothing_run, package_of, runs, takes_json, takes_text, tally_call, test_of, timed}
 use Rattle.tracing_tree_go_test.specs.Names.{named, put, without}
 use Rattle.tracing_tree_sources.specs.Values.{text_at}
 use Rattle.tracing_tree_go_test.specs.declared.failed.Kept.{Kept}
@@ -206,3 +206,11 @@ all_released (one ∷ others) shown = all_released others (package_released one.
 abbrev pub failed_ends : FailedState → List Call
 failed_ends s =
     (all_ended (all_released s.packages s.shown)).calls ++ tally_call (all_ended s.whole) ∷ []
+
+-- the source after the end: nothing is kept, nothing runs, and what was told is handed out
+abbrev pub failed_ended : FailedState → FailedState
+failed_ended s = record {
+  whole = all_ended s.whole;
+  shown = go_ended (all_released s.packages s.shown);
+  packages = [];
+}

@@ -501,3 +501,7 @@ abbrev pub go_ends : GoState → List Call
 go_ends s =
     let ended : GoState = all_ended s in
     ended.calls ++ tally_call ended ∷ []
+
+-- the source after the end: nothing runs, and all calls are handed out
+abbrev pub go_ended : GoState → GoState
+go_ended s = (handed_out (all_ended s)).source

@@ -235,11 +235,13 @@ impl Failed {
 
 impl Source for Failed {
     ghost use Rattle.tracing_tree_go_test.specs.GoTest.{go_lacks};
-    ghost use Rattle.tracing_tree_go_test.specs.Failed.{failed_ends, failed_takes};
+    ghost use Rattle.tracing_tree_go_test.specs.Failed.{failed_ended, failed_ends, failed_takes};
 
     ghost takes = { failed_takes };
 
     ghost ends = { failed_ends };
+
+    ghost ended = { failed_ended };
 
     ghost lacks = { go_lacks };
 

@@ -665,11 +665,13 @@ impl GoTest {
 }
 
 impl Source for GoTest {
-    ghost use Rattle.tracing_tree_go_test.specs.GoTest.{go_takes, go_lacks, go_ends};
+    ghost use Rattle.tracing_tree_go_test.specs.GoTest.{go_takes, go_lacks, go_ended, go_ends};
 
     ghost takes = { go_takes };
 
     ghost ends = { go_ends };
+
+    ghost ended = { go_ended };
 
     ghost lacks = { go_lacks };
 

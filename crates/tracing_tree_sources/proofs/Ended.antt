@@ -35,7 +35,7 @@ refused NoSettings unknown e = cc
 refused Read unknown e = cc
 refused (Refused refusal) unknown e = cc
 
-of_error : (result : Result ⊤ LineCause) (cause : LineCause) → result ≡ Err cause → result ≡ Err Memory → cause ≡ Memory
+pub of_error : (result : Result ⊤ LineCause) (cause : LineCause) → result ≡ Err cause → result ≡ Err Memory → cause ≡ Memory
 of_error (Ok done) cause is h = cc
 of_error (Err other) cause is h = cc
 

@@ -1,5 +1,5 @@
 -- What a source's lines told, one line more, and what a run over them leaves at its end.
-use Rattle.std.proofs.Common.{◌≡◌, ℕ, ◌+◌, Bool, true, false, List, [], ◌∷◌, ◌++◌, Option, Some, None, IfSome, Result, Ok, Err, inl, inr, length, refl, sym, ap, subst, ◌∙◌, arith, append_assoc, append-nil, length-append}
+use Rattle.std.proofs.Common.{◌≡◌, ℕ, ◌+◌, Bool, true, false, List, [], ◌∷◌, ◌++◌, ◌-◌, take, Option, Some, None, IfSome, Result, Ok, Err, inl, inr, length, refl, sym, ap, subst, ◌∙◌, arith, append_assoc, append-nil, length-append}
 use Rattle.std.specs.Prelude.{⊤, if◌then◌else◌, IsUtf8}
 use Rattle.std.specs.Str.{is_utf8}
 use Rattle.std.proofs.lemmas.Str.{is_utf8-from_IsUtf8, IsUtf8-from_is_utf8}
@@ -13,10 +13,13 @@ use Rattle.tracing_tree_lines.specs.Lines.Reads.{is_from_outside}
 use Rattle.tracing_tree_lines.specs.declared.lines.LineCause.{LineCause}
 use Rattle.tracing_tree_lines.specs.declared.lines.LineFault.{LineFault}
 use Rattle.tracing_tree_lines.specs.declared.lines.LineCause.TheVariants.{Settings as NoSettings, NotACall, Read, Memory, Refused}
-use Rattle.tracing_tree_sources.specs.Source.{Breaks, CountsUnknown, EndsAt, Heard, HearsLine, HearsNext, Makes, MakesAll, MayEnd, Step, StopsIn, Tells, calls_of, hear, hear_line, heard_step, next_calls, next_unknown, nothing_heard, then_heard}
+use Rattle.tracing_tree_sources.specs.Noted.{AddsNotes, Note}
+use Rattle.tracing_tree_sources.specs.declared.notes.Lack.{Lack}
+use Rattle.tracing_tree_sources.specs.Source.{Breaks, lack_of, note_of, noted_at, noted_lines, notes_of, source_after, CountsUnknown, EndsAt, Heard, HearsLine, HearsNext, Makes, MakesAll, MayEnd, Step, StopsIn, Tells, calls_of, hear, hear_line, heard_step, next_calls, next_unknown, nothing_heard, then_heard}
 use Rattle.tracing_tree_sources.specs.declared.run.SourceRun.{SourceRun}
 use Rattle.tracing_tree_sources.specs.declared.run.Judged.TheVariants.{End}
 use Rattle.tracing_tree_sources.proofs.Ended.{IsOfNotes}
+use Rattle.tracing_tree_sources.proofs.Noted.{adds_none, adds_then, not_noted, notes_more, take_all, take_first}
 use Rattle.tracing_tree_sources.proofs.Made.{makes_none, makes_then, makes_flushed, stops_after, stops_before, stops_more}
 
 outside : (cause : LineCause) (calls : List Call) (s : Seen) → is_from_outside cause ≡ true → Breaks cause calls s s
@@ -76,14 +79,14 @@ module _ {S : Type 0} (takes : S → List ℕ → Option Json → Option (Step S
 
   -- ---- the next line, or the end
 
-  module _ (ends : S → List Call) where
-    pub next_outside : (known left : Option (List ℕ)) (before after : S) (cause : LineCause) (s : Seen) → is_from_outside cause ≡ true →
-        HearsNext takes ends known left before after (Err cause) s s
-    next_outside None left before after cause s h = tt
-    next_outside (Some input) left before after cause s h = stops_before _ cause s (outside cause _ s h)
+  module _ (ends : S → List Call) (ended : S → S) where
+    pub next_outside : (known left : Option (List ℕ)) (line : List ℕ) (before after : S) (cause : LineCause) (s : Seen) → is_from_outside cause ≡ true →
+        HearsNext takes ends ended known left line before after (Err cause) s s
+    next_outside None left line before after cause s h = tt
+    next_outside (Some input) left line before after cause s h = stops_before _ cause s (outside cause _ s h)
 
     pub next_stops : (known left : Option (List ℕ)) (line : List ℕ) (before after : S) (cause : LineCause) (old new : Seen) →
-        TakesLine known left line → HearsLine takes line before after (Err cause) old new → HearsNext takes ends known left before after (Err cause) old new
+        TakesLine known left line → HearsLine takes line before after (Err cause) old new → HearsNext takes ends ended known left line before after (Err cause) old new
     next_stops None left line before after cause old new first h = tt
     next_stops (Some input) None line before after cause old new first h = absurd first
     next_stops (Some input) (Some rest) line before after cause old new first h =
@@ -123,66 +126,125 @@ module _ {S : Type 0} (takes : S → List ℕ → Option Json → Option (Step S
 
   -- ---- the run so far
 
-  -- the calls of the lines before the others were made, and the source is where these lines left it
-  pub record IsSoFar (lines others : List (List ℕ)) (begun source : S) (number unknown : ℕ) (old now : Seen) : Type 0 where
-    pub before : List (List ℕ)
-    pub split : before ++ others ≡ lines
-    pub numbered : number ≡ length before + 1
-    pub reached : (hear takes begun before).source ≡ source
-    pub counted : unknown ≡ (hear takes begun before).unknown
-    pub makes : Makes (hear takes begun before).calls old now
+  module _ (lacks : Option Json → Lack) where
+    -- the calls of the lines before the others were made, and the source is where these lines left it
+    pub record IsSoFar (lines others : List (List ℕ)) (begun source : S) (number unknown : ℕ) (noted notes : Option (List Note)) (old now : Seen) : Type 0 where
+      pub before : List (List ℕ)
+      pub split : before ++ others ≡ lines
+      pub numbered : number ≡ length before + 1
+      pub reached : (hear takes begun before).source ≡ source
+      pub counted : unknown ≡ (hear takes begun before).unknown
+      pub noted_is : AddsNotes (notes_of takes lacks 1 begun before) noted notes
+      pub makes : Makes (hear takes begun before).calls old now
 
-  abbrev pub IsKnownSoFar : Option (List ℕ) → Option (List ℕ) → S → S → ℕ → ℕ → Seen → Seen → Type 0
-  IsKnownSoFar None middle begun source number unknown old now = ⊤
-  IsKnownSoFar (Some input) None begun source number unknown old now = ⊥
-  IsKnownSoFar (Some input) (Some rest) begun source number unknown old now =
-      IsSoFar (input_lines input) (input_lines rest) begun source number unknown old now
+    abbrev pub IsKnownSoFar : Option (List ℕ) → Option (List ℕ) → S → S → ℕ → ℕ → Option (List Note) → Option (List Note) → Seen → Seen → Type 0
+    IsKnownSoFar None middle begun source number unknown noted notes old now = ⊤
+    IsKnownSoFar (Some input) None begun source number unknown noted notes old now = ⊥
+    IsKnownSoFar (Some input) (Some rest) begun source number unknown noted notes old now =
+        IsSoFar (input_lines input) (input_lines rest) begun source number unknown noted notes old now
 
-  pub starts : (known : Option (List ℕ)) (source : S) (s : Seen) → IsKnownSoFar known known source source 1 0 s s
-  starts None source s = tt
-  starts (Some input) source s = record {
-    before = [];
-    split = refl;
-    numbered = refl;
-    reached = refl;
-    counted = refl;
-    makes = makes_none s;
-  }
+    pub starts : (known : Option (List ℕ)) (source : S) (noted : Option (List Note)) (s : Seen) → IsKnownSoFar known known source source 1 0 noted noted s s
+    starts None source noted s = tt
+    starts (Some input) source noted s = record {
+      before = [];
+      split = refl;
+      numbered = refl;
+      reached = refl;
+      counted = refl;
+      noted_is = adds_none noted;
+      makes = makes_none s;
+    }
 
-  pub flushed : (known middle : Option (List ℕ)) (begun source : S) (number unknown : ℕ) (old now next : Seen) →
-      IsKnownSoFar known middle begun source number unknown old now → Flushes now next → IsKnownSoFar known middle begun source number unknown old next
-  flushed None middle begun source number unknown old now next so_far h = tt
-  flushed (Some x) None begun source number unknown old now next so_far h = absurd so_far
-  flushed (Some x) (Some y) begun source number unknown old now next so_far h = record {
-    before = so_far.before;
-    split = so_far.split;
-    numbered = so_far.numbered;
-    reached = so_far.reached;
-    counted = so_far.counted;
-    makes = makes_flushed (hear takes begun so_far.before).calls old now next so_far.makes h;
-  }
+    pub flushed : (known middle : Option (List ℕ)) (begun source : S) (number unknown : ℕ) (noted notes : Option (List Note)) (old now next : Seen) →
+        IsKnownSoFar known middle begun source number unknown noted notes old now → Flushes now next → IsKnownSoFar known middle begun source number unknown noted notes old next
+    flushed None middle begun source number unknown noted notes old now next so_far h = tt
+    flushed (Some x) None begun source number unknown noted notes old now next so_far h = absurd so_far
+    flushed (Some x) (Some y) begun source number unknown noted notes old now next so_far h = record {
+      before = so_far.before;
+      split = so_far.split;
+      numbered = so_far.numbered;
+      reached = so_far.reached;
+      counted = so_far.counted;
+      noted_is = so_far.noted_is;
+      makes = makes_flushed (hear takes begun so_far.before).calls old now next so_far.makes h;
+    }
 
-  -- one line more
-  pub more : (known middle left : Option (List ℕ)) (begun source after : S) (number unknown sum : ℕ) (is_known : Bool) → sum ≡ unknown + (if is_known then 0 else 1) → (old now next : Seen) →
-      IsKnownSoFar known middle begun source number unknown old now → (line : List ℕ) × TakesLine middle left line × HearsLine takes line source after (Ok is_known) now next →
-      IsKnownSoFar known left begun after (number + 1) sum old next
-  more None middle left begun source after number unknown sum is_known count old now next so_far h = tt
-  more (Some x) None left begun source after number unknown sum is_known count old now next so_far h = absurd so_far
-  more (Some x) (Some y) None begun source after number unknown sum is_known count old now next so_far h = absurd h.1
-  more (Some x) (Some y) (Some z) begun source after number unknown sum is_known count old now next so_far (line, first, (made, left_is, unknown_is)) =
-      let before : Heard S = hear takes begun so_far.before in
-      let heard : Heard S = hear_line takes source line in
-      let P : S → Type 0 = λ s. hear takes begun (so_far.before ++ line ∷ []) ≡ then_heard before (hear_line takes s line) in
-      let all : hear takes begun (so_far.before ++ line ∷ []) ≡ then_heard before heard = subst P so_far.reached (hear_more begun so_far.before line) in
-      let Q : List Call → Type 0 = λ calls. Makes calls old next in
-      record {
-        before = so_far.before ++ line ∷ [];
-        split = append_assoc so_far.before (line ∷ []) (input_lines z) ∙ ap (λ lines. so_far.before ++ lines) (sym first) ∙ so_far.split;
-        numbered = omega (arith, so_far.numbered, length-append so_far.before (line ∷ []));
-        reached = ap (λ (h : Heard S). h.source) all ∙ sym left_is;
-        counted = count ∙ ap (λ n. n + (if is_known then 0 else 1)) so_far.counted ∙ ap (λ n. before.unknown + n) (sym unknown_is) ∙ sym (ap (λ (h : Heard S). h.unknown) all);
-        makes = subst Q (sym (ap (λ (h : Heard S). h.calls) all)) (makes_then before.calls heard.calls old now next so_far.makes made);
-      }
+    notes_of_more : (begun source : S) (before : List (List ℕ)) (line : List ℕ) (number unknown : ℕ) → number ≡ length before + 1 →
+        (hear takes begun before).source ≡ source → (hear_line takes source line).unknown ≡ unknown →
+        notes_of takes lacks 1 begun (before ++ line ∷ []) ≡ notes_of takes lacks 1 begun before ++ note_of lacks number line unknown
+    notes_of_more begun source before line number unknown numbered reached unknown_is =
+        let earlier : List Note = notes_of takes lacks 1 begun before in
+        let place : 1 + length before ≡ number = omega (arith, numbered) in
+        notes_more takes lacks 1 begun before line
+        ∙ ap (λ n. earlier ++ note_of lacks n line (hear_line takes (hear takes begun before).source line).unknown) place
+        ∙ ap (λ s. earlier ++ note_of lacks number line (hear_line takes s line).unknown) reached
+        ∙ ap (λ n. earlier ++ note_of lacks number line n) unknown_is
+
+    -- one line more, and the note of it
+    pub more : (known middle left : Option (List ℕ)) (line : List ℕ) (begun source after : S) (number unknown sum : ℕ) (is_known : Bool) → sum ≡ unknown + (if is_known then 0 else 1) →
+        (noted notes left_notes : Option (List Note)) → AddsNotes (note_of lacks number line (if is_known then 0 else 1)) notes left_notes → (old now next : Seen) →
+        IsKnownSoFar known middle begun source number unknown noted notes old now → TakesLine middle left line × HearsLine takes line source after (Ok is_known) now next →
+        IsKnownSoFar known left begun after (number + 1) sum noted left_notes old next
+    more None middle left line begun source after number unknown sum is_known count noted notes left_notes note old now next so_far h = tt
+    more (Some x) None left line begun source after number unknown sum is_known count noted notes left_notes note old now next so_far h = absurd so_far
+    more (Some x) (Some y) None line begun source after number unknown sum is_known count noted notes left_notes note old now next so_far h = absurd h.0
+    more (Some x) (Some y) (Some z) line begun source after number unknown sum is_known count noted notes left_notes note old now next so_far (first, (made, left_is, unknown_is)) =
+        let before : Heard S = hear takes begun so_far.before in
+        let heard : Heard S = hear_line takes source line in
+        let P : S → Type 0 = λ s. hear takes begun (so_far.before ++ line ∷ []) ≡ then_heard before (hear_line takes s line) in
+        let all : hear takes begun (so_far.before ++ line ∷ []) ≡ then_heard before heard = subst P so_far.reached (hear_more begun so_far.before line) in
+        let Q : List Call → Type 0 = λ calls. Makes calls old next in
+        let N : List Note → Type 0 = λ notes. AddsNotes notes noted left_notes in
+        record {
+          before = so_far.before ++ line ∷ [];
+          split = append_assoc so_far.before (line ∷ []) (input_lines z) ∙ ap (λ lines. so_far.before ++ lines) (sym first) ∙ so_far.split;
+          numbered = omega (arith, so_far.numbered, length-append so_far.before (line ∷ []));
+          reached = ap (λ (h : Heard S). h.source) all ∙ sym left_is;
+          counted = count ∙ ap (λ n. n + (if is_known then 0 else 1)) so_far.counted ∙ ap (λ n. before.unknown + n) (sym unknown_is) ∙ sym (ap (λ (h : Heard S). h.unknown) all);
+          noted_is = subst N (sym (notes_of_more begun source so_far.before line number (if is_known then 0 else 1) so_far.numbered so_far.reached unknown_is))
+              (adds_then (notes_of takes lacks 1 begun so_far.before) _ noted notes left_notes so_far.noted_is note);
+          makes = subst Q (sym (ap (λ (h : Heard S). h.calls) all)) (makes_then before.calls heard.calls old now next so_far.makes made);
+        }
+
+    -- what was noted where a line ends the run, or the end does
+    pub noted_outside : (known middle : Option (List ℕ)) (begun source : S) (number unknown : ℕ) (noted notes : Option (List Note)) (old now : Seen) →
+        IsKnownSoFar known middle begun source number unknown noted notes old now → (cause : LineCause) → MayEnd cause 0 →
+        IfSome known (λ input. AddsNotes (notes_of takes lacks 1 begun
+        (noted_lines (record { unknown = unknown; fault = Some (record { line = number; cause = cause }) }) (input_lines input))) noted notes)
+    noted_outside None middle begun source number unknown noted notes old now so_far cause may = tt
+    noted_outside (Some x) None begun source number unknown noted notes old now so_far cause may = absurd so_far
+    noted_outside (Some x) (Some y) begun source number unknown noted notes old now so_far cause may =
+        let N : List (List ℕ) → Type 0 = λ lines. AddsNotes (notes_of takes lacks 1 begun lines) noted notes in
+        let count : number - 1 + noted_at cause ≡ length so_far.before = omega (arith, so_far.numbered, not_noted cause may) in
+        subst N (sym (ap (λ n. take n (input_lines x)) count ∙ ap (λ lines. take (length so_far.before) lines) (sym so_far.split) ∙ take_all so_far.before (input_lines y))) so_far.noted_is
+
+    -- what was noted where the notes end the run, or memory for what is noted
+    pub noted_last : (known middle left : Option (List ℕ)) (line : List ℕ) (begun source after : S) (number unknown : ℕ) (noted notes left_notes : Option (List Note)) (old now next : Seen) →
+        IsKnownSoFar known middle begun source number unknown noted notes old now → TakesLine middle left line × HearsLine takes line source after (Ok false) now next →
+        (cause : LineCause) → IsOfNotes cause → AddsNotes (take (noted_at cause) ((number, lack_of lacks line) ∷ [])) notes left_notes →
+        IfSome known (λ input. AddsNotes (notes_of takes lacks 1 begun
+        (noted_lines (record { unknown = unknown + 1; fault = Some (record { line = number; cause = cause }) }) (input_lines input))) noted left_notes)
+    noted_last None middle left line begun source after number unknown noted notes left_notes old now next so_far h cause of_notes note = tt
+    noted_last (Some x) None left line begun source after number unknown noted notes left_notes old now next so_far h cause of_notes note = absurd so_far
+    noted_last (Some x) (Some y) None line begun source after number unknown noted notes left_notes old now next so_far h cause of_notes note = absurd h.0
+    noted_last (Some x) (Some y) (Some z) line begun source after number unknown noted notes left_notes old now next so_far (first, (made, left_is, unknown_is)) NotACall of_notes note =
+        let N : List (List ℕ) → Type 0 = λ lines. AddsNotes (notes_of takes lacks 1 begun lines) noted left_notes in
+        let M : List Note → Type 0 = λ notes. AddsNotes notes noted left_notes in
+        let split : so_far.before ++ line ∷ input_lines z ≡ input_lines x = ap (λ lines. so_far.before ++ lines) (sym first) ∙ so_far.split in
+        let count : number - 1 + 1 ≡ length so_far.before + 1 = omega (arith, so_far.numbered) in
+        subst N (sym (ap (λ n. take n (input_lines x)) count ∙ ap (λ lines. take (length so_far.before + 1) lines) (sym split) ∙ take_first so_far.before line (input_lines z)))
+        (subst M (sym (notes_of_more begun source so_far.before line number 1 so_far.numbered so_far.reached unknown_is))
+        (adds_then (notes_of takes lacks 1 begun so_far.before) _ noted notes left_notes so_far.noted_is note))
+    noted_last (Some x) (Some y) (Some z) line begun source after number unknown noted notes left_notes old now next so_far h Memory of_notes note =
+        let N : List (List ℕ) → Type 0 = λ lines. AddsNotes (notes_of takes lacks 1 begun lines) noted left_notes in
+        let M : List Note → Type 0 = λ notes. AddsNotes notes noted left_notes in
+        let count : number - 1 + 0 ≡ length so_far.before = omega (arith, so_far.numbered) in
+        subst N (sym (ap (λ n. take n (input_lines x)) count ∙ ap (λ lines. take (length so_far.before) lines) (sym so_far.split) ∙ take_all so_far.before (input_lines y)))
+        (subst M (append-nil (notes_of takes lacks 1 begun so_far.before))
+        (adds_then (notes_of takes lacks 1 begun so_far.before) [] noted notes left_notes so_far.noted_is note))
+    noted_last (Some x) (Some y) (Some z) line begun source after number unknown noted notes left_notes old now next so_far h NoSettings of_notes note = absurd of_notes
+    noted_last (Some x) (Some y) (Some z) line begun source after number unknown noted notes left_notes old now next so_far h Read of_notes note = absurd of_notes
+    noted_last (Some x) (Some y) (Some z) line begun source after number unknown noted notes left_notes old now next so_far h (Refused refusal) of_notes note = absurd of_notes
 
   -- ---- the end of a run
 
@@ -200,15 +262,15 @@ module _ {S : Type 0} (takes : S → List ℕ → Option Json → Option (Step S
   noted_counts Memory before here unknown h one e = inr (ap (λ n. n + 1) e ∙ ap (λ n. before + n) (sym one))
   noted_counts (Refused refusal) before here unknown h one e = absurd h
 
-  module _ (ends : S → List Call) where
+  module _ (lacks : Option Json → Lack) (ends : S → List Call) (ended : S → S) where
     -- the next line ends the run, or the end does
-    pub stops : (known middle left : Option (List ℕ)) (begun source after : S) (number unknown : ℕ) (cause : LineCause) → MayEnd cause 0 → (old now next : Seen) →
-        IsKnownSoFar known middle begun source number unknown old now → HearsNext takes ends middle left source after (Err cause) now next →
+    pub stops : (known middle left : Option (List ℕ)) (line : List ℕ) (begun source after : S) (number unknown : ℕ) (noted notes : Option (List Note)) (cause : LineCause) → MayEnd cause 0 → (old now next : Seen) →
+        IsKnownSoFar lacks known middle begun source number unknown noted notes old now → HearsNext takes ends ended middle left line source after (Err cause) now next →
         IfSome known (λ input. EndsAt takes ends (input_lines input) begun
         (record { unknown = unknown; fault = Some (record { line = number; cause = cause }) }) (record { line = number; cause = cause }) old next)
-    stops None middle left begun source after number unknown cause may old now next so_far h = tt
-    stops (Some x) None left begun source after number unknown cause may old now next so_far h = absurd so_far
-    stops (Some x) (Some y) left begun source after number unknown cause may old now next so_far h =
+    stops None middle left line begun source after number unknown noted notes cause may old now next so_far h = tt
+    stops (Some x) None left line begun source after number unknown noted notes cause may old now next so_far h = absurd so_far
+    stops (Some x) (Some y) left line begun source after number unknown noted notes cause may old now next so_far h =
         let before : Heard S = hear takes begun so_far.before in
         let P : S → Type 0 = λ s. StopsIn (next_calls takes ends s (input_lines y)) cause now next in
         record {
@@ -223,15 +285,15 @@ module _ {S : Type 0} (takes : S → List ℕ → Option Json → Option (Step S
         }
 
     -- the notes end the run after an unknown line, or memory for what is noted
-    pub stops_noted : (known middle left : Option (List ℕ)) (begun source after : S) (number unknown : ℕ) (cause : LineCause) → IsOfNotes cause → (old now next : Seen) →
-        IsKnownSoFar known middle begun source number unknown old now →
-        (line : List ℕ) × TakesLine middle left line × HearsLine takes line source after (Ok false) now next →
+    pub stops_noted : (known middle left : Option (List ℕ)) (line : List ℕ) (begun source after : S) (number unknown : ℕ) (noted notes : Option (List Note)) (cause : LineCause) → IsOfNotes cause → (old now next : Seen) →
+        IsKnownSoFar lacks known middle begun source number unknown noted notes old now →
+        TakesLine middle left line × HearsLine takes line source after (Ok false) now next →
         IfSome known (λ input. EndsAt takes ends (input_lines input) begun
         (record { unknown = unknown + 1; fault = Some (record { line = number; cause = cause }) }) (record { line = number; cause = cause }) old next)
-    stops_noted None middle left begun source after number unknown cause of_notes old now next so_far h = tt
-    stops_noted (Some x) None left begun source after number unknown cause of_notes old now next so_far h = absurd so_far
-    stops_noted (Some x) (Some y) None begun source after number unknown cause of_notes old now next so_far h = absurd h.1
-    stops_noted (Some x) (Some y) (Some z) begun source after number unknown cause of_notes old now next so_far (line, first, (made, left_is, unknown_is)) =
+    stops_noted None middle left line begun source after number unknown noted notes cause of_notes old now next so_far h = tt
+    stops_noted (Some x) None left line begun source after number unknown noted notes cause of_notes old now next so_far h = absurd so_far
+    stops_noted (Some x) (Some y) None line begun source after number unknown noted notes cause of_notes old now next so_far h = absurd h.0
+    stops_noted (Some x) (Some y) (Some z) line begun source after number unknown noted notes cause of_notes old now next so_far (first, (made, left_is, unknown_is)) =
         let before : Heard S = hear takes begun so_far.before in
         let heard : Heard S = hear_line takes source line in
         let P : S → Type 0 = λ s. StopsIn (hear_line takes s line).calls cause now next in
@@ -278,17 +340,30 @@ module _ {S : Type 0} (takes : S → List ℕ → Option Json → Option (Step S
         (ends_with_rest before.source h.others fault.cause h.between new h.stops)))
 
     -- the end of the input is reached
-    pub finishes : (known middle left : Option (List ℕ)) (begun source after : S) (number unknown : ℕ) (old now next : Seen) →
-        IsKnownSoFar known middle begun source number unknown old now → HearsNext takes ends middle left source after (Ok End) now next →
-        IfSome known (λ input. Makes (calls_of takes ends begun (input_lines input)) old next × (unknown ≡ (hear takes begun (input_lines input)).unknown))
-    finishes None middle left begun source after number unknown old now next so_far h = tt
-    finishes (Some x) None left begun source after number unknown old now next so_far h = absurd so_far
-    finishes (Some x) (Some y) left begun source after number unknown old now next so_far h =
+    pub finishes : (known middle left : Option (List ℕ)) (line : List ℕ) (begun source after : S) (number unknown : ℕ) (noted notes : Option (List Note)) (old now next : Seen) →
+        IsKnownSoFar lacks known middle begun source number unknown noted notes old now → HearsNext takes ends ended middle left line source after (Ok End) now next →
+        IfSome known (λ input. Makes (calls_of takes ends begun (input_lines input)) old next × (unknown ≡ (hear takes begun (input_lines input)).unknown)
+        × (after ≡ source_after takes ended begun (input_lines input)))
+    finishes None middle left line begun source after number unknown noted notes old now next so_far h = tt
+    finishes (Some x) None left line begun source after number unknown noted notes old now next so_far h = absurd so_far
+    finishes (Some x) (Some y) left line begun source after number unknown noted notes old now next so_far h =
         let before : Heard S = hear takes begun so_far.before in
         let whole : so_far.before ≡ input_lines x = sym (append-nil so_far.before) ∙ ap (λ lines. so_far.before ++ lines) (sym h.0) ∙ so_far.split in
         let P : S → Type 0 = λ s. Makes (ends s) now next in
-        let Q : List (List ℕ) → Type 0 = λ lines. Makes (calls_of takes ends begun lines) old next × (unknown ≡ (hear takes begun lines).unknown) in
+        let Q : List (List ℕ) → Type 0 = λ lines. Makes (calls_of takes ends begun lines) old next × (unknown ≡ (hear takes begun lines).unknown) × (after ≡ source_after takes ended begun lines) in
         subst Q whole (
           makes_then before.calls (ends before.source) old now next so_far.makes (subst P (sym so_far.reached) h.1),
           so_far.counted,
+          h.2 ∙ ap ended (sym so_far.reached),
         )
+
+    -- what was noted where the end of the input is reached
+    pub noted_whole : (known middle left : Option (List ℕ)) (line : List ℕ) (begun source after : S) (number unknown : ℕ) (noted notes : Option (List Note)) (old now next : Seen) →
+        IsKnownSoFar lacks known middle begun source number unknown noted notes old now → HearsNext takes ends ended middle left line source after (Ok End) now next →
+        IfSome known (λ input. AddsNotes (notes_of takes lacks 1 begun (input_lines input)) noted notes)
+    noted_whole None middle left line begun source after number unknown noted notes old now next so_far h = tt
+    noted_whole (Some x) None left line begun source after number unknown noted notes old now next so_far h = absurd so_far
+    noted_whole (Some x) (Some y) left line begun source after number unknown noted notes old now next so_far h =
+        let whole : so_far.before ≡ input_lines x = sym (append-nil so_far.before) ∙ ap (λ lines. so_far.before ++ lines) (sym h.0) ∙ so_far.split in
+        let N : List (List ℕ) → Type 0 = λ lines. AddsNotes (notes_of takes lacks 1 begun lines) noted notes in
+        subst N whole so_far.noted_is

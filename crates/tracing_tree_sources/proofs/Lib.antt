@@ -1,4 +1,5 @@
 pub mod Made
+pub mod Noted
 pub mod Heard
 pub mod Ended
 pub mod Instants

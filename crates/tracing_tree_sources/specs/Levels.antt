@@ -54,3 +54,6 @@ module _ {S : Type 0} where
 
   abbrev pub level_ends : (S → List Call) → Leveled S → List Call
   level_ends ends leveled = shown_calls leveled.least (ends leveled.source)
+
+  abbrev pub level_ended : (S → S) → Leveled S → Leveled S
+  level_ended ended leveled = record leveled { source = ended leveled.source }

@@ -2,6 +2,7 @@ pub mod Values
 pub mod Blanks
 pub mod Counts
 pub mod Marks
+pub mod Noted
 pub mod Source
 pub mod Told
 pub mod Fields

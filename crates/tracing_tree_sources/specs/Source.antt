@@ -1,10 +1,13 @@
 -- What lines of another tool's output mean: a source takes a line's text and value in and gives calls
 -- and its next state out.
-use Rattle.std.specs.Prelude.{◌≡◌, ◌⊎◌, ℕ, ◌+◌, Bool, true, false, if◌then◌else◌, List, [], ◌∷◌, ◌++◌, length, Option, Some, None, Result, Ok, Err, IfSome, MatchOption, ⊤, ◌<◌}
+use Rattle.std.specs.Prelude.{◌≡◌, ◌⊎◌, ℕ, ◌+◌, Bool, true, false, if◌then◌else◌, List, [], ◌∷◌, ◌++◌, ◌-◌, ◌==◌, length, take, position, Option, Some, None, is_some, Result, Ok, Err, IfSome, MatchOption, ⊤, ◌<◌}
 use Rattle.std.specs.Io.KnownBytes.{Appends}
+use Rattle.std.specs.Option.{option_map_or}
 use Rattle.std.specs.Str.{is_utf8}
 use Rattle.json.specs.Json.{Json, document}
 use Rattle.tracing_tree_drawing.specs.Format.Picture.{draw}
+use Rattle.tracing_tree_output.specs.Writers.{IsShown}
+use Rattle.tracing_tree_output.specs.declared.output.Output.{Ghosts as Output}
 use Rattle.tracing_tree_context.specs.declared.context.Refusal.{Refusal}
 use Rattle.tracing_tree_layer.specs.Layered.Seen.{Seen, seen_later}
 use Rattle.tracing_tree_layer.specs.Layered.Headline.{run_from}
@@ -15,6 +18,7 @@ use Rattle.tracing_tree_lines.specs.Lines.Reads.{TakesLine}
 use Rattle.tracing_tree_lines.specs.declared.lines.LineCause.{LineCause}
 use Rattle.tracing_tree_lines.specs.declared.lines.LineCause.TheVariants.{Settings as NoSettings, NotACall, Read, Memory, Refused}
 use Rattle.tracing_tree_lines.specs.declared.lines.LineFault.{LineFault}
+use Rattle.tracing_tree_sources.specs.Noted.{Note}
 use Rattle.tracing_tree_sources.specs.declared.notes.Lack.{Lack}
 use Rattle.tracing_tree_sources.specs.declared.notes.Lack.TheVariants.{Utf8}
 use Rattle.tracing_tree_sources.specs.declared.run.SourceRun.{SourceRun}
@@ -72,6 +76,16 @@ module _ {S : Type 0} where
         let heard = hear source lines in
         heard.calls ++ ends heard.source
 
+    -- the source after an input: it has taken each line, and then its end
+    abbrev pub source_after : (S → S) → S → List (List ℕ) → S
+    source_after ended source lines = ended (hear source lines).source
+
+-- Input may be read, which may wait: the output shows all that it has taken, unless the reader's
+-- buffer holds the next line.
+abbrev pub MayRead : {W : Type 0} → Output W → List ℕ → W → Type 0
+MayRead output buffer writer =
+    is_some (position (λ byte. byte == 10) buffer) ≡ false → IsShown output writer
+
 -- what a line's text and value tell is answered, and the source goes on from there
 abbrev pub Tells : {S : Type 0} → Option (Step S) → S → S → Option (List Call) → Type 0
 Tells None old new None = new ≡ old
@@ -119,10 +133,6 @@ CountsUnknown Read before here unknown = unknown ≡ before
 CountsUnknown Memory before here unknown = (unknown ≡ before) ⊎ (unknown ≡ before + here)
 CountsUnknown (Refused refusal) before here unknown = unknown ≡ before
 
--- what a line lacks of which nothing is known
-abbrev pub lack_of : (Option Json → Lack) → List ℕ → Lack
-lack_of lacks line = if is_utf8 line then lacks (document line) else Utf8
-
 -- a beginning of these calls was accepted, and then this ended the run
 pub record StopsIn (calls : List Call) (cause : LineCause) (old new : Seen) : Type 0 where
   pub made : List Call
@@ -142,6 +152,28 @@ abbrev pub MakesAll : List Call → Result ⊤ LineCause → Seen → Seen → T
 MakesAll calls (Ok done) old new = Makes calls old new
 MakesAll calls (Err cause) old new = StopsIn calls cause old new
 
+-- what a line lacks of which nothing is known
+abbrev pub lack_of : (Option Json → Lack) → List ℕ → Lack
+lack_of lacks line = if is_utf8 line then lacks (document line) else Utf8
+
+-- the note of a line, if nothing is known of it
+abbrev pub note_of : (Option Json → Lack) → ℕ → List ℕ → ℕ → List Note
+note_of lacks number line unknown =
+    if unknown == 0 then [] else (number, lack_of lacks line) ∷ []
+
+-- a line at which a run ended is noted if the notes ended it
+abbrev pub noted_at : LineCause → ℕ
+noted_at NoSettings = 0
+noted_at NotACall = 1
+noted_at Read = 0
+noted_at Memory = 0
+noted_at (Refused refusal) = 0
+
+-- the lines of which a run noted those that are unknown: all, or those up to the fault
+abbrev pub noted_lines : SourceRun → List (List ℕ) → List (List ℕ)
+noted_lines run lines =
+    option_map_or (λ fault. take (fault.line - 1 + noted_at fault.cause) lines) run.fault lines
+
 module _ {S : Type 0} (takes : S → List ℕ → Option Json → Option (Step S)) where
   -- what one line did; where it is known, the source goes on as it says
   abbrev pub HearsLine : List ℕ → S → S → Result Bool LineCause → Seen → Seen → Type 0
@@ -152,21 +184,29 @@ module _ {S : Type 0} (takes : S → List ℕ → Option Json → Option (Step S
   HearsLine line before after (Err cause) old new =
       StopsIn (hear_line takes before line).calls cause old new
 
+  -- the notes of these lines, numbered from `number` on: one for each of which nothing is known
+  abbrev pub notes_of : (Option Json → Lack) → ℕ → S → List (List ℕ) → List Note
+  notes_of lacks number source [] = []
+  notes_of lacks number source (line ∷ lines) =
+      let heard = hear_line takes source line in
+      note_of lacks number line heard.unknown ++ notes_of lacks (number + 1) heard.source lines
+
   -- the calls of the next of these lines, or those of the end where there is none
   abbrev pub next_calls : (S → List Call) → S → List (List ℕ) → List Call
   next_calls ends source [] = ends source
   next_calls ends source (line ∷ others) = (hear_line takes source line).calls
 
   -- What the next line did, or the end. Where it ended the run, these were calls of its own.
-  abbrev pub HearsNext : (S → List Call) → Option (List ℕ) → Option (List ℕ) → S → S
-      → Result Judged LineCause → Seen → Seen → Type 0
-  HearsNext ends known left before after (Ok End) old new =
-      IfSome known (λ input. (input_lines input ≡ []) × Makes (ends before) old new)
-  HearsNext ends known left before after (Ok Known) old new =
-      (line : List ℕ) × TakesLine known left line × HearsLine line before after (Ok true) old new
-  HearsNext ends known left before after (Ok Unknown) old new =
-      (line : List ℕ) × TakesLine known left line × HearsLine line before after (Ok false) old new
-  HearsNext ends known left before after (Err cause) old new =
+  abbrev pub HearsNext : (S → List Call) → (S → S) → Option (List ℕ) → Option (List ℕ) → List ℕ → S
+      → S → Result Judged LineCause → Seen → Seen → Type 0
+  HearsNext ends ended known left line before after (Ok End) old new =
+      IfSome known (λ input. (input_lines input ≡ []) × Makes (ends before) old new
+      × (after ≡ ended before))
+  HearsNext ends ended known left line before after (Ok Known) old new =
+      TakesLine known left line × HearsLine line before after (Ok true) old new
+  HearsNext ends ended known left line before after (Ok Unknown) old new =
+      TakesLine known left line × HearsLine line before after (Ok false) old new
+  HearsNext ends ended known left line before after (Err cause) old new =
       IfSome known (λ input. StopsIn (next_calls ends before (input_lines input)) cause old new)
 
   -- how many lines are unknown of the next alone
@@ -189,15 +229,19 @@ module _ {S : Type 0} (takes : S → List ℕ → Option Json → Option (Step S
         (next_unknown (hear takes source before).source others) run.unknown
 
   -- The drawing is that of the calls of the known lines, and of those that the end brings; each was
-  -- accepted. Where something ended the run, it is that of a beginning of these calls.
-  abbrev pub RunsLines : (S → List Call) → List (List ℕ) → S → SourceRun → Seen → Seen → Type 0
-  RunsLines ends lines source run old new =
+  -- accepted, and the source has taken these lines and the end. If something ended the run, it is that
+  -- of a beginning of these calls.
+  abbrev pub RunsLines : (S → List Call) → (S → S) → List (List ℕ) → S → S → SourceRun → Seen → Seen
+      → Type 0
+  RunsLines ends ended lines source after run old new =
       MatchOption run.fault
       (Makes (calls_of takes ends source lines) old new
-      × (run.unknown ≡ (hear takes source lines).unknown))
+      × (run.unknown ≡ (hear takes source lines).unknown)
+      × (after ≡ source_after takes ended source lines))
       (λ fault. EndsAt ends lines source run fault old new)
 
   -- the same over what is left of the input, where that is known
-  abbrev pub RunsSource : (S → List Call) → Option (List ℕ) → S → SourceRun → Seen → Seen → Type 0
-  RunsSource ends known source run old new =
-      IfSome known (λ input. RunsLines ends (input_lines input) source run old new)
+  abbrev pub RunsSource : (S → List Call) → (S → S) → Option (List ℕ) → S → S → SourceRun → Seen
+      → Seen → Type 0
+  RunsSource ends ended known source after run old new =
+      IfSome known (λ input. RunsLines ends ended (input_lines input) source after run old new)

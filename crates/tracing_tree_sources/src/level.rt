@@ -53,11 +53,13 @@ impl<S> AtLeast<S> {
 }
 
 impl<S: Source> Source for AtLeast<S> {
-    ghost use Rattle.tracing_tree_sources.specs.Levels.{level_ends, level_takes};
+    ghost use Rattle.tracing_tree_sources.specs.Levels.{level_ended, level_ends, level_takes};
 
     ghost takes = { level_takes S.takes };
 
     ghost ends = { level_ends S.ends };
+
+    ghost ended = { level_ended S.ended };
 
     ghost lacks = { S.lacks };
 

@@ -1,5 +1,8 @@
 //! Notes of lines that are skipped.
 
+ghost use Rattle.std.specs.Prelude.{List, [], ◌∷◌, Option, None};
+ghost use Rattle.tracing_tree_sources.specs.Noted.{AddsNotes, Note};
+
 use thiserror::Error;
 
 /// What a line lacks that each line of its tool has. It is shown as the key and what was expected there.
@@ -56,6 +59,10 @@ pub enum Lack {
 
 /// Who is told of skipped lines.
 pub trait Notes {
+    /// What has been noted, in order. None if that isn't known.
+    ghost noted: { Self → Option (List Note) } = { λ _. None };
+
     /// Takes note of a line that is skipped, by its number from 1 on. Returns whether the run goes on.
-    fn note(&mut self, line: u64, lack: Lack) -> bool;
+    fn note(&mut self, line: u64, lack: Lack) -> bool
+        ensures { AddsNotes ((line, lack) ∷ []) (noted self.old) (noted self.new) };
 }

@@ -1,11 +1,14 @@
 //! The run of a source over an input.
 
-ghost use Rattle.std.specs.Prelude.{◌≡◌, true, Err, IfErr, IfOk, IfSome, MatchResult, option_map};
-ghost use Rattle.std.specs.Io.Buffered.{reader_remaining};
+ghost use Rattle.std.specs.Prelude.{◌≡◌, true, Err, IfErr, IfOk, IfSome, OnOk, MatchResult, option_map};
+ghost use Rattle.std.specs.Io.Buffered.{reader_buffer, reader_remaining};
 ghost use Rattle.json.specs.Json.{document};
 ghost use Rattle.json.specs.Value.{value_view};
 ghost use Rattle.tracing_tree_layer.specs.Layer.Layers.{seen, Changes, Flushes};
-ghost use Rattle.tracing_tree_sources.specs.Source.{HearsLine, HearsNext, MakesAll, MakesEach, RunsSource, MayEnd, Tells, is_quiet, lack_of};
+ghost use Rattle.tracing_tree_sources.specs.Source.{HearsLine, HearsNext, MakesAll, MakesEach, RunsSource, MayEnd, MayRead, Tells, is_quiet, lack_of, noted_lines, notes_of};
+ghost use Rattle.tracing_tree_sources.specs.Noted.{AddsNotes, note_if};
+ghost use Rattle.tracing_tree_lines.specs.Lines.Reads.{ReadsNext};
+ghost use Rattle.tracing_tree_lines.specs.Lines.Spelled.{input_lines};
 
 use crate::notes::{Lack, Notes};
 use crate::source::Source;
@@ -13,7 +16,7 @@ use crate::values::value_of;
 use json::{Error, Scratch, Value};
 use simdutf8::basic::from_utf8;
 use std::alloc::{AllocError, Global};
-use std::io::{BufRead, BufReader, Read};
+use std::io::{BufReader, Read};
 use tracing_tree_context::Refusal;
 use tracing_tree_layer::call::Call;
 use tracing_tree_layer::layered::Layered;
@@ -45,9 +48,12 @@ pub fn run_source<S: Source, R: Read, W: Output, FT: FormatTime, N: Notes>(
     notes: &mut N,
 ) -> SourceRun
     ensures run { Changes (seen FT.FormatTime W.Output)
-        (RunsSource S.takes S.ends (reader_remaining R.remaining lines.old) source.old result)
-        layered.old layered.new }
+        (RunsSource S.takes S.ends S.ended (reader_remaining R.remaining lines.old) source.old
+        source.new result) layered.old layered.new }
     ensures cause { IfSome result.fault (λ fault. MayEnd fault.cause result.unknown) }
+    ensures noted { IfSome (reader_remaining R.remaining lines.old) (λ input. AddsNotes
+        (notes_of S.takes S.lacks 1 source.old (noted_lines result (input_lines input)))
+        (N.noted notes.old) (N.noted notes.new)) }
 {
     let mut line = Vec::new(alloc);
     let mut scratch = Scratch::new(alloc);
@@ -90,7 +96,8 @@ pub fn run_source<S: Source, R: Read, W: Output, FT: FormatTime, N: Notes>(
 }
 
 /// Has a skipped line noted, by its number from 1 on. An error ends the run: `NotACall` where the notes end it, `Memory` where memory
-/// was refused.
+/// was refused, and nothing is noted then.
+#[tactic(auto, using(crate::proofs::Noted::adds_none))]
 pub fn skip<N: Notes>(
     notes: &mut N,
     number: u64,
@@ -99,6 +106,7 @@ pub fn skip<N: Notes>(
     ensures quiet { IfErr result (λ cause. is_quiet cause ≡ true) }
     ensures ended { MatchResult lack (λ _. IfErr result (λ cause. cause ≡ LineCause.NotACall))
         (λ _. result ≡ Err LineCause.Memory) }
+    ensures noted { AddsNotes (note_if number lack) (N.noted notes.old) (N.noted notes.new) }
 {
     match lack {
         Ok(lack) => {
@@ -143,20 +151,22 @@ enum Judged {
 
 // Reads one line, and makes the calls that it tells, or those that the end brings.
 #[tactic(auto, using(crate::proofs::Ended::ends_outside))]
-fn run_next<S: Source, B: BufRead, W: Output, FT: FormatTime>(
+fn run_next<S: Source, R: Read, W: Output, FT: FormatTime>(
     alloc: Global,
     source: &mut S,
-    lines: &mut B,
+    lines: &mut BufReader<R>,
     line: &mut Vec<u8>,
     scratch: &mut Scratch,
     layered: &mut Layered<W, FT>,
 ) -> Result<Judged, LineCause>
+    requires shown { MayRead W.Output (reader_buffer lines.old) layered.old.layer.writer }
     ensures next { Changes (seen FT.FormatTime W.Output)
-        (HearsNext S.takes S.ends (B.remaining lines.old) (B.remaining lines.new) source.old
-        source.new result) layered.old layered.new }
+        (HearsNext S.takes S.ends S.ended (reader_remaining R.remaining lines.old)
+        (reader_remaining R.remaining lines.new) line.new.items source.old source.new result)
+        layered.old layered.new }
     ensures cause { IfErr result (λ cause. MayEnd cause 0) }
 {
-    match read_line(lines, line) {
+    match read_next(lines, line, layered) {
         Ok(true) => match run_line(alloc, source, line.as_slice(), scratch, layered) {
             Ok(true) => Ok(Judged::Known),
             Ok(false) => Ok(Judged::Unknown),
@@ -170,12 +180,27 @@ fn run_next<S: Source, B: BufRead, W: Output, FT: FormatTime>(
     }
 }
 
+// Reads one line. What is drawn must be shown, since the read may wait, unless the buffer holds the
+// line.
+fn read_next<R: Read, W: Output, FT: FormatTime>(
+    lines: &mut BufReader<R>,
+    line: &mut Vec<u8>,
+    _layered: &Layered<W, FT>,
+) -> Result<bool, LineCause>
+    requires shown { MayRead W.Output (reader_buffer lines.old) _layered.now.layer.writer }
+    ensures { ReadsNext (reader_remaining R.remaining lines.old)
+        (reader_remaining R.remaining lines.new) line.new.items result }
+{
+    read_line(lines, line)
+}
+
 // Has what is drawn passed on where the next line isn't read yet, since the read may wait.
 fn show_before_read<R: Read, W: Output, FT: FormatTime>(
     lines: &BufReader<R>,
     layered: &mut Layered<W, FT>,
 )
-    ensures { Changes (seen FT.FormatTime W.Output) Flushes layered.old layered.new }
+    ensures flushed { Changes (seen FT.FormatTime W.Output) Flushes layered.old layered.new }
+    ensures shown { MayRead W.Output (reader_buffer lines.now) layered.new.layer.writer }
 {
     if !holds_line(lines) {
         layered.flush();
@@ -234,6 +259,7 @@ fn run_end<S: Source, W: Output, FT: FormatTime>(
 ) -> Result<(), LineCause>
     ensures end { Changes (seen FT.FormatTime W.Output) (MakesAll (S.ends source.old) result)
         layered.old layered.new }
+    ensures after { OnOk result (source.new ≡ S.ended source.old) }
     ensures cause { IfErr result (λ cause. MayEnd cause 0) }
 {
     let Ok(calls) = source.end(alloc) else {

@@ -1,6 +1,6 @@
 //! What lines of another tool's output mean.
 
-ghost use Rattle.std.specs.Prelude.{◌≡◌, List, ℕ, Option, IfOk, option_map};
+ghost use Rattle.std.specs.Prelude.{◌≡◌, List, ℕ, Option, IfOk, OnOk, option_map};
 ghost use Rattle.json.specs.Json.{Json};
 ghost use Rattle.json.specs.Value.{value_view};
 ghost use Rattle.tracing_tree_sources.specs.Source.{Step, Tells};
@@ -21,6 +21,9 @@ pub trait Source {
     /// The calls that the input's end brings.
     ghost ends: { Self → List Call };
 
+    /// The source after the input's end.
+    ghost ended: { Self → Self };
+
     /// What a line lacks of which nothing is known, by the JSON value that it is, if it is one.
     ghost lacks: { Option Json → Lack };
 
@@ -40,7 +43,9 @@ pub trait Source {
     fn lack(value: Option<&Value<'_>>) -> Lack
         ensures { result ≡ lacks (option_map (λ v. value_view v.now) value.entry) };
 
-    /// The calls that the input's end brings. `AllocError` where memory is refused.
+    /// The calls that the input's end brings. Nothing is said of the source if memory is refused
+    /// (`AllocError`).
     fn end(&mut self, alloc: Global) -> Result<Vec<Call>, AllocError>
-        ensures { IfOk result (λ calls. calls.items ≡ ends self.old) };
+        ensures calls { IfOk result (λ calls. calls.items ≡ ends self.old) }
+        ensures after { OnOk result (self.new ≡ ended self.old) };
 }

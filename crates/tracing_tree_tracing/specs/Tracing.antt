@@ -267,3 +267,6 @@ closes moment live = map (close_at moment) live
 -- at the end all that still live close, the oldest first
 abbrev pub tracing_ends : TracingState → List Call
 tracing_ends s = all_on_thread s.thread_shown (closes s.moment s.live)
+
+abbrev pub tracing_ended : TracingState → TracingState
+tracing_ended s = record s { live = [] }

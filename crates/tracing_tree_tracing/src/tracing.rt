@@ -377,11 +377,13 @@ fn same_above(one: Option<Id>, other: Option<Id>) -> bool
 }
 
 impl Source for Tracing {
-    ghost use Rattle.tracing_tree_tracing.specs.Tracing.{tracing_takes, tracing_lacks, tracing_ends};
+    ghost use Rattle.tracing_tree_tracing.specs.Tracing.{tracing_takes, tracing_lacks, tracing_ended, tracing_ends};
 
     ghost takes = { tracing_takes };
 
     ghost ends = { tracing_ends };
+
+    ghost ended = { tracing_ended };
 
     ghost lacks = { tracing_lacks };
 

@@ -9,6 +9,7 @@ abbrev pub invariant-loop-number : goal.invariant-loop-number
 invariant-loop-number g l = record {
   room : l.unknown + 1 ≤ l.number;
   change : Changes (seen g.FT.FormatTime g.W.Output)
-      (IsKnownSoFar g.S.Source.takes (reader_remaining g.R.Read.remaining l.fn.lines) (reader_remaining g.R.Read.remaining l.lines) l.fn.source l.source l.number l.unknown)
+      (IsKnownSoFar g.S.Source.takes g.S.Source.lacks (reader_remaining g.R.Read.remaining l.fn.lines) (reader_remaining g.R.Read.remaining l.lines) l.fn.source l.source l.number l.unknown
+      (g.N.Notes.noted l.fn.notes) (g.N.Notes.noted l.notes))
       l.fn.layered l.layered;
 }
