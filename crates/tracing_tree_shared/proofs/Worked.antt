@@ -60,7 +60,7 @@ timed_is_no_replay r = let differ : Some (encode_utf8_all (codes "now INFO x\n")
 abbrev with_timer : Bool → LayeredView TapeView Bool
 with_timer timer = record {
   forest = empty_forest (id_of 1);
-  layer = record { settings = lined; writer = record { bytes = []; faults = 0 }; timer = timer; last = None; failed = false };
+  layer = record { settings = lined; writer = record { bytes = []; faults = 0 }; timer = timer; last = None; failed = false; unwritten = [] };
 }
 
 -- No call changes the timer, also not for one that states the same.
