@@ -3,3 +3,4 @@ pub mod Receipts
 pub mod Replays
 pub mod Amounts
 pub mod Worked
+mod ThreadCalls

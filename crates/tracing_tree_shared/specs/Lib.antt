@@ -4,3 +4,4 @@ pub mod Drafts
 pub mod Finish
 pub mod Amounts
 pub mod Streamed
+pub mod Threads

@@ -10,9 +10,11 @@ pub mod draft;
 pub mod finish;
 pub mod pass;
 pub mod streaming;
+pub mod threads;
 
 pub use book::{Book, Receipt};
 pub use draft::{Draft, Refused};
 pub use finish::{FinishFault, Finished};
 pub use pass::{Pass, SharedLayer};
 pub use streaming::{Counted, Numbered, StreamingLayer};
+pub use threads::{SharedCalls, StreamingCalls};

@@ -1,8 +1,10 @@
-//! A thread's way to a layer that keeps no history.
+//! A thread's receiver over a layer that keeps no history.
 
 ghost use Rattle.std.specs.Prelude.{◌≡◌};
 ghost use Rattle.tracing_tree_shared.specs.Streamed.{answer_numbered};
 
+use crate::draft::Refused;
+use crate::streaming::{Numbered, StreamingLayer};
 use std::alloc::Global;
 use std::marker::Model;
 use std::sync::Wait;
@@ -11,11 +13,11 @@ use tracing_tree_layer::call::{Call, Reply, copied_context};
 use tracing_tree_layer::calls::Calls;
 use tracing_tree_layer::told::ToldEvent;
 use tracing_tree_output::Output;
-use tracing_tree_shared::{Numbered, Refused, StreamingLayer};
-use tracing_tree_spans::registry::Attributes;
+use tracing_tree_spans::registry::{Attributes, Record};
 use tracing_tree_time::FormatTime;
 
-/// A thread's way to a [`StreamingLayer`]. Each call is drafted before the lock is waited for.
+/// Makes the calls of one thread on a [`StreamingLayer`]. It drafts each call before it waits for
+/// the lock.
 #[derive(Drop)]
 pub struct StreamingCalls<'a, R, W: Output, FT: FormatTime> {
     rt: &'a R,
@@ -32,7 +34,7 @@ impl<'a, R, W: Output, FT: FormatTime> Model for StreamingCalls<'a, R, W, FT> {
 }
 
 impl<'a, R, W: Output, FT: FormatTime> StreamingCalls<'a, R, W, FT> {
-    /// A thread's way to this layer.
+    /// Returns a receiver over this layer.
     pub fn new(
         rt: &'a R,
         alloc: Global,
@@ -44,9 +46,10 @@ impl<'a, R, W: Output, FT: FormatTime> StreamingCalls<'a, R, W, FT> {
     }
 }
 
-/// Where the layer refuses a call, the answer is the cause, and the draft is dropped. Of an accepted call the number is left out.
+/// If the layer refuses a call, the answer is the cause, and the draft is dropped. The number of an
+/// accepted call is left out.
 impl<'a, R: Wait, W: Output, FT: FormatTime> Calls for StreamingCalls<'a, R, W, FT> {
-    ghost use Rattle.tracing_tree_threads.specs.Ways.{IsAnsweredStreaming};
+    ghost use Rattle.tracing_tree_shared.specs.Threads.{IsAnsweredStreaming};
 
     ghost answers = { IsAnsweredStreaming FT.FormatTime W.Output };
 
@@ -63,6 +66,20 @@ impl<'a, R: Wait, W: Output, FT: FormatTime> Calls for StreamingCalls<'a, R, W, 
         Ok(id)
     }
 
+    fn clone_span(&mut self, id: Id) -> Result<Id, Refusal> {
+        let Reply::Cloned(id) = self.call(Call::Clone(id))? else {
+            unreachable!()
+        };
+        Ok(id)
+    }
+
+    fn record(&mut self, id: Id, record: Record) -> Result<(), Refusal> {
+        let Reply::Done = self.call(Call::Record(id, record))? else {
+            unreachable!()
+        };
+        Ok(())
+    }
+
     fn event<E: ToldEvent>(&mut self, event: &E, context: &Context) -> Result<(), Refusal> {
         let event = event.to_event(self.alloc)?;
         let context = copied_context(context)?;
@@ -74,13 +91,15 @@ impl<'a, R: Wait, W: Output, FT: FormatTime> Calls for StreamingCalls<'a, R, W, 
 
     fn close(&mut self, id: Id, context: &Context) -> Result<bool, Refusal> {
         let context = copied_context(context)?;
-        let Reply::Closed(went) = self.call(Call::Close(id, context))? else {
+        let Reply::Closed(was_removed) = self.call(Call::Close(id, context))? else {
             unreachable!()
         };
-        Ok(went)
+        Ok(was_removed)
     }
 
-    fn flush(&mut self) {}
+    fn flush(&mut self) {
+        self.layer.flush(self.rt);
+    }
 }
 
 // The reply, or the cause for which the draft came back.

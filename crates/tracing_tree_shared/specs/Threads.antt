@@ -1,4 +1,4 @@
--- What a thread's way to a layer of several threads is, and what it answers.
+-- A thread's receiver of calls, which makes them on a layer of several threads, and its answers.
 use Rattle.std.specs.Prelude.{◌≡◌, ◌⊎◌, ◌++◌, ◌∷◌, [], ℕ, Result, Ok, Err}
 use Rattle.tracing_tree_context.specs.declared.context.Refusal.{Refusal}
 use Rattle.tracing_tree_context.specs.declared.context.Refusal.TheVariants.{Memory}
@@ -12,8 +12,8 @@ use Rattle.tracing_tree_shared.specs.History.{Slips}
 use Rattle.tracing_tree_shared.specs.Kept.{IsAnsweredOnSome, IsAnsweredOrLacks}
 use Rattle.tracing_tree_shared.specs.Streamed.{StreamingView}
 
--- a thread's way to a layer that keeps the history: the layer, and the receipts of the thread's
--- pass
+-- a thread's receiver over a layer that keeps the history: the layer, and the receipts of the
+-- thread's pass
 pub record SharedCallsView : Type 0 where
   pub layer : SharedView
   pub receipts : Slips

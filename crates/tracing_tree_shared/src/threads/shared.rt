@@ -1,8 +1,10 @@
-//! A thread's way to a layer that keeps the history of all threads.
+//! A thread's receiver over a layer that keeps the history of all threads.
 
 ghost use Rattle.std.specs.Prelude.{◌≡◌};
 ghost use Rattle.tracing_tree_shared.specs.Kept.{answer_given};
 
+use crate::draft::Refused;
+use crate::pass::{Pass, SharedLayer};
 use std::alloc::Global;
 use std::marker::Model;
 use std::sync::Wait;
@@ -11,12 +13,11 @@ use tracing_tree_context::{Context, Id, Refusal};
 use tracing_tree_layer::call::{Call, Reply, copied_context};
 use tracing_tree_layer::calls::Calls;
 use tracing_tree_layer::told::ToldEvent;
-use tracing_tree_shared::{Pass, Refused, SharedLayer};
-use tracing_tree_spans::registry::Attributes;
+use tracing_tree_spans::registry::{Attributes, Record};
 use tracing_tree_time::FormatTime;
 
-/// A thread's way to a [`SharedLayer`], with the thread's pass. Each call is drafted before the lock is waited for, and the pass gains
-/// the receipt of each call that is accepted.
+/// Makes the calls of one thread on a [`SharedLayer`], with the thread's pass. It drafts each call
+/// before it waits for the lock. The pass gains the receipt of each accepted call.
 #[derive(Drop)]
 pub struct SharedCalls<'a, R, FT: FormatTime, L: Ledger> {
     rt: &'a R,
@@ -26,7 +27,7 @@ pub struct SharedCalls<'a, R, FT: FormatTime, L: Ledger> {
 }
 
 impl<'a, R, FT: FormatTime, L: Ledger> Model for SharedCalls<'a, R, FT, L> {
-    ghost use Rattle.tracing_tree_threads.specs.Ways.{SharedCallsView};
+    ghost use Rattle.tracing_tree_shared.specs.Threads.{SharedCallsView};
 
     ghost Value = { SharedCallsView };
 
@@ -34,7 +35,7 @@ impl<'a, R, FT: FormatTime, L: Ledger> Model for SharedCalls<'a, R, FT, L> {
 }
 
 impl<'a, R, FT: FormatTime, L: Ledger> SharedCalls<'a, R, FT, L> {
-    /// The way of the thread that has this pass to this layer.
+    /// Returns the receiver of the thread that has this pass.
     pub fn new(
         rt: &'a R,
         alloc: Global,
@@ -51,14 +52,14 @@ impl<'a, R, FT: FormatTime, L: Ledger> SharedCalls<'a, R, FT, L> {
         }
     }
 
-    /// The thread's pass.
+    /// Returns the thread's pass.
     pub fn pass(&self) -> &Pass<L>
         ensures { result.now ≡ self.now.receipts }
     {
         &self.pass
     }
 
-    /// The thread's pass, which `SharedLayer::finish` takes back.
+    /// Returns the thread's pass, which `SharedLayer::finish` takes back.
     pub fn into_pass(self) -> Pass<L>
         ensures { result ≡ self.entry.receipts }
     {
@@ -66,9 +67,9 @@ impl<'a, R, FT: FormatTime, L: Ledger> SharedCalls<'a, R, FT, L> {
     }
 }
 
-/// Where the layer refuses a call, the answer is the cause, and the draft is dropped.
+/// If the layer refuses a call, the answer is the cause, and the draft is dropped.
 impl<'a, R: Wait, FT: FormatTime + Drop, L: Ledger> Calls for SharedCalls<'a, R, FT, L> {
-    ghost use Rattle.tracing_tree_threads.specs.Ways.{IsAnsweredShared};
+    ghost use Rattle.tracing_tree_shared.specs.Threads.{IsAnsweredShared};
 
     ghost answers = { IsAnsweredShared FT.FormatTime };
 
@@ -85,6 +86,20 @@ impl<'a, R: Wait, FT: FormatTime + Drop, L: Ledger> Calls for SharedCalls<'a, R,
         Ok(id)
     }
 
+    fn clone_span(&mut self, id: Id) -> Result<Id, Refusal> {
+        let Reply::Cloned(id) = self.call(Call::Clone(id))? else {
+            unreachable!()
+        };
+        Ok(id)
+    }
+
+    fn record(&mut self, id: Id, record: Record) -> Result<(), Refusal> {
+        let Reply::Done = self.call(Call::Record(id, record))? else {
+            unreachable!()
+        };
+        Ok(())
+    }
+
     fn event<E: ToldEvent>(&mut self, event: &E, context: &Context) -> Result<(), Refusal> {
         let event = event.to_event(self.alloc)?;
         let context = copied_context(context)?;
@@ -96,12 +111,13 @@ impl<'a, R: Wait, FT: FormatTime + Drop, L: Ledger> Calls for SharedCalls<'a, R,
 
     fn close(&mut self, id: Id, context: &Context) -> Result<bool, Refusal> {
         let context = copied_context(context)?;
-        let Reply::Closed(went) = self.call(Call::Close(id, context))? else {
+        let Reply::Closed(was_removed) = self.call(Call::Close(id, context))? else {
             unreachable!()
         };
-        Ok(went)
+        Ok(was_removed)
     }
 
+    // A tape holds nothing back.
     fn flush(&mut self) {}
 }
 

@@ -1,4 +1,4 @@
--- What a thread's way to a layer answers, from what the layer answers to a draft.
+-- The answers of a thread's receiver, from the layer's answer to a draft.
 use Rattle.std.specs.Prelude.{◌≡◌, ◌⊎◌, ◌++◌, ◌∷◌, [], ℕ, Result, Ok, Err, IfOk, OnErr, refl}
 use Rattle.std.proofs.Common.{inr, subst, sym}
 use Rattle.tracing_tree_context.specs.declared.context.Refusal.{Refusal}
@@ -13,7 +13,7 @@ use Rattle.tracing_tree_shared.specs.Kept.{IsAnsweredOnSome, answer_given}
 use Rattle.tracing_tree_shared.specs.Streamed.{IsStreamedOnSome, StreamingView, answer_numbered}
 use Rattle.tracing_tree_shared.specs.declared.draft.Refused.{Refused}
 use Rattle.tracing_tree_shared.specs.declared.streaming.Numbered.{Numbered}
-use Rattle.tracing_tree_threads.specs.Ways.{IsAnsweredShared, IsAnsweredStreaming, Receives, SharedCallsView}
+use Rattle.tracing_tree_shared.specs.Threads.{IsAnsweredShared, IsAnsweredStreaming, Receives, SharedCallsView}
 
 -- the receipts after the answer to a draft
 received : (call : Call) (result : Result Reply Refused) (before after : Slips)

@@ -1,6 +1,6 @@
 use Rattle.std.proofs.Common.{rules}
-use Rattle.tracing_tree_threads.proofs.Answered.{shared_answered}
-use Rattle.tracing_tree_threads.proofs.shared.SharedCallsCalls.call.Goals as goal
+use Rattle.tracing_tree_shared.proofs.ThreadCalls.{shared_answered}
+use Rattle.tracing_tree_shared.proofs.threads.shared.SharedCallsCalls.call.Goals as goal
 
 pub returns-clause-answered : goal.returns-clause-answered
 returns-clause-answered g c =

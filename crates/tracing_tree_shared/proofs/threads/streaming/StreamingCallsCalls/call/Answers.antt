@@ -1,6 +1,6 @@
 use Rattle.std.proofs.Common.{rules}
-use Rattle.tracing_tree_threads.proofs.Answered.{streaming_answered}
-use Rattle.tracing_tree_threads.proofs.streaming.StreamingCallsCalls.call.Goals as goal
+use Rattle.tracing_tree_shared.proofs.ThreadCalls.{streaming_answered}
+use Rattle.tracing_tree_shared.proofs.threads.streaming.StreamingCallsCalls.call.Goals as goal
 
 pub returns-clause-answered : goal.returns-clause-answered
 returns-clause-answered g c =
