@@ -53,7 +53,7 @@ fn only_an_event_has_a_tail(rt: HostRuntime) -> Result<(), Fail> {
     Ok(())
 }
 
-// How often a thread looks before it gives up.
+// How often a thread looks before it gives up, after about half a minute.
 const LIMIT: u64 = 100_000_000;
 
 // Whether the flag was seen before the limit. The other thread may wait for this one's processor.
