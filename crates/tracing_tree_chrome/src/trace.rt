@@ -199,7 +199,8 @@ impl Heard {
         ensures ended { IfErr result (λ cause. EndsHearing cause self.new
             (heard_value is_cut (value_view value.now) self.old)) }
         ensures noted { IsNoted (trace_notes is_cut (elements_in (value_view value.now)))
-            (is_ok result) self.old.unknown self.new.unknown (N.noted notes.old) (N.noted notes.new) }
+            (is_ok result) self.old.unknown self.new.unknown (N.noted notes.old)
+            (N.noted notes.new) }
     {
         let Some(elements) = elements_in(value) else {
             return self.lose(1, Lack::Trace, notes);
@@ -241,7 +242,8 @@ impl Heard {
         ensures ended { IfErr result (λ cause. EndsHearing cause self.new
             (heard_as (element_of (value_view element.now)) self.old)) }
         ensures noted { IsNoted (element_note number (element_of (value_view element.now)))
-            (is_ok result) self.old.unknown self.new.unknown (N.noted notes.old) (N.noted notes.new) }
+            (is_ok result) self.old.unknown self.new.unknown (N.noted notes.old)
+            (N.noted notes.new) }
     {
         match element_of(alloc, element)? {
             Ok(element) => Ok(self.gathered.take(element)?),

@@ -2,3 +2,4 @@ pub mod NamedLists
 pub mod GoLines
 pub mod FailedLines
 mod Worked
+pub mod Failing

@@ -1,3 +1,4 @@
 pub mod Names
 pub mod GoTest
 pub mod Failed
+pub mod Failures

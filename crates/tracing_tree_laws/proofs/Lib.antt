@@ -1,2 +1,3 @@
 mod FrameColumns
 mod Nearest
+pub mod TestRuns

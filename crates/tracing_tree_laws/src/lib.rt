@@ -8,6 +8,7 @@ pub mod counts;
 pub mod dates;
 pub mod difference;
 pub mod equal;
+pub mod failures;
 pub mod frames;
 pub mod lines;
 pub mod reading_back;

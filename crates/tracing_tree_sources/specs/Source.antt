@@ -229,8 +229,8 @@ module _ {S : Type 0} (takes : S → List ℕ → Option Json → Option (Step S
         (next_unknown (hear takes source before).source others) run.unknown
 
   -- The drawing is that of the calls of the known lines, and of those that the end brings; each was
-  -- accepted, and the source has taken these lines and the end. If something ended the run, it is that
-  -- of a beginning of these calls.
+  -- accepted, and the source has taken these lines and the end. If something ended the run, the drawing
+  -- is that of a beginning of these calls.
   abbrev pub RunsLines : (S → List Call) → (S → S) → List (List ℕ) → S → S → SourceRun → Seen → Seen
       → Type 0
   RunsLines ends ended lines source after run old new =

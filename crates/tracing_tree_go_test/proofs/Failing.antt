@@ -1,0 +1,525 @@
+-- What makes Go's tests fail: each definition of what a line does either leaves `has_failed` or sets it.
+use Rattle.std.proofs.Common.{◌≡◌, ℕ, Bool, true, false, List, [], ◌∷◌, ◌++◌, Option, Some, None, refl, sym, ap, subst, ◌∙◌, arith}
+use Rattle.std.proofs.lemmas.Bool.Decides.{nat_tests}
+use Rattle.std.proofs.lemmas.Slice.Eq.{bytes_eq-Decides}
+use Rattle.std.specs.Prelude.{⊤, ◌||◌, ◌&&◌, not, if◌then◌else◌, cond, bytes_eq, codes, length, unwrap_or, drop}
+use Rattle.std.specs.List.{list_any}
+use Rattle.std.specs.Ordering.{is_eq, match_ordering, nat_cmp}
+use Rattle.std.specs.Cmp.Lexicographic.{slice_cmp}
+use Rattle.std.specs.declared.cmp.Ordering.{Ordering}
+use Rattle.std.specs.declared.cmp.Ordering.TheVariants.{Less, Equal, Greater}
+use Rattle.std.specs.Prelude.{option_map, ◌==◌}
+use Rattle.std.specs.Str.{is_utf8}
+use Rattle.json.specs.Json.{Json, document}
+use Rattle.tracing_tree_context.specs.declared.context.Moment.{Moment}
+use Rattle.tracing_tree_sources.specs.Marks.{begins, is_empty}
+use Rattle.tracing_tree_sources.specs.Source.{Heard, hear, hear_line, heard_step, nothing_heard}
+use Rattle.tracing_tree_sources.specs.Values.{text_at}
+use Rattle.tracing_tree_go_test.specs.Failures.{has_begun, is_fail, is_failure, package_runs, some_failed, tells_failure}
+use Rattle.tracing_tree_go_test.specs.Names.{named, put, without}
+use Rattle.tracing_tree_go_test.specs.declared.go_test.running.Running.{Running}
+use Rattle.tracing_tree_go_test.specs.declared.go_test.Ending.{Ending}
+use Rattle.tracing_tree_go_test.specs.declared.go_test.Ending.TheVariants.{Passed, Failed, Skipped, Unfinished}
+use Rattle.tracing_tree_context.specs.declared.context.Id.{Id}
+use Rattle.tracing_tree_text.specs.declared.style.Level.{Level}
+use Rattle.tracing_tree_text.specs.declared.style.Level.TheVariants.{Info, Error}
+use Rattle.tracing_tree_lines.specs.Lines.Spelled.{is_skipped}
+use Rattle.tracing_tree_sources.specs.Told.{event_call, message_field}
+use Rattle.tracing_tree_go_test.specs.GoTest.{GoState, Held, Tests, above_held, acted, acted_for, all_ended, all_left_over, elapsed_in, go_takes, handed_out, is_package_frame, nothing_run, package_left, package_of, packages_left, printed_if, takes_failure, takes_heading, takes_json, takes_plain, takes_text, test_of, timed, up_to_space, begun, begun_in, counted, elapsed_fields, ended, ends_line, event_told, failed_by, finished, held, holds, is_frame, kept, left_one, left_over, level_of, line_of, line_told, more_printed, name_of, noted_left, opened, opened_as, owner, package_ended, part_told, placed, printed, quiet_told, ran, running_as, said, span_ended, started, started_if, test_ended, tests_of, told, told_if_ended, without_line_end, without_package, word_of}
+
+-- ---- names
+
+-- no name is empty, of a list nor of what has it
+abbrev AreFull : Tests → Type 0
+AreFull [] = ⊤
+AreFull (e ∷ es) = (is_empty e.0 ≡ false) × (is_empty e.1.test ≡ false) × AreFull es
+
+-- the first name alone may be empty, and what has it has no name either
+abbrev pub AreNamed : Tests → Type 0
+AreNamed [] = ⊤
+AreNamed (e ∷ es) = (is_empty e.0 ≡ is_empty e.1.test) × AreFull es
+
+abbrev pub AllNamed : List (List ℕ × Tests) → Type 0
+AllNamed [] = ⊤
+AllNamed (e ∷ es) = AreNamed e.1 × AllNamed es
+
+named_of_full : (es : Tests) → AreFull es → AreNamed es
+named_of_full [] h = tt
+named_of_full (e ∷ es) h = (h.0 ∙ sym h.1, h.2)
+
+full : (x : ℕ) (xs : List ℕ) → is_empty (x ∷ xs) ≡ false
+full x xs = grind (arith, nat_tests)
+
+abbrev cmp : List ℕ → List ℕ → Ordering
+cmp = slice_cmp nat_cmp
+
+less_full : (a b : List ℕ) → cmp a b ≡ Less → is_empty b ≡ false
+less_full [] [] h = cc
+less_full (x ∷ xs) [] h = cc
+less_full a (y ∷ ys) h = full y ys
+
+greater_full : (a b : List ℕ) → cmp a b ≡ Greater → is_empty a ≡ false
+greater_full [] [] h = cc
+greater_full [] (y ∷ ys) h = cc
+greater_full (x ∷ xs) b h = full x xs
+
+equal_both : (a b : List ℕ) → cmp a b ≡ Equal → is_empty a ≡ is_empty b
+equal_both [] [] h = refl
+equal_both [] (y ∷ ys) h = cc
+equal_both (x ∷ xs) [] h = cc
+equal_both (x ∷ xs) (y ∷ ys) h = full x xs ∙ sym (full y ys)
+
+full_put : (name : List ℕ) (one : Running) (es : Tests) → is_empty name ≡ false → is_empty one.test ≡ false → AreFull es → AreFull (put name one es)
+full_put name one [] n t h = (n, t, tt)
+full_put name one (e ∷ es) n t h = by (cmp name e.0) (full_put name one es n t h.2) where
+  by : (at : Ordering) → AreFull (put name one es) → AreFull (match_ordering at ((name, one) ∷ e ∷ es) ((e.0, one) ∷ es) (e ∷ put name one es))
+  by Less others = (n, t, h)
+  by Equal others = (h.0, t, h.2)
+  by Greater others = (h.0, h.1, others)
+
+named_put : (name : List ℕ) (one : Running) (es : Tests) → is_empty name ≡ is_empty one.test → AreNamed es → AreNamed (put name one es)
+named_put name one [] n h = (n, tt)
+named_put name one (e ∷ es) n h = by (cmp name e.0) refl where
+  by : (at : Ordering) → cmp name e.0 ≡ at → AreNamed (match_ordering at ((name, one) ∷ e ∷ es) ((e.0, one) ∷ es) (e ∷ put name one es))
+  by Less is = let b : is_empty e.0 ≡ false = less_full name e.0 is in (n, (b, sym h.0 ∙ b, h.1))
+  by Equal is = (sym (equal_both name e.0 is) ∙ n, h.1)
+  by Greater is = let a : is_empty name ≡ false = greater_full name e.0 is in (h.0, full_put name one es a (sym n ∙ a) h.1)
+
+full_without : (name : List ℕ) (es : Tests) → AreFull es → AreFull (without name es)
+full_without name [] h = tt
+full_without name (e ∷ es) h = by (is_eq (cmp name e.0)) (full_without name es h.2) where
+  by : (here : Bool) → AreFull (without name es) → AreFull (cond here es (e ∷ without name es))
+  by true others = h.2
+  by false others = (h.0, h.1, others)
+
+named_without : (name : List ℕ) (es : Tests) → AreNamed es → AreNamed (without name es)
+named_without name [] h = tt
+named_without name (e ∷ es) h = by (is_eq (cmp name e.0)) where
+  by : (here : Bool) → AreNamed (cond here es (e ∷ without name es))
+  by true = named_of_full es h.1
+  by false = (h.0, full_without name es h.1)
+
+-- what is left without the package
+full_inner : (es : Tests) → AreNamed es → AreFull (without [] es)
+full_inner [] h = tt
+full_inner (([], one) ∷ es) h = h.1
+full_inner ((x ∷ xs, one) ∷ es) h = (full x xs, sym h.0 ∙ full x xs, full_without [] es h.1)
+
+-- the package has no name
+full_not_package : (es : Tests) (one : Running) → AreFull es → named [] es ≡ Some one → is_empty one.test ≡ true
+full_not_package [] one h is = cc
+full_not_package (([], other) ∷ es) one h is = cc
+full_not_package ((x ∷ xs, other) ∷ es) one h is = full_not_package es one h.2 is
+
+package_named : (es : Tests) (one : Running) → AreNamed es → named [] es ≡ Some one → is_empty one.test ≡ true
+package_named [] one h is = cc
+package_named (([], other) ∷ es) one h is = by other one (sym h.0) is where
+  by : (a b : Running) → is_empty a.test ≡ true → Some a ≡ Some b → is_empty b.test ≡ true
+  by a b t e = let P : Option Running → Type 0 = λ o. elim o as (λ _. Type 0) [ Some r ↦ is_empty r.test ≡ true | None ↦ ⊤ ] in subst P e t
+package_named ((x ∷ xs, other) ∷ es) one h is = full_not_package es one h.1 is
+
+-- ---- packages
+
+all_put : (path : List ℕ) (tests : Tests) (es : List (List ℕ × Tests)) → AreNamed tests → AllNamed es → AllNamed (put path tests es)
+all_put path tests [] t h = (t, tt)
+all_put path tests (e ∷ es) t h = by (cmp path e.0) (all_put path tests es t h.1) where
+  by : (at : Ordering) → AllNamed (put path tests es) → AllNamed (match_ordering at ((path, tests) ∷ e ∷ es) ((e.0, tests) ∷ es) (e ∷ put path tests es))
+  by Less others = (t, h)
+  by Equal others = (t, h.1)
+  by Greater others = (h.0, others)
+
+all_without : (path : List ℕ) (es : List (List ℕ × Tests)) → AllNamed es → AllNamed (without path es)
+all_without path [] h = tt
+all_without path (e ∷ es) h = by (is_eq (cmp path e.0)) (all_without path es h.1) where
+  by : (here : Bool) → AllNamed (without path es) → AllNamed (cond here es (e ∷ without path es))
+  by true others = h.1
+  by false others = (h.0, others)
+
+all_found : (path : List ℕ) (es : List (List ℕ × Tests)) → AllNamed es → AreNamed (unwrap_or (named path es) [])
+all_found path [] h = tt
+all_found path (e ∷ es) h = by (is_eq (cmp path e.0)) (all_found path es h.1) where
+  by : (here : Bool) → AreNamed (unwrap_or (named path es) []) → AreNamed (unwrap_or (cond here (Some e.1) (named path es)) [])
+  by true others = h.0
+  by false others = others
+
+-- ---- what a definition does to `has_failed`
+
+-- it stays, and so do the names
+record Stays (s t : GoState) : Type 0 where
+  failed : AllNamed s.packages → t.has_failed ≡ s.has_failed
+  named_too : AllNamed s.packages → AllNamed t.packages
+
+-- it is set if this holds, and else it stays
+record Goes (b : Bool) (s t : GoState) : Type 0 where
+  failed : AllNamed s.packages → t.has_failed ≡ (s.has_failed || b)
+  named_too : AllNamed s.packages → AllNamed t.packages
+
+or_false : (a : Bool) → (a || false) ≡ a
+or_false true = refl
+or_false false = refl
+
+or_true : (a : Bool) → (a || true) ≡ true
+or_true true = refl
+or_true false = refl
+
+or_assoc : (a b c : Bool) → ((a || b) || c) ≡ (a || (b || c))
+or_assoc true b c = refl
+or_assoc false b c = refl
+
+same : (s : GoState) → Stays s s
+same s = record { failed = λ w. refl; named_too = λ w. w }
+
+then_stays : (s t u : GoState) → Stays s t → Stays t u → Stays s u
+then_stays s t u h k = record { failed = λ w. k.failed (h.named_too w) ∙ h.failed w; named_too = λ w. k.named_too (h.named_too w) }
+
+goes_of : (s t : GoState) → Stays s t → Goes false s t
+goes_of s t h = record { failed = λ w. h.failed w ∙ sym (or_false s.has_failed); named_too = h.named_too }
+
+goes_stays : (b : Bool) (s t u : GoState) → Goes b s t → Stays t u → Goes b s u
+goes_stays b s t u h k = record { failed = λ w. k.failed (h.named_too w) ∙ h.failed w; named_too = λ w. k.named_too (h.named_too w) }
+
+stays_goes : (b : Bool) (s t u : GoState) → Stays s t → Goes b t u → Goes b s u
+stays_goes b s t u h k = record {
+  failed = λ w. k.failed (h.named_too w) ∙ ap (λ f. f || b) (h.failed w);
+  named_too = λ w. k.named_too (h.named_too w);
+}
+
+goes_then : (a b : Bool) (s t u : GoState) → Goes a s t → Goes b t u → Goes (a || b) s u
+goes_then a b s t u h k = record {
+  failed = λ w. k.failed (h.named_too w) ∙ ap (λ f. f || b) (h.failed w) ∙ or_assoc s.has_failed a b;
+  named_too = λ w. k.named_too (h.named_too w);
+}
+
+stays_if : (b : Bool) (s t u : GoState) → Stays s t → Stays s u → Stays s (if b then t else u)
+stays_if true s t u h k = h
+stays_if false s t u h k = k
+
+goes_if : (b f : Bool) (s t u : GoState) → Goes f s t → Goes f s u → Goes f s (if b then t else u)
+goes_if true f s t u h k = h
+goes_if false f s t u h k = k
+
+held_if : (b : Bool) (s : GoState) (h k : Held) → Stays s h.state → Stays s k.state → Stays s (if b then h else k).state
+held_if true s h k i j = i
+held_if false s h k i j = j
+
+-- ---- what is drawn
+
+event_stays : (level : Level) (text : List ℕ) (elapsed : Option (List ℕ)) (above : Option Id) (s : GoState) → Stays s (event_told level text elapsed above s)
+event_stays level text elapsed above s =
+    stays_if (is_skipped text) s s (told (event_call s.moment level (message_field text ∷ elapsed_fields elapsed) above) s) (same s) (record { failed = λ w. refl; named_too = λ w. w })
+
+opened_by : (span : Option Id) (h : Held) → Stays h.state (opened_as span h).state
+opened_by (Some id) h = same h.state
+opened_by None h = record { failed = λ w. refl; named_too = λ w. w }
+
+opened_stays : (h : Held) → Stays h.state (opened h).state
+opened_stays h = opened_by h.one.span h
+
+line_stays : (text : List ℕ) (h : Held) → Stays h.state (line_of text h).state
+line_stays text h =
+    let line = without_line_end text in
+    held_if (is_frame h.one.test line) h.state h (said Info line (opened h)) (same h.state)
+    (then_stays h.state (opened h).state (said Info line (opened h)).state (opened_stays h) (event_stays Info line None (opened h).one.span (opened h).state))
+
+told_line_stays : (h : Held) → Stays h.state (line_told h).state
+told_line_stays h = line_stays h.one.part (record h { one = record h.one { part = [] } })
+
+part_stays : (h : Held) → Stays h.state (part_told h).state
+part_stays h = held_if (is_empty h.one.part) h.state h (line_told h) (same h.state) (told_line_stays h)
+
+span_stays : (ending : Ending) (elapsed : Option (List ℕ)) (span : Option Id) (h : Held) → Stays h.state (span_ended ending elapsed span h)
+span_stays ending elapsed (Some id) h =
+    let event = event_stays (level_of ending) (word_of ending) elapsed (Some id) h.state in
+    record { failed = event.failed; named_too = event.named_too }
+span_stays ending elapsed None h = event_stays (level_of ending) (word_of ending ++ codes " " ++ name_of h.one) elapsed h.one.above h.state
+
+finished_stays : (ending : Ending) (elapsed : Option (List ℕ)) (h : Held) → Stays h.state (finished ending elapsed h)
+finished_stays ending elapsed h =
+    let last = part_told h in
+    then_stays h.state last.state (span_ended ending elapsed last.one.span last) (part_stays h) (span_stays ending elapsed last.one.span last)
+
+-- ---- what runs
+
+without_stays : (path : List ℕ) (s : GoState) → Stays s (without_package path s)
+without_stays path s = record { failed = λ w. refl; named_too = λ w. all_without path s.packages w }
+
+held_stays : (path test : List ℕ) (s : GoState) → Stays s (held path test s).state
+unfolding held
+held_stays path test s =
+    let tests : Tests = tests_of path s in
+    let name : List ℕ = owner tests test in
+    record {
+      failed = λ w. refl;
+      named_too = λ w. all_put path (without name tests) (without path s.packages) (named_without name tests (all_found path s.packages w)) (all_without path s.packages w);
+    }
+
+kept_stays : (h : Held) → Stays h.state (kept h)
+unfolding kept
+kept_stays h =
+    let tests : Tests = tests_of h.one.path h.state in
+    record {
+      failed = λ w. refl;
+      named_too = λ w. all_put h.one.path (put h.one.test h.one tests) (without h.one.path h.state.packages)
+          (named_put h.one.test h.one tests refl (all_found h.one.path h.state.packages w)) (all_without h.one.path h.state.packages w);
+    }
+
+noted_by : (b : Bool) (s : GoState) → b ≡ false → Stays s (if b then record s { has_failed = true } else counted Unfinished s)
+noted_by true s e = cc
+noted_by false s e = record { failed = λ w. refl; named_too = λ w. w }
+
+-- a test that ends unfinished fails nothing
+left_stays : (one : Running) (s : GoState) → is_empty one.test ≡ false → Stays s (left_one one s)
+left_stays one s full =
+    stays_if one.has_begun s (finished Unfinished None (holds one (noted_left one s))) s
+    (then_stays s (noted_left one s) (finished Unfinished None (holds one (noted_left one s))) (noted_by (is_empty one.test) s full) (finished_stays Unfinished None (holds one (noted_left one s))))
+    (same s)
+
+left_over_stays : (root : Option Id) (earlier tests : Tests) (s : GoState) → AreFull tests → Stays s (left_over root earlier tests s)
+left_over_stays root earlier [] s h = same s
+left_over_stays root earlier (test ∷ later) s h =
+    let rest : GoState = left_over root (earlier ++ test ∷ []) later s in
+    then_stays s rest (left_one (placed root earlier test.1) rest) (left_over_stays root (earlier ++ test ∷ []) later s h.2) (left_stays (placed root earlier test.1) rest h.1)
+
+all_left_stays : (path : List ℕ) (s : GoState) → AllNamed s.packages → Stays s (all_left_over path s)
+all_left_stays path s w =
+    let tests : Tests = tests_of path s in
+    then_stays s (without_package path s) (all_left_over path s) (without_stays path s)
+    (left_over_stays (running_as path [] tests).span [] (without [] tests) (without_package path s) (full_inner tests (all_found path s.packages w)))
+
+package_stays : (ending : Ending) (path : List ℕ) (elapsed : Option (List ℕ)) (s : GoState) → Stays (failed_by ending s) (package_ended ending path elapsed s)
+unfolding package_ended
+package_stays ending path elapsed s =
+    let noted : GoState = failed_by ending s in
+    let last : Held = holds (running_as path [] (tests_of path noted)) (all_left_over path noted) in
+    record {
+      failed = λ w. (then_stays noted last.state (finished ending elapsed last) (all_left_stays path noted w) (finished_stays ending elapsed last)).failed w;
+      named_too = λ w. (then_stays noted last.state (finished ending elapsed last) (all_left_stays path noted w) (finished_stays ending elapsed last)).named_too w;
+    }
+
+is_failed : Ending → Bool
+is_failed Passed = false
+is_failed Failed = true
+is_failed Skipped = false
+is_failed Unfinished = false
+
+by_failed : (ending : Ending) (s : GoState) → Goes (is_failed ending) s (failed_by ending s)
+unfolding is_failed
+by_failed Passed s = goes_of s s (same s)
+by_failed Failed s = record { failed = λ w. sym (or_true s.has_failed); named_too = λ w. w }
+by_failed Skipped s = goes_of s s (same s)
+by_failed Unfinished s = goes_of s s (same s)
+
+by_count : (ending : Ending) (s : GoState) → Goes (is_failed ending) s (counted ending s)
+unfolding is_failed
+by_count Passed s = record { failed = λ w. sym (or_false s.has_failed); named_too = λ w. w }
+by_count Failed s = record { failed = λ w. sym (or_true s.has_failed); named_too = λ w. w }
+by_count Skipped s = record { failed = λ w. sym (or_false s.has_failed); named_too = λ w. w }
+by_count Unfinished s = record { failed = λ w. sym (or_false s.has_failed); named_too = λ w. w }
+
+test_stays : (ending : Ending) (test : List ℕ) (elapsed : Option (List ℕ)) (h : Held) → Stays h.state (test_ended ending test elapsed h)
+test_stays ending test elapsed h =
+    let shown : Held = opened h in
+    let quiet : Held = record shown { state = quiet_told ending test elapsed shown.one.span shown.state } in
+    stays_if (bytes_eq h.one.test test) h.state (finished ending elapsed h) (kept quiet) (finished_stays ending elapsed h)
+    (then_stays h.state quiet.state (kept quiet)
+    (then_stays h.state shown.state quiet.state (opened_stays h) (event_stays (level_of ending) (word_of ending ++ codes " " ++ test) elapsed shown.one.span shown.state))
+    (kept_stays quiet))
+
+ended_goes : (ending : Ending) (path test : List ℕ) (elapsed : Option (List ℕ)) (s : GoState) → Goes (is_failed ending) s (ended ending path test elapsed s)
+ended_goes ending path test elapsed s =
+    let h : Held = held path test (counted ending s) in
+    goes_if (is_empty test) (is_failed ending) s (package_ended ending path elapsed s) (test_ended ending test elapsed h)
+    (goes_stays (is_failed ending) s (failed_by ending s) (package_ended ending path elapsed s) (by_failed ending s) (package_stays ending path elapsed s))
+    (goes_stays (is_failed ending) s (counted ending s) (test_ended ending test elapsed h) (by_count ending s)
+    (then_stays (counted ending s) h.state (test_ended ending test elapsed h) (held_stays path test (counted ending s)) (test_stays ending test elapsed h)))
+
+-- ---- a test begins or prints
+
+full_again : (a test : List ℕ) → (is_empty test || not (bytes_eq a test)) ≡ false → is_empty a ≡ false
+full_again [] [] h = let e : true ≡ false = h in cc
+full_again [] (y ∷ ys) h = let e : true ≡ false = (rw (full y ys) at h) in cc
+full_again (x ∷ xs) test h = full x xs
+
+above_by : (path test : List ℕ) (s : GoState) (b : Bool) → (is_empty test || not (bytes_eq (held path test s).one.test test)) ≡ b →
+    Stays s (if b then held path test s else held path test (left_one (held path test s).one (held path test s).state)).state
+above_by path test s true e = held_stays path test s
+above_by path test s false e =
+    let h : Held = held path test s in
+    let left : GoState = left_one h.one h.state in
+    then_stays s left (held path test left).state
+    (then_stays s h.state left (held_stays path test s) (left_stays h.one h.state (full_again h.one.test test e)))
+    (held_stays path test left)
+
+above_stays : (path test : List ℕ) (s : GoState) → Stays s (above_held path test s).state
+unfolding above_held
+above_stays path test s = above_by path test s (is_empty test || not (bytes_eq (held path test s).one.test test)) refl
+
+begun_stays : (path test : List ℕ) (h : Held) → Stays h.state (begun_in path test h)
+begun_stays path test h =
+    stays_if (is_empty test) h.state (kept h) (kept (holds (begun path test) (kept h))) (kept_stays h)
+    (then_stays h.state (kept h) (kept (holds (begun path test) (kept h))) (kept_stays h) (kept_stays (holds (begun path test) (kept h))))
+
+ran_stays : (path test : List ℕ) (s : GoState) → Stays s (ran path test s)
+ran_stays path test s =
+    let h : Held = above_held path test s in
+    then_stays s (opened h).state (ran path test s) (then_stays s h.state (opened h).state (above_stays path test s) (opened_stays h)) (begun_stays path test (started (opened h)))
+
+printed_stays : (is_started : Bool) (path test text : List ℕ) (s : GoState) → Stays s (printed is_started path test text s)
+printed_stays is_started path test text s =
+    let h : Held = more_printed text (started_if is_started (held path test s)) in
+    let line : Held = told_if_ended text h in
+    then_stays s h.state (kept line) (held_stays path test s)
+    (then_stays h.state line.state (kept line) (held_if (ends_line text) h.state (line_told h) h (told_line_stays h) (same h.state)) (kept_stays line))
+
+-- ---- lines
+
+plain_stays : (line : List ℕ) (s : GoState) → Stays s (takes_plain line s)
+plain_stays line s =
+    let h : Held = held s.building [] s in
+    let shown : Held = opened h in
+    let event : Held = said Error line shown in
+    stays_if (is_package_frame line) s s (if is_empty s.building then event_told Error line None None s else kept event) (same s)
+    (stays_if (is_empty s.building) s (event_told Error line None None s) (kept event) (event_stays Error line None None s)
+    (then_stays s shown.state (kept event) (then_stays s h.state shown.state (held_stays s.building [] s) (opened_stays h))
+    (then_stays shown.state event.state (kept event) (event_stays Error line None shown.one.span shown.state) (kept_stays event))))
+
+failure_by : (b : Bool) (rest line : List ℕ) (s : GoState) → Goes b s (takes_failure (if b then Some rest else None) line s)
+unfolding is_failed
+failure_by true rest line s =
+    let at : GoState = record s { building = [] } in
+    let ended_at : GoState = package_ended Failed (up_to_space rest) None at in
+    stays_goes true s at ended_at (record { failed = λ w. refl; named_too = λ w. w })
+    (goes_stays true at (failed_by Failed at) ended_at (by_failed Failed at) (package_stays Failed (up_to_space rest) None at))
+failure_by false rest line s = goes_of s (takes_plain line s) (plain_stays line s)
+
+-- a heading tells of no failure
+other_mark : (b : ℕ) (x y : Bool) → ((35 == b) && x) ≡ true → ((70 == b) && y) ≡ false
+other_mark b x y h = grind (arith, nat_tests)
+
+heading_is_calm : (line : List ℕ) → begins (codes "# ") line ≡ true → begins (codes "FAIL\t") line ≡ false
+heading_is_calm [] h = refl
+heading_is_calm (b ∷ rest) h = other_mark b _ _ h
+
+heading_by : (b : Bool) (rest line : List ℕ) (s : GoState) → begins (codes "# ") line ≡ b → Goes (begins (codes "FAIL\t") line) s (takes_heading (if b then Some rest else None) line s)
+heading_by true rest line s e =
+    let at : GoState = record s { building = up_to_space rest } in
+    let P : Bool → Type 0 = λ b. Goes b s at in
+    subst P (sym (heading_is_calm line e)) (goes_of s at (record { failed = λ w. refl; named_too = λ w. w }))
+heading_by false rest line s e = failure_by (begins (codes "FAIL\t") line) (drop (length (codes "FAIL\t")) line) line s
+
+text_goes : (line : List ℕ) (s : GoState) → Goes (is_failure line None) s (takes_text line s)
+text_goes line s = heading_by (begins (codes "# ") line) (drop (length (codes "# ")) line) line s refl
+
+-- a line of JSON, if it is known
+abbrev GoesIf : Bool → GoState → Option GoState → Type 0
+GoesIf b s None = b ≡ false
+GoesIf b s (Some t) = Goes b s t
+
+goes_by : (b f : Bool) (s : GoState) (x y : Option GoState) → (b ≡ true → GoesIf f s x) → (b ≡ false → GoesIf f s y) → GoesIf f s (if b then x else y)
+goes_by true f s x y h k = h refl
+goes_by false f s x y h k = k refl
+
+as_false : (f : Bool) (s t : GoState) → f ≡ false → Stays s t → Goes f s t
+as_false f s t e h = let P : Bool → Type 0 = λ b. Goes b s t in subst P (sym e) (goes_of s t h)
+
+as_ended : (f : Bool) (ending : Ending) (path test : List ℕ) (elapsed : Option (List ℕ)) (s : GoState) → is_failed ending ≡ f → Goes f s (ended ending path test elapsed s)
+as_ended f ending path test elapsed s e = let P : Bool → Type 0 = λ b. Goes b s (ended ending path test elapsed s) in subst P e (ended_goes ending path test elapsed s)
+
+not_fail : (action word : List ℕ) → bytes_eq action word ≡ true → bytes_eq word (codes "fail") ≡ false → bytes_eq action (codes "fail") ≡ false
+not_fail action word is other =
+    let e : action ≡ word = (bytes_eq-Decides action word).0 is in
+    ap (λ (a : List ℕ). bytes_eq a (codes "fail")) e ∙ other
+
+neither_fail : (action one two : List ℕ) → (bytes_eq action one || bytes_eq action two) ≡ true → bytes_eq one (codes "fail") ≡ false → bytes_eq two (codes "fail") ≡ false →
+    bytes_eq action (codes "fail") ≡ false
+neither_fail action one two is a b = by (bytes_eq action one) refl where
+  by : (c : Bool) → bytes_eq action one ≡ c → bytes_eq action (codes "fail") ≡ false
+  by true e = not_fail action one e a
+  by false e = not_fail action two (rw e at is) b
+
+printed_if_goes : (f is_started : Bool) (path test : List ℕ) (text : Option (List ℕ)) (s : GoState) → f ≡ false → GoesIf f s (printed_if is_started path test text s)
+printed_if_goes f is_started path test None s e = e
+printed_if_goes f is_started path test (Some text) s e = as_false f s (printed is_started path test text s) e (printed_stays is_started path test text s)
+
+acted_goes : (action path test : List ℕ) (value : Json) (s : GoState) → GoesIf (bytes_eq action (codes "fail")) s (acted action path test value s)
+unfolding is_failed
+acted_goes action path test value s =
+    let f : Bool = bytes_eq action (codes "fail") in
+    let elapsed : Option (List ℕ) = elapsed_in value in
+    goes_by (bytes_eq action (codes "run")) f s (Some (ran path test s)) _ (λ is. as_false f s (ran path test s) (not_fail action (codes "run") is refl) (ran_stays path test s))
+    (λ _. goes_by (bytes_eq action (codes "output") || bytes_eq action (codes "build-output")) f s _ _
+    (λ is. printed_if_goes f (bytes_eq action (codes "output")) path test (text_at (codes "Output") value) s (neither_fail action (codes "output") (codes "build-output") is refl refl))
+    (λ _. goes_by (bytes_eq action (codes "pass") || bytes_eq action (codes "bench")) f s _ _
+    (λ is. as_ended f Passed path test elapsed s (sym (neither_fail action (codes "pass") (codes "bench") is refl refl)))
+    (λ _. goes_by f f s _ _
+    (λ is. as_ended f Failed path test elapsed s (sym is))
+    (λ none. goes_by (bytes_eq action (codes "skip")) f s _ _
+    (λ _. as_ended f Skipped path test elapsed s (sym none))
+    (λ _. as_false f s s none (same s))))))
+
+json_goes : (action path : Option (List ℕ)) (value : Json) (s : GoState) → GoesIf (is_fail action path) s (acted_for action path value s)
+json_goes (Some action) (Some path) value s = acted_goes action path (test_of value) value s
+json_goes (Some action) None value s = refl
+json_goes None path value s = refl
+
+handed_goes : (b : Bool) (s at : GoState) (o : Option GoState) → Stays s at → GoesIf b at o → Goes b s (heard_step s (option_map handed_out o)).source
+handed_goes b s at None h e = as_false b s s e (same s)
+handed_goes b s at (Some t) h k =
+    let all = stays_goes b s at t h k in
+    record { failed = all.failed; named_too = all.named_too }
+
+step_goes : (line : List ℕ) (value : Option Json) (s : GoState) → Goes (is_failure line value) s (heard_step s (go_takes s line value)).source
+step_goes line None s =
+    let all = text_goes line s in
+    record { failed = all.failed; named_too = all.named_too }
+step_goes line (Some value) s =
+    handed_goes (is_fail (text_at (codes "Action") value) (package_of value)) s (timed value s) (takes_json value (timed value s))
+    (record { failed = λ w. refl; named_too = λ w. w }) (json_goes (text_at (codes "Action") value) (package_of value) value (timed value s))
+
+heard_if : (b f g : Bool) (s : GoState) (h k : Heard GoState) → Goes f s h.source → Goes g s k.source → Goes (if b then f else g) s (if b then h else k).source
+heard_if true f g s h k i j = i
+heard_if false f g s h k i j = j
+
+line_goes : (line : List ℕ) (s : GoState) → Goes (tells_failure line) s (hear_line go_takes s line).source
+line_goes line s =
+    heard_if (is_skipped line) false (if is_utf8 line then is_failure line (document line) else false) s (nothing_heard s) _ (goes_of s s (same s))
+    (heard_if (is_utf8 line) (is_failure line (document line)) false s (heard_step s (go_takes s line (document line))) (heard_step s None) (step_goes line (document line) s) (goes_of s s (same s)))
+
+lines_go : (lines : List (List ℕ)) (s : GoState) → Goes (list_any tells_failure lines) s (hear go_takes s lines).source
+lines_go [] s = goes_of s s (same s)
+lines_go (line ∷ lines) s =
+    let after : GoState = (hear_line go_takes s line).source in
+    goes_then (tells_failure line) (list_any tells_failure lines) s after (hear go_takes after lines).source (line_goes line s) (lines_go lines after)
+
+-- ---- the end
+
+failed_by_name : (b : Bool) (s : GoState) → b ≡ true → Goes true s (if b then record s { has_failed = true } else counted Unfinished s)
+failed_by_name true s e = record { failed = λ w. sym (or_true s.has_failed); named_too = λ w. w }
+failed_by_name false s e = cc
+
+left_by : (b : Bool) (one : Running) (s : GoState) → is_empty one.test ≡ true → Goes b s (if b then finished Unfinished None (holds one (noted_left one s)) else s)
+left_by true one s e =
+    goes_stays true s (noted_left one s) (finished Unfinished None (holds one (noted_left one s))) (failed_by_name (is_empty one.test) s e) (finished_stays Unfinished None (holds one (noted_left one s)))
+left_by false one s e = goes_of s s (same s)
+
+package_by : (tests : Tests) (s : GoState) (own : Option Running) → AreNamed tests → named [] tests ≡ own → Goes (has_begun own) s (package_left tests s)
+package_by tests s None h is =
+    rw is (goes_of s (left_over None [] (without [] tests) s) (left_over_stays None [] (without [] tests) s (full_inner tests h)))
+package_by tests s (Some own) h is =
+    let rest : GoState = left_over own.span [] (without [] tests) s in
+    rw is (stays_goes own.has_begun s rest (left_one own rest) (left_over_stays own.span [] (without [] tests) s (full_inner tests h)) (left_by own.has_begun own rest (package_named tests own h is)))
+
+packages_go : (packages : List (List ℕ × Tests)) (s : GoState) → AllNamed packages → Goes (list_any package_runs packages) s (packages_left packages s)
+packages_go [] s h = goes_of s s (same s)
+packages_go ((path, tests) ∷ others) s h =
+    let after : GoState = package_left tests s in
+    goes_then (package_runs (path, tests)) (list_any package_runs others) s after (packages_left others after) (package_by tests s (named [] tests) h.0 refl) (packages_go others after h.1)
+
+-- tests have failed exactly if a line tells of a failure, or a package still ran
+pub some_failed_after : (next : ℕ) (moment : Moment) (lines : List (List ℕ)) →
+    (all_ended (hear go_takes (nothing_run next moment) lines).source).has_failed ≡ some_failed lines (hear go_takes (nothing_run next moment) lines).source
+some_failed_after next moment lines =
+    let heard = lines_go lines (nothing_run next moment) in
+    let s : GoState = (hear go_takes (nothing_run next moment) lines).source in
+    (packages_go s.packages (record s { packages = [] }) (heard.named_too tt)).failed tt
+    ∙ ap (λ b. b || list_any package_runs s.packages) (heard.failed tt)
