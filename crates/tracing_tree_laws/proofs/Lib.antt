@@ -1,2 +1,3 @@
+mod AcceptedCalls
 mod FrameColumns
 mod Nearest
