@@ -1,3 +1,4 @@
+mod AcceptedCalls
 mod FrameColumns
 mod Nearest
 pub mod TestRuns

@@ -3,7 +3,7 @@
 ghost use Rattle.std.specs.Prelude.{◌≡◌, [], IfSome, Option};
 ghost use Rattle.tracing_tree_context.specs.declared.context.Id.{Id};
 ghost use Rattle.tracing_tree_layer.specs.Layered.Run.{accepted_calls};
-ghost use Rattle.tracing_tree_laws.specs.ReadBack.{FindsAll, IsEmpty};
+ghost use Rattle.tracing_tree_laws.specs.ReadBack.{AreAllAccepted, FindsAll, IsEmpty};
 
 use std::alloc::Global;
 use std::str;
@@ -33,10 +33,13 @@ pub fn read_events<FT: FormatTime>(
     layered: &mut Layered<Tape, FT>,
     calls: Vec<Call>,
 ) -> Option<EventsRead>
-    ensures { (first : Option Id) → IsEmpty first layered.old → layered.old.layer.writer.bytes ≡ []
-        → IfSome result (λ read. FindsAll layered.old.layer.settings
-        (FT.timer layered.old.layer.timer) first
+    ensures found { (first : Option Id) → IsEmpty first layered.old
+        → layered.old.layer.writer.bytes ≡ [] → IfSome result (λ read.
+        FindsAll layered.old.layer.settings (FT.timer layered.old.layer.timer) first
         (accepted_calls calls.items read.answers.items) read.paths.items) }
+    ensures accepted { (first : Option Id) → IsEmpty first layered.old → IfSome result (λ read.
+        AreAllAccepted layered.old.layer.settings (FT.timer layered.old.layer.timer) first
+        (accepted_calls calls.items read.answers.items)) }
 {
     let answers = layered.run(alloc, calls).ok()?;
     let amount = layered.layer().config().indent_amount();
