@@ -1,20 +1,16 @@
 -- What becomes of a call, by how it was read.
 use Rattle.std.proofs.Common.{◌≡◌, ℕ, ◌<◌, List, [], ◌∷◌, length, drop, arith, zero, suc, refl, sym, subst, Bool, true, false, true≢false}
-use Rattle.std.specs.Prelude.{Result, Ok, Err, Some, None, ⊤, slice_index_or}
+use Rattle.std.specs.Prelude.{Result, Ok, Err, Some, None, slice_index_or}
 use Rattle.tracing_tree_context.specs.declared.context.Refusal.{Refusal}
 use Rattle.tracing_tree_context.specs.declared.context.Refusal.TheVariants.{NotHeld, TooWide, TooMany, Memory, Timer, Writer, Failed}
 use Rattle.tracing_tree_layer.specs.Layered.Seen.{Seen}
 use Rattle.tracing_tree_layer.specs.declared.call.Call.{Call}
 use Rattle.tracing_tree_layer.specs.declared.call.Reply.{Reply}
-use Rattle.tracing_tree_c.specs.Foreign.{IsUtf8Field, IsUtf8Fields, IsContextOf, IsCloseOf, Reads}
-use Rattle.tracing_tree_spans.specs.Registry.Ids.{id_of}
-use Rattle.tracing_tree_context.specs.declared.context.Context.{Context}
-use Rattle.tracing_tree_c.specs.declared.foreign.ContextRef.{ContextRef}
-use Rattle.tracing_tree_c.specs.declared.foreign.Made.{Made}
+use Rattle.tracing_tree_c.specs.Foreign.{IsUtf8Field, IsUtf8Fields, Reads}
 use Rattle.tracing_tree_c.specs.declared.foreign.FieldRef.{FieldRef}
 use Rattle.tracing_tree_c.specs.Owned.{Kept}
-use Rattle.tracing_tree_c.specs.Trees.{Makes, Mends, Performs, call_of, is_lost, new_call, read_call, read_close, read_new}
-use Rattle.tracing_tree_c.specs.declared.foreign.Told.{Told}
+use Rattle.tracing_tree_c.specs.Parts.{read_as}
+use Rattle.tracing_tree_c.specs.Trees.{Makes, Mends, Performs, is_lost}
 use Rattle.tracing_tree_c.specs.declared.foreign.Unreadable.{Unreadable}
 use Rattle.tracing_tree_c.specs.declared.foreign.Unreadable.TheVariants.{Unknown, NotUtf8, Starved}
 use Rattle.tracing_tree_c.specs.declared.tree.Outcome.{Outcome}
@@ -50,29 +46,13 @@ pub stays : (answer : Result Reply Refusal) (before left : Seen) → is_lost ans
     Mends (is_lost answer) answer before left answer left
 stays answer before left e = subst (λ (b : Bool). Mends b answer before left answer left) (sym e) (refl, refl)
 
--- an event that was read is read as a call
-pub reads_call : (K T S : Type 0) (I : Call → Type 0) (read : Result Told Unreadable) →
-    Reads K T S (λ told. I (call_of told)) read → Reads K T S I (read_call read)
-reads_call K T S I (Ok told) r = r
-reads_call K T S I (Err Unknown) r = r
-reads_call K T S I (Err NotUtf8) r = r
-reads_call K T S I (Err Starved) r = r
-
--- and so are a new span and a close
-pub reads_new : (K T S : Type 0) (I : Call → Type 0) (read : Result Made Unreadable) →
-    Reads K T S (λ made. I (new_call made)) read → Reads K T S I (read_new read)
-reads_new K T S I (Ok made) r = r
-reads_new K T S I (Err Unknown) r = r
-reads_new K T S I (Err NotUtf8) r = r
-reads_new K T S I (Err Starved) r = r
-
-pub reads_close : (T S : Type 0) (id : ℕ) (when : ContextRef) (read : Result Context Unreadable) →
-    Reads ⊤ T S (IsContextOf when) read → Reads ⊤ T S (IsCloseOf id when) (read_close (id_of id) read)
-reads_close T S id when (Ok context) (known, text, is) =
-    (known, text, record { context = context; is_context = is; is_call = refl })
-reads_close T S id when (Err Unknown) r = r
-reads_close T S id when (Err NotUtf8) r = r
-reads_close T S id when (Err Starved) r = r
+-- what was read is read as a call
+pub reads_as : {T : Type 0} (call : T → Call) (K S U : Type 0) (I : Call → Type 0) (read : Result T Unreadable) →
+    Reads K S U (λ parts. I (call parts)) read → Reads K S U I (read_as call read)
+reads_as call K S U I (Ok parts) r = r
+reads_as call K S U I (Err Unknown) r = r
+reads_as call K S U I (Err NotUtf8) r = r
+reads_as call K S U I (Err Starved) r = r
 
 -- where all of the rest can be read, its first can
 pub head_of : (xs : List FieldRef) (i : ℕ) (d : FieldRef) → i < length xs → IsUtf8Fields (drop i xs) → IsUtf8Field (slice_index_or xs i d)

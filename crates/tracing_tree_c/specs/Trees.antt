@@ -5,17 +5,12 @@ use Rattle.tracing_tree_context.specs.declared.context.Refusal.TheVariants.{Memo
 use Rattle.tracing_tree_layer.specs.Layered.Answered.{IsAnswered}
 use Rattle.tracing_tree_layer.specs.Layered.Seen.{Seen}
 use Rattle.tracing_tree_layer.specs.declared.call.Call.{Call}
-use Rattle.tracing_tree_layer.specs.declared.call.Call.TheVariants.{Close, Event, New}
 use Rattle.tracing_tree_layer.specs.declared.call.Reply.{Reply}
 use Rattle.tracing_tree_layer.specs.declared.call.Reply.TheVariants.{Cloned, Closed, Done, Span}
 use Rattle.tracing_tree_c.specs.Foreign.{IsSmallTime, IsUtf8Time}
 use Rattle.tracing_tree_c.specs.Owned.{Kept}
 use Rattle.tracing_tree_c.specs.Timers.{tree_timer}
 use Rattle.tracing_tree_c.specs.declared.foreign.TimeRef.{TimeRef}
-use Rattle.tracing_tree_context.specs.declared.context.Id.{Id}
-use Rattle.tracing_tree_context.specs.declared.context.Context.{Context}
-use Rattle.tracing_tree_c.specs.declared.foreign.Made.{Made}
-use Rattle.tracing_tree_c.specs.declared.foreign.Told.{Told}
 use Rattle.tracing_tree_c.specs.declared.foreign.Unreadable.{Unreadable}
 use Rattle.tracing_tree_c.specs.declared.foreign.Unreadable.TheVariants.{Unknown, NotUtf8, Starved}
 use Rattle.tracing_tree_c.specs.declared.tree.Drawing.{Drawing}
@@ -93,27 +88,6 @@ Makes IsKnown IsText IsSmall IsThis (Answered answer) None new = ⊥
 Makes IsKnown IsText IsSmall IsThis (Answered answer) (Some old) None = ⊥
 Makes IsKnown IsText IsSmall IsThis (Answered answer) (Some old) (Some new) =
     IsKnown × IsText × ((call : Call) × IsThis call × IsCalled call answer old new)
-
--- an event that was read, as a call
-abbrev pub call_of : Told → Call
-call_of told = Event told.event told.context
-
--- a new span that was read, as a call
-abbrev pub new_call : Made → Call
-new_call made = New made.attributes made.context
-
-abbrev pub read_new : Result Made Unreadable → Result Call Unreadable
-read_new (Ok made) = Ok (new_call made)
-read_new (Err fault) = Err fault
-
--- a close, whose context was read, as a call
-abbrev pub read_close : Id → Result Context Unreadable → Result Call Unreadable
-read_close id (Ok context) = Ok (Close id context)
-read_close id (Err fault) = Err fault
-
-abbrev pub read_call : Result Told Unreadable → Result Call Unreadable
-read_call (Ok told) = Ok (call_of told)
-read_call (Err fault) = Err fault
 
 -- the texts that C hands over
 abbrev pub written_of : TimeRef → Written

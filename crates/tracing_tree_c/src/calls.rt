@@ -7,7 +7,7 @@ ghost use Rattle.tracing_tree_c.specs.Foreign.{IsUtf8Fields, IsUtf8Context, IsUt
 ghost use Rattle.tracing_tree_c.specs.Exports.{Answers, AnswersOpening, AnswersTime, AnswersWith, Copies, id_after, went_after};
 
 use crate::foreign::{
-    AttributesRef, ContextRef, EventRef, FieldRef, TimeRef, context_in, event_in, new_in, record_in,
+    AttributesRef, ContextRef, EventRef, FieldRef, TimeRef, close_in, event_in, new_in, record_in,
 };
 use crate::settings::SettingsRef;
 use crate::tree::Tree;
@@ -51,7 +51,7 @@ pub extern "C" fn tt_raw_new_span(
         tree.old.inner.kept tree.new.inner.kept }
 {
     let read = new_in(alloc, attributes, fields, context, false);
-    let outcome = tree.make(alloc, read);
+    let outcome = tree.perform(alloc, read);
     *id = outcome.id_or(*id);
     outcome.status()
 }
@@ -71,7 +71,7 @@ pub extern "C" fn tt_raw_event(
         tree.old.inner.kept tree.new.inner.kept }
 {
     let read = event_in(alloc, event, fields, context, false);
-    tree.tell(alloc, read).status()
+    tree.perform(alloc, read).status()
 }
 
 /// Makes a span whose texts are UTF-8, as `tt_raw_new_span` does. The caller must ensure that they are.
@@ -92,7 +92,7 @@ pub extern "C" fn tt_utf8_new_span(
         tree.old.inner.kept tree.new.inner.kept }
 {
     let read = new_in(alloc, attributes, fields, context, true);
-    let made = tree.make(alloc, read);
+    let made = tree.perform(alloc, read);
     *id = made.id_or(*id);
     made.status()
 }
@@ -113,7 +113,7 @@ pub extern "C" fn tt_utf8_event(
         tree.old.inner.kept tree.new.inner.kept }
 {
     let read = event_in(alloc, event, fields, context, true);
-    tree.tell(alloc, read).status()
+    tree.perform(alloc, read).status()
 }
 
 /// Puts fields at the end of a span's.
@@ -149,8 +149,8 @@ pub extern "C" fn tt_raw_close(
         (IsCloseOf id context.now) result
         went.old went.new tree.old.inner.kept tree.new.inner.kept }
 {
-    let read = context_in(alloc, context, false);
-    let outcome = tree.close(alloc, Id(id), read);
+    let read = close_in(alloc, id, context);
+    let outcome = tree.perform(alloc, read);
     *went = outcome.went_or(*went);
     outcome.status()
 }

@@ -1,9 +1,11 @@
 //! What C hands over, and how it is read.
 
 ghost use Rattle.std.specs.Prelude.{◌≡◌, ◌∷◌, [], ◌↔◌, ⊤, IsTrue, IsUtf8};
-ghost use Rattle.tracing_tree_c.specs.Trees.{call_of, new_call, written_of};
+ghost use Rattle.tracing_tree_c.specs.Parts.{call_of_close, call_of_event, call_of_new};
+ghost use Rattle.tracing_tree_c.specs.Trees.{written_of};
 ghost use Rattle.tracing_tree_c.specs.Foreign.{Reads, IsUtf8Field, IsUtf8Fields, IsUtf8Context, IsUtf8New, IsUtf8Event, IsUtf8Time, IsSmallTime, IsSmallText, IsSmallField, IsSmallContext, IsSmallNew, IsKnownNew, IsKnownEvent, HasNoFields, IsContextOf, IsNewOf, IsEventOf, IsRecordOf, IsCloseOf, field_of, fields_of, level_of, parent_of, current_of, thread_name_of};
 
+use crate::parts::{Close, LentEvent, NewSpan};
 use crate::timer::Written;
 use jiff::Timestamp;
 use std::alloc::{AllocError, AllocFailed, Global};
@@ -268,13 +270,6 @@ pub(crate) fn context_in(
     })
 }
 
-/// A new span with what goes with it.
-#[derive(Drop)]
-pub struct Made {
-    pub attributes: Attributes,
-    pub context: Context,
-}
-
 // A new span. The caller must ensure that trusted texts are UTF-8.
 #[inline(always)]
 pub(crate) fn new_in(
@@ -283,11 +278,11 @@ pub(crate) fn new_in(
     fields: &[FieldRef],
     when: &ContextRef,
     trusted: bool,
-) -> Result<Made, Unreadable>
+) -> Result<NewSpan, Unreadable>
     requires { IsTrue trusted → IsUtf8New given.now fields.now when.now }
     ensures { Reads (IsKnownNew given.now) (IsUtf8New given.now fields.now when.now)
         (IsSmallNew given.now fields.now when.now)
-        (λ made. IsNewOf given.now fields.now when.now (new_call made)) result }
+        (λ parts. IsNewOf given.now fields.now when.now (call_of_new parts)) result }
 {
     let parent = parent_in(given.parent_kind, given.parent).ok_or(Unreadable::Unknown)?;
     let name = text_in(alloc, given.name, trusted)?;
@@ -300,7 +295,7 @@ pub(crate) fn new_in(
         parent,
         fields,
     };
-    Ok(Made {
+    Ok(NewSpan {
         attributes,
         context,
     })
@@ -368,13 +363,6 @@ impl ToldEvent for EventTexts<'_> {
     }
 }
 
-/// An event with what goes with it.
-#[derive(Drop)]
-pub struct Told<'a> {
-    pub event: EventTexts<'a>,
-    pub context: Context,
-}
-
 impl FieldRef<'_> {
     // Name and value. The caller must ensure that they are UTF-8.
     #[inline(always)]
@@ -419,11 +407,11 @@ pub(crate) fn event_in<'a>(
     fields: &'a [FieldRef<'a>],
     when: &ContextRef,
     trusted: bool,
-) -> Result<Told<'a>, Unreadable>
+) -> Result<LentEvent<'a>, Unreadable>
     requires { IsTrue trusted → IsUtf8Event given.now fields.now when.now }
     ensures { Reads (IsKnownEvent given.now) (IsUtf8Event given.now fields.now when.now)
         (IsSmallContext when.now)
-        (λ told. IsEventOf given.now fields.now when.now (call_of told)) result }
+        (λ parts. IsEventOf given.now fields.now when.now (call_of_event parts)) result }
 {
     let level = level_in(given.level).ok_or(Unreadable::Unknown)?;
     let parent = parent_in(given.parent_kind, given.parent).ok_or(Unreadable::Unknown)?;
@@ -438,7 +426,20 @@ pub(crate) fn event_in<'a>(
         target,
         fields,
     };
-    Ok(Told { event, context })
+    Ok(LentEvent { event, context })
+}
+
+// A close.
+#[inline(always)]
+pub(crate) fn close_in(alloc: Global, id: u64, when: &ContextRef) -> Result<Close, Unreadable>
+    ensures { Reads ⊤ (IsUtf8Context when.now) (IsSmallContext when.now)
+        (λ parts. IsCloseOf id when.now (call_of_close parts)) result }
+{
+    let context = context_in(alloc, when, false)?;
+    Ok(Close {
+        id: Id(id),
+        context,
+    })
 }
 
 // Fields that come later.

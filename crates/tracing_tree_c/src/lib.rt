@@ -8,6 +8,7 @@ pub mod foreign;
 mod handle;
 mod layout;
 pub mod lent;
+pub mod parts;
 mod raw;
 pub mod settings;
 pub mod timer;

@@ -3,23 +3,24 @@
 ghost use Rattle.std.specs.Prelude.{◌≡◌, ◌<◌, Some, None, option_map};
 ghost use Rattle.std.specs.Option.{is_some};
 ghost use Rattle.tracing_tree_c.specs.Exports.{Opens, id_after, opening_status, refusal_status, status_of, went_after};
-ghost use Rattle.tracing_tree_c.specs.Trees.{IsCalled, IsLifted, Performs, SetsTime, blank, call_of, is_lost, read_call, read_close, read_new, seen_tree, timed};
+ghost use Rattle.tracing_tree_c.specs.Parts.{read_as};
+ghost use Rattle.tracing_tree_c.specs.Trees.{IsCalled, IsLifted, Performs, SetsTime, blank, is_lost, seen_tree, timed};
 ghost use Rattle.tracing_tree_c.specs.Settings.{opened};
 ghost use Rattle.tracing_tree_time.specs.Clock.{clock_timer};
 
-use crate::foreign::{Made, TimeRef, Told, Unreadable, time_in};
+use crate::foreign::{TimeRef, Unreadable, time_in};
 use crate::handle::Handle;
 use crate::lent::Lent;
+use crate::parts::ReadCall;
 use crate::raw::RawBox;
 use crate::settings::{SIZE, SettingsRef};
 use crate::timer::{TreeTimer, Written};
 use std::alloc::Global;
 use std::mem;
-use tracing_tree_context::{Context, Id, Refusal};
-use tracing_tree_layer::call::{Call, Reply};
+use tracing_tree_context::Refusal;
+use tracing_tree_layer::call::Reply;
 use tracing_tree_layer::layer::HierarchicalLayer;
 use tracing_tree_layer::layered::Layered;
-use tracing_tree_spans::registry::Attributes;
 use tracing_tree_time::Clock;
 
 /// A registry with a layer that keeps the text of the last call.
@@ -53,70 +54,17 @@ impl Drawing {
         drop(self.layered.replace_timer(TreeTimer::Own(written)));
     }
 
-    // Makes a call. The text of the call before is gone then. A text that can't be kept is want of memory, and the tree is as
-    // if the call had not been made.
+    // Makes a call. The text of the call before is gone then. If the text of this one can't be kept,
+    // memory has run out, and the tree is as if the call had not been made.
+    #[inline(always)]
     #[tactic(auto, using(crate::proofs::Makes::lost_is))]
-    fn call(&mut self, alloc: Global, call: Call) -> Result<Reply, Refusal>
-        ensures { IsCalled call result self.old self.new }
+    fn call<T: ReadCall>(&mut self, alloc: Global, call: T) -> Result<Reply, Refusal>
+        ensures { IsCalled (T.call call) result self.old self.new }
     {
         self.clear(alloc);
-        let answer = self.layered.call(call);
+        let answer = call.make(&mut self.layered);
         if !is_lost(answer) {
             return answer;
-        }
-        drop(self.layered.recover(Lent::new(alloc)));
-        Err(Refusal::Memory)
-    }
-}
-
-impl Drawing {
-    // Draws an event, as `call` makes its call, and leaves it where it is.
-    #[inline(always)]
-    #[tactic(auto, using(crate::proofs::Makes::lost_is))]
-    fn tell(&mut self, alloc: Global, told: &Told) -> Result<Reply, Refusal>
-        ensures { IsCalled (call_of told.now) result self.old self.new }
-    {
-        self.clear(alloc);
-        let reply = self.layered.call_told(&told.event, &told.context);
-        if !is_lost(reply) {
-            return reply;
-        }
-        drop(self.layered.recover(Lent::new(alloc)));
-        Err(Refusal::Memory)
-    }
-}
-
-impl Drawing {
-    // Makes a span, as `call` makes its call, from attributes that are moved once.
-    #[inline(always)]
-    #[tactic(auto, using(crate::proofs::Makes::lost_is))]
-    fn make(
-        &mut self,
-        alloc: Global,
-        attributes: Attributes,
-        context: &Context,
-    ) -> Result<Reply, Refusal>
-        ensures { IsCalled (Call.New attributes context.now) result self.old self.new }
-    {
-        self.clear(alloc);
-        let made = self.layered.call_new_span(attributes, context);
-        if !is_lost(made) {
-            return made;
-        }
-        drop(self.layered.recover(Lent::new(alloc)));
-        Err(Refusal::Memory)
-    }
-
-    // Takes a handle of a span away, as `call` makes its call.
-    #[inline(always)]
-    #[tactic(auto, using(crate::proofs::Makes::lost_is))]
-    fn close(&mut self, alloc: Global, id: Id, context: &Context) -> Result<Reply, Refusal>
-        ensures { IsCalled (Call.Close id context.now) result self.old self.new }
-    {
-        self.clear(alloc);
-        let closed = self.layered.call_close(id, context);
-        if !is_lost(closed) {
-            return closed;
         }
         drop(self.layered.recover(Lent::new(alloc)));
         Err(Refusal::Memory)
@@ -326,8 +274,14 @@ impl Tree {
     }
 
     // Makes a call if it was read. The text of the call before is gone then.
-    pub(crate) fn perform(&mut self, alloc: Global, read: Result<Call, Unreadable>) -> Outcome
-        ensures { Performs read result self.old.inner.kept self.new.inner.kept }
+    #[inline(always)]
+    pub(crate) fn perform<T: ReadCall + Drop>(
+        &mut self,
+        alloc: Global,
+        read: Result<T, Unreadable>,
+    ) -> Outcome
+        ensures { Performs (read_as T.call read) result
+            self.old.inner.kept self.new.inner.kept }
     {
         let Some(mut lifted) = self.lift(alloc) else {
             return Outcome::Missing;
@@ -340,73 +294,6 @@ impl Tree {
             }
         };
         self.lower(lifted);
-        outcome
-    }
-
-    // Draws an event if it was read. The text of the call before is gone then.
-    #[inline(always)]
-    pub(crate) fn tell(&mut self, alloc: Global, read: Result<Told, Unreadable>) -> Outcome
-        ensures { Performs (read_call read.entry) result self.old.inner.kept self.new.inner.kept }
-    {
-        let Some(mut drawing) = self.lift(alloc) else {
-            return Outcome::Missing;
-        };
-        let outcome = match read {
-            Ok(told) => Outcome::Answered(drawing.tell(alloc, &told)),
-            Err(fault) => {
-                drawing.clear(alloc);
-                Outcome::NotRead(fault)
-            }
-        };
-        self.lower(drawing);
-        outcome
-    }
-
-    // Makes a span if it was read. The text of the call before is gone then.
-    #[inline(always)]
-    pub(crate) fn make(&mut self, alloc: Global, read: Result<Made, Unreadable>) -> Outcome
-        ensures { Performs (read_new read) result self.old.inner.kept self.new.inner.kept }
-    {
-        let Some(mut drawing) = self.lift(alloc) else {
-            return Outcome::Missing;
-        };
-        let outcome = match read {
-            Ok(
-                Made {
-                    attributes,
-                    context,
-                },
-            ) => Outcome::Answered(drawing.make(alloc, attributes, &context)),
-            Err(fault) => {
-                drawing.clear(alloc);
-                Outcome::NotRead(fault)
-            }
-        };
-        self.lower(drawing);
-        outcome
-    }
-
-    // Takes a handle of a span away if what goes with it was read. The text of the call before is gone then.
-    #[inline(always)]
-    pub(crate) fn close(
-        &mut self,
-        alloc: Global,
-        id: Id,
-        read: Result<Context, Unreadable>,
-    ) -> Outcome
-        ensures { Performs (read_close id read) result self.old.inner.kept self.new.inner.kept }
-    {
-        let Some(mut drawing) = self.lift(alloc) else {
-            return Outcome::Missing;
-        };
-        let outcome = match read {
-            Ok(context) => Outcome::Answered(drawing.close(alloc, id, &context)),
-            Err(fault) => {
-                drawing.clear(alloc);
-                Outcome::NotRead(fault)
-            }
-        };
-        self.lower(drawing);
         outcome
     }
 

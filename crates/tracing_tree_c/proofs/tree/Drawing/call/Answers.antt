@@ -1,15 +1,20 @@
-use Rattle.std.proofs.Common.{rules, ◌≡◌, false}
+use Rattle.std.proofs.Common.{rules, ◌≡◌, false, subst}
+use Rattle.tracing_tree_layer.specs.Layered.Answered.{IsAnswered}
+use Rattle.tracing_tree_c.specs.declared.tree.Drawing.{Drawing}
 use Rattle.tracing_tree_c.proofs.Makes.{stays}
 use Rattle.tracing_tree_c.specs.Trees.{blank, is_lost, seen_tree}
 use Rattle.tracing_tree_c.proofs.tree.Drawing.call.Goals as goal
 
 pub returns-then-not-is_lost : goal.returns-then-not-is_lost
-returns-then-not-is_lost c =
-    let kept : is_lost c.call-answer.result ≡ false = search rules in
+returns-then-not-is_lost g c =
+    let answer = c.make-answer.result in
+    let kept : is_lost answer ≡ false = search rules in
+    let left = seen_tree (record { layered = c.make-answer.new.calls }) in
     record {
-      given = c.call-answer.result;
-      left = seen_tree (record { layered = c.call-answer.new.self });
-      answered = search rules;
-      mended = stays c.call-answer.result (seen_tree (blank c.args.self.now)) (seen_tree (record { layered = c.call-answer.new.self })) kept;
+      given = answer;
+      left = left;
+      answered = subst (λ (drawing : Drawing). IsAnswered (g.T.ReadCall.call c.args.call) answer (seen_tree drawing) left)
+          c.clear.ensures c.make-answer.ensures.changed;
+      mended = stays answer (seen_tree (blank c.args.self.now)) left kept;
       fixed = search rules;
     }
