@@ -14,6 +14,14 @@ use Rattle.tracing_tree_layer.specs.declared.call.Reply.{Reply}
 use Rattle.tracing_tree_laws.specs.ReadBack.{AreAllAccepted}
 use Rattle.tracing_tree_time.specs.Clock.{Timer}
 
+-- each call has its answer
+pub one_answer_each : {W FT : Type 0} (see : LayeredView W FT → Seen) (calls : List Call) (answers : List (Result Reply Refusal)) (old new : LayeredView W FT) →
+    AreAnswered see calls answers old new → length answers ≡ length calls
+one_answer_each see [] [] old new h = refl
+one_answer_each see [] (answer ∷ answers) old new h = absurd h
+one_answer_each see (call ∷ calls) [] old new h = absurd h
+one_answer_each see (call ∷ calls) (answer ∷ answers) old new (between, one, rest) = ap (λ n. suc n) (one_answer_each see calls answers between new rest)
+
 -- each accepted call has a reply
 one_reply_each : {W FT : Type 0} (see : LayeredView W FT → Seen) (calls : List Call) (answers : List (Result Reply Refusal)) (old new : LayeredView W FT) →
     AreAnswered see calls answers old new → length (replies_among answers) ≡ length (accepted_calls calls answers)

@@ -1,7 +1,9 @@
 //! Runs whose events are read back from their text alone.
 
-ghost use Rattle.std.specs.Prelude.{◌≡◌, [], IfSome, Option};
+ghost use Rattle.std.specs.Prelude.{◌≡◌, [], IfSome, Option, length};
 ghost use Rattle.tracing_tree_context.specs.declared.context.Id.{Id};
+ghost use Rattle.tracing_tree_drawing.specs.Format.Picture.{draw};
+ghost use Rattle.tracing_tree_layer.specs.Laws.Reading.{rows_of};
 ghost use Rattle.tracing_tree_layer.specs.Layered.Run.{accepted_calls};
 ghost use Rattle.tracing_tree_laws.specs.ReadBack.{AreAllAccepted, FindsAll, IsEmpty};
 
@@ -33,6 +35,12 @@ pub fn read_events<FT: FormatTime>(
     layered: &mut Layered<Tape, FT>,
     calls: Vec<Call>,
 ) -> Option<EventsRead>
+    ensures each { IfSome result (λ read. length read.answers.items ≡ length calls.items) }
+    ensures drawn { (first : Option Id) → IsEmpty first layered.old
+        → layered.old.layer.writer.bytes ≡ [] → IfSome result (λ read.
+        layered.new.layer.writer.bytes ≡ draw layered.old.layer.settings (rows_of
+        layered.old.layer.settings (FT.timer layered.old.layer.timer) first
+        (accepted_calls calls.items read.answers.items))) }
     ensures found { (first : Option Id) → IsEmpty first layered.old
         → layered.old.layer.writer.bytes ≡ [] → IfSome result (λ read.
         FindsAll layered.old.layer.settings (FT.timer layered.old.layer.timer) first

@@ -3,7 +3,7 @@ use Rattle.std.proofs.Common.{◌≡◌, false, Some, Result, Ok, Err, sym, ap, 
 use Rattle.std.specs.Result.{result_ok}
 use Rattle.tracing_tree_output.specs.contracts.output.TapeOutput.TheImpl.{ghosts as tape}
 use Rattle.tracing_tree_layer.specs.Layer.Layers.{seen}
-use Rattle.tracing_tree_laws.proofs.AcceptedCalls.{all_accepted}
+use Rattle.tracing_tree_laws.proofs.AcceptedCalls.{all_accepted, one_answer_each}
 use Rattle.tracing_tree_laws.proofs.reading_back.read_events.Goals as goal
 
 -- what holds of an answer that is there
@@ -12,6 +12,12 @@ of_answer P (Ok value) answer is h =
     let same : value ≡ answer = cc in
     subst P same h
 of_answer P (Err error) answer is h = absurd (cc)
+
+pub returns-clause-each : goal.returns-clause-each
+returns-clause-each g c =
+    let there = sym c.ok.ensures.value ∙ c.in_ok-answers.was in
+    one_answer_each (seen g.FT.FormatTime tape) c.args.calls.items c.in_ok-answers.answers.items c.args.layered.now c.run.new.self
+    (of_answer _ c.run.result c.in_ok-answers.answers there c.run.ensures.answered)
 
 pub returns-clause-accepted : goal.returns-clause-accepted
 returns-clause-accepted g c = λ first empty.
