@@ -1,4 +1,4 @@
-//! Runs whose drawing is read back: over the public contracts of `Layered::run`, `read_rows` and `read_paths` alone.
+//! Runs whose drawing is read back: over the public contracts of `Layered::run` and `read_rows` alone.
 
 ghost use Rattle.std.specs.Prelude.{◌≡◌, IfSome};
 ghost use Rattle.tracing_tree_time.specs.Clock.{no_timer};
@@ -15,7 +15,6 @@ use tracing_tree::layered::Layered;
 use tracing_tree::rows::{Row, Shape, read_rows};
 use tracing_tree::style::Level;
 use tracing_tree_for_tests::{Step, calls, lined};
-use tracing_tree_laws::reading_back::{EventsRead, read_events};
 
 // What a run answered, and the rows that are read of its drawing.
 #[derive(Drop)]
@@ -84,30 +83,6 @@ fn reads_a_run_back(rt: HostRuntime) -> Result<(), Fail> {
     assert_eq!(rt; back.rows.len(), 4);
     for (row, shape) in back.rows.iter().zip(SHAPES) {
         assert_eq!(rt; row.shape(), shape);
-    }
-    Ok(())
-}
-
-// The events that are read of them. It promises nothing either.
-fn events_read(alloc: Global) -> Result<Option<EventsRead>, AllocError> {
-    let calls = calls(alloc, STEPS.as_slice())?;
-    let mut layered = lined(alloc)?;
-    Ok(read_events(alloc, &mut layered, calls))
-}
-
-#[test]
-fn finds_the_spans_of_an_event(rt: HostRuntime) -> Result<(), Fail> {
-    let Some(read) = events_read(rt.alloc())? else {
-        return Err(Fail::from("the drawing isn't read"));
-    };
-    assert_eq!(rt; read.answers.len(), 5);
-    assert_eq!(rt; read.paths.len(), 1);
-    for path in read.paths.iter() {
-        assert_eq!(rt; path.event, 2);
-        assert_eq!(rt; path.ancestors.as_slice().len(), 2);
-        for (level, place) in path.ancestors.as_slice().iter().enumerate() {
-            assert_eq!(rt; *place, Some(level));
-        }
     }
     Ok(())
 }

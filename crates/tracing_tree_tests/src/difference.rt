@@ -6,8 +6,6 @@ ghost use Rattle.tracing_tree_layer.specs.Difference.Items.{differing};
 use std::alloc::{AllocError, Global};
 use std::test::*;
 use tracing_tree::DifferenceIter;
-use tracing_tree::format::Id;
-use tracing_tree_laws::difference::fresh_spans;
 
 // The items of `right` that differ from those of `left`, by their values.
 fn differences<L: Iterator<Item = u32>>(
@@ -116,12 +114,5 @@ fn asks_no_left_again_that_has_ended(rt: HostRuntime) -> Result<(), Fail> {
         found.as_slice() == [1, 1].as_slice(),
         "a left side that would go on"
     );
-    Ok(())
-}
-
-#[test]
-fn gives_the_fresh_spans_of_a_path(rt: HostRuntime) -> Result<(), Fail> {
-    let found = fresh_spans(rt.alloc(), &[Id(1), Id(2), Id(3)], &[Id(1), Id(4), Id(5)])?;
-    assert_eq!(rt; found.as_slice(), [Id(4), Id(5)].as_slice());
     Ok(())
 }

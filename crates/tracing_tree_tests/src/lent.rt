@@ -22,7 +22,8 @@ fn told(layered: &mut Layered<Tape, ()>, here: &Context) -> Result<(), Refusal> 
             value: "listening",
         }],
     };
-    layered.event(&event, here)
+    layered.event(&event, here)?;
+    Ok(())
 }
 
 // A root span, an event in it, and its close.

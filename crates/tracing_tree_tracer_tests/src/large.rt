@@ -64,3 +64,27 @@ fn a_message_is_long(rt: HostRuntime) -> Result<(), Fail> {
     assert_eq!(rt; tell_long(&mut tracer, rt.alloc(), 1_000_000)?, Ok(()));
     Ok(())
 }
+
+// Each size up to 20, and those beside each power of two up to 1,024.
+const SIZES: [u32; 36] = [
+    0, 1, 2, 3, 4, 5, 6, 7, 8, 9, 10, 11, 12, 13, 14, 15, 16, 17, 18, 19, 20, 31, 32, 33, 63, 64,
+    65, 127, 128, 129, 255, 256, 257, 1_023, 1_024, 1_025,
+];
+
+// Opens this many spans, records an event with strings of this length in the last, and closes them.
+fn is_made(alloc: Global, size: u32) -> Result<bool, AllocError> {
+    let mut tracer = flat(alloc);
+    let opened = open_all(&mut tracer, size);
+    let told = tell_long(&mut tracer, alloc, size as usize)?;
+    let depth = depth(&tracer);
+    let closed = close_all(&mut tracer);
+    Ok(opened.is_ok() && told.is_ok() && closed.is_ok() && depth == size as usize)
+}
+
+#[test]
+fn sizes_do_not_matter(rt: HostRuntime) -> Result<(), Fail> {
+    for size in SIZES {
+        assert!(rt; is_made(rt.alloc(), size)?, "{size}");
+    }
+    Ok(())
+}

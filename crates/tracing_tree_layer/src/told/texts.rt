@@ -47,7 +47,7 @@ impl FieldTexts<'_> {
 ///         value: "listening",
 ///     }],
 /// };
-/// layered.call_told(&event, here)?;
+/// layered.event(&event, here)?;
 /// ```
 #[derive(Drop)]
 pub struct EventTexts<'a> {
