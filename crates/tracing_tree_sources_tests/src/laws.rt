@@ -55,23 +55,25 @@ fn failed(alloc: Global, input: &str) -> Result<Option<bool>, AllocError> {
     let Ok(mut lines) = BufReader::with_capacity(alloc, 64 * 1024, input.as_bytes()) else {
         return Err(AllocError);
     };
-    Ok(have_tests_failed(
-        alloc,
-        1,
-        START,
-        &mut lines,
-        &mut *layered,
-        &mut notes,
-    ))
+    Ok(have_tests_failed(alloc, 1, START, &mut lines, &mut *layered, &mut notes))
 }
 
 #[test]
 fn tests_fail_by_a_line_or_a_package_that_runs(rt: HostRuntime) -> Result<(), Fail> {
     for (input, wanted) in [
         ("", false),
-        ("{\"Action\":\"pass\",\"Package\":\"p\",\"Test\":\"A\"}\n", false),
-        ("{\"Action\":\"fail\",\"Package\":\"p\",\"Test\":\"A\"}\n", true),
-        ("{\"Action\":\"run\",\"Package\":\"p\",\"Test\":\"A\"}\n", true),
+        (
+            "{\"Action\":\"pass\",\"Package\":\"p\",\"Test\":\"A\"}\n",
+            false,
+        ),
+        (
+            "{\"Action\":\"fail\",\"Package\":\"p\",\"Test\":\"A\"}\n",
+            true,
+        ),
+        (
+            "{\"Action\":\"run\",\"Package\":\"p\",\"Test\":\"A\"}\n",
+            true,
+        ),
     ] {
         assert_eq!(rt; failed(rt.alloc(), input)?, Some(wanted));
     }

@@ -2,9 +2,9 @@
 
 use std::alloc::Global;
 use std::test::*;
+use tracing_tree::calls::Calls;
 use tracing_tree::field::Field;
 use tracing_tree::format::{Context, Id, Refusal, Tape};
-use tracing_tree::calls::Calls;
 use tracing_tree::layered::Layered;
 use tracing_tree::registry::Parent;
 use tracing_tree::style::Level;
