@@ -46,8 +46,8 @@ pub trait Calls {
         ensures { answers (Call.Clone id) (answer_as cloned result) self.old self.new };
 
     /// Makes the call of a record: these fields come after those of the span.
-    fn record(&mut self, id: Id, record: Record) -> Result<(), Refusal>
-        ensures { answers (Call.Record id «record») (answer_as done result) self.old self.new };
+    fn record(&mut self, id: Id, values: Record) -> Result<(), Refusal>
+        ensures { answers (Call.Record id values) (answer_as done result) self.old self.new };
 
     /// Makes the call of an event, whose strings stay the caller's.
     fn event<E: ToldEvent>(&mut self, event: &E, context: &Context) -> Result<(), Refusal>
@@ -68,11 +68,13 @@ pub trait Calls {
 impl<W: Output, FT: FormatTime> Calls for Layered<W, FT> {
     ghost use Rattle.tracing_tree_layer.specs.Layered.Answered.{IsAnswered};
     ghost use Rattle.tracing_tree_layer.specs.Layer.Layers.{Changes, Flushes, seen};
+    ghost use Rattle.tracing_tree_output.specs.Writers.{IsShown};
 
     ghost answers = { λ call answer old new.
         Changes (seen FT.FormatTime W.Output) (IsAnswered call answer) old new };
 
-    ghost flushes = { λ old new. Changes (seen FT.FormatTime W.Output) Flushes old new };
+    ghost flushes = { λ old new. Changes (seen FT.FormatTime W.Output) Flushes old new
+        × IsShown W.Output new.layer.writer };
 
     fn call(&mut self, call: Call) -> Result<Reply, Refusal> {
         self.call(call)
@@ -94,12 +96,12 @@ impl<W: Output, FT: FormatTime> Calls for Layered<W, FT> {
         self.add_handle(id)
     }
 
-    fn record(&mut self, id: Id, record: Record) -> Result<(), Refusal> {
+    fn record(&mut self, id: Id, values: Record) -> Result<(), Refusal> {
         if self.layer().failed() {
-            drop(record);
+            drop(values);
             return Err(Refusal::Failed);
         }
-        self.add_fields(id, record.fields)
+        self.add_fields(id, values.fields)
     }
 
     fn event<E: ToldEvent>(&mut self, event: &E, context: &Context) -> Result<(), Refusal> {
@@ -139,8 +141,8 @@ impl<C: Calls> Calls for &mut C {
         (**self).clone_span(id)
     }
 
-    fn record(&mut self, id: Id, record: Record) -> Result<(), Refusal> {
-        (**self).record(id, record)
+    fn record(&mut self, id: Id, values: Record) -> Result<(), Refusal> {
+        (**self).record(id, values)
     }
 
     fn event<E: ToldEvent>(&mut self, event: &E, context: &Context) -> Result<(), Refusal> {

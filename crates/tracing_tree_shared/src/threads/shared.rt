@@ -93,8 +93,8 @@ impl<'a, R: Wait, FT: FormatTime + Drop, L: Ledger> Calls for SharedCalls<'a, R,
         Ok(id)
     }
 
-    fn record(&mut self, id: Id, record: Record) -> Result<(), Refusal> {
-        let Reply::Done = self.call(Call::Record(id, record))? else {
+    fn record(&mut self, id: Id, values: Record) -> Result<(), Refusal> {
+        let Reply::Done = self.call(Call::Record(id, values))? else {
             unreachable!()
         };
         Ok(())

@@ -73,8 +73,8 @@ impl<'a, R: Wait, W: Output, FT: FormatTime> Calls for StreamingCalls<'a, R, W, 
         Ok(id)
     }
 
-    fn record(&mut self, id: Id, record: Record) -> Result<(), Refusal> {
-        let Reply::Done = self.call(Call::Record(id, record))? else {
+    fn record(&mut self, id: Id, values: Record) -> Result<(), Refusal> {
+        let Reply::Done = self.call(Call::Record(id, values))? else {
             unreachable!()
         };
         Ok(())
