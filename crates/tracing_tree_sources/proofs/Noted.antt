@@ -76,3 +76,11 @@ module _ {E : Type 0} (number : ℕ) (wanted : Lack) where
   note_last (Err error) result cause h is e =
       let memory : cause ≡ Memory = of_error result cause is h in
       ap (λ c. take (noted_at c) ((number, wanted) ∷ [])) (sym memory)
+
+-- a note by the number that a line has
+pub noted_by_number : {E : Type 0} (lack : Result Lack E) (notes left : Option (List Note)) (number : ℕ) (more : List Note) (n : ℕ) →
+    AddsNotes (note_if n lack) notes left → n ≡ number → note_if number lack ≡ more → AddsNotes more notes left
+noted_by_number lack notes left number more n h place is =
+    let P : ℕ → Type 0 = λ n. AddsNotes (note_if n lack) notes left in
+    let Q : List Note → Type 0 = λ notes_made. AddsNotes notes_made notes left in
+    subst Q is (subst P place h)

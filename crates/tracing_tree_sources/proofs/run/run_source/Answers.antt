@@ -4,12 +4,12 @@ use Rattle.tracing_tree_layer.specs.Layer.Layers.{seen}
 use Rattle.tracing_tree_layer.proofs.Runs.{change_then}
 use Rattle.tracing_tree_lines.specs.declared.lines.LineCause.TheVariants.{Read}
 use Rattle.tracing_tree_lines.specs.Lines.Spelled.{input_lines}
-use Rattle.tracing_tree_sources.specs.Noted.{AddsNotes, Note}
+use Rattle.tracing_tree_sources.specs.Noted.{AddsNotes}
 use Rattle.tracing_tree_sources.specs.Source.{EndsAt, lack_of, note_of, noted_at, noted_lines, notes_of}
 use Rattle.tracing_tree_sources.specs.declared.run.Judged.TheVariants.{End, Known, Unknown}
 use Rattle.tracing_tree_sources.proofs.Ended.{of_notes as is_of_notes}
 use Rattle.tracing_tree_sources.proofs.Heard.{starts, flushed, more, stops, stops_noted, finishes, next_outside, noted_outside, noted_last, noted_whole}
-use Rattle.tracing_tree_sources.proofs.Noted.{adds_none, note_last, note_made}
+use Rattle.tracing_tree_sources.proofs.Noted.{adds_none, note_last, note_made, noted_by_number}
 use Rattle.tracing_tree_sources.proofs.run.run_source.Goals.{in-Ok-Known, in-Ok-Unknown+in_default}
 use Rattle.tracing_tree_sources.proofs.run.run_source.Goals as goal
 
@@ -130,8 +130,8 @@ returns-in-Err-skip-clause-noted g c =
     subst (λ (it : List ℕ). IfOk c.lack_of-lack.result (λ lack. lack ≡ lack_of lacks it)) c.as_slice.ensures.value c.lack_of-lack.ensures in
     let left_notes = g.N.Notes.noted c.skip.new.notes in
     let note : AddsNotes (take (noted_at c.in-Err-skip.cause) ((c.loop-number.number, lack_of lacks line) ∷ [])) notes left_notes =
-    subst (λ (more : List Note). AddsNotes more notes left_notes)
-    (note_last c.loop-number.number (lack_of lacks line) c.lack_of-lack.result c.skip.result c.in-Err-skip.cause c.skip.ensures.ended c.in-Err-skip.is lack) c.skip.ensures.noted in
+    noted_by_number c.lack_of-lack.result notes left_notes c.loop-number.number _ _ c.skip.ensures.noted (omega arith)
+    (note_last c.loop-number.number (lack_of lacks line) c.lack_of-lack.result c.skip.result c.in-Err-skip.cause c.skip.ensures.ended c.in-Err-skip.is lack) in
     noted_last takes lacks known middle left line c.args.source.now c.loop-number.source c.run_next.new.source c.loop-number.number c.loop-number.unknown noted notes left_notes
     (see c.args.layered.now) (see c.show_before_read.new.layered) (see c.run_next.new.layered) shown.changed next.changed c.in-Err-skip.cause of_notes note
 
@@ -164,8 +164,8 @@ loop-number-preserved g c =
           subst (λ (it : List ℕ). IfOk w.lack_of-lack.result (λ lack. lack ≡ lack_of lacks it)) w.as_slice.ensures.value w.lack_of-lack.ensures in
           let left_notes = g.N.Notes.noted w.skip.new.notes in
           let note : AddsNotes (note_of lacks c.loop-number.number line 1) notes left_notes =
-          subst (λ (more : List Note). AddsNotes more notes left_notes)
-          (note_made c.loop-number.number (lack_of lacks line) w.lack_of-lack.result w.skip.result w.in_default.field-0 w.skip.ensures.ended w.in_default.is lack) w.skip.ensures.noted in
+          noted_by_number w.lack_of-lack.result notes left_notes c.loop-number.number _ _ w.skip.ensures.noted (omega arith)
+          (note_made c.loop-number.number (lack_of lacks line) w.lack_of-lack.result w.skip.result w.in_default.field-0 w.skip.ensures.ended w.in_default.is lack) in
           record {
             room = omega (arith, w.unknown-is, c.loop-number.invariant.room);
             change = rw (w.unknown-is, w.notes-is) (change_then see (more takes lacks known middle left line c.args.source.now c.loop-number.source c.run_next.new.source c.loop-number.number c.loop-number.unknown (c.loop-number.unknown + 1) false refl noted notes left_notes note)
