@@ -24,12 +24,14 @@ pub struct EventsRead {
     pub paths: Vec<EventPath>,
 }
 
-/// Makes the calls, and reads the text that they drew. If the layered began empty and drew readable rows, with `close_retrace`, and
-/// with `span_retrace` or `deferred_spans`, each accepted event in its current span finds, in the text alone, the rows that open the
-/// spans on its path.
+/// Makes the calls, and reads the events back from the text that they drew.
 ///
-/// The contract follows from those of [`Layered::run`] and [`read_paths`]. None if the amount is below 2, memory is refused, the layer
-/// fails or its text isn't read.
+/// If the layered began empty and its rows are readable, with `close_retrace`, and with
+/// `span_retrace` or `deferred_spans`, each accepted event in its current span finds, in the text
+/// alone, the rows that open the spans on its path. This follows from the contracts of
+/// [`Layered::run`] and [`read_paths`].
+///
+/// Returns `None` if the amount is below 2, memory runs out, the layer fails or its text isn't read.
 pub fn read_events<FT: FormatTime>(
     alloc: Global,
     layered: &mut Layered<Tape, FT>,

@@ -390,8 +390,8 @@ fn run_line<R: Read, W: Output, FT: FormatTime>(
     judge(alloc, line.as_slice(), text, scratch, layered)
 }
 
-// Reads the next line, as `read_line` does. The read may wait: the caller must ensure that the writer of the layer holds nothing
-// back that was drawn, so that who follows the input sees each row before.
+// Reads the next line, as `read_line` does. The read may wait, so the caller must ensure that the
+// layer's writer holds back nothing: each row is shown first.
 fn read_next<R: Read, W: Output, FT: FormatTime>(
     lines: &mut BufReader<R>,
     line: &mut Vec<u8>,

@@ -1,4 +1,5 @@
-//! Runs whose drawing is read back: over the public contracts of `Layered::run`, `read_rows` and `read_paths` alone.
+//! Runs whose drawing is read back: over the public contracts of `Layered::run`, `read_rows` and
+//! `read_paths` alone.
 
 ghost use Rattle.std.specs.Prelude.{◌≡◌, IfSome};
 ghost use Rattle.tracing_tree_time.specs.Clock.{no_timer};

@@ -9,8 +9,8 @@ use Rattle.tracing_tree_time.specs.declared.timer.FormatTime.{Ghosts as FormatTi
 use Rattle.tracing_tree_output.specs.Writers.{IsShown, seen_writer}
 use Rattle.tracing_tree_layer.specs.Layered.Seen.{Seen}
 
--- a layer: its settings, its writer and timer, the last span, whether it has failed, and what it has
--- built of a call's text and not written
+-- a layer: its settings, its writer and timer, the last span, whether it has failed, and what it
+-- has built of a call's text and not written
 pub record LayerView (W FT : Type 0) : Type 0 where
   pub settings : Settings
   pub writer : W

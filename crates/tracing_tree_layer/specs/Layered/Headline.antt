@@ -30,8 +30,8 @@ pub record Runs (calls : List Call) (given : List Reply) (old new : Seen) : Type
       from begun (earlier ++ calls) ≡ then_run (from begun earlier) (λ state. from state calls)
 
 module _ {W FT : Type 0} (see : LayeredView W FT → Seen) where
-  -- The calls are made one after another, and each gets its answer: between them stand values of
-  -- the registry with its layer, of which each call makes the next as a call by itself does.
+  -- The calls are made one after another, and each gets its answer. Each takes the registry with
+  -- its layer from one value to the next, as a call by itself does.
   abbrev pub AreAnswered : List Call → List (Result Reply Refusal) → LayeredView W FT
       → LayeredView W FT → Type 0
   AreAnswered [] [] old new = new ≡ old

@@ -63,8 +63,8 @@ module _ (settings : Settings) (timer : Timer) (state : State) where
   IsLeft whole cause line front = front ≡ []
 
 module _ {W FT : Type 0} (see : LayeredView W FT → Seen) where
-  -- The calls are made one after another, and each gets its answer, as a call by itself does. Before
-  -- each, and after the last, the writer may be flushed.
+  -- The calls are made one after another, and each gets its answer, as a call by itself does. The
+  -- writer may be flushed before each, and after the last.
   abbrev pub AreMade : List Call → List (Result Reply Refusal) → LayeredView W FT
       → LayeredView W FT → Type 0
   AreMade [] [] old new = Changes see Flushes old new
@@ -89,8 +89,8 @@ module _ {W FT : Type 0} (see : LayeredView W FT → Seen) where
 -- A run over the lines after the first. The first `judged` of them were judged: those that aren't
 -- skipped spell these calls, and each was accepted. A cause blames the line after them, which is
 -- `judged + 2` since line 1 has the settings; where the input has no such line, it is the one that
--- was awaited. The drawing of the calls is written, and then what the fault leaves; and so they are
--- made.
+-- was awaited. The drawing of the calls is written, and then what the fault leaves. They are made
+-- in this way.
 pub record RunsOver (lines : List (List ℕ)) (accepted : ℕ) (fault : Option LineFault)
     (old : Seen) (new : SeenWriter)
     (Makes : Option LineCause → Option (List ℕ) → List Call → Type 0) : Type 0 where
@@ -135,7 +135,7 @@ opened_with settings timer writer = record {
 
 -- What a run over lines leaves in its writer: it ended at line 1, accepted no call and wrote
 -- nothing, or the first line spells settings, and the run goes over the others. Its calls are made
--- on a layered that opens with the writer as it was, and ends with the writer as it is.
+-- on a layered that opens over the old writer and ends with the new one.
 abbrev pub LeavesRun : {W : Type 0} → Output W → List ℕ → ℕ → Option LineFault → W → W → Type 0
 LeavesRun {W = W} output input accepted fault old new =
     ((cause : LineCause) × EndsAtFirst input cause
