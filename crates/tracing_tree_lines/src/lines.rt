@@ -15,7 +15,7 @@ mod value;
 ghost use Rattle.std.specs.Prelude.{◌≡◌, ℕ, ◌+◌, ◌<◌, ◌≤◌, List, length, slice_range, Option, IfErr, IfOk, IfSome, IsTrue, MatchResult, option_map};
 ghost use Rattle.std.specs.Str.{IsCharBoundary};
 ghost use Rattle.std.specs.Io.Buffered.{reader_remaining};
-ghost use Rattle.tracing_tree_layer.specs.Layer.Layers.{seen, Changes};
+ghost use Rattle.tracing_tree_layer.specs.Layer.Layers.{seen, Changes, Flushes};
 ghost use Rattle.tracing_tree_lines.specs.Lines.Reads.{IsBeforeCalls, OpensWith, ReadsNext, TakesLine};
 ghost use Rattle.tracing_tree_lines.specs.Lines.Runs.{CountsEnd, EndsAtFirst, LeavesRun, last_number, status_of};
 ghost use Rattle.tracing_tree_lines.specs.Lines.SoFar.{counted, IsTextOf, RunsHeld, RunsSome};
@@ -382,7 +382,6 @@ fn run_line<R: Read, W: Output, FT: FormatTime>(
     ensures { ShowsAndJudges (seen FT.FormatTime W.Output) (reader_remaining R.remaining lines.old)
         (reader_remaining R.remaining lines.new) result layered.old layered.new }
 {
-    layered.flush();
     if !read_next(lines, line, layered)? {
         return Ok(Judged::End);
     }
@@ -390,9 +389,23 @@ fn run_line<R: Read, W: Output, FT: FormatTime>(
     judge(alloc, line.as_slice(), text, scratch, layered)
 }
 
-// Reads the next line, as `read_line` does. The read may wait, so the caller must ensure that the
-// layer's writer holds back nothing: each row is shown first.
+// Reads the next line. What is drawn is passed on first, since the read may wait.
 fn read_next<R: Read, W: Output, FT: FormatTime>(
+    lines: &mut BufReader<R>,
+    line: &mut Vec<u8>,
+    layered: &mut Layered<W, FT>,
+) -> Result<bool, LineCause>
+    ensures shown { Changes (seen FT.FormatTime W.Output) Flushes layered.old layered.new }
+    ensures read { ReadsNext (reader_remaining R.remaining lines.old)
+        (reader_remaining R.remaining lines.new) line.new.items result }
+{
+    layered.flush();
+    read_shown(lines, line, layered)
+}
+
+// Reads the next line, as `read_line` does. The caller must ensure that the layer's writer holds
+// back nothing: each row is shown before the read.
+fn read_shown<R: Read, W: Output, FT: FormatTime>(
     lines: &mut BufReader<R>,
     line: &mut Vec<u8>,
     _layered: &Layered<W, FT>,

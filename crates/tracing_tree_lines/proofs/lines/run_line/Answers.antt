@@ -11,30 +11,30 @@ returns-in_err-read_next g c =
     let p = err_from_is_err_and c.from_residual.result c.from_residual.ensures.1 in
     let remaining = reader_remaining g.R.Read.remaining in
     rw (p.1, p.2) (record {
-      shown = c.flush.new.self;
-      flushed = c.flush.ensures.flushed;
+      shown = c.read_next.new.layered;
+      flushed = c.in_err-read_next.ensures.shown;
       judged = record {
         changed = outside_line (remaining c.args.lines.now) (remaining c.read_next.new.lines) c.in_err-read_next.field-0.0
-            (seen g.FT.FormatTime g.W.Output c.flush.new.self) c.in_err-read_next.ensures;
+            (seen g.FT.FormatTime g.W.Output c.read_next.new.layered) c.in_err-read_next.ensures.read;
         fixed = refl;
       };
     })
 
 pub returns-then-not-branch : goal.returns-then-not-branch
 returns-then-not-branch g c = record {
-  shown = c.flush.new.self;
-  flushed = c.flush.ensures.flushed;
-  judged = record { changed = (rw c.if-not-branch.true at c.in_ok-read_next.ensures, refl); fixed = refl };
+  shown = c.read_next.new.layered;
+  flushed = c.in_ok-read_next.ensures.shown;
+  judged = record { changed = (rw c.if-not-branch.true at c.in_ok-read_next.ensures.read, refl); fixed = refl };
 }
 
 pub returns : goal.returns
 returns g c =
     let remaining = reader_remaining g.R.Read.remaining in
     let read : TakesLine (remaining c.args.lines.now) (remaining c.read_next.new.lines) c.read_next.new.line.items =
-    rw c.if-not-branch.false at c.in_ok-read_next.ensures in
+    rw c.if-not-branch.false at c.in_ok-read_next.ensures.read in
     let first : TakesLine (remaining c.args.lines.now) (remaining c.read_next.new.lines) c.as_slice-2.result.now = rw c.as_slice-2.ensures.value read in
     record {
-      shown = c.flush.new.self;
-      flushed = c.flush.ensures.flushed;
+      shown = c.read_next.new.layered;
+      flushed = c.in_ok-read_next.ensures.shown;
       judged = c.judge.ensures.judged (remaining c.args.lines.now) (remaining c.read_next.new.lines) first;
     }
