@@ -1,3 +1,4 @@
+use Rattle.std.proofs.Common.{rules}
 use Rattle.std.specs.Io.Buffered.{reader_remaining}
 use Rattle.tracing_tree_layer.specs.Layer.Layers.{seen}
 use Rattle.tracing_tree_laws.proofs.TestRuns.{failed_after_run}
@@ -7,4 +8,4 @@ pub returns-in-None : goal.returns-in-None
 returns-in-None g c =
     failed_after_run (reader_remaining g.R.Read.remaining c.args.lines.now) c.args.next c.args.moment _ _ c.run_source-run.result
     (seen g.FT.FormatTime g.W.Output c.args.layered.now) (seen g.FT.FormatTime g.W.Output c.run_source-run.new.layered) c.in-Ok.ensures c.in-None.is
-    c.run_source-run.ensures.run.changed c.has_failed.result c.has_failed.ensures
+    c.run_source-run.ensures.run.changed _ (search rules)
