@@ -701,6 +701,8 @@ run_lines() {
     count 'on settings and calls' want '' 0
     run --from lines < "$input"
     count 'with --from lines' want '' 0
+    run - < "$input"
+    count 'on standard input by its name' want '' 0
     { cat "$input"; echo '{"call":"close"}'; echo '{"call":"event","level":"INFO"}'; } > "$room/ended"
     run "$room/ended"
     count 'on a line that is no call' want "ttree: line $(($(wc -l < "$input") + 1)): not a call" 1
@@ -725,9 +727,10 @@ run_lines() {
     count 'with --from go-test on an array' want 'ttree: line 1: "Action": expected a text' 1
 }
 
-# Colours on a terminal, but not under NO_COLOR. A terminal ends lines with a carriage return too.
+# Colours on a terminal, but not under NO_COLOR or on one without colours. A terminal ends lines with a carriage return too.
 run_terminal() {
     local input=$top/examples/go-test.jsonl
+    local -x TERM=xterm
     expect "$input" 's/"span_retrace": true/"ansi": true, "span_retrace": true/'
     on_terminal "$input"
     count 'on a terminal' want '' 1
@@ -738,6 +741,8 @@ run_terminal() {
     NO_COLOR='' on_terminal "$input"
     count 'on a terminal under an empty NO_COLOR' want '' 1
     expect "$input" 's/^//'
+    TERM=dumb on_terminal "$input"
+    count 'on a terminal without colours' want '' 1
     on_terminal --color never "$input"
     count 'on a terminal with --color never' want '' 1
 }
@@ -757,6 +762,11 @@ run_faults() {
     count 'on a missing file' want "ttree: $room/missing: No such file or directory (os error 2)" 2
     run "$room"
     count 'on a directory' want 'ttree: line 1: read' 1
+    gzip -c "$top/examples/go-test.jsonl" > "$room/packed"
+    for word in --color=auto --from=chrome; do
+        run "$word" "$room/packed"
+        count "on a compressed file with $word" want 'ttree: the input is compressed with gzip; use zcat FILE | ttree' 2
+    done
     timeout 120 "$ttree" "$top/examples/go-std.jsonl" > /dev/full 2> "$room/err"
     status=$?
     : > "$room/out"

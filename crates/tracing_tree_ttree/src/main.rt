@@ -49,7 +49,7 @@ struct Options<'a> {
     // The first line decides where there is none.
     from: Option<Format>,
     is_strict: bool,
-    // Standard input where there is none.
+    // Standard input where there is none, or -.
     file: Option<&'a str>,
 }
 
@@ -70,11 +70,15 @@ fn main(rt: HostRuntime) -> ExitCode {
     }
 }
 
-// Whether NO_COLOR is set and not empty.
+// Whether NO_COLOR is set and not empty, or the terminal has no colours.
 fn is_colour_unwanted<R: AllocGlobal + Env>(rt: &R) -> bool {
+    let is_dumb = match env::var(rt, "TERM") {
+        Ok(terminal) => terminal.as_str() == "dumb",
+        Err(_) => false,
+    };
     match env::var(rt, "NO_COLOR") {
-        Ok(value) => !value.as_str().is_empty(),
-        Err(env::VarError::NotPresent) => false,
+        Ok(value) => is_dumb || !value.as_str().is_empty(),
+        Err(env::VarError::NotPresent) => is_dumb,
         Err(_) => true,
     }
 }
@@ -135,7 +139,7 @@ fn command<'a>(alloc: Global) -> Result<Command<'a>, AllocError> {
         .arg(
             Arg::new(alloc, "file")
                 .value_name("FILE")
-                .help("The input; standard input without it"),
+                .help("The input; standard input without it, or if it is -"),
         )
 }
 
@@ -153,7 +157,7 @@ fn color_option<'a>(alloc: Global) -> Arg<'a> {
     Arg::new(alloc, "color")
         .long("color")
         .value_name("WHEN")
-        .help("Whether the tree is coloured; auto colours it on a terminal, unless NO_COLOR is set")
+        .help("Whether the tree is coloured; auto colours it on a terminal, unless NO_COLOR is set or TERM is dumb")
         .value_parser(&["auto", "always", "never"][..])
         .default_value("auto")
 }
@@ -278,8 +282,9 @@ fn answer(rt: &(impl Print + Eprint), error: &Error) -> ExitCode {
 }
 
 fn open<R: AllocGlobal + Eprint + Files + Input + Print>(rt: &R, options: Options<'_>) -> ExitCode {
-    let Some(path) = options.file else {
-        return draw(rt, rt.reader(), options);
+    let path = match options.file {
+        None | Some("-") => return draw(rt, rt.reader(), options),
+        Some(path) => path,
     };
     match fs::open(rt, path) {
         Ok(file) => draw(rt, file, options),
@@ -314,6 +319,9 @@ fn draw<R: AllocGlobal + Eprint + Print, I: Read + Drop>(
             return ExitCode::FAILURE;
         }
     };
+    if is_gzip(first.as_slice()) {
+        return refuse_gzip(rt);
+    }
     let input = first.as_slice().chain(lines);
     let drawn = match from {
         Format::Lines => draw_lines(rt, input),
@@ -339,6 +347,17 @@ fn look<R: Read>(
     let from = first_format(alloc, first.as_slice())?;
     first.push(b'\n')?;
     Ok(from)
+}
+
+// Whether these bytes begin what gzip compressed (RFC 1952).
+fn is_gzip(bytes: &[u8]) -> bool {
+    matches!(bytes, [0x1f, 0x8b, ..])
+}
+
+// Tells that the input is compressed.
+fn refuse_gzip(rt: &impl Eprint) -> ExitCode {
+    let _ = eprintln!(rt; "ttree: the input is compressed with gzip; use zcat FILE | ttree");
+    ExitCode::from(2)
 }
 
 // Draws lines of settings and calls.
@@ -431,6 +450,9 @@ fn draw_trace<R: AllocGlobal + Eprint + Print, I: Read + Drop>(
         }
         let _ = eprintln!(rt; "ttree: read");
         return Ok(ExitCode::FAILURE);
+    }
+    if is_gzip(bytes.as_slice()) {
+        return Ok(refuse_gzip(rt));
     }
     let Some(text) = whole_characters(bytes.as_slice()) else {
         let _ = eprintln!(rt; "ttree: {}", Lack::Utf8);
