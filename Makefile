@@ -1,6 +1,6 @@
-# Every target needs the kit's command `rt` and Python 3; `bench`, `counts`, `faults` and `soak` need a C compiler besides, `memcheck` valgrind.
+# Every target but `install` needs the kit's command `rt` and Python 3; `bench`, `counts`, `faults` and `soak` need a C compiler besides, `memcheck` valgrind.
 # README says what each takes.
-.PHONY: demo test prove gate edits claim build service jobs laws stress bench faults fuzz soak memcheck limits counts
+.PHONY: demo test prove gate edits claim build install uninstall service jobs laws stress bench faults fuzz soak memcheck limits counts
 
 # Draws the example, within a minute from a clean clone.
 demo:
@@ -43,6 +43,16 @@ bin/ttree: $(SOURCES)
 
 bin/%: $(SOURCES)
 	@scripts/build.sh $* $@
+
+# Where `make install` puts things. Packagers set DESTDIR too.
+PREFIX ?= /usr/local
+
+# Installs the programs, man pages, completions and docs, and the library for C if it has been built.
+# Starts no proof: if a program is missing or old, it says what to run. `make uninstall` removes these files.
+install uninstall: export DESTDIR := $(DESTDIR)
+install uninstall: export PREFIX := $(PREFIX)
+install uninstall:
+	@scripts/install.sh $@ "$$DESTDIR" "$$PREFIX"
 
 # Proves and runs the example of a service.
 service: bin/tracing_tree_service
