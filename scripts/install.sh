@@ -24,6 +24,8 @@ files() {
 644 completions/tracing_tree_read.fish share/fish/vendor_completions.d/tracing_tree_read.fish
 644 completions/ttree.fish share/fish/vendor_completions.d/ttree.fish
 644 README.md share/doc/tracing_tree/README.md
+644 CHANGELOG.md share/doc/tracing_tree/CHANGELOG.md
+644 CONTRIBUTING.md share/doc/tracing_tree/CONTRIBUTING.md
 644 LICENSE-APACHE share/doc/tracing_tree/LICENSE-APACHE
 644 LICENSE-MIT share/doc/tracing_tree/LICENSE-MIT
 644 docs/ARCHITECTURE.md share/doc/tracing_tree/docs/ARCHITECTURE.md

@@ -16,6 +16,8 @@ RUNS = {"passed": 0, "all": 0}
 # Where things are installed: a prefix with a space, and the folder of the docs below it.
 PREFIX = "/opt/my tools"
 DOCS = "share/doc/tracing_tree"
+# The texts in the top folder. README links to all of them.
+TEXTS = ("README.md", "CHANGELOG.md", "CONTRIBUTING.md", "LICENSE-APACHE", "LICENSE-MIT")
 
 
 def check(name, is_right, said=""):
@@ -230,10 +232,9 @@ def install_places():
             "": ("zsh/site-functions", file),
         }[ending]
         files[f"share/{folder}/{installed}"] = f"completions/{file}"
-    for file in ("README.md", "LICENSE-APACHE", "LICENSE-MIT", *os.listdir(f"{TOP}/docs")):
-        path = file if os.path.isfile(f"{TOP}/{file}") else f"docs/{file}"
-        if os.path.isfile(f"{TOP}/{path}"):
-            files[f"{DOCS}/{path}"] = path
+    for file in (*TEXTS, *(f"docs/{it}" for it in os.listdir(f"{TOP}/docs"))):
+        if os.path.isfile(f"{TOP}/{file}"):
+            files[f"{DOCS}/{file}"] = file
     return files
 
 
@@ -255,8 +256,8 @@ class Copy:
     def __init__(self, room):
         self.top, self.stage = f"{room}/the copy", f"{room}/the stage"
         self.mark, self.now = f"{room}/rt was run", time.time()
-        for file in ("Makefile", "README.md", "LICENSE-APACHE", "LICENSE-MIT", "crates.txt",
-                     "scripts/install.sh", "bindings/bindings.mk", "bindings/c/tracing_tree.h"):
+        for file in (*TEXTS, "Makefile", "crates.txt", "scripts/install.sh",
+                     "bindings/bindings.mk", "bindings/c/tracing_tree.h"):
             os.makedirs(os.path.dirname(f"{self.top}/{file}"), exist_ok=True)
             shutil.copy(f"{TOP}/{file}", f"{self.top}/{file}")
         for folder in ("docs", "completions"):
@@ -390,6 +391,9 @@ def check_install(room):
     copy = Copy(room)
     equal("all", copy.run("install"), (0, []))
     check_pkg_config(copy, copy.compare("all", True))
+    linked = re.findall(r"\]\(([\w/.-]+)\)", text_of("README.md"))
+    missing = {f"{DOCS}/{it}" for it in linked} - {*copy.installed()}
+    equal("all: files that README links to", missing, set())
     equal("all again", copy.run("install"), (0, []))
     copy.compare("all again", True)
     check_uninstall(copy, "all")
