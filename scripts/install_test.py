@@ -62,7 +62,8 @@ def write(path, text):
 
 
 def text_of(path):
-    return read(f"{TOP}/{path}").decode()
+    """Returns a file's text. A path that isn't absolute begins in the top folder."""
+    return read(os.path.join(TOP, path)).decode()
 
 
 # ---- man pages
@@ -387,8 +388,20 @@ def check_without_programs(copy):
     check_refused(copy, "nothing built", [said(it, "is missing") for it in NAMES])
 
 
+def check_library(copy, prefix):
+    """Installs only the library, as bindings/test.sh does."""
+    status, said = ran(f"{copy.top}/scripts/install.sh", "library", "", prefix)
+    equal("the library", (status, said), (0, ""))
+    files = [f"{folder}/{it}" for folder, _, names in os.walk(prefix) for it in names]
+    wanted = {*library_places(), "lib/libtracing_tree.so", "lib/pkgconfig/tracing_tree.pc"}
+    equal("the library: files", {os.path.relpath(it, prefix) for it in files}, wanted)
+    text = text_of(f"{prefix}/lib/pkgconfig/tracing_tree.pc")
+    check("the library: prefix", f"prefix={prefix}\n" in text, text)
+
+
 def check_install(room):
     copy = Copy(room)
+    check_library(copy, f"{room}/only the library")
     equal("all", copy.run("install"), (0, []))
     check_pkg_config(copy, copy.compare("all", True))
     linked = re.findall(r"\]\(([\w/.-]+)\)", text_of("README.md"))
