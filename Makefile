@@ -1,6 +1,6 @@
-# Every target needs the kit's command `rt` and Python 3. `bench`, `counts`, `faults` and `soak` also need a C compiler, and
+# Every target except `install` needs the kit's command `rt` and Python 3. `bench`, `counts`, `faults` and `soak` also need a C compiler, and
 # `memcheck` needs valgrind. README says how long the first ones take.
-.PHONY: help demo test prove gate edits claim build service jobs laws stress bench faults fuzz soak memcheck limits counts clean
+.PHONY: help demo test prove gate edits claim build install uninstall service jobs laws stress bench faults fuzz soak memcheck limits counts clean
 
 # Prints the targets in groups, from the lines that begin with '##' and the words after a target's '##'.
 help:
@@ -53,6 +53,19 @@ bin/ttree: $(SOURCES)
 
 bin/%: $(SOURCES)
 	@scripts/build.sh $* $@
+
+# Where `make install` puts things. Packagers set DESTDIR too.
+PREFIX ?= /usr/local
+install uninstall: export DESTDIR := $(DESTDIR)
+install uninstall: export PREFIX := $(PREFIX)
+
+# Installs the programs, man pages, completions and docs, and the library for C if it has been built.
+# Starts no proof: if a program is missing or old, it says what to run.
+install: ## installs what has been built (PREFIX=.. DESTDIR=..)
+	@scripts/install.sh install "$$DESTDIR" "$$PREFIX"
+
+uninstall: ## removes what `make install` installs
+	@scripts/install.sh uninstall "$$DESTDIR" "$$PREFIX"
 
 # Proves and runs the example of a service.
 service: bin/tracing_tree_service ## proves and runs the example of a service

@@ -1,10 +1,7 @@
 ## Library for C, C++, Rust and Go
 
 # Needs `rt` and a C compiler; its tests use other compilers if they are there.
-.PHONY: bindings bindings-test bindings-bench install
-
-# Where `make install` puts the library.
-PREFIX ?= /usr/local
+.PHONY: bindings bindings-test bindings-bench
 
 # Proves the library, and leaves it in bin/: libtracing_tree.a and libtracing_tree.so.
 bindings: ## proves and builds the library
@@ -17,7 +14,3 @@ bindings-test: bindings ## tests the library
 # Counts instructions of calls from C and Rust, by valgrind. It asserts nothing.
 bindings-bench: bindings ## counts instructions
 	@CC='$(CC)' bindings/bench.sh
-
-# Installs the library, its header and its pkg-config file.
-install: bindings ## installs the library (PREFIX=.. DESTDIR=..)
-	@bindings/install.sh '$(DESTDIR)' '$(PREFIX)'

@@ -95,7 +95,7 @@ else
 fi
 
 # ---- what is installed
-step "install" bindings/install.sh "" "$room/prefix"
+step "install" scripts/install.sh library "" "$room/prefix"
 if has pkg-config; then
     export PKG_CONFIG_PATH="$room/prefix/lib/pkgconfig"
     step "link by pkg-config" $cc -std=c99 $example $(pkg-config --cflags --libs tracing_tree) -o "$room/shared"

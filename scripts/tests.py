@@ -3,7 +3,8 @@
 
 The tests of each crate run by `rt try --test`, which compiles the sources as they stand, with checks. The programs are compiled so too
 (scripts/unproved.py), and scripts/program.sh runs them as their users do. A model that is written from the docs alone (scripts/model.py)
-says what they must write for random lines, and they are run where files and pipes end. That no function does anything but what its contract
+says what they must write for random lines, and they are run where files and pipes end. Their man pages and completions are compared with
+what they print, and `make install` is tried on a copy (scripts/install_test.py). That no function does anything but what its contract
 says is for `make gate` to show, which runs tests, cases and programs again as they are proved and built.
 
 The library for C has no build without its proofs, which take longer than all the tests. Its tests and those of the Rust crate run where a
@@ -24,6 +25,7 @@ RUNS = (
     ("scripts/fuzz.py", "--checked", "--lines", "3000", "--calls", "2000", "--drawings", "2000", "--sizes", "-1",
      "tracing_tree_cli", "tracing_tree_read"),
     ("scripts/limits.py", "--checked", "tracing_tree_cli", "tracing_tree_read", "tracing_tree_ttree"),
+    ("scripts/install_test.py", "tracing_tree_cli", "tracing_tree_read", "tracing_tree_ttree"),
 )
 # What compares the docs with the sources.
 DOCS = (

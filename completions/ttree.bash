@@ -1,0 +1,24 @@
+# The completion of ttree for bash. Written by scripts/completions.py.
+_ttree() {
+    local word=${COMP_WORDS[COMP_CWORD]} before=${COMP_WORDS[COMP_CWORD - 1]} words=
+    COMPREPLY=()
+    # Bash makes three words of --option=value.
+    if [ "$word" = = ]; then
+        word=
+    elif [ "$before" = = ]; then
+        before=${COMP_WORDS[COMP_CWORD - 2]}
+    fi
+    case $before in
+        --from) words='lines go-test tracing chrome' ;;
+        --color) words='auto always never' ;;
+        --level) words='trace debug info warn error' ;;
+        --amount|--min|--depth) compopt +o default 2> /dev/null; return ;;
+        *)
+            [[ $word == -* ]] || return
+            words='--from --color --amount --level --failed --min --depth --no-lines --no-retrace
+            --threads --times --strict --help -h --version -V'
+            ;;
+    esac
+    mapfile -t COMPREPLY < <(compgen -W "$words" -- "$word")
+}
+complete -o default -F _ttree ttree

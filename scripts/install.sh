@@ -1,0 +1,149 @@
+#!/bin/sh
+# Installs what `make build` and `make bindings` have left in bin/, or removes it. Builds nothing.
+# usage: install.sh install|library|uninstall STAGE PREFIX
+#   install    the programs, man pages, completions and docs, and the C library if it has been built
+#   library    the C library, its header and its pkg-config file only
+#   uninstall  removes what the other two install
+# The files are put under STAGE/PREFIX; STAGE may be empty. The status is 2 if nothing is installed.
+set -eu
+cd "$(dirname "$0")/.."
+
+# What is installed: the mode, the file, and its place under PREFIX.
+files() {
+    cat << 'FILES'
+755 bin/tracing_tree bin/tracing_tree
+755 bin/tracing_tree_read bin/tracing_tree_read
+755 bin/ttree bin/ttree
+644 docs/man/tracing_tree.1 share/man/man1/tracing_tree.1
+644 docs/man/tracing_tree_read.1 share/man/man1/tracing_tree_read.1
+644 docs/man/ttree.1 share/man/man1/ttree.1
+644 completions/tracing_tree_read.bash share/bash-completion/completions/tracing_tree_read
+644 completions/ttree.bash share/bash-completion/completions/ttree
+644 completions/_tracing_tree_read share/zsh/site-functions/_tracing_tree_read
+644 completions/_ttree share/zsh/site-functions/_ttree
+644 completions/tracing_tree_read.fish share/fish/vendor_completions.d/tracing_tree_read.fish
+644 completions/ttree.fish share/fish/vendor_completions.d/ttree.fish
+644 README.md share/doc/tracing_tree/README.md
+644 CHANGELOG.md share/doc/tracing_tree/CHANGELOG.md
+644 CONTRIBUTING.md share/doc/tracing_tree/CONTRIBUTING.md
+644 LICENSE-APACHE share/doc/tracing_tree/LICENSE-APACHE
+644 LICENSE-MIT share/doc/tracing_tree/LICENSE-MIT
+644 docs/ARCHITECTURE.md share/doc/tracing_tree/docs/ARCHITECTURE.md
+644 docs/DECISIONS.md share/doc/tracing_tree/docs/DECISIONS.md
+644 docs/DIFFERENCES.md share/doc/tracing_tree/docs/DIFFERENCES.md
+644 docs/FORMATS.md share/doc/tracing_tree/docs/FORMATS.md
+644 docs/MODEL.md share/doc/tracing_tree/docs/MODEL.md
+644 docs/PROVED.md share/doc/tracing_tree/docs/PROVED.md
+644 docs/tree.svg share/doc/tracing_tree/docs/tree.svg
+FILES
+}
+
+# The same for the library. A link's file is its target, and a function writes the pkg-config file.
+library_files() {
+    cat << 'FILES'
+644 bin/libtracing_tree.a lib/libtracing_tree.a
+755 bin/libtracing_tree.so.1 lib/libtracing_tree.so.1
+link libtracing_tree.so.1 lib/libtracing_tree.so
+644 bindings/c/tracing_tree.h include/tracing_tree.h
+write pkg_config lib/pkgconfig/tracing_tree.pc
+FILES
+}
+
+# Folders that are removed if they are empty. The others may have been there before.
+FOLDERS='share/doc/tracing_tree/docs share/doc/tracing_tree'
+
+# The quotes keep a prefix with spaces one word.
+pkg_config() {
+    cat << PC
+prefix=$prefix
+libdir=\${prefix}/lib
+includedir=\${prefix}/include
+
+Name: tracing_tree
+Description: Draws spans and events as a tree
+Version: 1
+Libs: -L"\${libdir}" -ltracing_tree
+Cflags: -I"\${includedir}"
+PC
+}
+
+say() { echo "install: $*" >&2; }
+
+# Says why a file in bin/ can't be installed, or nothing.
+fault_of() {
+    if [ ! -f "bin/$1" ]; then
+        echo "bin/$1 is missing"
+    elif [ -n "$(find crates crates.txt -newer "bin/$1" -type f \
+        -not -path '*/out/*' -not -path '*/must-fail/*' -print -quit)" ]; then
+        echo "bin/$1 is older than its sources"
+    fi
+}
+
+library_fault() {
+    fault=$(fault_of libtracing_tree.a)
+    [ -n "$fault" ] || fault=$(fault_of libtracing_tree.so.1)
+    echo "$fault"
+}
+
+put() {
+    while read -r mode file place; do
+        case $mode in
+            link) ln -sfn "$file" "$to/$place" ;;
+            write) "$file" | install -D -m 644 /dev/stdin "$to/$place" ;;
+            *) install -D -m "$mode" "$file" "$to/$place" ;;
+        esac
+    done
+}
+
+# Installs the library, or says why not and takes this status.
+install_library() {
+    fault=$(library_fault)
+    if [ -n "$fault" ]; then
+        say "the C library is left out, since $fault:" \
+            "run 'make bindings' (20 minutes on four cores)"
+        status=$1
+    else
+        library_files | put
+    fi
+}
+
+install_all() {
+    for program in tracing_tree tracing_tree_read ttree; do
+        fault=$(fault_of $program)
+        if [ -n "$fault" ]; then
+            say "$fault: run 'make build' (15 minutes on four cores)"
+            status=2
+        fi
+    done
+    [ "$status" = 0 ] || exit "$status"
+    files | put
+    install_library 0
+}
+
+uninstall() {
+    { files; library_files; } | while read -r mode file place; do
+        rm -f "$to/$place"
+    done
+    for folder in $FOLDERS; do
+        rmdir "$to/$folder" 2> /dev/null || true
+    done
+}
+
+if [ $# != 3 ]; then
+    say "usage: install.sh install|library|uninstall STAGE PREFIX"
+    exit 2
+fi
+case $3 in
+    /*) ;;
+    *) say "PREFIX must begin with /: '$3'"; exit 2 ;;
+esac
+prefix=${3%/}
+to=$2$prefix
+status=0
+case $1 in
+    install) install_all ;;
+    library) install_library 2 ;;
+    uninstall) uninstall ;;
+    *) say "unknown command: $1"; status=2 ;;
+esac
+exit "$status"
