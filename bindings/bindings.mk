@@ -13,7 +13,7 @@ bindings-test: bindings
 	@CC='$(CC)' CXX='$(CXX)' bindings/test.sh
 
 # Counts instructions of calls from C and Rust, by valgrind. It asserts nothing.
-bindings-bench: bindings
+bindings-bench: need-valgrind bindings
 	@CC='$(CC)' bindings/bench.sh
 
 # Installs the library, its header and its pkg-config file.

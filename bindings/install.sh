@@ -2,6 +2,7 @@
 # Installs what build.sh has left in bin/: install.sh STAGE PREFIX. The files are put under STAGE/PREFIX; STAGE may be empty.
 set -eu
 cd "$(dirname "$0")/.."
+scripts/need.sh library
 prefix=$2
 to=$1$prefix
 install -d "$to/lib/pkgconfig" "$to/include"

@@ -1,8 +1,10 @@
 #!/bin/bash
 # Tests what build.sh has left in bin/, from C, C++, Go, Python and Rust. Where a tool isn't there, it says in one line what it leaves
 # out. The last line is 'bindings: N passed, M failed', and the status is 1 where something failed.
+# Without the library, a C compiler or Python it says what to do, and ends with status 2.
 set -u
 cd "$(dirname "$0")/.."
+scripts/need.sh library cc ar python || exit 2
 top=$(pwd)
 room=$(mktemp -d)
 trap 'rm -rf "$room"' EXIT
@@ -72,11 +74,15 @@ for field in 'bool ansi;=uint64_t ansi;' 'uint64_t epoch;=uint32_t epoch;' 'int6
 done
 
 # ---- the header, the example and the tests in C
-step "the header as C++17" $cxx -std=c++17 $strict -x c++ -include bindings/c/tracing_tree.h -fsyntax-only /dev/null
 step "the example" $cc -std=c99 -O1 -g $strict -Ibindings/c $example $library -o "$room/server"
 step "what the example draws" prints bindings/c/server.out "$room/server"
-step "the example as C++17" $cxx -std=c++17 -O1 $strict -Ibindings/c -x c++ $example -x none $library -o "$room/server_cxx"
-step "what the example draws as C++17" prints bindings/c/server.out "$room/server_cxx"
+if has "${cxx%% *}"; then
+    step "the header as C++17" $cxx -std=c++17 $strict -x c++ -include bindings/c/tracing_tree.h -fsyntax-only /dev/null
+    step "the example as C++17" $cxx -std=c++17 -O1 $strict -Ibindings/c -x c++ $example -x none $library -o "$room/server_cxx"
+    step "what the example draws as C++17" prints bindings/c/server.out "$room/server_cxx"
+else
+    left_out "the header and the example as C++17, since $cxx isn't there"
+fi
 step "the tests" $cc -std=c99 -O1 -g $strict -Ibindings/c -Wl,--wrap=malloc,--wrap=realloc bindings/c/test.c $library \
     -o "$room/test"
 counts "the tests in C" "$room/test"
