@@ -124,6 +124,62 @@ fi
 # ---- the worked cases of the program, through the shared object
 counts "the worked cases" python3 bindings/python/cases.py bin/libtracing_tree.so.1 crates/tracing_tree_cases/data
 
+# ---- how the Rust crate finds the library: its build script alone, in a stand-in for a checkout
+tree=$(realpath "$room")/tree
+crate=$tree/bindings/rust
+
+# Runs the build script with these variables, and with no package installed: search VARIABLE=VALUE..
+search() { env -i PATH="$PATH" CARGO_MANIFEST_DIR="$crate" PKG_CONFIG_LIBDIR="$room/none" "$@" "$room/search"; }
+
+# Compares the folders that it links from and watches: links_from FOLDER VARIABLE=VALUE..
+links_from() {
+    local folder=$1
+    shift
+    search "$@" > "$room/printed" && grep -qxF "cargo:rustc-link-search=native=$folder" "$room/printed" &&
+        grep -qxF "cargo:rerun-if-changed=$folder/libtracing_tree.a" "$room/printed"
+}
+
+# The build must stop with exactly this message, and print nothing for cargo:
+# stops_with TEXT VARIABLE=VALUE..
+stops_with() {
+    local text=$1
+    shift
+    ! search "$@" > "$room/printed" 2> "$room/told" && [ "$(cat "$room/told")" = "$text" ] && [ ! -s "$room/printed" ]
+}
+
+if ! has rustc; then
+    left_out "how the Rust crate finds the library, since rustc isn't there"
+elif step "build of the build script" rustc --edition 2021 -D warnings -o "$room/search" bindings/rust/build.rs && [ -x "$room/search" ]; then
+    what="Run \`make bindings\` in the repository (about 20 minutes), or set TRACING_TREE_LIB to the folder that has it."
+    other="Set it to the folder that has it, or unset it and run \`make bindings\` in the repository (about 20 minutes)."
+    mkdir -p "$crate/lib" "$tree/bin" "$room/my lib" "$room/none" "$room/stale"
+    printf 'prefix=%s\nlibdir=${prefix}/lib\nName: tracing_tree\nDescription: -\nVersion: 1\n' "$room/stale" > "$room/stale/tracing_tree.pc"
+    step "no library" stops_with "libtracing_tree.a isn't in $crate/lib, nor known to pkg-config, nor in $tree/bin. $what"
+    step "no library, and no pkg-config" \
+        stops_with "libtracing_tree.a isn't in $crate/lib, nor known to pkg-config, nor in $tree/bin. $what" PKG_CONFIG="$room/none/pkg-config"
+    ar crs "$tree/bin/libtracing_tree.a"
+    step "the library in the checkout's bin/" links_from "$tree/bin"
+    step "the library in the checkout's bin/, without pkg-config" links_from "$tree/bin" PKG_CONFIG="$room/none/pkg-config"
+    step "an empty TRACING_TREE_LIB" links_from "$tree/bin" TRACING_TREE_LIB=
+    if has pkg-config; then
+        step "the library by pkg-config" links_from "$room/prefix/lib" PKG_CONFIG_PATH="$room/prefix/lib/pkgconfig"
+        step "a package without its library" links_from "$tree/bin" PKG_CONFIG_PATH="$room/stale"
+        rm "$tree/bin/libtracing_tree.a"
+        step "no library, but a package" stops_with \
+            "libtracing_tree.a isn't in $crate/lib, nor in $room/stale/lib, which pkg-config names, nor in $tree/bin. $what" \
+            PKG_CONFIG_PATH="$room/stale"
+    else
+        left_out "the search of the Rust crate by pkg-config, which isn't there"
+    fi
+    ar crs "$crate/lib/libtracing_tree.a"
+    step "the library beside the crate" links_from "$crate/lib" PKG_CONFIG_PATH="$room/prefix/lib/pkgconfig"
+    step "TRACING_TREE_LIB without a library" \
+        stops_with "TRACING_TREE_LIB names $room/my lib, which has no libtracing_tree.a. $other" TRACING_TREE_LIB="$room/my lib"
+    ar crs "$room/my lib/libtracing_tree.a"
+    step "the library by TRACING_TREE_LIB" links_from "$room/my lib" TRACING_TREE_LIB="$room/my lib"
+    step "the library by TRACING_TREE_LIB, from the crate's folder" links_from "$crate/../../../my lib" TRACING_TREE_LIB="../../../my lib"
+fi
+
 # ---- the Rust crate
 crates=/usr/share/cargo/registry
 if ! has cargo; then
@@ -131,8 +187,10 @@ if ! has cargo; then
 elif ! compgen -G "$crates/tracing-0.1*" > /dev/null || ! compgen -G "$crates/tracing-subscriber-0.3*" > /dev/null; then
     left_out "the Rust crate, since Debian's librust-tracing-dev and librust-tracing-subscriber-dev aren't there"
 else
-    export TRACING_TREE_LIB="$top/bin"
     cd bindings/rust
+    # The checkout's own library, which the crate finds in bin/ if nothing is installed or set.
+    export PKG_CONFIG_LIBDIR="$room/none" PKG_CONFIG_PATH=
+    unset TRACING_TREE_LIB
     step "build of the Rust crate" cargo build --offline --quiet --lib --example program
     if cargo test --offline --quiet > "$room/log" 2>&1; then
         for good in $(sed -n 's/^test result: ok. \([0-9]*\) passed.*/\1/p' "$room/log"); do passed=$((passed + good)); done
