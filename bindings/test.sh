@@ -188,6 +188,14 @@ elif ! compgen -G "$crates/tracing-0.1*" > /dev/null || ! compgen -G "$crates/tr
     left_out "the Rust crate, since Debian's librust-tracing-dev and librust-tracing-subscriber-dev aren't there"
 else
     cd bindings/rust
+    # A stand-in for a library of version 0: each function returns 0.
+    sed -n 's/^    fn \(tt_[a-z0-9_]*\)(.*/int \1(void) { return 0; }/p' src/sys.rs > "$room/other.c"
+    mkdir "$room/other"
+    step "another version of the library" $cc -c "$room/other.c" -o "$room/other.o"
+    ar crs "$room/other/libtracing_tree.a" "$room/other.o"
+    step "build over another version" env TRACING_TREE_LIB="$room/other" cargo build --offline --quiet --example program
+    refuses "another version of the library at the first use" "needs version [1-9][0-9]* of libtracing_tree.a, but version 0 is linked" \
+        target/debug/examples/program 0
     # The checkout's own library, which the crate finds in bin/ if nothing is installed or set.
     export PKG_CONFIG_LIBDIR="$room/none" PKG_CONFIG_PATH=
     unset TRACING_TREE_LIB
