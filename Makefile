@@ -1,34 +1,44 @@
-# Every target needs the kit's command `rt` and Python 3; `bench`, `counts`, `faults` and `soak` need a C compiler besides, `memcheck` valgrind.
-# README says what each takes.
-.PHONY: demo test prove gate edits claim build service jobs laws stress bench faults fuzz soak memcheck limits counts
+# Every target needs the kit's command `rt` and Python 3. `bench`, `counts`, `faults` and `soak` also need a C compiler, and
+# `memcheck` needs valgrind. README says how long the first ones take.
+.PHONY: help demo test prove gate edits claim build service jobs laws stress bench faults fuzz soak memcheck limits counts clean
+
+# Prints the targets in groups, from the lines that begin with '##' and the words after a target's '##'.
+help:
+	@awk -F ':.*##' '/^## / { printf "\n%s\n", substr($$0, 4) } /^[a-z-]+:.*##/ { printf "  %-16s%s\n", $$1, $$2 }' $(MAKEFILE_LIST)
+
+## Try it
 
 # Draws the example, within a minute from a clean clone.
-demo:
+demo: ## draws examples/first.jsonl
 	@scripts/demo.sh
+
+## Test and prove
 
 # Every test, every worked case and the runs of the programs, on the sources as they stand and without a proof. Also the tests of the
 # library for C, where a checkout on this machine has proved it as it stands.
-test: need-rt
+test: need-rt ## runs every test, without proofs
 	@python3 scripts/tests.py
 
 # Proves every crate, over what earlier runs proved, and leaves the programs at bin/.
-prove: need-rt build
+prove: need-rt build ## proves every crate, over earlier runs
 	@rt all check
 
 # Proves everything from nothing, and tries everything: what must not compile, the edits that must be refused, tests and programs.
-gate: need-rt
+gate: need-rt ## proves and tries everything from nothing
 	@python3 scripts/gate.py
 
 # The edits that must be refused, of all crates or of those that CRATES names.
-edits: need-rt
+edits: need-rt ## tries the edits that must be refused (CRATES=..)
 	@python3 scripts/edits.py $(CRATES)
 
 # What a claim rests on: the contract of the function NAME, or the definition NAME, and all definitions that it leads to.
-claim: need-python
+claim: need-python ## prints a contract and its definitions (NAME=..)
 	@python3 scripts/claim.py $(NAME)
 
+## Build
+
 # Proves and builds the programs, and leaves them at bin/.
-build: bin/tracing_tree bin/tracing_tree_read bin/ttree
+build: bin/tracing_tree bin/tracing_tree_read bin/ttree ## proves and builds the programs
 
 SOURCES = $(shell find crates crates.txt -type f -not -path '*/out/*' -not -path '*/must-fail/*')
 
@@ -45,25 +55,27 @@ bin/%: $(SOURCES)
 	@scripts/build.sh $* $@
 
 # Proves and runs the example of a service.
-service: bin/tracing_tree_service
+service: bin/tracing_tree_service ## proves and runs the example of a service
 	@bin/tracing_tree_service < crates/tracing_tree_service/stdin
 
 # Proves and runs the example of several threads.
-jobs: bin/tracing_tree_jobs
+jobs: bin/tracing_tree_jobs ## proves and runs the example of several threads
 	@bin/tracing_tree_jobs
+
+## Outside the gate
 
 # Outside the gate: draws and reads random rows, reads random changes of drawings, and draws random calls under settings that retrace
 # and looks in the text alone for each event's ancestors.
-laws: need-python build bin/tracing_tree_rows_laws
+laws: need-python build bin/tracing_tree_rows_laws ## draws and reads random rows and calls
 	@bin/tracing_tree_rows_laws 10000
 	@python3 scripts/reading_law.py bin/tracing_tree
 
 # Outside the gate: random calls of two to eight threads through the layers for several threads, in ten thousand rounds.
-stress: bin/tracing_tree_stress
+stress: bin/tracing_tree_stress ## runs random calls of several threads
 	@timeout 1800 bin/tracing_tree_stress 10000 20261124
 
 # Times the library by its own calls, the program on inputs that are made here, and the reading of drawings. It asserts nothing.
-bench: need-python need-cc build bin/tracing_tree_bench
+bench: need-python need-cc build bin/tracing_tree_bench ## times the library and the programs
 	@$(CC) -O1 -shared -fPIC -o bin/count.so scripts/count.c -ldl
 	@python3 scripts/bench_calls.py bin/tracing_tree_bench bin/count.so
 	@python3 scripts/bench_shared.py bin/tracing_tree_bench
@@ -79,7 +91,7 @@ FAULTY = $(addprefix $(DATA)/,retracing/concurrent_eager.in retracing/deferred_c
 DRAWINGS = $(addprefix $(DATA)/,first/tree.out retracing/concurrent_eager.out retracing/retrace.out)
 
 # Refuses the programs each allocation, each read and each write in turn, and looks at what they tell and leave, and at their status.
-faults: need-python need-cc build
+faults: need-python need-cc build ## fails each allocation, read and write in turn
 	@$(CC) -O1 -shared -fPIC -o bin/refuse.so scripts/refuse.c -ldl
 	@python3 scripts/refuse.py bin/tracing_tree bin/refuse.so examples/first.jsonl examples/server.jsonl $(FAULTY)
 	@python3 scripts/refuse.py bin/tracing_tree_read bin/refuse.so $(DRAWINGS)
@@ -95,29 +107,33 @@ SOAKED_CALLS = 100000000
 
 # Outside the gate: random lines, calls and lines of drawings through the programs. A model that is written from the docs alone says
 # what is right; first it must agree with the worked cases. Each failure is left below bin/fuzz, to be run again.
-fuzz: need-python build
+fuzz: need-python build ## runs random and damaged lines
 	@python3 scripts/model.py $(DATA)
 	@python3 scripts/fuzz.py --lines $(LINES) --calls $(CALLS) --drawings $(DRAWN) --seed $(SEED) bin/tracing_tree bin/tracing_tree_read
 
 # Outside the gate: many calls through the program, and many on the library itself: what is kept, and how fast it is at the start and
 # at the end.
-soak: need-python need-cc build bin/tracing_tree_bench
+soak: need-python need-cc build bin/tracing_tree_bench ## makes 10^8 calls
 	@$(CC) -O2 -o bin/soak scripts/soak.c
 	@python3 scripts/soak.py bin/tracing_tree bin/soak $(SOAKED)
 	@python3 scripts/soak_calls.py bin/tracing_tree_bench $(SOAKED_CALLS)
 
 # Outside the gate: writes the figures anew that the gate compares with what the library takes of memory.
-counts: need-python need-cc build bin/tracing_tree_bench bin/tracing_tree_service
+counts: need-python need-cc build bin/tracing_tree_bench bin/tracing_tree_service ## writes the figures of memory again
 	@$(CC) -O1 -shared -fPIC -o bin/count.so scripts/count.c -ldl
 	@python3 scripts/counts.py bin/tracing_tree_bench bin/tracing_tree bin/ttree bin/tracing_tree_service bin/count.so --write
 
 # Outside the gate: the programs under valgrind, on all worked cases and some drawings.
-memcheck: need-python need-valgrind build
+memcheck: need-python need-valgrind build ## runs the programs under valgrind
 	@python3 scripts/memcheck.py bin/tracing_tree bin/tracing_tree_read bin/ttree
 
 # Outside the gate, but without limits of memory in `test` too: the programs where memory, stack, disks and pipes end, and odd arguments.
-limits: need-python build
+limits: need-python build ## runs the programs with little memory, stack or disk
 	@python3 scripts/limits.py bin/tracing_tree bin/tracing_tree_read bin/ttree
+
+# Removes what the targets made: the programs, the logs and what the kit keeps of checks.
+clean: ## removes what the targets made
+	@rm -rf bin crates/*/out
 
 # Says what to do if a tool is missing, before anything is built.
 NEEDS = need-rt need-python need-cc need-valgrind

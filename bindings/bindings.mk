@@ -1,21 +1,23 @@
-# The library for C, C++ and Rust. Needs `rt` and a C compiler; its tests use more where it is there.
+## Library for C, C++, Rust and Go
+
+# Needs `rt` and a C compiler; its tests use other compilers if they are there.
 .PHONY: bindings bindings-test bindings-bench install
 
 # Where `make install` puts the library.
 PREFIX ?= /usr/local
 
 # Proves the library, and leaves it in bin/: libtracing_tree.a and libtracing_tree.so.
-bindings:
+bindings: ## proves and builds the library
 	@CC='$(CC)' bindings/build.sh
 
 # The last line is 'bindings: N passed, M failed'.
-bindings-test: bindings
+bindings-test: bindings ## tests the library
 	@CC='$(CC)' CXX='$(CXX)' bindings/test.sh
 
 # Counts instructions of calls from C and Rust, by valgrind. It asserts nothing.
-bindings-bench: need-valgrind bindings
+bindings-bench: need-valgrind bindings ## counts instructions
 	@CC='$(CC)' bindings/bench.sh
 
 # Installs the library, its header and its pkg-config file.
-install: bindings
+install: bindings ## installs the library (PREFIX=.. DESTDIR=..)
 	@bindings/install.sh '$(DESTDIR)' '$(PREFIX)'
