@@ -124,7 +124,7 @@ fi
 # ---- the worked cases of the program, through the shared object
 counts "the worked cases" python3 bindings/python/cases.py bin/libtracing_tree.so.1 crates/tracing_tree_cases/data
 
-# ---- how the Rust crate finds the library: its build script alone, in a stand-in for a checkout
+# ---- how the Rust crate finds the library: its build script, without cargo, in a stand-in for a checkout
 tree=$(realpath "$room")/tree
 crate=$tree/bindings/rust
 
@@ -144,7 +144,7 @@ links_from() {
 stops_with() {
     local text=$1
     shift
-    ! search "$@" > "$room/printed" 2> "$room/told" && [ "$(cat "$room/told")" = "$text" ] && [ ! -s "$room/printed" ]
+    ! search "$@" > "$room/printed" 2> "$room/error" && [ "$(cat "$room/error")" = "$text" ] && [ ! -s "$room/printed" ]
 }
 
 if ! has rustc; then

@@ -2,28 +2,31 @@
 """Runs targets and scripts without a tool or without the library for C that they need, and compares
 what they say with a sentence that says what to do: messages.py
 
-Each run has its own PATH, in a copy of the repository without its crates. The kit, the compilers and
-the like are stand-ins there, and none may be called: a missing tool is reported before anything is
-proved or built. The last line is 'N of M runs ended as they must'."""
+Each run has its own PATH, in a copy of the repository without its crates. The kit, the compilers
+and the like are stand-ins there, and none may be called: a missing tool is reported before anything
+is proved or built. The last line is 'N of M runs ended as they must'."""
 import os, shutil, subprocess, sys, tempfile
 
 TOP = os.path.dirname(os.path.dirname(os.path.abspath(__file__)))
 COPIED = ("Makefile", "crates.txt", "scripts", "bindings", "misuse", "examples")
 # Tools that are taken from this machine, and those that get a stand-in.
-TOOLS = ("awk bash basename cat chmod cmp cp cut date dirname env find grep head id install ln ls make "
-         "mkdir mktemp mv realpath rm sed seq sh sleep sort tail tee test timeout touch tr true uname wc").split()
+TOOLS = ("awk bash basename cat chmod cmp cp cut date dirname env find grep head id install ln ls "
+         "make mkdir mktemp mv realpath rm sed seq sh sleep sort tail tee test timeout touch tr "
+         "true uname wc").split()
 STAND_INS = ("rt", "cc", "c++", "ar", "git", "valgrind", "cargo")
 
 RT = "the kit's command rt is not on the PATH: add the folder bin/ of the Rattle kit to it"
 PYTHON = "python3 is not on the PATH: install Python 3 (Debian: apt install python3)"
-CC = "the C compiler cc is not on the PATH: install one (Debian: apt install gcc), or name yours, as in CC=clang"
+CC = ("the C compiler cc is not on the PATH: "
+      "install one (Debian: apt install gcc), or name yours, as in CC=clang")
+GIT = "git is not on the PATH: install it (Debian: apt install git)"
 AR = "ar is not on the PATH: install it (Debian: apt install binutils)"
 VALGRIND = "valgrind is not on the PATH: install it (Debian: apt install valgrind)"
 LIBRARY = "bin/libtracing_tree.a isn't there: run 'make bindings' first (about 20 minutes)"
 
 # The targets that need the kit, and with it Python, and those that need a C compiler too.
-KIT = ("demo test prove gate edits build service jobs laws stress bench faults fuzz soak memcheck limits counts "
-       "bindings bindings-test bindings-bench install").split()
+KIT = ("demo test prove gate edits build service jobs laws stress bench faults fuzz soak memcheck "
+       "limits counts bindings bindings-test bindings-bench install").split()
 COMPILED = "bench faults soak counts bindings bindings-test bindings-bench install".split()
 # What is missing, the words of a run, and what it says.
 RUNS = (
@@ -39,9 +42,11 @@ RUNS = (
     ("rt", "scripts/build.sh tracing_tree_cli bin/tracing_tree", RT),
     ("rt", "python3 scripts/tests.py", RT),
     ("rt", "python3 scripts/gate.py", RT),
-    ("git", "python3 scripts/gate.py", "git is not on the PATH: install it (Debian: apt install git)"),
+    ("git", "python3 scripts/gate.py", GIT),
     ("rt", "bindings/build.sh", RT),
-    *(("library", f"bindings/{it}", LIBRARY) for it in ("test.sh", "bench.sh", "install.sh /nowhere /usr")),
+    ("library", "bindings/test.sh", LIBRARY),
+    ("library", "bindings/bench.sh", LIBRARY),
+    ("library", "bindings/install.sh /nowhere /usr", LIBRARY),
     ("cc", "bindings/test.sh", CC),
     ("ar", "bindings/test.sh", AR),
     ("python3", "bindings/test.sh", PYTHON),
@@ -60,7 +65,8 @@ def lay_out(room):
     """Copies what the runs need, and makes a folder of tools."""
     for name in COPIED:
         if os.path.isdir(f"{TOP}/{name}"):
-            shutil.copytree(f"{TOP}/{name}", f"{room}/{name}", ignore=shutil.ignore_patterns("target", "__pycache__"))
+            left_out = shutil.ignore_patterns("target", "__pycache__")
+            shutil.copytree(f"{TOP}/{name}", f"{room}/{name}", ignore=left_out)
         else:
             shutil.copy2(f"{TOP}/{name}", f"{room}/{name}")
     for name in ("crates", "tools"):
@@ -80,10 +86,11 @@ def run(room, missing, words):
     os.mkdir(f"{room}/bin")
     write(f"{room}/bin/libtracing_tree.a", "")
     write(f"{room}/called", "")
-    path = f"{room}/bin/libtracing_tree.a" if missing == "library" else f"{room}/tools/{missing}"
+    path = f"{room}/{'bin/libtracing_tree.a' if missing == 'library' else f'tools/{missing}'}"
     os.rename(path, f"{room}/aside")
-    how = {"cwd": room, "env": {"PATH": f"{room}/tools", "HOME": room}, "stdin": subprocess.DEVNULL}
-    done = subprocess.run(words.split(), stdout=subprocess.PIPE, stderr=subprocess.STDOUT, timeout=60, text=True, **how)
+    how = {"stdin": subprocess.DEVNULL, "stdout": subprocess.PIPE, "stderr": subprocess.STDOUT}
+    env = {"PATH": f"{room}/tools", "HOME": room}
+    done = subprocess.run(words.split(), cwd=room, env=env, timeout=60, text=True, **how)
     os.rename(f"{room}/aside", path)
     return done.returncode, done.stdout
 

@@ -26,7 +26,8 @@ for name; do
         ar) need ar ar "install it (Debian: apt install binutils)" ;;
         library)
             [ -f "${0%need.sh}../bin/libtracing_tree.a" ] || {
-                echo "bin/libtracing_tree.a isn't there: run 'make bindings' first (about 20 minutes)" >&2
+                said="run 'make bindings' first (about 20 minutes)"
+                echo "bin/libtracing_tree.a isn't there: $said" >&2
                 missing=2
             }
             ;;

@@ -8,7 +8,7 @@ use std::process::{exit, Command};
 const LIBRARY: &str = "libtracing_tree.a";
 
 /// Returns the folder of the library, or why the build stops. `named` is `TRACING_TREE_LIB`, `home`
-/// the crate's folder, and `installed` asks pkg-config.
+/// the crate's folder, and `installed` runs pkg-config.
 fn find(
     named: Option<OsString>,
     home: &Path,
@@ -55,7 +55,7 @@ fn holds_library(folder: &Path) -> bool {
 }
 
 /// Returns the folder that pkg-config names, if it knows the library.
-fn ask_pkg_config() -> Option<PathBuf> {
+fn by_pkg_config() -> Option<PathBuf> {
     let program = env::var_os("PKG_CONFIG").unwrap_or_else(|| "pkg-config".into());
     let said = Command::new(program).args(["--variable=libdir", "tracing_tree"]).output().ok()?;
     let folder = String::from_utf8(said.stdout).ok()?;
@@ -65,7 +65,7 @@ fn ask_pkg_config() -> Option<PathBuf> {
 
 fn main() {
     let home = env::var_os("CARGO_MANIFEST_DIR").map_or_else(PathBuf::new, PathBuf::from);
-    let folder = find(env::var_os("TRACING_TREE_LIB"), &home, ask_pkg_config).unwrap_or_else(|why| {
+    let folder = find(env::var_os("TRACING_TREE_LIB"), &home, by_pkg_config).unwrap_or_else(|why| {
         eprintln!("{why}");
         exit(1)
     });
