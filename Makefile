@@ -16,19 +16,19 @@ demo: ## draws examples/first.jsonl
 
 # Every test, every worked case and the runs of the programs, on the sources as they stand and without a proof. Also the tests of the
 # library for C, where a checkout on this machine has proved it as it stands.
-test: need-python ## runs every test, without proofs
+test: need-rt ## runs every test, without proofs
 	@python3 scripts/tests.py
 
 # Proves every crate, over what earlier runs proved, and leaves the programs at bin/.
-prove: build ## proves every crate, over earlier runs
+prove: need-rt build ## proves every crate, over earlier runs
 	@rt all check
 
 # Proves everything from nothing, and tries everything: what must not compile, the edits that must be refused, tests and programs.
-gate: need-python ## proves and tries everything from nothing
+gate: need-rt ## proves and tries everything from nothing
 	@python3 scripts/gate.py
 
 # The edits that must be refused, of all crates or of those that CRATES names.
-edits: need-python ## tries the edits that must be refused (CRATES=..)
+edits: need-rt ## tries the edits that must be refused (CRATES=..)
 	@python3 scripts/edits.py $(CRATES)
 
 # What a claim rests on: the contract of the function NAME, or the definition NAME, and all definitions that it leads to.
@@ -137,7 +137,7 @@ counts: need-python need-cc build bin/tracing_tree_bench bin/tracing_tree_servic
 	@python3 scripts/counts.py bin/tracing_tree_bench bin/tracing_tree bin/ttree bin/tracing_tree_service bin/count.so --write
 
 # Outside the gate: the programs under valgrind, on all worked cases and some drawings.
-memcheck: need-python build ## runs the programs under valgrind
+memcheck: need-python need-valgrind build ## runs the programs under valgrind
 	@python3 scripts/memcheck.py bin/tracing_tree bin/tracing_tree_read bin/ttree
 
 # Outside the gate, but without limits of memory in `test` too: the programs where memory, stack, disks and pipes end, and odd arguments.
@@ -148,11 +148,10 @@ limits: need-python build ## runs the programs with little memory, stack or disk
 clean: ## removes what the targets made
 	@rm -rf bin crates/*/out
 
-.PHONY: need-python need-cc
-need-python:
-	@command -v python3 > /dev/null || { echo "Python 3 is not on the PATH" >&2; exit 2; }
-
-need-cc:
-	@command -v $(CC) > /dev/null || { echo "the C compiler $(CC) is not on the PATH" >&2; exit 2; }
+# Says what to do if a tool is missing, before anything is built.
+NEEDS = need-rt need-python need-cc need-valgrind
+.PHONY: $(NEEDS)
+$(NEEDS): need-%:
+	@CC='$(CC)' scripts/need.sh $*
 
 include bindings/bindings.mk

@@ -3,6 +3,7 @@
 # alone. They are those of 1,000 rounds less those of 500, for one round. Needs what build.sh has left in bin/.
 set -eu
 cd "$(dirname "$0")/.."
+scripts/need.sh cc valgrind library
 room=$(mktemp -d)
 trap 'rm -rf "$room"' EXIT
 "${CC:-cc}" -std=c99 -O2 -Ibindings/c bindings/c/bench.c bin/libtracing_tree.a -o "$room/bench"

@@ -12,5 +12,5 @@ bindings-test: bindings ## tests the library
 	@CC='$(CC)' CXX='$(CXX)' bindings/test.sh
 
 # Counts instructions of calls from C and Rust, by valgrind. It asserts nothing.
-bindings-bench: bindings ## counts instructions
+bindings-bench: need-valgrind bindings ## counts instructions
 	@CC='$(CC)' bindings/bench.sh

@@ -8,6 +8,7 @@
 # left in bin/, and the status is 1.
 set -eu
 cd "$(dirname "$0")/.."
+scripts/need.sh rt cc ar
 mkdir -p bin
 proved=crates/tracing_tree_c/out/libtracing_tree_c.a
 rm -f bin/libtracing_tree.*

@@ -1,8 +1,10 @@
 #!/bin/bash
 # Tests what build.sh has left in bin/, from C, C++, Go, Python and Rust. Where a tool isn't there, it says in one line what it leaves
 # out. The last line is 'bindings: N passed, M failed', and the status is 1 where something failed.
+# Without the library, a C compiler or Python it says what to do, and ends with status 2.
 set -u
 cd "$(dirname "$0")/.."
+scripts/need.sh library cc ar python || exit 2
 top=$(pwd)
 room=$(mktemp -d)
 trap 'rm -rf "$room"' EXIT
@@ -72,11 +74,15 @@ for field in 'bool ansi;=uint64_t ansi;' 'uint64_t epoch;=uint32_t epoch;' 'int6
 done
 
 # ---- the header, the example and the tests in C
-step "the header as C++17" $cxx -std=c++17 $strict -x c++ -include bindings/c/tracing_tree.h -fsyntax-only /dev/null
 step "the example" $cc -std=c99 -O1 -g $strict -Ibindings/c $example $library -o "$room/server"
 step "what the example draws" prints bindings/c/server.out "$room/server"
-step "the example as C++17" $cxx -std=c++17 -O1 $strict -Ibindings/c -x c++ $example -x none $library -o "$room/server_cxx"
-step "what the example draws as C++17" prints bindings/c/server.out "$room/server_cxx"
+if has "${cxx%% *}"; then
+    step "the header as C++17" $cxx -std=c++17 $strict -x c++ -include bindings/c/tracing_tree.h -fsyntax-only /dev/null
+    step "the example as C++17" $cxx -std=c++17 -O1 $strict -Ibindings/c -x c++ $example -x none $library -o "$room/server_cxx"
+    step "what the example draws as C++17" prints bindings/c/server.out "$room/server_cxx"
+else
+    left_out "the header and the example as C++17, since $cxx isn't there"
+fi
 step "the tests" $cc -std=c99 -O1 -g $strict -Ibindings/c -Wl,--wrap=malloc,--wrap=realloc bindings/c/test.c $library \
     -o "$room/test"
 counts "the tests in C" "$room/test"
@@ -118,6 +124,62 @@ fi
 # ---- the worked cases of the program, through the shared object
 counts "the worked cases" python3 bindings/python/cases.py bin/libtracing_tree.so.1 crates/tracing_tree_cases/data
 
+# ---- how the Rust crate finds the library: its build script, without cargo, in a stand-in for a checkout
+tree=$(realpath "$room")/tree
+crate=$tree/bindings/rust
+
+# Runs the build script with these variables, and with no package installed: search VARIABLE=VALUE..
+search() { env -i PATH="$PATH" CARGO_MANIFEST_DIR="$crate" PKG_CONFIG_LIBDIR="$room/none" "$@" "$room/search"; }
+
+# Compares the folders that it links from and watches: links_from FOLDER VARIABLE=VALUE..
+links_from() {
+    local folder=$1
+    shift
+    search "$@" > "$room/printed" && grep -qxF "cargo:rustc-link-search=native=$folder" "$room/printed" &&
+        grep -qxF "cargo:rerun-if-changed=$folder/libtracing_tree.a" "$room/printed"
+}
+
+# The build must stop with exactly this message, and print nothing for cargo:
+# stops_with TEXT VARIABLE=VALUE..
+stops_with() {
+    local text=$1
+    shift
+    ! search "$@" > "$room/printed" 2> "$room/error" && [ "$(cat "$room/error")" = "$text" ] && [ ! -s "$room/printed" ]
+}
+
+if ! has rustc; then
+    left_out "how the Rust crate finds the library, since rustc isn't there"
+elif step "build of the build script" rustc --edition 2021 -D warnings -o "$room/search" bindings/rust/build.rs && [ -x "$room/search" ]; then
+    what="Run \`make bindings\` in the repository (about 20 minutes), or set TRACING_TREE_LIB to the folder that has it."
+    other="Set it to the folder that has it, or unset it and run \`make bindings\` in the repository (about 20 minutes)."
+    mkdir -p "$crate/lib" "$tree/bin" "$room/my lib" "$room/none" "$room/stale"
+    printf 'prefix=%s\nlibdir=${prefix}/lib\nName: tracing_tree\nDescription: -\nVersion: 1\n' "$room/stale" > "$room/stale/tracing_tree.pc"
+    step "no library" stops_with "libtracing_tree.a isn't in $crate/lib, nor known to pkg-config, nor in $tree/bin. $what"
+    step "no library, and no pkg-config" \
+        stops_with "libtracing_tree.a isn't in $crate/lib, nor known to pkg-config, nor in $tree/bin. $what" PKG_CONFIG="$room/none/pkg-config"
+    ar crs "$tree/bin/libtracing_tree.a"
+    step "the library in the checkout's bin/" links_from "$tree/bin"
+    step "the library in the checkout's bin/, without pkg-config" links_from "$tree/bin" PKG_CONFIG="$room/none/pkg-config"
+    step "an empty TRACING_TREE_LIB" links_from "$tree/bin" TRACING_TREE_LIB=
+    if has pkg-config; then
+        step "the library by pkg-config" links_from "$room/prefix/lib" PKG_CONFIG_PATH="$room/prefix/lib/pkgconfig"
+        step "a package without its library" links_from "$tree/bin" PKG_CONFIG_PATH="$room/stale"
+        rm "$tree/bin/libtracing_tree.a"
+        step "no library, but a package" stops_with \
+            "libtracing_tree.a isn't in $crate/lib, nor in $room/stale/lib, which pkg-config names, nor in $tree/bin. $what" \
+            PKG_CONFIG_PATH="$room/stale"
+    else
+        left_out "the search of the Rust crate by pkg-config, which isn't there"
+    fi
+    ar crs "$crate/lib/libtracing_tree.a"
+    step "the library beside the crate" links_from "$crate/lib" PKG_CONFIG_PATH="$room/prefix/lib/pkgconfig"
+    step "TRACING_TREE_LIB without a library" \
+        stops_with "TRACING_TREE_LIB names $room/my lib, which has no libtracing_tree.a. $other" TRACING_TREE_LIB="$room/my lib"
+    ar crs "$room/my lib/libtracing_tree.a"
+    step "the library by TRACING_TREE_LIB" links_from "$room/my lib" TRACING_TREE_LIB="$room/my lib"
+    step "the library by TRACING_TREE_LIB, from the crate's folder" links_from "$crate/../../../my lib" TRACING_TREE_LIB="../../../my lib"
+fi
+
 # ---- the Rust crate
 crates=/usr/share/cargo/registry
 if ! has cargo; then
@@ -125,8 +187,18 @@ if ! has cargo; then
 elif ! compgen -G "$crates/tracing-0.1*" > /dev/null || ! compgen -G "$crates/tracing-subscriber-0.3*" > /dev/null; then
     left_out "the Rust crate, since Debian's librust-tracing-dev and librust-tracing-subscriber-dev aren't there"
 else
-    export TRACING_TREE_LIB="$top/bin"
     cd bindings/rust
+    # A stand-in for a library of version 0: each function returns 0.
+    sed -n 's/^    fn \(tt_[a-z0-9_]*\)(.*/int \1(void) { return 0; }/p' src/sys.rs > "$room/other.c"
+    mkdir "$room/other"
+    step "another version of the library" $cc -c "$room/other.c" -o "$room/other.o"
+    ar crs "$room/other/libtracing_tree.a" "$room/other.o"
+    step "build over another version" env TRACING_TREE_LIB="$room/other" cargo build --offline --quiet --example program
+    refuses "another version of the library at the first use" "needs version [1-9][0-9]* of libtracing_tree.a, but version 0 is linked" \
+        target/debug/examples/program 0
+    # The checkout's own library, which the crate finds in bin/ if nothing is installed or set.
+    export PKG_CONFIG_LIBDIR="$room/none" PKG_CONFIG_PATH=
+    unset TRACING_TREE_LIB
     step "build of the Rust crate" cargo build --offline --quiet --lib --example program
     if cargo test --offline --quiet > "$room/log" 2>&1; then
         for good in $(sed -n 's/^test result: ok. \([0-9]*\) passed.*/\1/p' "$room/log"); do passed=$((passed + good)); done

@@ -3,7 +3,7 @@
 # that doesn't compile or prove leaves none. `rt run` also runs what it built, here on no input, and how that run ends doesn't matter.
 set -u
 top=$(cd "$(dirname "$0")/.." && pwd)
-command -v rt > /dev/null || { echo "build: the kit's command rt is not on the PATH" >&2; exit 2; }
+"$top/scripts/need.sh" rt || exit 2
 mkdir -p "$top/bin"
 log=$top/bin/$1.log
 cd "$top/crates/$1" || exit 2

@@ -7,7 +7,7 @@ program=$top/bin/tracing_tree
 if [ -x "$program" ] && [ -z "$(find "$top/crates" "$top/crates.txt" -newer "$program" -type f -not -path '*/out/*' -not -path '*/must-fail/*' -print -quit)" ]; then
     exec "$program" < "$example"
 fi
-command -v rt > /dev/null || { echo "demo: the kit's command rt is not on the PATH" >&2; exit 2; }
+"$top/scripts/need.sh" rt
 echo "demo: this run compiles the sources without their proofs, in about a minute; 'make build' makes the proved program" >&2
 said=$(mktemp)
 trap 'rm -f "$said"' EXIT

@@ -185,9 +185,8 @@ def main():
     asked.add_argument("--sample", type=int, default=0)
     asked.add_argument("--anew", action="store_true")
     asked = asked.parse_args()
-    for word in ("rt", "bash", "git"):
-        if not shutil.which(word):
-            sys.exit(f"gate: the command {word} is not on the PATH")
+    if subprocess.call([f"{TOP}/scripts/need.sh", "rt", "bash", "git"]):
+        return 2
     os.makedirs(f"{TOP}/bin", exist_ok=True)
     for name in ("gate.log", "ci.log"):
         open(f"{TOP}/bin/{name}", "w", encoding="utf-8").close()

@@ -5,7 +5,8 @@ The tests of each crate run by `rt try --test`, which compiles the sources as th
 (scripts/unproved.py), and scripts/program.sh runs them as their users do. A model that is written from the docs alone (scripts/model.py)
 says what they must write for random lines, and they are run where files and pipes end. Their man pages and completions are compared with
 what they print, and `make install` is tried on a copy (scripts/install_test.py). That no function does anything but what its contract
-says is for `make gate` to show, which runs tests, cases and programs again as they are proved and built.
+says is for `make gate` to show, which runs tests, cases and programs again as they are proved and built. What targets and scripts say if a
+tool is missing is compared by scripts/messages.py.
 
 The library for C has no build without its proofs, which take longer than all the tests. Its tests and those of the Rust crate run where a
 check on this machine has proved the library as it stands. The last line is 'N passed, M failed'."""
@@ -26,6 +27,7 @@ RUNS = (
      "tracing_tree_cli", "tracing_tree_read"),
     ("scripts/limits.py", "--checked", "tracing_tree_cli", "tracing_tree_read", "tracing_tree_ttree"),
     ("scripts/install_test.py", "tracing_tree_cli", "tracing_tree_read", "tracing_tree_ttree"),
+    ("scripts/messages.py",),
 )
 # What compares the docs with the sources.
 DOCS = (
@@ -135,9 +137,8 @@ def check_docs(what, *words):
 
 
 def main():
-    for word in ("rt", "bash"):
-        if not shutil.which(word):
-            sys.exit(f"test: the command {word} is not on the PATH")
+    if subprocess.call([f"{TOP}/scripts/need.sh", "rt", "bash"]):
+        return 2
     os.makedirs(f"{TOP}/bin", exist_ok=True)
     crates = crates_with_tests()
     unknown = set(sys.argv[1:]) - {*crates}

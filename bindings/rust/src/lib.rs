@@ -62,7 +62,12 @@ impl Default for HierarchicalLayer {
 
 impl HierarchicalLayer {
     /// A layer that writes to standard error, with `indent_amount` columns for each level. It uses colours if standard error is a terminal.
+    ///
+    /// # Panics
+    ///
+    /// Panics if the linked library has another version than this crate needs.
     pub fn new(indent_amount: usize) -> Self {
+        sys::require_version();
         HierarchicalLayer {
             make_writer: io::stderr,
             settings: sys::Settings {

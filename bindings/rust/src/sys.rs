@@ -404,6 +404,16 @@ impl Drop for Tree {
     }
 }
 
+/// Panics if the library has another version than `VERSION`.
+pub fn require_version() {
+    let found = version();
+    assert!(
+        found == VERSION,
+        "tracing_tree_proved needs version {VERSION} of libtracing_tree.a, but version {found} is linked: \
+         take the crate and the library from one checkout"
+    );
+}
+
 /// The version of the library.
 pub fn version() -> u32 {
     // SAFETY: it asks nothing.

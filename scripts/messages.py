@@ -1,0 +1,126 @@
+#!/usr/bin/env python3
+"""Runs targets and scripts without a tool or without the library for C that they need, and compares
+what they say with a sentence that says what to do: messages.py
+
+Each run has its own PATH, in a copy of the repository without its crates. The kit, the compilers
+and the like are stand-ins there, and none may be called: a missing tool is reported before anything
+is proved or built. The last line is 'N of M runs ended as they must'."""
+import os, shutil, subprocess, sys, tempfile
+
+TOP = os.path.dirname(os.path.dirname(os.path.abspath(__file__)))
+COPIED = ("Makefile", "crates.txt", "scripts", "bindings", "misuse", "examples")
+# Tools that are taken from this machine, and those that get a stand-in.
+TOOLS = ("awk bash basename cat chmod cmp cp cut date dirname env find grep head id install ln ls "
+         "make mkdir mktemp mv realpath rm sed seq sh sleep sort tail tee test timeout touch tr "
+         "true uname wc").split()
+STAND_INS = ("rt", "cc", "c++", "ar", "git", "valgrind", "cargo")
+
+RT = "the kit's command rt is not on the PATH: add the folder bin/ of the Rattle kit to it"
+PYTHON = "python3 is not on the PATH: install Python 3 (Debian: apt install python3)"
+CC = ("the C compiler cc is not on the PATH: "
+      "install one (Debian: apt install gcc), or name yours, as in CC=clang")
+GIT = "git is not on the PATH: install it (Debian: apt install git)"
+AR = "ar is not on the PATH: install it (Debian: apt install binutils)"
+VALGRIND = "valgrind is not on the PATH: install it (Debian: apt install valgrind)"
+LIBRARY = "bin/libtracing_tree.a isn't there: run 'make bindings' first (about 20 minutes)"
+
+# The targets that need the kit, and with it Python, and those that need a C compiler too.
+KIT = ("demo test prove gate edits build service jobs laws stress bench faults fuzz soak memcheck "
+       "limits counts bindings bindings-test bindings-bench").split()
+COMPILED = "bench faults soak counts bindings bindings-test bindings-bench".split()
+# What is missing, the words of a run, and what it says.
+RUNS = (
+    *(("rt", f"make {it}", RT) for it in KIT),
+    *(("python3", f"make {it}", PYTHON) for it in (*KIT, "claim NAME=read_rows")),
+    *(("cc", f"make {it}", CC) for it in COMPILED),
+    ("ar", "make bindings", AR),
+    *(("valgrind", f"make {it}", VALGRIND) for it in ("memcheck", "bindings-bench")),
+    ("cc", "make CC=other bindings", CC.replace("cc is", "other is")),
+    # As if the programs were built.
+    ("rt", "make -o build prove", RT),
+    ("rt", "scripts/demo.sh", RT),
+    ("rt", "scripts/build.sh tracing_tree_cli bin/tracing_tree", RT),
+    ("rt", "python3 scripts/tests.py", RT),
+    ("rt", "python3 scripts/gate.py", RT),
+    ("git", "python3 scripts/gate.py", GIT),
+    ("rt", "bindings/build.sh", RT),
+    ("library", "bindings/test.sh", LIBRARY),
+    ("library", "bindings/bench.sh", LIBRARY),
+    ("cc", "bindings/test.sh", CC),
+    ("ar", "bindings/test.sh", AR),
+    ("python3", "bindings/test.sh", PYTHON),
+    ("cc", "bindings/bench.sh", CC),
+    ("valgrind", "bindings/bench.sh", VALGRIND),
+)
+
+
+def write(path, text):
+    with open(path, "w", encoding="utf-8") as file:
+        file.write(text)
+    os.chmod(path, 0o755)
+
+
+def lay_out(room):
+    """Copies what the runs need, and makes a folder of tools."""
+    for name in COPIED:
+        if os.path.isdir(f"{TOP}/{name}"):
+            left_out = shutil.ignore_patterns("target", "__pycache__")
+            shutil.copytree(f"{TOP}/{name}", f"{room}/{name}", ignore=left_out)
+        else:
+            shutil.copy2(f"{TOP}/{name}", f"{room}/{name}")
+    for name in ("crates", "tools"):
+        os.mkdir(f"{room}/{name}")
+    for name in TOOLS:
+        found = shutil.which(name)
+        if found:
+            os.symlink(found, f"{room}/tools/{name}")
+    write(f"{room}/tools/python3", f'#!/bin/sh\nexec "{sys.executable}" "$@"\n')
+    for name in STAND_INS:
+        write(f"{room}/tools/{name}", f'#!/bin/sh\necho {name} >> "{room}/called"\nexit 1\n')
+
+
+def run(room, missing, words):
+    """Runs a command without a tool or the library, and returns its status and all that it said."""
+    shutil.rmtree(f"{room}/bin", ignore_errors=True)
+    os.mkdir(f"{room}/bin")
+    write(f"{room}/bin/libtracing_tree.a", "")
+    write(f"{room}/called", "")
+    path = f"{room}/{'bin/libtracing_tree.a' if missing == 'library' else f'tools/{missing}'}"
+    os.rename(path, f"{room}/aside")
+    how = {"stdin": subprocess.DEVNULL, "stdout": subprocess.PIPE, "stderr": subprocess.STDOUT}
+    env = {"PATH": f"{room}/tools", "HOME": room}
+    done = subprocess.run(words.split(), cwd=room, env=env, timeout=60, text=True, **how)
+    os.rename(f"{room}/aside", path)
+    return done.returncode, done.stdout
+
+
+def fault(room, missing, words, sentence):
+    """Returns how a run didn't end as it must, if so."""
+    status, said = run(room, missing, words)
+    if status != 2:
+        return f"status {status}, and it said {said[-300:]!r}"
+    if said.split("\n").count(sentence) != 1:
+        return f"it said {said[-300:]!r}"
+    with open(f"{room}/called", encoding="utf-8") as file:
+        called = file.read().split()
+    if called:
+        return f"it called {' '.join(called)}"
+    left = os.listdir(f"{room}/bin")
+    return f"bin/ holds {' '.join(left)}" if left != ["libtracing_tree.a"] else None
+
+
+def main():
+    right = 0
+    with tempfile.TemporaryDirectory(prefix="messages-") as room:
+        lay_out(room)
+        for missing, words, sentence in RUNS:
+            found = fault(room, missing, words, sentence)
+            right += not found
+            if found:
+                print(f"messages: {words} without {missing}: FAILED: {found}")
+    print(f"messages: {right} of {len(RUNS)} runs ended as they must")
+    return 0 if right == len(RUNS) else 1
+
+
+if __name__ == "__main__":
+    sys.exit(main())
