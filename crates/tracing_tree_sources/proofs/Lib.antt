@@ -1,4 +1,6 @@
+pub mod Accepted
 pub mod Made
+pub mod Drawn
 pub mod Noted
 pub mod Heard
 pub mod Ended

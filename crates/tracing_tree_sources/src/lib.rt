@@ -1,7 +1,8 @@
 //! Other tools' output drawn as a tree.
 //!
-//! [`run_source`] draws the lines of any [`Source`]: what they mean is said in a crate for each tool. [`AtLeast`] tells the events of a
-//! level and above alone. [`first_format`] tells by the first line whose output an input is.
+//! [`run_source`] makes the calls of any [`Source`]'s lines on any receiver, and [`draw_source`] draws
+//! them: what they mean is said in a crate for each tool. [`AtLeast`] tells the events of a level and
+//! above alone. [`first_format`] tells by the first line whose output an input is.
 #![tactic(auto)]
 
 pub mod blanks;
@@ -19,5 +20,5 @@ pub mod values;
 pub use first::{Format, first_format};
 pub use level::AtLeast;
 pub use notes::{Lack, Notes};
-pub use run::{SourceRun, run_source};
+pub use run::{SourceRun, draw_source, run_source};
 pub use source::Source;
