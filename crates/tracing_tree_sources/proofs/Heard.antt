@@ -287,6 +287,30 @@ module _ {C : Type 0} (answers : Call → Result Reply Refusal → C → C → T
     noted_counts Memory before here unknown h one e = inr (ap (λ n. n + 1) e ∙ ap (λ n. before + n) (sym one))
     noted_counts (Refused refusal) before here unknown h one e = absurd h
 
+    module _ (ends : S → List Call) where
+      ends_with_rest : (source : S) (others : List (List ℕ)) (cause : LineCause) (old new : C) → StopsIn Made answers (next_calls takes ends source others) cause old new →
+          StopsIn Made answers ((hear takes source others).calls ++ ends (hear takes source others).source) cause old new
+      ends_with_rest source [] cause old new h = h
+      ends_with_rest source (line ∷ others) cause old new h =
+          let heard : Heard S = hear_line takes source line in
+          let later : Heard S = hear takes heard.source others in
+          let P : List Call → Type 0 = λ calls. StopsIn Made answers calls cause old new in
+          subst P (sym (append_assoc heard.calls later.calls (ends later.source)))
+          (stops_more answers flushes heard.calls (later.calls ++ ends later.source) cause old new h)
+
+      -- a beginning of all calls was made where a run ended early
+      pub beginning : (lines : List (List ℕ)) (source : S) (run : SourceRun) (fault : LineFault) (old new : C) →
+          EndsAt Made answers takes ends lines source run fault old new → StopsIn Made answers (calls_of takes ends source lines) fault.cause old new
+      beginning lines source run fault old new h =
+          let before : Heard S = hear takes source h.before in
+          let later : Heard S = hear takes before.source h.others in
+          let P : List Call → Type 0 = λ calls. StopsIn Made answers calls fault.cause old new in
+          let Q : List (List ℕ) → Type 0 = λ lines. StopsIn Made answers (calls_of takes ends source lines) fault.cause old new in
+          subst Q h.split (subst P
+          (sym (ap (λ (h : Heard S). h.calls ++ ends h.source) (hear_append takes source h.before h.others) ∙ append_assoc before.calls later.calls (ends later.source)))
+          (stops_after answers flushes before.calls (later.calls ++ ends later.source) fault.cause old h.between new h.makes
+          (ends_with_rest before.source h.others fault.cause h.between new h.stops)))
+
     module _ (lacks : Option Json → Lack) (ends : S → List Call) (ended : S → S) where
       -- the next line ends the run, or the end does
       pub stops : (known middle left : Option (List ℕ)) (line : List ℕ) (begun source after : S) (number unknown : ℕ) (noted notes : Option (List Note)) (cause : LineCause) → MayEnd cause 0 → (old now next : C) →
@@ -338,29 +362,6 @@ module _ {C : Type 0} (answers : Call → Result Reply Refusal → C → C → T
             stops = subst P (sym so_far.reached) (stops_there heard.calls cause now next of_notes made);
             counts = noted_counts cause before.unknown (hear_line takes before.source line).unknown unknown of_notes (subst Q (sym so_far.reached) unknown_is) so_far.counted;
           }
-
-      ends_with_rest : (source : S) (others : List (List ℕ)) (cause : LineCause) (old new : C) → StopsIn Made answers (next_calls takes ends source others) cause old new →
-          StopsIn Made answers ((hear takes source others).calls ++ ends (hear takes source others).source) cause old new
-      ends_with_rest source [] cause old new h = h
-      ends_with_rest source (line ∷ others) cause old new h =
-          let heard : Heard S = hear_line takes source line in
-          let later : Heard S = hear takes heard.source others in
-          let P : List Call → Type 0 = λ calls. StopsIn Made answers calls cause old new in
-          subst P (sym (append_assoc heard.calls later.calls (ends later.source)))
-          (stops_more answers flushes heard.calls (later.calls ++ ends later.source) cause old new h)
-
-      -- a beginning of all calls was made where a run ended early
-      pub beginning : (lines : List (List ℕ)) (source : S) (run : SourceRun) (fault : LineFault) (old new : C) →
-          EndsAt Made answers takes ends lines source run fault old new → StopsIn Made answers (calls_of takes ends source lines) fault.cause old new
-      beginning lines source run fault old new h =
-          let before : Heard S = hear takes source h.before in
-          let later : Heard S = hear takes before.source h.others in
-          let P : List Call → Type 0 = λ calls. StopsIn Made answers calls fault.cause old new in
-          let Q : List (List ℕ) → Type 0 = λ lines. StopsIn Made answers (calls_of takes ends source lines) fault.cause old new in
-          subst Q h.split (subst P
-          (sym (ap (λ (h : Heard S). h.calls ++ ends h.source) (hear_append takes source h.before h.others) ∙ append_assoc before.calls later.calls (ends later.source)))
-          (stops_after answers flushes before.calls (later.calls ++ ends later.source) fault.cause old h.between new h.makes
-          (ends_with_rest before.source h.others fault.cause h.between new h.stops)))
 
       -- the end of the input is reached
       pub finishes : (known middle left : Option (List ℕ)) (line : List ℕ) (begun source after : S) (number unknown : ℕ) (noted notes : Option (List Note)) (old now next : C) →

@@ -6,6 +6,7 @@
 #![tactic(auto)]
 
 pub mod blanks;
+pub mod calls_at_least;
 pub mod fields;
 pub mod first;
 pub mod level;
@@ -14,11 +15,14 @@ pub mod moments;
 pub mod notes;
 pub mod run;
 pub mod source;
+pub mod tally;
 pub mod told;
 pub mod values;
 
+pub use calls_at_least::CallsAtLeast;
 pub use first::{Format, first_format};
 pub use level::AtLeast;
 pub use notes::{Lack, Notes};
 pub use run::{SourceRun, draw_source, run_source};
 pub use source::Source;
+pub use tally::{Tally, count_source};
