@@ -1,5 +1,5 @@
 -- What a tally counted of the calls of a run.
-use Rattle.std.proofs.Common.{◌≡◌, ℕ, zero, suc, List, [], ◌∷◌, Option, Some, None, Result, Ok, Err, refl, sym, ap, subst, ◌∙◌}
+use Rattle.std.proofs.Common.{◌≡◌, ℕ, zero, suc, List, [], ◌∷◌, Option, Some, None, ap, subst, ◌∙◌}
 use Rattle.std.specs.Prelude.{IfSome, MatchOption}
 use Rattle.json.specs.Json.{Json}
 use Rattle.tracing_tree_layer.specs.declared.call.Call.{Call}
@@ -23,7 +23,7 @@ flushed_same (suc count) old new (shown, flushed, h) = flushed_same count shown 
 accepts_counts : (calls : List Call) (old new : Tally) → Accepts IsCounted still calls old new → new ≡ counted_all calls old
 accepts_counts [] old new (count, h) = flushed_same count old new h
 accepts_counts (call ∷ calls) old new (count, shown, between, reply, flushed, answered, h) =
-    accepts_counts calls between new h ∙ ap (counted_all calls) (answered ∙ ap (counted call) (flushed_same count old shown flushed))
+    accepts_counts calls between new h ∙ ap (counted_all calls) (answered.0 ∙ ap (counted call) (flushed_same count old shown flushed))
 
 breaks_same : (cause : LineCause) (rest : List Call) (old new : Tally) → Breaks IsCounted cause rest old new → new ≡ old
 breaks_same NoSettings rest old new h = h
@@ -31,7 +31,7 @@ breaks_same NotACall rest old new h = h
 breaks_same Read rest old new h = h
 breaks_same Memory rest old new h = h
 breaks_same (Refused refusal) [] old new h = absurd h
-breaks_same (Refused refusal) (call ∷ rest) old new h = h
+breaks_same (Refused refusal) (call ∷ rest) old new h = h.0
 
 module _ {S : Type 0} (takes : S → List ℕ → Option Json → Option (Step S)) (ends : S → List Call) (ended : S → S) where
   counts_by : (lines : List (List ℕ)) (source after : S) (run : SourceRun) (fault : Option LineFault) (new : Tally) →

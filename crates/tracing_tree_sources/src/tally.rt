@@ -1,6 +1,6 @@
 //! Counts of calls.
 
-ghost use Rattle.std.specs.Prelude.{◌≡◌, ◌+◌, IfOk, IfSome};
+ghost use Rattle.std.specs.Prelude.{◌≡◌, ◌+◌, IfSome, MatchResult};
 ghost use Rattle.std.specs.Io.Buffered.{reader_remaining};
 ghost use Rattle.tracing_tree_lines.specs.Lines.Spelled.{input_lines};
 ghost use Rattle.tracing_tree_sources.specs.Source.{calls_of};
@@ -111,7 +111,7 @@ impl Calls for Tally {
 
 // Returns the next count. `TooMany` if there is none.
 fn one_more(count: u64) -> Result<u64, Refusal>
-    ensures { IfOk result (λ more. more ≡ count + 1) }
+    ensures { MatchResult result (λ more. more ≡ count + 1) (λ refusal. refusal ≡ Refusal.TooMany) }
 {
     match count.checked_add(1) {
         Some(more) => Ok(more),
