@@ -14,8 +14,8 @@ pub record LeveledCalls (C : Type 0) : Type 0 where
 
 module _ {C : Type 0} where
   -- the receiver answers the call, or the call is accepted and nothing happens
-  abbrev pub PassesOn : Bool → (C → C → Type 0) → Result Reply Refusal → LeveledCalls C → LeveledCalls C
-      → Type 0
+  abbrev pub PassesOn : Bool → (C → C → Type 0) → Result Reply Refusal → LeveledCalls C
+      → LeveledCalls C → Type 0
   PassesOn true Answers answer old new =
       Answers old.receiver new.receiver × (new.min_level ≡ old.min_level)
   PassesOn false Answers answer old new = (answer ≡ Ok Done) × (new ≡ old)

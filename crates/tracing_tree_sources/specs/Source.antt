@@ -83,15 +83,16 @@ module _ {C : Type 0} (flushes : C → C → Type 0) where
   -- holds the next line.
   abbrev pub MayRead : List ℕ → C → Type 0
   MayRead buffer receiver =
-      is_some (position (λ byte. byte == 10) buffer) ≡ false → (before : C) × flushes before receiver
+      is_some (position (λ byte. byte == 10) buffer) ≡ false
+      → (before : C) × flushes before receiver
 
   -- the receiver was flushed `count` times
   abbrev pub FlushedTimes : ℕ → C → C → Type 0
   FlushedTimes zero old new = new ≡ old
   FlushedTimes (suc count) old new = (shown : C) × flushes old shown × FlushedTimes count shown new
 
--- The receiver accepted these calls, one after another. Before each call and after the last one it may
--- have been flushed.
+-- The receiver accepted these calls, one after another. It may have been flushed before each call and
+-- after the last one.
 module _ {C : Type 0} (answers : Call → Result Reply Refusal → C → C → Type 0)
     (flushes : C → C → Type 0) where
   abbrev pub Accepts : List Call → C → C → Type 0
@@ -240,8 +241,8 @@ module _ {C : Type 0} (accepts : List Call → C → C → Type 0)
       MatchOption known (MakesSome accepts answers (Some cause) old new) (λ input.
       StopsIn accepts answers (next_calls takes ends before (input_lines input)) cause old new)
 
-  -- A run ended at a line, or at the end of the input: the calls of all lines before it were made, and
-  -- a beginning of its own. The fault has its number.
+  -- A run ended at a line, or at the end of the input: the calls of all lines before it were made,
+  -- and a first part of its own. The fault has its number.
   pub record EndsAt (ends : S → List Call) (lines : List (List ℕ)) (source : S) (run : SourceRun)
       (fault : LineFault) (old new : C) : Type 0 where
     pub before : List (List ℕ)
@@ -250,13 +251,13 @@ module _ {C : Type 0} (accepts : List Call → C → C → Type 0)
     pub number : fault.line ≡ length before + 1
     pub between : C
     pub makes : accepts (hear takes source before).calls old between
-    pub stops : StopsIn accepts answers (next_calls takes ends (hear takes source before).source others)
-        fault.cause between new
+    pub stops : StopsIn accepts answers
+        (next_calls takes ends (hear takes source before).source others) fault.cause between new
     pub counts : CountsUnknown fault.cause (hear takes source before).unknown
         (next_unknown takes (hear takes source before).source others) run.unknown
 
-  -- The calls of the known lines were accepted, and those that the end brings, and the source has taken
-  -- these lines and the end. If something ended the run, a beginning of these calls was accepted.
+  -- The calls of the known lines were accepted, and those that the end brings, and the source has
+  -- taken these lines and the end. If something ended the run, a first part of these calls was.
   abbrev pub RunsLines : (S → List Call) → (S → S) → List (List ℕ) → S → S → SourceRun → C → C
       → Type 0
   RunsLines ends ended lines source after run old new =
@@ -266,7 +267,7 @@ module _ {C : Type 0} (accepts : List Call → C → C → Type 0)
       × (after ≡ source_after takes ended source lines))
       (λ fault. EndsAt ends lines source run fault old new)
 
-  -- the same over what is left of the input, where that is known
+  -- the same over what is left of the input; if that is unknown, some calls were accepted
   abbrev pub RunsSource : (S → List Call) → (S → S) → Option (List ℕ) → S → S → SourceRun → C → C
       → Type 0
   RunsSource ends ended known source after run old new =

@@ -25,7 +25,7 @@ abbrev pub counted_all : List Call → Tally → Tally
 counted_all [] tally = tally
 counted_all (call ∷ calls) tally = counted_all calls (counted call tally)
 
--- the reply to a call that is counted: spans get the ids 1, 2 and so on, and a close removes its span
+-- the reply to a call that is counted: spans get the ids 1, 2 and so on, and each close removes one
 abbrev pub tally_reply : Call → Tally → Reply
 tally_reply (New attributes context) tally = Span (id_of (tally.spans + 1))
 tally_reply (Clone id) tally = Cloned id

@@ -1,8 +1,9 @@
 //! Other tools' output drawn as a tree.
 //!
-//! [`run_source`] makes the calls of any [`Source`]'s lines on any receiver, and [`draw_source`] draws
-//! them: what they mean is said in a crate for each tool. [`AtLeast`] tells the events of a level and
-//! above alone. [`first_format`] tells by the first line whose output an input is.
+//! [`run_source`] makes the calls of any [`Source`]'s lines on any receiver, and [`draw_source`]
+//! draws them: what they mean is said in a crate for each tool. [`count_source`] counts them.
+//! [`AtLeast`] is a source, and [`CallsAtLeast`] a receiver, with only the events of a level and
+//! above. [`first_format`] detects the format of an input by its first line.
 #![tactic(auto)]
 
 pub mod blanks;

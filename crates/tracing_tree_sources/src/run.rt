@@ -38,9 +38,10 @@ pub struct SourceRun {
 
 /// Makes the calls of a source's lines on a receiver, and then those of its end.
 ///
-/// A line of which nothing is known is counted and left out, and what it lacks is noted. The run ends early where the input can't
-/// be read, where memory is refused, where a call is refused, and at a skipped line after which the notes end it: `NotACall` is
-/// the cause then, and never else. The receiver is flushed before each read of the input.
+/// An unknown line is counted and skipped, and what it lacks is noted. The run ends early if the input
+/// can't be read, if an allocation fails, if a call is refused, and if the notes end it at a skipped
+/// line: `NotACall` is the cause then, and never otherwise. The receiver is flushed before each read of
+/// the input.
 #[tactic(auto, using(crate::proofs::Ended::ends_line, crate::proofs::Ended::ends_noted))]
 pub fn run_source<S: Source, R: Read, C: Calls, N: Notes>(
     alloc: Global,

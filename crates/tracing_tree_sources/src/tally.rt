@@ -17,8 +17,8 @@ use tracing_tree_layer::calls::Calls;
 use tracing_tree_layer::told::ToldEvent;
 use tracing_tree_spans::registry::{Attributes, Record};
 
-/// A receiver that counts its calls by kind, and keeps nothing else of them. Its spans get the ids 1,
-/// 2 and so on.
+/// A receiver that counts its calls by kind, and keeps nothing else of them. Its spans get the ids
+/// 1, 2 and so on.
 #[derive(Clone, Copy, Debug, Drop)]
 pub struct Tally {
     /// How many spans were made.
