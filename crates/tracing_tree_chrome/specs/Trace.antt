@@ -13,6 +13,7 @@ use Rattle.tracing_tree_chrome.specs.Later.{marked}
 use Rattle.tracing_tree_chrome.specs.Text.{elements_in, is_cut, mended}
 use Rattle.tracing_tree_chrome.specs.Tree.{begun_tree, finished, stepped_all}
 use Rattle.tracing_tree_sources.specs.Counts.{one_more}
+use Rattle.tracing_tree_layer.specs.Layered.Answered.{IsAnswered}
 use Rattle.tracing_tree_sources.specs.Source.{Makes, StopsIn}
 use Rattle.tracing_tree_chrome.specs.declared.trace.Cut.{Cut}
 use Rattle.tracing_tree_chrome.specs.declared.trace.Heard.{Heard}
@@ -103,7 +104,7 @@ DrawsTrace next moment cut gathered old new =
 abbrev pub DrawsUpTo : ℕ → Moment → Cut → GatheredState → Refusal → Seen → Seen → Type 0
 DrawsUpTo next moment cut gathered refusal old new =
     (calls : List Call) × AreCallsOf next moment cut gathered calls
-    × StopsIn calls (Refused refusal) old new
+    × StopsIn Makes IsAnswered calls (Refused refusal) old new
 
 -- what was gathered is drawn, or the drawing ends at a call that was refused, or nothing is drawn for
 -- want of memory

@@ -20,7 +20,7 @@ use tracing_tree_layer::layered::Layered;
 use tracing_tree_lines::lines::{LineCause, LineFault};
 use tracing_tree_output::Output;
 use tracing_tree_sources::notes::{Lack, Notes};
-use tracing_tree_sources::run::{SourceRun, make, skip};
+use tracing_tree_sources::run::{SourceRun, draw_calls, skip};
 use tracing_tree_sources::values::value_of;
 use tracing_tree_time::{FormatTime, Moment};
 
@@ -106,7 +106,7 @@ fn draw<W: Output, FT: FormatTime>(
     let Ok(calls) = calls_of(alloc, next, moment, cut, gathered) else {
         return Err(LineCause::Memory);
     };
-    match make(calls, layered) {
+    match draw_calls(calls, layered) {
         Ok(()) => Ok(()),
         Err(refusal) => Err(LineCause::Refused(refusal)),
     }

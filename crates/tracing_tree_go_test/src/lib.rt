@@ -1,6 +1,6 @@
 //! What `go test -json` prints, drawn as a tree.
 //!
-//! [`GoTest`] tells all tests, and [`Failed`] what failed of them alone. `tracing_tree_sources::run_source` draws either.
+//! [`GoTest`] tells all tests, and [`Failed`] what failed of them alone. `tracing_tree_sources::draw_source` draws either.
 #![tactic(auto)]
 
 pub mod failed;

@@ -1,16 +1,17 @@
 -- What a whole run over Go's tests says of failures.
 use Rattle.std.proofs.Common.{◌≡◌, ℕ, Bool, List, Option, Some, None, IfSome, ap, ◌∙◌}
 use Rattle.tracing_tree_context.specs.declared.context.Moment.{Moment}
+use Rattle.tracing_tree_layer.specs.Layered.Answered.{IsAnswered}
 use Rattle.tracing_tree_layer.specs.Layered.Seen.{Seen}
 use Rattle.tracing_tree_lines.specs.Lines.Spelled.{input_lines}
-use Rattle.tracing_tree_sources.specs.Source.{RunsSource, hear, source_after}
+use Rattle.tracing_tree_sources.specs.Source.{Makes, RunsSource, hear, source_after}
 use Rattle.tracing_tree_sources.specs.declared.run.SourceRun.{SourceRun}
 use Rattle.tracing_tree_go_test.specs.Failures.{some_failed}
 use Rattle.tracing_tree_go_test.specs.GoTest.{GoState, go_ended, go_ends, go_takes, nothing_run}
 use Rattle.tracing_tree_go_test.proofs.Failing.{some_failed_after}
 
 pub failed_after_run : (known : Option (List ℕ)) (next : ℕ) (moment : Moment) (begun source : GoState) (run : SourceRun) (old new : Seen) → begun ≡ nothing_run next moment → run.fault ≡ None →
-    RunsSource go_takes go_ends go_ended known begun source run old new → (failed : Bool) → failed ≡ source.has_failed →
+    RunsSource Makes IsAnswered go_takes go_ends go_ended known begun source run old new → (failed : Bool) → failed ≡ source.has_failed →
     IfSome known (λ input. failed ≡ some_failed (input_lines input) (hear go_takes (nothing_run next moment) (input_lines input)).source)
 failed_after_run None next moment begun source run old new first whole h failed is = tt
 failed_after_run (Some input) next moment begun source run old new first whole h failed is =

@@ -13,7 +13,7 @@ use std::io::{BufReader, Read};
 use tracing_tree_go_test::GoTest;
 use tracing_tree_layer::layered::Layered;
 use tracing_tree_output::Output;
-use tracing_tree_sources::{Notes, run_source};
+use tracing_tree_sources::{Notes, draw_source};
 use tracing_tree_time::{FormatTime, Moment};
 
 /// After lines and their end, tests have failed exactly if a line tells that a test or a package
@@ -41,7 +41,7 @@ pub fn have_tests_failed<R: Read, W: Output, FT: FormatTime, N: Notes>(
     let Ok(mut source) = GoTest::new(alloc, next, moment) else {
         return None;
     };
-    let run = run_source(alloc, &mut source, lines, layered, notes);
+    let run = draw_source(alloc, &mut source, lines, layered, notes);
     match run.fault {
         None => Some(source.has_failed()),
         Some(_) => None,

@@ -1,6 +1,9 @@
+pub mod Accepted
 pub mod Made
+pub mod Drawn
 pub mod Noted
 pub mod Heard
+pub mod Counted
 pub mod Ended
 pub mod Instants
 pub mod Marked

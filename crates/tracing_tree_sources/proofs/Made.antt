@@ -1,5 +1,5 @@
--- Calls that were accepted one after another, and a source's calls so far.
-use Rattle.std.proofs.Common.{◌≡◌, List, [], ◌∷◌, ◌++◌, length, Ok, refl, sym, ap, subst, ◌∙◌, arith, append_assoc, append-nil, length-append}
+-- Calls that a `Layered` accepted one after another.
+use Rattle.std.proofs.Common.{◌≡◌, List, [], ◌∷◌, ◌++◌, length, Ok, refl, sym, ap, subst, ◌∙◌, arith, append-nil, length-append}
 use Rattle.std.specs.Io.KnownBytes.{Appends}
 use Rattle.std.proofs.KnownBytes.{Appends-nil, Appends-trans, Appends-kept}
 use Rattle.tracing_tree_drawing.specs.Format.Picture.{Row, draw}
@@ -13,9 +13,7 @@ use Rattle.tracing_tree_layer.specs.declared.call.Call.{Call}
 use Rattle.tracing_tree_layer.specs.declared.call.Reply.{Reply}
 use Rattle.tracing_tree_layer.proofs.DrawnLaws.{draw-append}
 use Rattle.tracing_tree_layer.proofs.RunLaws.{run-append}
-use Rattle.tracing_tree_lines.specs.declared.lines.LineCause.{LineCause}
-use Rattle.tracing_tree_lines.specs.declared.lines.LineCause.TheVariants.{Settings as NoSettings, NotACall, Read, Memory, Refused}
-use Rattle.tracing_tree_sources.specs.Source.{Breaks, Makes, StopsIn}
+use Rattle.tracing_tree_sources.specs.Source.{Makes}
 
 -- ---- accepted calls
 
@@ -52,10 +50,6 @@ makes_then first second old mid new h k =
       calm = after.calm ∙ h.calm;
     }
 
-pub makes_more : (calls : List Call) (call : Call) (reply : Reply) (old mid new : Seen) →
-    Makes calls old mid → IsAnswered call (Ok reply) mid new → Makes (calls ++ call ∷ []) old new
-makes_more calls call reply old mid new h k = makes_then calls (call ∷ []) old mid new h (makes_one call reply mid new k)
-
 -- the writer is flushed
 pub makes_flushed : (calls : List Call) (old mid new : Seen) → Makes calls old mid → Flushes mid new → Makes calls old new
 makes_flushed calls old mid new h k = record {
@@ -64,46 +58,4 @@ makes_flushed calls old mid new h k = record {
   bytes = Appends-kept old.writer.bytes mid.writer.bytes new.writer.bytes _ h.bytes k.kept;
   all = h.all;
   calm = ap (λ (s : Seen). s.writer.faults) k.same ∙ h.calm;
-}
-
--- ---- runs that something ended
-
-breaks_more : (cause : LineCause) (rest more : List Call) (old new : Seen) → Breaks cause rest old new → Breaks cause (rest ++ more) old new
-breaks_more NoSettings rest more old new h = h
-breaks_more NotACall rest more old new h = h
-breaks_more Read rest more old new h = h
-breaks_more Memory rest more old new h = h
-breaks_more (Refused refusal) [] more old new h = absurd h
-breaks_more (Refused refusal) (call ∷ rest) more old new h = h
-
--- something from outside ends the run before a call is made
-pub stops_before : (calls : List Call) (cause : LineCause) (s : Seen) → Breaks cause calls s s → StopsIn calls cause s s
-stops_before calls cause s h = record {
-  made = [];
-  rest = calls;
-  split = refl;
-  between = s;
-  makes = makes_none s;
-  breaks = h;
-}
-
-pub stops_after : (first second : List Call) (cause : LineCause) (old mid new : Seen) →
-    Makes first old mid → StopsIn second cause mid new → StopsIn (first ++ second) cause old new
-stops_after first second cause old mid new h k = record {
-  made = first ++ k.made;
-  rest = k.rest;
-  split = append_assoc first k.made k.rest ∙ ap (λ calls. first ++ calls) k.split;
-  between = k.between;
-  makes = makes_then first k.made old mid k.between h k.makes;
-  breaks = k.breaks;
-}
-
-pub stops_more : (calls more : List Call) (cause : LineCause) (old new : Seen) → StopsIn calls cause old new → StopsIn (calls ++ more) cause old new
-stops_more calls more cause old new h = record {
-  made = h.made;
-  rest = h.rest ++ more;
-  split = sym (append_assoc h.made h.rest more) ∙ ap (λ calls. calls ++ more) h.split;
-  between = h.between;
-  makes = h.makes;
-  breaks = breaks_more cause h.rest more h.between new h.breaks;
 }

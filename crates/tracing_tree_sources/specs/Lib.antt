@@ -9,3 +9,5 @@ pub mod Fields
 pub mod Moments
 pub mod First
 pub mod Levels
+pub mod Tallies
+pub mod LeveledCalls

@@ -1,18 +1,16 @@
 -- What lines of another tool's output mean: a source takes a line's text and value in and gives calls
 -- and its next state out.
-use Rattle.std.specs.Prelude.{◌≡◌, ◌⊎◌, ℕ, ◌+◌, Bool, true, false, if◌then◌else◌, List, [], ◌∷◌, ◌++◌, ◌-◌, ◌==◌, length, take, position, Option, Some, None, is_some, Result, Ok, Err, IfSome, MatchOption, ⊤, ◌<◌}
+use Rattle.std.specs.Prelude.{◌≡◌, ◌⊎◌, ℕ, zero, suc, ◌+◌, Bool, true, false, if◌then◌else◌, List, [], ◌∷◌, ◌++◌, ◌-◌, ◌==◌, length, take, position, Option, Some, None, is_some, Result, Ok, Err, option_map, IfSome, MatchOption, ⊤, ◌<◌}
 use Rattle.std.specs.Io.KnownBytes.{Appends}
 use Rattle.std.specs.Option.{option_map_or}
 use Rattle.std.specs.Str.{is_utf8}
 use Rattle.json.specs.Json.{Json, document}
 use Rattle.tracing_tree_drawing.specs.Format.Picture.{draw}
-use Rattle.tracing_tree_output.specs.Writers.{IsShown}
-use Rattle.tracing_tree_output.specs.declared.output.Output.{Ghosts as Output}
 use Rattle.tracing_tree_context.specs.declared.context.Refusal.{Refusal}
 use Rattle.tracing_tree_layer.specs.Layered.Seen.{Seen, seen_later}
 use Rattle.tracing_tree_layer.specs.Layered.Headline.{run_from}
-use Rattle.tracing_tree_layer.specs.Layered.Answered.{IsAnswered}
 use Rattle.tracing_tree_layer.specs.declared.call.Call.{Call}
+use Rattle.tracing_tree_layer.specs.declared.call.Reply.{Reply}
 use Rattle.tracing_tree_lines.specs.Lines.Spelled.{input_lines, is_skipped}
 use Rattle.tracing_tree_lines.specs.Lines.Reads.{TakesLine}
 use Rattle.tracing_tree_lines.specs.declared.lines.LineCause.{LineCause}
@@ -80,11 +78,28 @@ module _ {S : Type 0} where
     abbrev pub source_after : (S → S) → S → List (List ℕ) → S
     source_after ended source lines = ended (hear source lines).source
 
--- Input may be read, which may wait: the output shows all that it has taken, unless the reader's
--- buffer holds the next line.
-abbrev pub MayRead : {W : Type 0} → Output W → List ℕ → W → Type 0
-MayRead output buffer writer =
-    is_some (position (λ byte. byte == 10) buffer) ≡ false → IsShown output writer
+module _ {C : Type 0} (flushes : C → C → Type 0) where
+  -- Input may be read, which may wait: a flush left the receiver so, unless the reader's buffer
+  -- holds the next line.
+  abbrev pub MayRead : List ℕ → C → Type 0
+  MayRead buffer receiver =
+      is_some (position (λ byte. byte == 10) buffer) ≡ false
+      → (before : C) × flushes before receiver
+
+  -- the receiver was flushed `count` times
+  abbrev pub FlushedTimes : ℕ → C → C → Type 0
+  FlushedTimes zero old new = new ≡ old
+  FlushedTimes (suc count) old new = (shown : C) × flushes old shown × FlushedTimes count shown new
+
+-- The receiver accepted these calls, one after another. It may have been flushed before each call and
+-- after the last one.
+module _ {C : Type 0} (answers : Call → Result Reply Refusal → C → C → Type 0)
+    (flushes : C → C → Type 0) where
+  abbrev pub Accepts : List Call → C → C → Type 0
+  Accepts [] old new = (count : ℕ) × FlushedTimes flushes count old new
+  Accepts (call ∷ calls) old new =
+      (count : ℕ) × (shown between : C) × (reply : Reply) × FlushedTimes flushes count old shown
+      × answers call (Ok reply) shown between × Accepts calls between new
 
 -- what a line's text and value tell is answered, and the source goes on from there
 abbrev pub Tells : {S : Type 0} → Option (Step S) → S → S → Option (List Call) → Type 0
@@ -93,7 +108,7 @@ Tells None old new (Some calls) = ⊥
 Tells (Some step) old new None = ⊥
 Tells (Some step) old new (Some calls) = (calls ≡ step.calls) × (new ≡ step.source)
 
--- Each of these calls was accepted: state and bytes are those of their run.
+-- A `Layered` accepted these calls: state and bytes are those of their run.
 pub record Makes (calls : List Call) (old new : Seen) : Type 0 where
   pub left : new ≡ seen_later old (run_from old calls).state new.writer
   pub bytes : Appends old.writer.bytes new.writer.bytes
@@ -102,10 +117,11 @@ pub record Makes (calls : List Call) (old new : Seen) : Type 0 where
   pub calm : new.writer.faults ≡ old.writer.faults
 
 -- of what ends a run early, a refused call alone leaves anything; it is the first of the rest
-abbrev pub Breaks : LineCause → List Call → Seen → Seen → Type 0
-Breaks (Refused refusal) [] old new = ⊥
-Breaks (Refused refusal) (call ∷ rest) old new = IsAnswered call (Err refusal) old new
-Breaks cause rest old new = new ≡ old
+module _ {C : Type 0} (answers : Call → Result Reply Refusal → C → C → Type 0) where
+  abbrev pub Breaks : LineCause → List Call → C → C → Type 0
+  Breaks (Refused refusal) [] old new = ⊥
+  Breaks (Refused refusal) (call ∷ rest) old new = answers call (Err refusal) old new
+  Breaks cause rest old new = new ≡ old
 
 -- what ends a run with no call to blame
 abbrev pub is_quiet : LineCause → Bool
@@ -133,24 +149,31 @@ CountsUnknown Read before here unknown = unknown ≡ before
 CountsUnknown Memory before here unknown = (unknown ≡ before) ⊎ (unknown ≡ before + here)
 CountsUnknown (Refused refusal) before here unknown = unknown ≡ before
 
--- a beginning of these calls was accepted, and then this ended the run
-pub record StopsIn (calls : List Call) (cause : LineCause) (old new : Seen) : Type 0 where
-  pub made : List Call
-  pub rest : List Call
-  pub split : made ++ rest ≡ calls
-  pub between : Seen
-  pub makes : Makes made old between
-  pub breaks : Breaks cause rest between new
+module _ {C : Type 0} (accepts : List Call → C → C → Type 0)
+    (answers : Call → Result Reply Refusal → C → C → Type 0) where
+  -- a beginning of these calls was accepted, and then this ended the run
+  pub record StopsIn (calls : List Call) (cause : LineCause) (old new : C) : Type 0 where
+    pub made : List Call
+    pub rest : List Call
+    pub split : made ++ rest ≡ calls
+    pub between : C
+    pub makes : accepts made old between
+    pub breaks : Breaks answers cause rest between new
 
--- all of these calls were accepted, or those before the first that was refused
-abbrev pub MakesEach : List Call → Result ⊤ Refusal → Seen → Seen → Type 0
-MakesEach calls (Ok done) old new = Makes calls old new
-MakesEach calls (Err refusal) old new = StopsIn calls (Refused refusal) old new
+  -- all of these calls were accepted, or those before the first that was refused
+  abbrev pub MakesEach : List Call → Result ⊤ Refusal → C → C → Type 0
+  MakesEach calls (Ok done) old new = accepts calls old new
+  MakesEach calls (Err refusal) old new = StopsIn calls (Refused refusal) old new
 
--- all of these calls were accepted, or a beginning
-abbrev pub MakesAll : List Call → Result ⊤ LineCause → Seen → Seen → Type 0
-MakesAll calls (Ok done) old new = Makes calls old new
-MakesAll calls (Err cause) old new = StopsIn calls cause old new
+  -- all of these calls were accepted, or a beginning
+  abbrev pub MakesAll : List Call → Result ⊤ LineCause → C → C → Type 0
+  MakesAll calls (Ok done) old new = accepts calls old new
+  MakesAll calls (Err cause) old new = StopsIn calls cause old new
+
+  -- some calls were accepted, and then this ended the run, if anything did
+  abbrev pub MakesSome : Option LineCause → C → C → Type 0
+  MakesSome None old new = (calls : List Call) × accepts calls old new
+  MakesSome (Some cause) old new = (calls : List Call) × StopsIn calls cause old new
 
 -- what a line lacks of which nothing is known
 abbrev pub lack_of : (Option Json → Lack) → List ℕ → Lack
@@ -175,15 +198,6 @@ noted_lines run lines =
     option_map_or (λ fault. take (fault.line - 1 + noted_at fault.cause) lines) run.fault lines
 
 module _ {S : Type 0} (takes : S → List ℕ → Option Json → Option (Step S)) where
-  -- what one line did; where it is known, the source goes on as it says
-  abbrev pub HearsLine : List ℕ → S → S → Result Bool LineCause → Seen → Seen → Type 0
-  HearsLine line before after (Ok known) old new =
-      let heard = hear_line takes before line in
-      Makes heard.calls old new × (after ≡ heard.source)
-      × (heard.unknown ≡ (if known then 0 else 1))
-  HearsLine line before after (Err cause) old new =
-      StopsIn (hear_line takes before line).calls cause old new
-
   -- the notes of these lines, numbered from `number` on: one for each of which nothing is known
   abbrev pub notes_of : (Option Json → Lack) → ℕ → S → List (List ℕ) → List Note
   notes_of lacks number source [] = []
@@ -196,52 +210,67 @@ module _ {S : Type 0} (takes : S → List ℕ → Option Json → Option (Step S
   next_calls ends source [] = ends source
   next_calls ends source (line ∷ others) = (hear_line takes source line).calls
 
-  -- What the next line did, or the end. Where it ended the run, these were calls of its own.
-  abbrev pub HearsNext : (S → List Call) → (S → S) → Option (List ℕ) → Option (List ℕ) → List ℕ → S
-      → S → Result Judged LineCause → Seen → Seen → Type 0
-  HearsNext ends ended known left line before after (Ok End) old new =
-      IfSome known (λ input. (input_lines input ≡ []) × Makes (ends before) old new
-      × (after ≡ ended before))
-  HearsNext ends ended known left line before after (Ok Known) old new =
-      TakesLine known left line × HearsLine line before after (Ok true) old new
-  HearsNext ends ended known left line before after (Ok Unknown) old new =
-      TakesLine known left line × HearsLine line before after (Ok false) old new
-  HearsNext ends ended known left line before after (Err cause) old new =
-      IfSome known (λ input. StopsIn (next_calls ends before (input_lines input)) cause old new)
-
   -- how many lines are unknown of the next alone
   abbrev pub next_unknown : S → List (List ℕ) → ℕ
   next_unknown source [] = 0
   next_unknown source (line ∷ others) = (hear_line takes source line).unknown
 
-  -- A run ended at a line, or at the end of the input: the calls of all lines before it were made, and
-  -- a beginning of its own. The fault has its number.
+module _ {C : Type 0} (accepts : List Call → C → C → Type 0)
+    (answers : Call → Result Reply Refusal → C → C → Type 0) {S : Type 0}
+    (takes : S → List ℕ → Option Json → Option (Step S)) where
+  -- what one line did; where it is known, the source goes on as it says
+  abbrev pub HearsLine : List ℕ → S → S → Result Bool LineCause → C → C → Type 0
+  HearsLine line before after (Ok known) old new =
+      let heard = hear_line takes before line in
+      accepts heard.calls old new × (after ≡ heard.source)
+      × (heard.unknown ≡ (if known then 0 else 1))
+  HearsLine line before after (Err cause) old new =
+      StopsIn accepts answers (hear_line takes before line).calls cause old new
+
+  -- What the next line did, or the end. Where it ended the run, these were calls of its own.
+  abbrev pub HearsNext : (S → List Call) → (S → S) → Option (List ℕ) → Option (List ℕ) → List ℕ → S
+      → S → Result Judged LineCause → C → C → Type 0
+  HearsNext ends ended known left line before after (Ok End) old new =
+      IfSome known (λ input. input_lines input ≡ []) × accepts (ends before) old new
+      × (after ≡ ended before)
+  HearsNext ends ended known left line before after (Ok Known) old new =
+      TakesLine known left line × HearsLine line before after (Ok true) old new
+  HearsNext ends ended known left line before after (Ok Unknown) old new =
+      TakesLine known left line × HearsLine line before after (Ok false) old new
+  HearsNext ends ended known left line before after (Err cause) old new =
+      MatchOption known (MakesSome accepts answers (Some cause) old new) (λ input.
+      StopsIn accepts answers (next_calls takes ends before (input_lines input)) cause old new)
+
+  -- A run ended at a line, or at the end of the input: the calls of all lines before it were made,
+  -- and a first part of its own. The fault has its number.
   pub record EndsAt (ends : S → List Call) (lines : List (List ℕ)) (source : S) (run : SourceRun)
-      (fault : LineFault) (old new : Seen) : Type 0 where
+      (fault : LineFault) (old new : C) : Type 0 where
     pub before : List (List ℕ)
     pub others : List (List ℕ)
     pub split : before ++ others ≡ lines
     pub number : fault.line ≡ length before + 1
-    pub between : Seen
-    pub makes : Makes (hear takes source before).calls old between
-    pub stops : StopsIn (next_calls ends (hear takes source before).source others) fault.cause between new
+    pub between : C
+    pub makes : accepts (hear takes source before).calls old between
+    pub stops : StopsIn accepts answers
+        (next_calls takes ends (hear takes source before).source others) fault.cause between new
     pub counts : CountsUnknown fault.cause (hear takes source before).unknown
-        (next_unknown (hear takes source before).source others) run.unknown
+        (next_unknown takes (hear takes source before).source others) run.unknown
 
-  -- The drawing is that of the calls of the known lines, and of those that the end brings; each was
-  -- accepted, and the source has taken these lines and the end. If something ended the run, the drawing
-  -- is that of a beginning of these calls.
-  abbrev pub RunsLines : (S → List Call) → (S → S) → List (List ℕ) → S → S → SourceRun → Seen → Seen
+  -- The calls of the known lines were accepted, and those that the end brings, and the source has
+  -- taken these lines and the end. If something ended the run, a first part of these calls was.
+  abbrev pub RunsLines : (S → List Call) → (S → S) → List (List ℕ) → S → S → SourceRun → C → C
       → Type 0
   RunsLines ends ended lines source after run old new =
       MatchOption run.fault
-      (Makes (calls_of takes ends source lines) old new
+      (accepts (calls_of takes ends source lines) old new
       × (run.unknown ≡ (hear takes source lines).unknown)
       × (after ≡ source_after takes ended source lines))
       (λ fault. EndsAt ends lines source run fault old new)
 
-  -- the same over what is left of the input, where that is known
-  abbrev pub RunsSource : (S → List Call) → (S → S) → Option (List ℕ) → S → S → SourceRun → Seen
-      → Seen → Type 0
+  -- the same over what is left of the input; if that is unknown, some calls were accepted
+  abbrev pub RunsSource : (S → List Call) → (S → S) → Option (List ℕ) → S → S → SourceRun → C → C
+      → Type 0
   RunsSource ends ended known source after run old new =
-      IfSome known (λ input. RunsLines ends ended (input_lines input) source after run old new)
+      MatchOption known
+      (MakesSome accepts answers (option_map (λ fault. fault.cause) run.fault) old new)
+      (λ input. RunsLines ends ended (input_lines input) source after run old new)

@@ -94,8 +94,8 @@ fn shown_calls(least: Level, calls: Vec<Call>) -> Vec<Call>
     calls
 }
 
-// Whether a call is no event below the least level.
-fn is_shown(least: Level, call: &Call) -> bool
+/// Returns whether a call isn't an event below the least level.
+pub fn is_shown(least: Level, call: &Call) -> bool
     ensures { result ≡ is_shown least call.now }
 {
     match call {
@@ -104,8 +104,8 @@ fn is_shown(least: Level, call: &Call) -> bool
     }
 }
 
-// How much a level matters.
-fn rank(level: Level) -> u8
+/// Returns how much a level matters: `Trace` least.
+pub fn rank(level: Level) -> u8
     ensures { result ≡ rank level }
 {
     match level {

@@ -1,10 +1,13 @@
 //! Other tools' output drawn as a tree.
 //!
-//! [`run_source`] draws the lines of any [`Source`]: what they mean is said in a crate for each tool. [`AtLeast`] tells the events of a
-//! level and above alone. [`first_format`] tells by the first line whose output an input is.
+//! [`run_source`] makes the calls of any [`Source`]'s lines on any receiver, and [`draw_source`]
+//! draws them: what they mean is said in a crate for each tool. [`count_source`] counts them.
+//! [`AtLeast`] is a source, and [`CallsAtLeast`] a receiver, with only the events of a level and
+//! above. [`first_format`] detects the format of an input by its first line.
 #![tactic(auto)]
 
 pub mod blanks;
+pub mod calls_at_least;
 pub mod fields;
 pub mod first;
 pub mod level;
@@ -13,11 +16,14 @@ pub mod moments;
 pub mod notes;
 pub mod run;
 pub mod source;
+pub mod tally;
 pub mod told;
 pub mod values;
 
+pub use calls_at_least::CallsAtLeast;
 pub use first::{Format, first_format};
 pub use level::AtLeast;
 pub use notes::{Lack, Notes};
-pub use run::{SourceRun, run_source};
+pub use run::{SourceRun, draw_source, run_source};
 pub use source::Source;
+pub use tally::{Tally, count_source};

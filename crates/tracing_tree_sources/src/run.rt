@@ -1,11 +1,12 @@
 //! The run of a source over an input.
 
-ghost use Rattle.std.specs.Prelude.{◌≡◌, true, Err, IfErr, IfOk, IfSome, OnOk, MatchResult, option_map};
+ghost use Rattle.std.specs.Prelude.{◌≡◌, [], true, Err, IfErr, IfOk, IfSome, OnOk, MatchResult, option_map};
 ghost use Rattle.std.specs.Io.Buffered.{reader_buffer, reader_remaining};
 ghost use Rattle.json.specs.Json.{document};
 ghost use Rattle.json.specs.Value.{value_view};
-ghost use Rattle.tracing_tree_layer.specs.Layer.Layers.{seen, Changes, Flushes};
-ghost use Rattle.tracing_tree_sources.specs.Source.{HearsLine, HearsNext, MakesAll, MakesEach, RunsSource, MayEnd, MayRead, Tells, is_quiet, lack_of, noted_lines, notes_of};
+ghost use Rattle.tracing_tree_layer.specs.Layer.Layers.{seen, Changes};
+ghost use Rattle.tracing_tree_layer.specs.Layered.Answered.{IsAnswered};
+ghost use Rattle.tracing_tree_sources.specs.Source.{Accepts, HearsLine, HearsNext, Makes, MakesAll, MakesEach, RunsSource, MayEnd, MayRead, Tells, is_quiet, lack_of, noted_lines, notes_of};
 ghost use Rattle.tracing_tree_sources.specs.Noted.{AddsNotes, note_if};
 ghost use Rattle.tracing_tree_lines.specs.Lines.Reads.{ReadsNext};
 ghost use Rattle.tracing_tree_lines.specs.Lines.Spelled.{input_lines};
@@ -19,6 +20,7 @@ use std::alloc::{AllocError, Global};
 use std::io::{BufReader, Read};
 use tracing_tree_context::Refusal;
 use tracing_tree_layer::call::Call;
+use tracing_tree_layer::calls::Calls;
 use tracing_tree_layer::layered::Layered;
 use tracing_tree_lines::lines::{LineCause, LineFault, holds_line, is_skipped, read_line};
 use tracing_tree_output::Output;
@@ -34,22 +36,23 @@ pub struct SourceRun {
     pub fault: Option<LineFault>,
 }
 
-/// Runs the calls that a source's lines tell, and those that its end brings.
+/// Makes the calls of a source's lines on a receiver, and then those of its end.
 ///
-/// A line of which nothing is known is counted and left out, and what it lacks is noted. The run ends early where the input can't
-/// be read, where memory is refused, where a call is refused, and at a skipped line after which the notes end it: `NotACall` is
-/// the cause then, and never else. What is drawn is passed on before each read of the input.
+/// An unknown line is counted and skipped, and what it lacks is noted. The run ends early if the input
+/// can't be read, if an allocation fails, if a call is refused, and if the notes end it at a skipped
+/// line: `NotACall` is the cause then, and never otherwise. The receiver is flushed before each read of
+/// the input.
 #[tactic(auto, using(crate::proofs::Ended::ends_line, crate::proofs::Ended::ends_noted))]
-pub fn run_source<S: Source, R: Read, W: Output, FT: FormatTime, N: Notes>(
+pub fn run_source<S: Source, R: Read, C: Calls, N: Notes>(
     alloc: Global,
     source: &mut S,
     lines: &mut BufReader<R>,
-    layered: &mut Layered<W, FT>,
+    receiver: &mut C,
     notes: &mut N,
 ) -> SourceRun
-    ensures run { Changes (seen FT.FormatTime W.Output)
-        (RunsSource S.takes S.ends S.ended (reader_remaining R.remaining lines.old) source.old
-        source.new result) layered.old layered.new }
+    ensures run { RunsSource (Accepts C.answers C.flushes) C.answers S.takes S.ends S.ended
+        (reader_remaining R.remaining lines.old) source.old source.new result
+        receiver.old receiver.new }
     ensures cause { IfSome result.fault (λ fault. MayEnd fault.cause result.unknown) }
     ensures noted { IfSome (reader_remaining R.remaining lines.old) (λ input. AddsNotes
         (notes_of S.takes S.lacks 1 source.old (noted_lines result (input_lines input)))
@@ -59,8 +62,8 @@ pub fn run_source<S: Source, R: Read, W: Output, FT: FormatTime, N: Notes>(
     let mut scratch = Scratch::new(alloc);
     let mut unknown = 0;
     for number in 1..u64::MAX {
-        show_before_read(lines, layered);
-        match run_next(alloc, source, lines, &mut line, &mut scratch, layered) {
+        show_before_read(lines, receiver);
+        match run_next(alloc, source, lines, &mut line, &mut scratch, receiver) {
             Ok(Judged::End) => {
                 return SourceRun {
                     unknown,
@@ -93,6 +96,25 @@ pub fn run_source<S: Source, R: Read, W: Output, FT: FormatTime, N: Notes>(
         cause: LineCause::Read,
     });
     SourceRun { unknown, fault }
+}
+
+/// Draws a source's lines: [`run_source`] on a [`Layered`].
+pub fn draw_source<S: Source, R: Read, W: Output, FT: FormatTime, N: Notes>(
+    alloc: Global,
+    source: &mut S,
+    lines: &mut BufReader<R>,
+    layered: &mut Layered<W, FT>,
+    notes: &mut N,
+) -> SourceRun
+    ensures run { Changes (seen FT.FormatTime W.Output)
+        (RunsSource Makes IsAnswered S.takes S.ends S.ended (reader_remaining R.remaining lines.old)
+        source.old source.new result) layered.old layered.new }
+    ensures cause { IfSome result.fault (λ fault. MayEnd fault.cause result.unknown) }
+    ensures noted { IfSome (reader_remaining R.remaining lines.old) (λ input. AddsNotes
+        (notes_of S.takes S.lacks 1 source.old (noted_lines result (input_lines input)))
+        (N.noted notes.old) (N.noted notes.new)) }
+{
+    run_source(alloc, source, lines, layered, notes)
 }
 
 /// Has a skipped line noted, by its number from 1 on. An error ends the run: `NotACall` where the notes end it, `Memory` where memory
@@ -151,28 +173,27 @@ enum Judged {
 
 // Reads one line, and makes the calls that it tells, or those that the end brings.
 #[tactic(auto, using(crate::proofs::Ended::ends_outside))]
-fn run_next<S: Source, R: Read, W: Output, FT: FormatTime>(
+fn run_next<S: Source, R: Read, C: Calls>(
     alloc: Global,
     source: &mut S,
     lines: &mut BufReader<R>,
     line: &mut Vec<u8>,
     scratch: &mut Scratch,
-    layered: &mut Layered<W, FT>,
+    receiver: &mut C,
 ) -> Result<Judged, LineCause>
-    requires shown { MayRead W.Output (reader_buffer lines.old) layered.old.layer.writer }
-    ensures next { Changes (seen FT.FormatTime W.Output)
-        (HearsNext S.takes S.ends S.ended (reader_remaining R.remaining lines.old)
-        (reader_remaining R.remaining lines.new) line.new.items source.old source.new result)
-        layered.old layered.new }
+    requires shown { MayRead C.flushes (reader_buffer lines.old) receiver.old }
+    ensures next { HearsNext (Accepts C.answers C.flushes) C.answers S.takes S.ends S.ended
+        (reader_remaining R.remaining lines.old) (reader_remaining R.remaining lines.new)
+        line.new.items source.old source.new result receiver.old receiver.new }
     ensures cause { IfErr result (λ cause. MayEnd cause 0) }
 {
-    match read_next(lines, line, layered) {
-        Ok(true) => match run_line(alloc, source, line.as_slice(), scratch, layered) {
+    match read_next(lines, line, receiver) {
+        Ok(true) => match run_line(alloc, source, line.as_slice(), scratch, receiver) {
             Ok(true) => Ok(Judged::Known),
             Ok(false) => Ok(Judged::Unknown),
             Err(cause) => Err(cause),
         },
-        Ok(false) => match run_end(alloc, source, layered) {
+        Ok(false) => match run_end(alloc, source, receiver) {
             Ok(()) => Ok(Judged::End),
             Err(cause) => Err(cause),
         },
@@ -180,43 +201,40 @@ fn run_next<S: Source, R: Read, W: Output, FT: FormatTime>(
     }
 }
 
-// Reads one line. What is drawn must be shown, since the read may wait, unless the buffer holds the
-// line.
-fn read_next<R: Read, W: Output, FT: FormatTime>(
+// Reads one line. The receiver must have been flushed, since the read may wait, unless the buffer
+// holds the line.
+fn read_next<R: Read, C: Calls>(
     lines: &mut BufReader<R>,
     line: &mut Vec<u8>,
-    _layered: &Layered<W, FT>,
+    _receiver: &C,
 ) -> Result<bool, LineCause>
-    requires shown { MayRead W.Output (reader_buffer lines.old) _layered.now.layer.writer }
+    requires shown { MayRead C.flushes (reader_buffer lines.old) _receiver.now }
     ensures { ReadsNext (reader_remaining R.remaining lines.old)
         (reader_remaining R.remaining lines.new) line.new.items result }
 {
     read_line(lines, line)
 }
 
-// Has what is drawn passed on where the next line isn't read yet, since the read may wait.
-fn show_before_read<R: Read, W: Output, FT: FormatTime>(
-    lines: &BufReader<R>,
-    layered: &mut Layered<W, FT>,
-)
-    ensures flushed { Changes (seen FT.FormatTime W.Output) Flushes layered.old layered.new }
-    ensures shown { MayRead W.Output (reader_buffer lines.now) layered.new.layer.writer }
+// Flushes the receiver if the buffer doesn't hold the next line, since the read may wait.
+fn show_before_read<R: Read, C: Calls>(lines: &BufReader<R>, receiver: &mut C)
+    ensures flushed { Accepts C.answers C.flushes [] receiver.old receiver.new }
+    ensures shown { MayRead C.flushes (reader_buffer lines.now) receiver.new }
 {
     if !holds_line(lines) {
-        layered.flush();
+        receiver.flush();
     }
 }
 
 // Makes the calls that a line tells. Returns whether something is known of such a line.
-fn run_line<S: Source, W: Output, FT: FormatTime>(
+fn run_line<S: Source, C: Calls>(
     alloc: Global,
     source: &mut S,
     line: &[u8],
     scratch: &mut Scratch,
-    layered: &mut Layered<W, FT>,
+    receiver: &mut C,
 ) -> Result<bool, LineCause>
-    ensures line { Changes (seen FT.FormatTime W.Output)
-        (HearsLine S.takes line.now source.old source.new result) layered.old layered.new }
+    ensures line { HearsLine (Accepts C.answers C.flushes) C.answers S.takes line.now
+        source.old source.new result receiver.old receiver.new }
     ensures cause { IfErr result (λ cause. MayEnd cause 0) }
 {
     if is_skipped(line) {
@@ -229,7 +247,7 @@ fn run_line<S: Source, W: Output, FT: FormatTime>(
         return Err(LineCause::Memory);
     };
     match told {
-        Some(calls) => match make(calls, layered) {
+        Some(calls) => match make(calls, receiver) {
             Ok(()) => Ok(true),
             Err(refusal) => Err(LineCause::Refused(refusal)),
         },
@@ -252,35 +270,43 @@ fn hear<S: Source>(
 }
 
 // Makes the calls that the input's end brings.
-fn run_end<S: Source, W: Output, FT: FormatTime>(
+fn run_end<S: Source, C: Calls>(
     alloc: Global,
     source: &mut S,
-    layered: &mut Layered<W, FT>,
+    receiver: &mut C,
 ) -> Result<(), LineCause>
-    ensures end { Changes (seen FT.FormatTime W.Output) (MakesAll (S.ends source.old) result)
-        layered.old layered.new }
+    ensures end { MakesAll (Accepts C.answers C.flushes) C.answers (S.ends source.old) result
+        receiver.old receiver.new }
     ensures after { OnOk result (source.new ≡ S.ended source.old) }
     ensures cause { IfErr result (λ cause. MayEnd cause 0) }
 {
     let Ok(calls) = source.end(alloc) else {
         return Err(LineCause::Memory);
     };
-    match make(calls, layered) {
+    match make(calls, receiver) {
         Ok(()) => Ok(()),
         Err(refusal) => Err(LineCause::Refused(refusal)),
     }
 }
 
-/// Makes these calls one after another, up to the first that is refused.
-pub fn make<W: Output, FT: FormatTime>(
+/// Draws these calls: [`make`] on a [`Layered`].
+pub fn draw_calls<W: Output, FT: FormatTime>(
     calls: Vec<Call>,
     layered: &mut Layered<W, FT>,
 ) -> Result<(), Refusal>
-    ensures { Changes (seen FT.FormatTime W.Output) (MakesEach calls.items result)
+    ensures { Changes (seen FT.FormatTime W.Output) (MakesEach Makes IsAnswered calls.items result)
         layered.old layered.new }
 {
+    make(calls, layered)
+}
+
+/// Makes these calls one after another, up to the first that is refused.
+pub fn make<C: Calls>(calls: Vec<Call>, receiver: &mut C) -> Result<(), Refusal>
+    ensures { MakesEach (Accepts C.answers C.flushes) C.answers calls.items result
+        receiver.old receiver.new }
+{
     for call in calls {
-        layered.call(call)?;
+        receiver.call(call)?;
     }
     Ok(())
 }

@@ -9,7 +9,7 @@ use tracing_tree::layered::Layered;
 use tracing_tree::lines::LineFault;
 use tracing_tree::time::Moment;
 use tracing_tree_for_tests::lined_over;
-use tracing_tree_sources::{Lack, Notes, Source, run_source};
+use tracing_tree_sources::{Lack, Notes, Source, draw_source};
 
 pub const START: Moment = Moment {
     mono: 0,
@@ -104,7 +104,7 @@ pub fn heard<S: Source, R: Read + Drop>(
     let Ok(mut lines) = BufReader::with_capacity(alloc, 64 * 1024, reader) else {
         return Err(AllocError);
     };
-    let run = run_source(alloc, source, &mut lines, &mut *layered, &mut notes);
+    let run = draw_source(alloc, source, &mut lines, &mut *layered, &mut notes);
     let outcome = Outcome {
         noted: notes.lines,
         fault: run.fault,

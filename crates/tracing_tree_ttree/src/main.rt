@@ -23,7 +23,7 @@ use tracing_tree::time::{Clock, Moment, Uptime, UtcDateTime};
 use tracing_tree_chrome::{Cut, run_trace};
 use tracing_tree_go_test::{Failed, GoTest};
 use tracing_tree_sources::{
-    AtLeast, Format, Lack, Notes, Source, SourceRun, first_format, run_source,
+    AtLeast, Format, Lack, Notes, Source, SourceRun, first_format,
 };
 use tracing_tree_tracing::Tracing;
 
@@ -535,7 +535,7 @@ fn draw_source<R: AllocGlobal + Eprint + Print, I: Read + Drop, S: Source>(
     };
     let mut layered = layered(alloc, options.config, clock(options.is_timed), writer);
     let mut notes = Told::new(rt, Unit::Line, options.is_strict);
-    let run = run_source(alloc, source, &mut lines, &mut layered, &mut notes);
+    let run = tracing_tree_sources::draw_source(alloc, source, &mut lines, &mut layered, &mut notes);
     Ok(is_right(rt, &run, layered, &notes))
 }
 

@@ -1,13 +1,12 @@
 use Rattle.std.proofs.Common.{◌≡◌, ◌++◌, List, length}
 use Rattle.std.specs.Vec.Iter.{into_iter_items, into_iter_len}
-use Rattle.tracing_tree_layer.specs.Layer.Layers.{seen, Changes}
 use Rattle.tracing_tree_layer.specs.declared.call.Call.{Call}
-use Rattle.tracing_tree_sources.specs.Source.{Makes}
+use Rattle.tracing_tree_sources.specs.Source.{Accepts}
 use Rattle.tracing_tree_sources.proofs.run.make.Given as goal
 
 -- the calls so far were accepted
 abbrev pub invariant-loop-call : goal.invariant-loop-call
 invariant-loop-call g l =
     (done : List Call) × (l.fn.calls.items ≡ done ++ into_iter_items l.call-iterator)
-    × Changes (seen g.FT.FormatTime g.W.Output) (Makes done) l.fn.layered l.layered
+    × Accepts g.C.Calls.answers g.C.Calls.flushes done l.fn.receiver l.receiver
     × (into_iter_len l.call-iterator ≡ length (into_iter_items l.call-iterator))
