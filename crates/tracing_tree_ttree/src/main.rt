@@ -23,7 +23,7 @@ use tracing_tree::time::{Clock, Moment, Uptime, UtcDateTime};
 use tracing_tree_chrome::{Cut, run_trace};
 use tracing_tree_go_test::{Failed, GoTest};
 use tracing_tree_sources::{
-    AtLeast, Format, Lack, Notes, Source, SourceRun, first_format,
+    AtLeast, Format, Lack, Notes, Source, SourceRun, draw_source, first_format,
 };
 use tracing_tree_tracing::Tracing;
 
@@ -157,7 +157,9 @@ fn color_option<'a>(alloc: Global) -> Arg<'a> {
     Arg::new(alloc, "color")
         .long("color")
         .value_name("WHEN")
-        .help("Whether the tree is coloured; auto colours it on a terminal, unless NO_COLOR is set or TERM is dumb")
+        .help(
+            "Whether the tree is coloured; auto colours it on a terminal, unless NO_COLOR is set or TERM is dumb",
+        )
         .value_parser(&["auto", "always", "never"][..])
         .default_value("auto")
 }
@@ -386,7 +388,7 @@ fn draw_tests<R: AllocGlobal + Eprint + Print, I: Read + Drop>(
     }
     let tests = GoTest::new(rt.alloc(), 1, some_moment())?;
     let mut source = AtLeast::new(tests, options.least);
-    let is_whole = draw_source(rt, input, &mut source, options)?;
+    let is_whole = draw_input(rt, input, &mut source, options)?;
     Ok(status(is_whole && !source.into_source().has_failed()))
 }
 
@@ -398,7 +400,7 @@ fn draw_failed<R: AllocGlobal + Eprint + Print, I: Read + Drop>(
 ) -> Result<ExitCode, AllocError> {
     let failed = Failed::new(rt.alloc(), 1, some_moment())?;
     let mut source = AtLeast::new(failed, options.least);
-    let is_whole = draw_source(rt, input, &mut source, options)?;
+    let is_whole = draw_input(rt, input, &mut source, options)?;
     Ok(status(is_whole && !source.into_source().has_failed()))
 }
 
@@ -410,7 +412,7 @@ fn draw_tracing<R: AllocGlobal + Eprint + Print, I: Read + Drop>(
 ) -> Result<ExitCode, AllocError> {
     let tracing = Tracing::new(rt.alloc(), 1, some_moment());
     let mut source = AtLeast::new(tracing, options.least);
-    let is_whole = draw_source(rt, input, &mut source, options)?;
+    let is_whole = draw_input(rt, input, &mut source, options)?;
     Ok(status(is_whole))
 }
 
@@ -520,7 +522,7 @@ fn trace_clock(is_timed: bool) -> Clock<'static> {
 
 // Draws what a source says of the input. Returns whether each line was known and nothing went wrong. `AllocError` where there is no
 // memory to begin with.
-fn draw_source<R: AllocGlobal + Eprint + Print, I: Read + Drop, S: Source>(
+fn draw_input<R: AllocGlobal + Eprint + Print, I: Read + Drop, S: Source>(
     rt: &R,
     input: I,
     source: &mut S,
@@ -535,7 +537,7 @@ fn draw_source<R: AllocGlobal + Eprint + Print, I: Read + Drop, S: Source>(
     };
     let mut layered = layered(alloc, options.config, clock(options.is_timed), writer);
     let mut notes = Told::new(rt, Unit::Line, options.is_strict);
-    let run = tracing_tree_sources::draw_source(alloc, source, &mut lines, &mut layered, &mut notes);
+    let run = draw_source(alloc, source, &mut lines, &mut layered, &mut notes);
     Ok(is_right(rt, &run, layered, &notes))
 }
 
