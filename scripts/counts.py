@@ -78,10 +78,8 @@ def works():
     """All works, by name and rounds."""
     found = {(name, rounds): Work("bench", [name, str(rounds)], b"", rb" 0 refused") for name, rounds in CALLS}
     for rounds in (64, 640):
+        ending = rb"1 threads, %d events, \d+ ns an event" % rounds
         for name in THREADS:
-            # Without the span of the events, which is a call of its own.
-            told = rounds + (name.startswith("shared"))
-            ending = rb"1 threads, %d events, \d+ ns an event" % told
             found[f"threads-{name}", rounds] = Work("bench", ["threads", name, "1", str(rounds), "2"], b"", ending)
     for rounds in (200, 2000):
         found["lines", rounds] = Work("cli", [], json_lines(line_calls(rounds)), "┘".encode())
