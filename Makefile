@@ -1,6 +1,6 @@
 # Every target except `install` needs the kit's command `rt` and Python 3. `bench`, `counts`, `faults` and `soak` also need a C compiler, and
 # `memcheck` needs valgrind. README says how long the first ones take.
-.PHONY: help demo test prove gate edits claim build install uninstall service jobs laws stress bench faults fuzz soak memcheck limits counts clean
+.PHONY: help demo test prove gate edits page-test claim build install uninstall dist dist-test service jobs laws stress bench faults fuzz soak memcheck limits counts clean
 
 # Prints the targets in groups, from the lines that begin with '##' and the words after a target's '##'.
 help:
@@ -30,6 +30,10 @@ gate: need-rt ## proves and tries everything from nothing
 # The edits that must be refused, of all crates or of those that CRATES names.
 edits: need-rt ## tries the edits that must be refused (CRATES=..)
 	@python3 scripts/edits.py $(CRATES)
+
+# Opens pages in headless Chromium, those of the examples too. Without Chromium it says so.
+page-test: need-python bin/ttree ## opens pages in headless Chromium
+	@python3 viewer/page_test.py bin/ttree
 
 # What a claim rests on: the contract of the function NAME, or the definition NAME, and all definitions that it leads to.
 claim: need-python ## prints a contract and its definitions (NAME=..)
@@ -66,6 +70,15 @@ install: ## installs what has been built (PREFIX=.. DESTDIR=..)
 
 uninstall: ## removes what `make install` installs
 	@scripts/install.sh uninstall "$$DESTDIR" "$$PREFIX"
+
+# Writes dist/tracing_tree-VERSION-x86_64-linux.tar.gz, for use without the kit. Starts no proof: if something is missing or old, it says
+# what to run.
+dist: ## writes an archive of what has been built
+	@scripts/dist.sh
+
+# Unpacks the archive in an empty folder and tests it there, with `rt` off the PATH.
+dist-test: dist ## tests the archive in an empty folder
+	@CC='$(CC)' CXX='$(CXX)' scripts/dist_test.sh
 
 # Proves and runs the example of a service.
 service: bin/tracing_tree_service ## proves and runs the example of a service
@@ -146,7 +159,7 @@ limits: need-python build ## runs the programs with little memory, stack or disk
 
 # Removes what the targets made: the programs, the logs and what the kit keeps of checks.
 clean: ## removes what the targets made
-	@rm -rf bin crates/*/out
+	@rm -rf bin dist crates/*/out
 
 # Says what to do if a tool is missing, before anything is built.
 NEEDS = need-rt need-python need-cc need-valgrind

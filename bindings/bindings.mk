@@ -1,4 +1,4 @@
-## Library for C, C++, Rust and Go
+## Library for C, C++, Go, Python and Rust
 
 # Needs `rt` and a C compiler; its tests use other compilers if they are there.
 .PHONY: bindings bindings-test bindings-bench

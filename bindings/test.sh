@@ -13,54 +13,8 @@ cxx=${CXX:-c++}
 strict="-Wall -Wextra -Wpedantic -Werror"
 library=bin/libtracing_tree.a
 example=bindings/c/server.c
-passed=0
-failed=0
-
-has() { command -v "$1" > /dev/null; }
-
-left_out() { echo "bindings: left out: $*"; }
-
-# Runs a command that must succeed: step NAME COMMAND..
-step() {
-    local name=$1
-    shift
-    if "$@" > "$room/log" 2>&1; then
-        passed=$((passed + 1))
-    else
-        failed=$((failed + 1))
-        echo "bindings: FAILED: $name"
-        tail -n 20 "$room/log"
-    fi
-}
-
-# Runs a command that must fail, for a reason that the text names: refuses NAME TEXT COMMAND..
-refuses() {
-    local name=$1 text=$2
-    shift 2
-    step "$name" bash -c 'text=$1; shift; ! "$@" > "$0" 2>&1 && grep -q "$text" "$0"' "$room/told" "$text" "$@"
-}
-
-# Runs a command whose last line is how many checks passed and failed: counts NAME COMMAND..
-counts() {
-    local name=$1 good bad
-    shift
-    if "$@" > "$room/log" 2>&1 && read -r good bad < <(tail -n 1 "$room/log") && [ "$((good + bad))" -gt 0 ]; then
-        head -n -1 "$room/log"
-        passed=$((passed + good))
-        failed=$((failed + bad))
-    else
-        failed=$((failed + 1))
-        echo "bindings: FAILED: $name"
-        tail -n 20 "$room/log"
-    fi
-}
-
-# Compares what a command prints with a file: prints FILE COMMAND..
-prints() {
-    local file=$1
-    shift
-    "$@" > "$room/printed" && cmp "$room/printed" "$file"
-}
+suite=bindings
+. bindings/steps.sh
 
 # ---- layouts
 python3 bindings/layouts.py crates/tracing_tree_c/src c > "$room/layout.c"
@@ -73,6 +27,12 @@ for field in 'bool ansi;=uint64_t ansi;' 'uint64_t epoch;=uint32_t epoch;' 'int6
         $cc -std=c11 -I"$room/changed" -fsyntax-only "$room/layout.c"
 done
 
+# ---- a stand-in for a library of version 0: each function returns 0
+sed -n 's/^[a-z0-9_]* \(tt_[a-z0-9_]*\)(.*/int \1(void) { return 0; }/p' bindings/c/tracing_tree.h > "$room/other.c"
+mkdir "$room/other"
+step "another version of the library" $cc -c "$room/other.c" -o "$room/other.o"
+ar crs "$room/other/libtracing_tree.a" "$room/other.o"
+
 # ---- the header, the example and the tests in C
 step "the example" $cc -std=c99 -O1 -g $strict -Ibindings/c $example $library -o "$room/server"
 step "what the example draws" prints bindings/c/server.out "$room/server"
@@ -80,8 +40,19 @@ if has "${cxx%% *}"; then
     step "the header as C++17" $cxx -std=c++17 $strict -x c++ -include bindings/c/tracing_tree.h -fsyntax-only /dev/null
     step "the example as C++17" $cxx -std=c++17 -O1 $strict -Ibindings/c -x c++ $example -x none $library -o "$room/server_cxx"
     step "what the example draws as C++17" prints bindings/c/server.out "$room/server_cxx"
+    step "the header for C++" $cxx -std=c++17 $strict -x c++ -include bindings/c/tracing_tree.hpp -fsyntax-only /dev/null
+    step "the example in C++" $cxx -std=c++17 -O1 $strict -Ibindings/c bindings/c/server.cpp $library -pthread -o "$room/server_hpp"
+    step "what the example in C++ draws" prints bindings/c/server.out "$room/server_hpp"
+    step "the example in C++ over another version" $cxx -std=c++17 -Ibindings/c bindings/c/server.cpp \
+        "$room/other/libtracing_tree.a" -pthread -o "$room/other_hpp"
+    refuses "another version of the library in C++" "the header and the library differ in version" "$room/other_hpp"
+    step "the tests in C++" $cxx -std=c++17 -O1 $strict -Ibindings/c bindings/c/test.cpp $library -pthread -o "$room/test_cxx"
+    counts "the tests in C++" "$room/test_cxx"
+    step "the tests in C++ with sanitizers" $cxx -std=c++17 -g -fsanitize=address,undefined -fno-sanitize-recover=all \
+        -Ibindings/c bindings/c/test.cpp $library -pthread -o "$room/test_cxx_sanitized"
+    step "no test in C++ fails with sanitizers" bash -c '"$0" | grep -q "^[1-9][0-9]* 0\$"' "$room/test_cxx_sanitized"
 else
-    left_out "the header and the example as C++17, since $cxx isn't there"
+    left_out "the headers, the examples and the tests as C++17, since $cxx isn't there"
 fi
 step "the tests" $cc -std=c99 -O1 -g $strict -Ibindings/c -Wl,--wrap=malloc,--wrap=realloc bindings/c/test.c $library \
     -o "$room/test"
@@ -102,27 +73,36 @@ fi
 
 # ---- what is installed
 step "install" scripts/install.sh library "" "$room/prefix"
+echo "$(realpath "$room")/prefix/lib/libtracing_tree.so.1" > "$room/place"
+step "the installed Python module finds the installed library" prints "$room/place" env -u TRACING_TREE_LIB -C "$room" \
+    PYTHONPATH="$room/prefix/lib/python3/dist-packages" \
+    python3 -B -c 'import os, tracing_tree; print(os.path.realpath(tracing_tree._library._name))'
 if has pkg-config; then
     export PKG_CONFIG_PATH="$room/prefix/lib/pkgconfig"
     step "link by pkg-config" $cc -std=c99 $example $(pkg-config --cflags --libs tracing_tree) -o "$room/shared"
     step "link by pkg-config, static" \
         $cc -std=c99 -static $example $(pkg-config --static --cflags --libs tracing_tree) -o "$room/static"
+    has "${cxx%% *}" && step "link the example in C++ by pkg-config" \
+        $cxx -std=c++17 bindings/c/server.cpp $(pkg-config --cflags --libs tracing_tree) -pthread -o "$room/shared_cxx"
     step "what the shared object draws" prints bindings/c/server.out env LD_LIBRARY_PATH="$room/prefix/lib" "$room/shared"
     step "what the static program draws" prints bindings/c/server.out "$room/static"
 else
     left_out "linking by pkg-config, which isn't there"
 fi
 
-# ---- the example in Go
-if ! has go || ! has pkg-config; then
-    left_out "the example in Go, since go or pkg-config isn't there"
-else
-    step "the example in Go" env -C bindings/go GOCACHE="$room/go" CC="$cc" go build -o "$room/server_go" .
-    step "what the example in Go draws" prints bindings/c/server.out env LD_LIBRARY_PATH="$room/prefix/lib" "$room/server_go"
+# ---- the Go package
+test_go bindings/go bindings/c/server.out
+if has go; then
+    step "the example in Go over another version" env -C bindings/go GOCACHE="$room/go" GOTOOLCHAIN=local CC="$cc" \
+        CGO_LDFLAGS="-L$room/other" go build -o "$room/other_go" ./server
+    refuses "another version of the library in Go" "version 0 of libtracing_tree.a is linked, and 1 is needed" "$room/other_go"
 fi
 
 # ---- the worked cases of the program, through the shared object
 counts "the worked cases" python3 bindings/python/cases.py bin/libtracing_tree.so.1 crates/tracing_tree_cases/data
+
+# ---- the Python module
+counts "the Python module" env TRACING_TREE_LIB=bin/libtracing_tree.so.1 python3 bindings/python/test_tracing_tree.py
 
 # ---- how the Rust crate finds the library: its build script, without cargo, in a stand-in for a checkout
 tree=$(realpath "$room")/tree
@@ -181,32 +161,17 @@ elif step "build of the build script" rustc --edition 2021 -D warnings -o "$room
 fi
 
 # ---- the Rust crate
-crates=/usr/share/cargo/registry
-if ! has cargo; then
-    left_out "the Rust crate, since cargo isn't there"
-elif ! compgen -G "$crates/tracing-0.1*" > /dev/null || ! compgen -G "$crates/tracing-subscriber-0.3*" > /dev/null; then
-    left_out "the Rust crate, since Debian's librust-tracing-dev and librust-tracing-subscriber-dev aren't there"
-else
+if can_test_rust; then
     cd bindings/rust
-    # A stand-in for a library of version 0: each function returns 0.
-    sed -n 's/^    fn \(tt_[a-z0-9_]*\)(.*/int \1(void) { return 0; }/p' src/sys.rs > "$room/other.c"
-    mkdir "$room/other"
-    step "another version of the library" $cc -c "$room/other.c" -o "$room/other.o"
-    ar crs "$room/other/libtracing_tree.a" "$room/other.o"
     step "build over another version" env TRACING_TREE_LIB="$room/other" cargo build --offline --quiet --example program
     refuses "another version of the library at the first use" "needs version [1-9][0-9]* of libtracing_tree.a, but version 0 is linked" \
         target/debug/examples/program 0
     # The checkout's own library, which the crate finds in bin/ if nothing is installed or set.
     export PKG_CONFIG_LIBDIR="$room/none" PKG_CONFIG_PATH=
     unset TRACING_TREE_LIB
-    step "build of the Rust crate" cargo build --offline --quiet --lib --example program
-    if cargo test --offline --quiet > "$room/log" 2>&1; then
-        for good in $(sed -n 's/^test result: ok. \([0-9]*\) passed.*/\1/p' "$room/log"); do passed=$((passed + good)); done
-    else
-        failed=$((failed + 1))
-        echo "bindings: FAILED: tests of the Rust crate"
-        tail -n 40 "$room/log"
-    fi
+    step "build of the Rust crate" cargo build --offline --quiet --lib --example program --example server
+    step "what the example in Rust draws" prints "$top/bindings/c/server.out" target/debug/examples/server
+    tested "tests of the Rust crate" 's/^test result: ok. \([0-9]*\) passed.*/\1/p' cargo test --offline --quiet
     cd "$top"
 fi
 

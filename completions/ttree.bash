@@ -9,14 +9,15 @@ _ttree() {
         before=${COMP_WORDS[COMP_CWORD - 2]}
     fi
     case $before in
-        --from) words='lines go-test tracing chrome' ;;
+        --from) words='lines go-test tracing chrome logs' ;;
         --color) words='auto always never' ;;
         --level) words='trace debug info warn error' ;;
-        --amount|--min|--depth) compopt +o default 2> /dev/null; return ;;
+        --amount|--min|--depth|--title|--width) compopt +o default 2> /dev/null; return ;;
         *)
             [[ $word == -* ]] || return
-            words='--from --color --amount --level --failed --min --depth --no-lines --no-retrace
-            --threads --times --strict --help -h --version -V'
+            words='--from --color --amount --level --failed --min --depth --html --title --json
+            --no-lines --no-retrace --threads --times --strict --width --help -h --version
+            -V'
             ;;
     esac
     mapfile -t COMPREPLY < <(compgen -W "$words" -- "$word")

@@ -83,8 +83,8 @@ def works():
             found[f"threads-{name}", rounds] = Work("bench", ["threads", name, "1", str(rounds), "2"], b"", ending)
     for rounds in (200, 2000):
         found["lines", rounds] = Work("cli", [], json_lines(line_calls(rounds)), "┘".encode())
-        found["go-test", rounds] = Work("ttree", [], json_lines(go_tests(rounds)), rb"unfinished=0")
-        found["tracing", rounds] = Work("ttree", [], json_lines(tracing_events(rounds)), "┘".encode())
+        found["go-test", rounds] = Work("ttree", [], json_lines(go_tests(rounds)), rb"packages_failed=0")
+        found["tracing", rounds] = Work("ttree", [], json_lines(tracing_events(rounds)), b"served")
         found["chrome", rounds] = Work("ttree", [], json.dumps(list(trace(rounds))).encode(), "┘".encode())
         found["tracer", rounds] = Work("service", [], requests(rounds), "┘".encode())
     return found

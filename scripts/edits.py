@@ -276,7 +276,8 @@ def rounds_of(edits, share):
     rounds = [[] for _ in range(-(-(len(edited) + len(functions)) // LONG))]
     # What stands where the function does comes first, since it can't go everywhere.
     for it in sorted(edited + functions, key=lambda it: it.is_copied):
-        free = [found for found in rounds if it.is_copied or not any(set(it.bodies) & set(other.bodies) for other in found)]
+        # A copy is tried only beside other copies: what is edited in its place may be a constant that the copy names.
+        free = [found for found in rounds if all((it.is_copied and other.is_copied) or not set(it.bodies) & set(other.bodies) for other in found)]
         # No round is made for a function without an edit alone, unless all are to be tried.
         if not free and (it.edit or share == 1):
             rounds.append([])

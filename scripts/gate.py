@@ -8,7 +8,7 @@ too. The last line is 'N passed, M failed'.
 
 What an earlier run on the machine proved or refused of the same files, over the same kit, isn't tried again, unless --anew is given. Some
 kits' `rt ci` keeps no proofs: they prove all from nothing each time."""
-import argparse, concurrent.futures, os, re, shutil, subprocess, sys, tempfile, threading, time
+import argparse, concurrent.futures, glob, os, re, shutil, subprocess, sys, tempfile, threading, time
 
 import edits as edit_trials
 import kit as kits
@@ -127,7 +127,7 @@ class Gate:
             return self.count(f"runs by {script}", 0, ["programs not built"], start)
         ran = subprocess.run([f"{TOP}/{script}", *built, *more], stdin=subprocess.DEVNULL, stdout=subprocess.PIPE, text=True)
         print(ran.stdout, end="", flush=True)
-        found = re.search(r"(\d+) of (\d+) runs ended as they must", ran.stdout)
+        found = re.search(r"(\d+) of (\d+) (?:runs ended as they must|events are under the spans of their lines)", ran.stdout)
         passed, runs = (int(found[1]), int(found[2])) if found else (0, 1)
         failed = re.findall(r"(?m)^(program .*?): FAILED", ran.stdout) or [script] * (passed < runs or ran.returncode != 0)
         return self.count(f"runs by {script}", passed, failed, start)
@@ -139,6 +139,11 @@ class Gate:
         self.programs("scripts/fuzz.py", "tracing_tree_cli", "tracing_tree_read", more=asked)
         self.programs("scripts/program.sh", "tracing_tree_cli", "tracing_tree_read")
         self.programs("scripts/ttree.sh", "tracing_tree_ttree", "tracing_tree_cli")
+        self.programs("scripts/page.py", "tracing_tree_ttree", "tracing_tree_cli")
+        self.programs("scripts/manual.py", "tracing_tree_ttree", "tracing_tree_cli", "tracing_tree_read")
+        logs = sorted(glob.glob(f"{TOP}/examples/tracing*.jsonl"))
+        self.programs("scripts/tracing_paths.py", "tracing_tree_ttree", "tracing_tree_read", more=logs)
+        self.programs("viewer/page_test.py", "tracing_tree_ttree")
         self.faults()
         self.bindings()
 

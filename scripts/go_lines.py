@@ -8,37 +8,51 @@ import json, random, re, sys
 LEVELS = {"pass": "INFO", "fail": "ERROR", "skip": "WARN", "unfinished": "ERROR"}
 VERDICTS = {"pass": "good", "bench": "good", "skip": "good", "fail": "bad", "build-fail": "bad"}
 ENDINGS = {"pass": "pass", "bench": "pass", "fail": "fail", "skip": "skip"}
-STEPS = ("=== RUN   ", "=== PAUSE ", "=== CONT  ", "=== NAME  ", "--- PASS: ", "--- FAIL: ", "--- SKIP: ", "--- BENCH: ")
+STEPS = ("=== RUN   ", "=== PAUSE ", "=== CONT  ", "=== NAME  ", "=== ATTR  ", "=== ARTIFACTS ")
+STEPS += ("--- PASS: ", "--- FAIL: ", "--- SKIP: ", "--- BENCH: ")
+TRACES = re.compile(r"panic: |fatal error: |goroutine .*\]:$|thread '[^']*'( panicked at | \()|stack backtrace:|Traceback \(most recent call last\):|Exception in thread \"|Caused by: ")
+COVERAGE = re.compile(r"(?:[^\t]*\t[^\t]*\t[^\t]*\t)?coverage: ([^ ]*%)(?: |$)")
 
 
 class Running:
     def __init__(self, package, test):
         self.package, self.test, self.span, self.part = package, test, None, ""
-        self.has_begun = bool(test)
+        self.has_begun, self.is_error, self.notes = bool(test), False, {}
 
 
 class Run:
     def __init__(self, write=print):
-        self.write, self.running, self.next, self.building, self.has_failed = write, [], 1, "", False
-        self.counts = dict.fromkeys(("pass", "fail", "skip", "unfinished"), 0)
+        self.write, self.running, self.next, self.building, self.last = write, [], 1, "", None
+        self.builds, self.counts = {}, dict.fromkeys(("pass", "fail", "skip", "unfinished", "packages", "packages_failed"), 0)
+        self.failed_tests, self.failed_packages = [], []
 
-    def call(self, current, **words):
+    def call(self, current, last, **words):
         if current is not None:
             words["current"] = current
+        self.last = last
         self.write(json.dumps(words, ensure_ascii=False))
 
-    def event(self, level, text, elapsed, current):
+    def event(self, level, text, fields, current):
         if text.strip(" \t\r"):
-            fields = [["message", shown(text)]] + ([["elapsed", elapsed]] if elapsed is not None else [])
-            self.call(current, call="event", level=level, fields=fields)
+            fields = [["message", shown(text)], *([name, shown(value)] for name, value in fields.items())]
+            self.call(current, current, call="event", level=level, fields=fields)
+
+    def outer(self, one):
+        """The test in whose span a test stands, or its package."""
+        found = [it for it in self.running if it is not one and it.span and it.package == one.package and (not it.test or one.test.startswith(it.test + "/"))]
+        return max(found, key=lambda it: len(it.test)) if found else None
 
     def above(self, one):
-        found = [it for it in self.running if it is not one and it.span and it.package == one.package and (not it.test or one.test.startswith(it.test + "/"))]
-        return max(found, key=lambda it: len(it.test)).span if found else None
+        outer = self.outer(one)
+        return outer.span if outer else None
+
+    def name(self, one):
+        outer = self.outer(one)
+        return own_name(outer.test, one.test) if outer else one.test or one.package
 
     def open(self, one):
         if one.span is None:
-            self.call(self.above(one), call="new", name=shown(one.test or one.package))
+            self.call(self.above(one), self.next, call="new", name=shown(self.name(one)))
             one.span, self.next = self.next, self.next + 1
 
     def owner(self, package, test):
@@ -49,71 +63,108 @@ class Run:
         return self.running[-1]
 
     def tell(self, one):
-        line, one.part = one.part.removesuffix("\n"), ""
-        if not is_frame(one, line):
-            self.open(one)
-            self.event("INFO", line, None, one.span)
+        """Draws the line that was printed, if there is one."""
+        line, level = one.part.removesuffix("\n"), "ERROR" if one.is_error else "INFO"
+        if not one.part:
+            return
+        one.part, one.is_error = "", False
+        if is_frame(one, line):
+            return note(one, line)
+        self.open(one)
+        self.event(level, line, {}, one.span)
+
+    def output(self, one, line):
+        text, kind = line["Output"], line.get("OutputType", "")
+        one.has_begun = True
+        if kind == "frame" or (text.endswith("\n") and is_frame(one, text[:-1])):
+            self.tell(one)
+            return note(one, text.removesuffix("\n"))
+        one.part += text
+        one.is_error |= kind.startswith("error")
+        if text.endswith("\n"):
+            self.tell(one)
 
     def finish(self, one, ending, elapsed):
+        self.tell(one)
+        fields = elapsed_of(elapsed) | {it: one.notes[it] for it in ("cached", "coverage") if it in one.notes}
+        above, name = self.above(one), self.name(one)
         self.running.remove(one)
-        if one.part:
-            self.tell(one)
         if one.span is None:
-            return self.event(LEVELS[ending], f"{ending} {one.test or one.package}", elapsed, self.above(one))
-        self.event(LEVELS[ending], ending, elapsed, one.span)
-        return self.call(self.above(one), call="close", id=one.span)
+            return self.event(LEVELS[ending], f"{ending} {name}", fields, above)
+        self.event(LEVELS[ending], ending, fields, one.span)
+        return self.call(above, above, call="close", id=one.span)
 
-    def count(self, ending):
+    def count(self, ending, package, test):
         self.counts[ending] += 1
-        self.has_failed |= ending == "fail"
+        if ending == "fail":
+            self.failed_tests.append(f"{package}.{test}")
 
-    def leave(self, one):
+    def count_package(self, ending, package):
+        self.counts["packages"] += 1
+        if ending in ("fail", "unfinished"):
+            self.counts["packages_failed"] += 1
+            self.failed_packages.append(package)
+
+    def leave(self, one, ending="unfinished"):
         if one.test:
-            self.count("unfinished")
+            self.count(ending, one.package, one.test)
         else:
-            self.has_failed = True
-        self.finish(one, "unfinished", None)
+            self.count_package(ending, one.package)
+        self.finish(one, ending, None)
 
     def left(self, package):
         left = [it for it in self.running if it.package == package]
         return sorted(left, key=lambda it: it.test.encode(), reverse=True)
 
     def end_package(self, ending, package, elapsed):
-        self.has_failed |= ending == "fail"
+        self.count_package(ending, package)
         for one in self.left(package):
             if one.test:
-                self.leave(one)
+                self.leave(one, "pass" if ending == "pass" else "unfinished")
         self.finish(self.owner(package, ""), ending, elapsed)
 
     def end_test(self, ending, package, test, elapsed):
-        self.count(ending)
+        self.count(ending, package, test)
         one = self.owner(package, test)
         if one.test == test:
             return self.finish(one, ending, elapsed)
         self.open(one)
-        return self.event(LEVELS[ending], f"{ending} {test}", elapsed, one.span)
+        return self.event(LEVELS[ending], f"{ending} {own_name(one.test, test)}", elapsed_of(elapsed), one.span)
+
+    def tell_build(self, level, package):
+        """Draws what a build printed."""
+        texts = self.builds.pop(package, None)
+        if texts is None:
+            return
+        one = self.owner(package, "")
+        for text in texts:
+            line = (text.partition("\n")[2] if text.startswith("# ") else text).removesuffix("\n")
+            if line.strip(" \t\r"):
+                self.open(one)
+                self.event(level, line, {}, one.span)
 
     def act(self, line):
         package = package_of(line)
         action, test = line["Action"], line.get("Test", "")
+        if action == "build-output":
+            return self.builds.setdefault(package, []).append(line["Output"])
+        self.tell_build("ERROR" if action == "build-fail" else "WARN", package)
         if action == "run":
             one = self.owner(package, test)
             if test and one.test == test:
                 self.leave(one)
                 one = self.owner(package, test)
+            self.tell(one)
             self.open(one)
             one.has_begun = True
             if test:
                 self.running.append(Running(package, test))
-        elif action in ("output", "build-output"):
-            one = self.owner(package, test)
-            one.has_begun |= action == "output"
-            one.part += line["Output"]
-            if line["Output"].endswith("\n"):
-                self.tell(one)
+        elif action == "output":
+            self.output(self.owner(package, test), line)
         elif action in ENDINGS:
             end = self.end_test if test else lambda ending, package, _, elapsed: self.end_package(ending, package, elapsed)
             end(ENDINGS[action], package, test, line.get("Elapsed"))
+        return None
 
     def plain(self, text):
         if text.startswith("# "):
@@ -121,11 +172,14 @@ class Run:
         elif text.startswith("FAIL\t"):
             self.building = ""
             self.end_package("fail", text[5:].split(" ")[0], None)
-        elif not is_package_frame(text):
-            one = self.owner(self.building, "") if self.building else None
-            if one:
-                self.open(one)
-            self.event("ERROR", text, None, one.span if one else None)
+        elif is_package_frame(text):
+            return
+        elif not self.building or text.startswith("go: downloading "):
+            self.event("ERROR" if TRACES.match(text) else "INFO", text, {}, self.last)
+        else:
+            one = self.owner(self.building, "")
+            self.open(one)
+            self.event("ERROR", text, {}, one.span)
 
     def end(self):
         self.leave_all()
@@ -136,12 +190,18 @@ class Run:
             for one in self.left(package):
                 if one.has_begun:
                     self.leave(one)
+        for package in sorted(self.builds, key=str.encode):
+            self.tell_build("WARN", package)
 
     def tell_counts(self, write=None):
         self.write = write or self.write
-        names = {"pass": "passed", "fail": "failed", "skip": "skipped", "unfinished": "unfinished"}
+        names = {"pass": "passed", "fail": "failed", "skip": "skipped", "unfinished": "unfinished", "packages": "packages", "packages_failed": "packages_failed"}
         fields = [[name, str(self.counts[it])] for it, name in names.items()]
-        self.call(None, call="event", level="ERROR" if self.has_failed else "INFO", fields=fields)
+        for key, failed in ("failed_packages", self.failed_packages), ("failed_tests", self.failed_tests):
+            if failed:
+                fields.append([key, shown(" ".join(failed[:10]) + (f" and {len(failed) - 10} more" if len(failed) > 10 else ""))])
+        level = "ERROR" if self.counts["fail"] or self.counts["packages_failed"] else "INFO"
+        self.call(None, None, call="event", level=level, fields=fields)
 
 
 class Failed:
@@ -194,6 +254,24 @@ class Failed:
         self.whole.tell_counts(print)
 
 
+def own_name(outer, test):
+    """The name of a test in the span of this outer test."""
+    return test.removeprefix(outer + "/") if outer else test
+
+
+def elapsed_of(elapsed):
+    return {} if elapsed is None else {"elapsed": elapsed}
+
+
+def note(one, line):
+    """What a line of a package says of its end."""
+    if not one.test:
+        if line.split("\t")[2:3] and line.split("\t")[2].startswith("(cached)"):
+            one.notes["cached"] = "true"
+        if COVERAGE.match(line):
+            one.notes["coverage"] = COVERAGE.match(line)[1]
+
+
 def outermost_of(line):
     return line.get("Test", "").split("/")[0]
 
@@ -210,7 +288,9 @@ def random_lines(seed):
         if draw.random() < 0.9:
             line["Test"] = draw.choice(names)
         if line["Action"] == "output":
-            line["Output"] = draw.choice(["one\n", "two\n", "part", "=== RUN   TestA\n"])
+            line["Output"] = draw.choice(["one\n", "two\n", "part", "=== RUN   TestA\n", "--- PASS: TestA/x (0.00s)\n", "coverage: 7.5% of statements\n"])
+            if draw.random() < 0.2:
+                line["OutputType"] = draw.choice(["error", "error-continue", "frame", "other"])
         print(json.dumps(line))
 
 
@@ -224,7 +304,9 @@ def is_package_frame(line):
 
 def is_frame(one, line):
     if not one.test:
-        return is_package_frame(line)
+        return is_package_frame(line) or bool(COVERAGE.match(line))
+    if one.test.startswith("Benchmark") and line.lstrip(" ") == one.test:
+        return True
     rest = [line.lstrip(" ").removeprefix(it) for it in STEPS if line.lstrip(" ").startswith(it)]
     return any(it == one.test or it.startswith(one.test + " ") for it in rest)
 

@@ -1,9 +1,11 @@
 #!/bin/sh
 # Installs what `make build` and `make bindings` have left in bin/, or removes it. Builds nothing.
-# usage: install.sh install|library|uninstall STAGE PREFIX
+# usage: install.sh install|library|archive|uninstall STAGE PREFIX
 #   install    the programs, man pages, completions and docs, and the C library if it has been built
-#   library    the C library, its header and its pkg-config file only
-#   uninstall  removes what the other two install
+#   library    the library with its headers, its pkg-config file and the Python module only
+#   archive    what install does, but nothing without the library, and a pkg-config file that
+#              finds its folder wherever the archive is unpacked
+#   uninstall  removes what install and library install
 # The files are put under STAGE/PREFIX; STAGE may be empty. The status is 2 if nothing is installed.
 set -eu
 cd "$(dirname "$0")/.."
@@ -28,13 +30,24 @@ files() {
 644 CONTRIBUTING.md share/doc/tracing_tree/CONTRIBUTING.md
 644 LICENSE-APACHE share/doc/tracing_tree/LICENSE-APACHE
 644 LICENSE-MIT share/doc/tracing_tree/LICENSE-MIT
+644 docs/README.md share/doc/tracing_tree/docs/README.md
+644 docs/manual/chrome-traces.md share/doc/tracing_tree/docs/manual/chrome-traces.md
+644 docs/manual/go-test.md share/doc/tracing_tree/docs/manual/go-test.md
+644 docs/manual/json-lines.md share/doc/tracing_tree/docs/manual/json-lines.md
+644 docs/manual/json-logs.md share/doc/tracing_tree/docs/manual/json-logs.md
+644 docs/manual/pages.md share/doc/tracing_tree/docs/manual/pages.md
+644 docs/manual/read-back.md share/doc/tracing_tree/docs/manual/read-back.md
+644 docs/manual/rust-json.md share/doc/tracing_tree/docs/manual/rust-json.md
+644 docs/manual/ttree.md share/doc/tracing_tree/docs/manual/ttree.md
 644 docs/ARCHITECTURE.md share/doc/tracing_tree/docs/ARCHITECTURE.md
 644 docs/DECISIONS.md share/doc/tracing_tree/docs/DECISIONS.md
 644 docs/DIFFERENCES.md share/doc/tracing_tree/docs/DIFFERENCES.md
 644 docs/FORMATS.md share/doc/tracing_tree/docs/FORMATS.md
 644 docs/MODEL.md share/doc/tracing_tree/docs/MODEL.md
+644 docs/PAGE.md share/doc/tracing_tree/docs/PAGE.md
 644 docs/PROVED.md share/doc/tracing_tree/docs/PROVED.md
 644 docs/tree.svg share/doc/tracing_tree/docs/tree.svg
+644 bindings/README.md share/doc/tracing_tree/bindings/README.md
 FILES
 }
 
@@ -45,25 +58,28 @@ library_files() {
 755 bin/libtracing_tree.so.1 lib/libtracing_tree.so.1
 link libtracing_tree.so.1 lib/libtracing_tree.so
 644 bindings/c/tracing_tree.h include/tracing_tree.h
+644 bindings/c/tracing_tree.hpp include/tracing_tree.hpp
+644 bindings/python/tracing_tree.py lib/python3/dist-packages/tracing_tree.py
 write pkg_config lib/pkgconfig/tracing_tree.pc
 FILES
 }
 
 # Folders that are removed if they are empty. The others may have been there before.
-FOLDERS='share/doc/tracing_tree/docs share/doc/tracing_tree'
+FOLDERS='share/doc/tracing_tree/docs/manual share/doc/tracing_tree/docs share/doc/tracing_tree/bindings
+share/doc/tracing_tree'
 
-# The quotes keep a prefix with spaces one word.
+# The quotes keep a prefix with spaces one word. pkg-config quotes pcfiledir itself.
 pkg_config() {
     cat << PC
-prefix=$prefix
+prefix=$folder
 libdir=\${prefix}/lib
 includedir=\${prefix}/include
 
 Name: tracing_tree
 Description: Draws spans and events as a tree
 Version: 1
-Libs: -L"\${libdir}" -ltracing_tree
-Cflags: -I"\${includedir}"
+Libs: -L$quote\${libdir}$quote -ltracing_tree
+Cflags: -I$quote\${includedir}$quote
 PC
 }
 
@@ -107,30 +123,50 @@ install_library() {
     fi
 }
 
-install_all() {
+# Ends with status 2 if a program is missing or old, or if there is a fault already.
+check_programs() {
     for program in tracing_tree tracing_tree_read ttree; do
         fault=$(fault_of $program)
         if [ -n "$fault" ]; then
-            say "$fault: run 'make build' (15 minutes on four cores)"
+            say "$fault: run 'make build' (25 minutes on four cores)"
             status=2
         fi
     done
     [ "$status" = 0 ] || exit "$status"
+}
+
+install_all() {
+    check_programs
     files | put
     install_library 0
+}
+
+# Installs all or nothing. pkg-config sets pcfiledir to the folder of its file.
+install_archive() {
+    fault=$(library_fault)
+    if [ -n "$fault" ]; then
+        say "$fault: run 'make bindings' (20 minutes on four cores)"
+        status=2
+    fi
+    check_programs
+    folder='${pcfiledir}/../..'
+    quote=
+    { files; library_files; } | put
 }
 
 uninstall() {
     { files; library_files; } | while read -r mode file place; do
         rm -f "$to/$place"
     done
+    # what Python writes when the module is first used
+    rm -f "$to"/lib/python3/dist-packages/__pycache__/tracing_tree.*.pyc
     for folder in $FOLDERS; do
         rmdir "$to/$folder" 2> /dev/null || true
     done
 }
 
 if [ $# != 3 ]; then
-    say "usage: install.sh install|library|uninstall STAGE PREFIX"
+    say "usage: install.sh install|library|archive|uninstall STAGE PREFIX"
     exit 2
 fi
 case $3 in
@@ -138,11 +174,14 @@ case $3 in
     *) say "PREFIX must begin with /: '$3'"; exit 2 ;;
 esac
 prefix=${3%/}
+folder=$prefix
+quote='"'
 to=$2$prefix
 status=0
 case $1 in
     install) install_all ;;
     library) install_library 2 ;;
+    archive) install_archive ;;
     uninstall) uninstall ;;
     *) say "unknown command: $1"; status=2 ;;
 esac

@@ -5,7 +5,7 @@ install_test.py TREE READER TTREE
 The programs may be compiled without their proofs. `make install` runs on a copy with stand-ins for
 what is built. Checks that need mandoc, zsh, fish or pkg-config are left out without them. The last
 line counts the runs that ended as they must. The status is 1 if one failed."""
-import functools, os, re, shlex, shutil, subprocess, sys, tempfile, time
+import functools, os, re, shlex, shutil, subprocess, sys, tarfile, tempfile, time
 
 import completions
 
@@ -233,15 +233,17 @@ def install_places():
             "": ("zsh/site-functions", file),
         }[ending]
         files[f"share/{folder}/{installed}"] = f"completions/{file}"
-    for file in (*TEXTS, *(f"docs/{it}" for it in os.listdir(f"{TOP}/docs"))):
+    for file in (*TEXTS, *(f"{folder}/{it}" for folder in ("docs", "docs/manual") for it in os.listdir(f"{TOP}/{folder}"))):
         if os.path.isfile(f"{TOP}/{file}"):
             files[f"{DOCS}/{file}"] = file
-    return files
+    return files | {f"{DOCS}/bindings/README.md": "bindings/README.md"}
 
 
 def library_places():
     files = {f"lib/{it}": f"bin/{it}" for it in ("libtracing_tree.a", "libtracing_tree.so.1")}
-    return {**files, "include/tracing_tree.h": "bindings/c/tracing_tree.h"}
+    for file in ("tracing_tree.h", "tracing_tree.hpp"):
+        files[f"include/{file}"] = f"bindings/c/{file}"
+    return {**files, "lib/python3/dist-packages/tracing_tree.py": "bindings/python/tracing_tree.py"}
 
 
 def kept(path):
@@ -257,12 +259,13 @@ class Copy:
     def __init__(self, room):
         self.top, self.stage = f"{room}/the copy", f"{room}/the stage"
         self.mark, self.now = f"{room}/rt was run", time.time()
-        for file in (*TEXTS, "Makefile", "crates.txt", "scripts/install.sh",
-                     "bindings/bindings.mk", "bindings/c/tracing_tree.h"):
+        for file in (*TEXTS, "Makefile", "crates.txt", "scripts/install.sh", "scripts/dist.sh"):
             os.makedirs(os.path.dirname(f"{self.top}/{file}"), exist_ok=True)
             shutil.copy(f"{TOP}/{file}", f"{self.top}/{file}")
-        for folder in ("docs", "completions"):
-            shutil.copytree(f"{TOP}/{folder}", f"{self.top}/{folder}")
+        for folder in ("docs", "completions", "bindings"):
+            left_out = shutil.ignore_patterns("target", "__pycache__")
+            shutil.copytree(f"{TOP}/{folder}", f"{self.top}/{folder}", ignore=left_out)
+        self.make("bindings/rust/target/debug/build/x/out/made.rs", 0)
         for file in ("crates/a/src/main.rt", "crates/a/must-fail/x.edit", "crates/a/out/x"):
             self.make(file, 0)
         self.age("crates.txt", 0)
@@ -326,8 +329,9 @@ def check_pkg_config(copy, text):
 
 def check_uninstall(copy, name):
     """Removes what is installed. Files of others stay, and so do the folders that they may use."""
-    others = {"bin/other", f"{DOCS}/docs/other"}
-    for place in others:
+    packages = "lib/python3/dist-packages"
+    others = {"bin/other", f"{DOCS}/docs/other", f"{packages}/other.py"}
+    for place in others | {f"{packages}/__pycache__/tracing_tree.cpython-311.pyc"}:
         write(f"{copy.stage}{PREFIX}/{place}", "not of tracing_tree\n")
     equal(f"{name}: uninstall", copy.run("uninstall"), (0, []))
     equal(f"{name}: files of others", {*copy.installed()}, others)
@@ -370,7 +374,7 @@ def check_refused(copy, name, lines, prefix=PREFIX):
 
 def check_without_programs(copy):
     def said(name, fault):
-        return f"install: bin/{name} {fault}: run 'make build' (15 minutes on four cores)"
+        return f"install: bin/{name} {fault}: run 'make build' (25 minutes on four cores)"
 
     copy.age("bin/ttree", -10)
     check_refused(copy, "an old ttree", [said("ttree", "is older than its sources")])
@@ -399,6 +403,100 @@ def check_library(copy, prefix):
     check("the library: prefix", f"prefix={prefix}\n" in text, text)
 
 
+def check_archive(copy):
+    """Installs all or nothing, and a pkg-config file that names its folder by its own place."""
+    library = "run 'make bindings' (20 minutes on four cores)"
+    program = "run 'make build' (25 minutes on four cores)"
+    words = (f"{copy.top}/scripts/install.sh", "archive", copy.stage, PREFIX)
+    for file, fault, age, remedy in (
+        ("libtracing_tree.so.1", "is older than its sources", -10, library),
+        ("libtracing_tree.a", "is missing", None, library),
+        ("ttree", "is missing", None, program),
+        ("tracing_tree", "is older than its sources", -10, program),
+    ):
+        shutil.rmtree(copy.stage, ignore_errors=True)
+        copy.age(f"bin/{file}", age or 0)
+        if age is None:
+            os.remove(f"{copy.top}/bin/{file}")
+        said = f"install: bin/{file} {fault}: {remedy}\n"
+        equal(f"archive: {file} {fault}", ran(*words), (2, said))
+        check(f"archive: {file} {fault}: nothing is installed", not os.path.exists(copy.stage))
+        copy.make(f"bin/{file}", 10)
+    equal("archive", ran(*words, preexec_fn=lambda: os.umask(0o077)), (0, ""))
+    text = copy.compare("archive", True)
+    check("archive: prefix", "prefix=${pcfiledir}/../..\n" in text and PREFIX not in text, text)
+    if has("pkg-config", "the flags of an archive"):
+        env = {**os.environ, "PKG_CONFIG_PATH": f"{copy.stage}{PREFIX}/lib/pkgconfig"}
+        _, said = ran("pkg-config", "--cflags", "tracing_tree", env=env)
+        folder = shlex.split(said)[0].removeprefix("-I")
+        headers = ["tracing_tree.h", "tracing_tree.hpp"]
+        equal("archive: headers", sorted(os.listdir(folder)), headers)
+    check_uninstall(copy, "archive")
+
+
+# What else an archive has: the place below its folder, and the file.
+PARTS = {it: it for it in ("LICENSE-APACHE", "LICENSE-MIT")}
+PARTS |= {"README.md": "bindings/README.md", "go/lib/tracing_tree.h": "bindings/c/tracing_tree.h"}
+PARTS |= {f"c/{it}": f"bindings/c/{it}" for it in ("server.c", "server.cpp", "server.out")}
+PARTS |= {f"{it}/lib/libtracing_tree.a": "bin/libtracing_tree.a" for it in ("go", "rust")}
+PARTS |= {f"{it}/{of}": of for it in ("go", "rust") for of in ("LICENSE-APACHE", "LICENSE-MIT")}
+
+
+def archive_places():
+    """Returns the file that must be at each place of an archive, by its folder."""
+    found = install_places() | library_places() | PARTS
+    for package, endings in (("go", (".go", "go.mod")), ("rust", (".rs", ".toml", "README.md"))):
+        for folder, folders, files in os.walk(f"{TOP}/bindings/{package}"):
+            folders[:] = [it for it in folders if it not in ("target", ".cargo")]
+            for file in files:
+                if file.endswith(endings):
+                    path = os.path.relpath(f"{folder}/{file}", f"{TOP}/bindings")
+                    found[path] = f"bindings/{path}"
+    return found
+
+
+def check_dist(copy):
+    """Writes an archive twice, and compares what it has. The date of the files is given."""
+    date, found = 1700000000, []
+    env = {**os.environ, "SOURCE_DATE_EPOCH": str(date)}
+    version = re.search(r'(?m)^version = "(.*)"', text_of("bindings/rust/Cargo.toml"))[1]
+    name = f"tracing_tree-{version}-x86_64-linux"
+    for mask, zone in ((0o077, "UTC"), (0o002, "Asia/Kolkata")):
+        shutil.rmtree(f"{copy.top}/dist", ignore_errors=True)
+        how = {"env": {**env, "TZ": zone}, "preexec_fn": lambda mask=mask: os.umask(mask)}
+        said = ran(f"{copy.top}/scripts/dist.sh", **how)
+        equal("dist", said, (0, f"dist: wrote dist/{name}.tar.gz\n"))
+        equal("dist: what it writes", os.listdir(f"{copy.top}/dist"), [f"{name}.tar.gz"])
+        found.append(read(f"{copy.top}/dist/{name}.tar.gz"))
+        for place in ("scripts/install.sh", "bindings/go/go.mod"):
+            copy.age(place, 7)
+    check("dist: two archives have the same bytes", found[0] == found[1])
+    with tarfile.open(f"{copy.top}/dist/{name}.tar.gz") as archive:
+        members = {os.path.relpath(it.name, name): it for it in archive}
+        regular = {place: it for place, it in members.items() if it.isreg()}
+        texts = {place: archive.extractfile(it).read() for place, it in regular.items()}
+    equal("dist: dates", {it.mtime for it in members.values()}, {date})
+    equal("dist: owners", {(it.uid, it.gid) for it in members.values()}, {(0, 0)})
+    equal("dist: the link", members["lib/libtracing_tree.so"].linkname, "libtracing_tree.so.1")
+    texts.pop("lib/pkgconfig/tracing_tree.pc")
+    wanted = archive_places()
+    equal("dist: files", {*texts}, {*wanted})
+    for place in {*texts} & {*wanted}:
+        is_run = place.startswith(("bin/", "lib/libtracing_tree.so"))
+        mode = 0o755 if is_run else 0o644
+        is_right = texts[place] == read(f"{copy.top}/{wanted[place]}")
+        equal(f"dist: {place}", (members[place].mode, is_right), (mode, True))
+    folders = {it.mode for it in members.values() if it.isdir()}
+    equal("dist: folders", folders, {0o755})
+    shutil.rmtree(f"{copy.top}/dist")
+    os.remove(f"{copy.top}/bin/libtracing_tree.a")
+    said = ("install: bin/libtracing_tree.a is missing: "
+            "run 'make bindings' (20 minutes on four cores)\n")
+    equal("dist without the library", ran(f"{copy.top}/scripts/dist.sh", env=env), (2, said))
+    check("dist without the library: nothing is left", not os.path.exists(f"{copy.top}/dist"))
+    copy.make("bin/libtracing_tree.a", 10)
+
+
 def check_install(room):
     copy = Copy(room)
     check_library(copy, f"{room}/only the library")
@@ -410,6 +508,8 @@ def check_install(room):
     equal("all again", copy.run("install"), (0, []))
     copy.compare("all again", True)
     check_uninstall(copy, "all")
+    check_archive(copy)
+    check_dist(copy)
     copy.age("crates/a/must-fail/x.edit", 20)
     copy.age("crates/a/out/x", 20)
     equal("after a change of what isn't a source", copy.run("install"), (0, []))

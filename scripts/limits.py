@@ -15,6 +15,17 @@ from limit_inputs import Drawing, Lines, Told
 
 SECONDS = 120
 KIB = 1024
+# what ttree reports in place of the other programs' words
+SENTENCES = {"out of memory": "memory", "the input can't be read": "read", "the output can't be written": "writer"}
+
+
+def in_words(told):
+    """What ttree reports, in the words of the other programs. Without a line it is of the first, or of the output's end."""
+    found = re.fullmatch(r"ttree: (line \d+: )?([^:]+)\n", told)
+    word = SENTENCES.get(found[2]) if found else None
+    if not word:
+        return told
+    return f"{found[1] or ('end: ' if word == 'writer' else 'line 1: ')}{word}\n"
 
 
 class Limits:
@@ -42,7 +53,7 @@ class Limits:
         it is known which of the two, `must_end` says it."""
         out, told, status = ended
         is_whole = ended == (given.whole, given.told, given.status)
-        found = re.fullmatch(r"(?:ttree: )?(?:line (\d+): (memory|writer|read)|end: (writer))\n", told.decode(errors="replace"))
+        found = re.fullmatch(r"(?:line (\d+): (memory|writer|read)|end: (writer))\n", in_words(told.decode(errors="replace")))
         word = (found[2] or found[3]) if found else ""
         self.words.setdefault(name, set()).add(word)
         if is_whole or not found:
@@ -166,7 +177,14 @@ def pipes(limits, inputs):
         limits.judge("a pipe that is full and can't wait", given, piped(limits, given, ended_first, is_blocking=False), must_end=False)
         for is_default in (True, False):
             name = f"a pipe whose reader goes, SIGPIPE {'as it is' if is_default else 'ignored'}"
-            limits.judge(name, given, piped(limits, given, gone, restore_signals=is_default), must_end=False)
+            ended = piped(limits, given, gone, restore_signals=is_default)
+            if isinstance(given, Told):
+                # ttree ends as `head` lets other programs end: silently.
+                out, reported, status = ended
+                is_silent = (reported, status) == (b"", 0) and given.whole.startswith(out)
+                limits.count(f"{name}, {given.name}", is_silent, ended)
+            else:
+                limits.judge(name, given, ended, must_end=False)
 
 
 # ---- arguments and statuses
@@ -222,14 +240,14 @@ def statuses(limits):
             ("a line that isn't UTF-8", lines[:5] + b"\xff\n" + lines[5:], first.whole, 2), ("no line end", lines[:-1], first.whole, 2),
             ("an empty line", b"\n" + lines, b"", 1), ("a line of spaces", lines + b"  \n", rows.whole, 3)):
         told(limits, f"reading, {name}", [reader], source, (out, b"line %d: not a row\n" % line, 1))
-    counted = b"INFO passed=0, failed=0, skipped=0, unfinished=0\n"
+    counted = b"INFO passed=0, failed=0, skipped=0, unfinished=0, packages=0, packages_failed=0\n"
     go_lines, quiet = limit_inputs.go_lines(1), {"stderr": None}
     told(limits, "reading, with standard input closed", [reader], None, (b"", b"line 1: read\n", 1), closed=0)
-    told(limits, "ttree, with standard input closed", [ttree], None, (b"", b"ttree: line 1: read\n", 1), closed=0)
+    told(limits, "ttree, with standard input closed", [ttree], None, (b"", b"ttree: line 1: the input can't be read\n", 1), closed=0)
     told(limits, "reading, with standard output closed", [reader], lines, (b"", b"end: writer\n", 1), closed=1)
     told(limits, "ttree, with standard output closed", [ttree], go_lines, (b"", ANY, 1), closed=1)
     told(limits, "reading, with standard error closed", [reader], lines, (rows.whole, b"", 0), closed=2, **quiet)
-    told(limits, "ttree, with standard error closed", [ttree], b"", (counted, b"", 0), closed=2, **quiet)
+    told(limits, "ttree, with standard error closed", [ttree, "--from", "go-test"], b"", (counted, b"", 0), closed=2, **quiet)
     for program in (reader, ttree):
         name = f"{os.path.basename(program)}, a wrong argument with standard error closed"
         told(limits, name, [program, "-x"], b"", (b"", b"", 2), closed=2, **quiet)

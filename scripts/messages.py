@@ -51,6 +51,14 @@ RUNS = (
     ("python3", "bindings/test.sh", PYTHON),
     ("cc", "bindings/bench.sh", CC),
     ("valgrind", "bindings/bench.sh", VALGRIND),
+    ("git", "make dist", GIT),
+    ("library", "env SOURCE_DATE_EPOCH=1 make dist",
+     "install: bin/libtracing_tree.a is missing: "
+     "run 'make bindings' (20 minutes on four cores)"),
+    ("library", "scripts/dist_test.sh", "dist/tracing_tree-0.1.0-x86_64-linux.tar.gz isn't there: "
+                                        "run 'make dist' first"),
+    ("cc", "scripts/dist_test.sh", CC),
+    ("python3", "scripts/dist_test.sh", PYTHON),
 )
 
 

@@ -17,6 +17,8 @@ import sys
 import tempfile
 
 WORDS = {"malloc": "memory", "read": "read", "write": "writer"}
+# what ttree reports in their place
+SENTENCES = {"malloc": "out of memory", "read": "the input can't be read", "write": "the output can't be written"}
 
 
 class Refusals:
@@ -50,7 +52,7 @@ class Refusals:
         if kind == "write" and whole[0] and (status, told) == (whole[0], whole[2]):
             return whole[1].startswith(text)
         if self.kind == "ttree":
-            found = re.fullmatch(rf"ttree: (?:(?:line \d+|end): )?{WORDS[kind]}\n", told)
+            found = re.fullmatch(rf"ttree: (?:line \d+: )?{SENTENCES[kind]}\n", told)
             return bool(found) and status == 1 and whole[1].startswith(text)
         found = re.fullmatch(rf"(?:line (\d+)|end): {WORDS[kind]}\n", told)
         if not found or status != 1 or not (found[1] or kind == "write"):

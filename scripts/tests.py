@@ -3,7 +3,8 @@
 
 The tests of each crate run by `rt try --test`, which compiles the sources as they stand, with checks. The programs are compiled so too
 (scripts/unproved.py), and scripts/program.sh runs them as their users do. A model that is written from the docs alone (scripts/model.py)
-says what they must write for random lines, and they are run where files and pipes end. Their man pages and completions are compared with
+says what they must write for random lines, and they are run where files and pipes end. The pages of ttree are compared with docs/PAGE.md
+(scripts/page.py), and the text of their viewer with its parts. The manual's commands are run (scripts/manual.py). Their man pages and completions are compared with
 what they print, and `make install` is tried on a copy (scripts/install_test.py). That no function does anything but what its contract
 says is for `make gate` to show, which runs tests, cases and programs again as they are proved and built. What targets and scripts say if a
 tool is missing is compared by scripts/messages.py.
@@ -18,10 +19,15 @@ TOP = os.path.dirname(os.path.dirname(os.path.abspath(__file__)))
 START = time.time()
 # The programs: the crate, and where its unproved executable goes.
 PROGRAMS = {"tracing_tree_cli": "bin/unproved_tree", "tracing_tree_read": "bin/unproved_read", "tracing_tree_ttree": "bin/unproved_ttree"}
+# Logs of Rust's tracing.
+LOGS = tuple(f"examples/{it}.jsonl" for it in ("tracing", "tracing-flat", "tracing-full", "tracing-plain"))
 # The scripts that run them, with their words.
 RUNS = (
     ("scripts/program.sh", "--checked", "tracing_tree_cli", "tracing_tree_read"),
     ("scripts/ttree.sh", "--checked", "tracing_tree_ttree", "tracing_tree_cli"),
+    ("scripts/page.py", "tracing_tree_ttree", "tracing_tree_cli"),
+    ("scripts/manual.py", "tracing_tree_ttree", "tracing_tree_cli", "tracing_tree_read"),
+    ("scripts/tracing_paths.py", "tracing_tree_ttree", "tracing_tree_read", *LOGS),
     ("scripts/model.py", "crates/tracing_tree_cases/data"),
     ("scripts/fuzz.py", "--checked", "--lines", "3000", "--calls", "2000", "--drawings", "2000", "--sizes", "-1",
      "tracing_tree_cli", "tracing_tree_read"),
@@ -33,6 +39,7 @@ RUNS = (
 DOCS = (
     ("sizes of the claims", "scripts/claim.py", "--check"),
     ("examples of the docs", "scripts/examples.py"),
+    ("the viewer's text", "viewer/build.py", "--check"),
 )
 
 # How many of the steps have ended, and how many there are.
@@ -97,7 +104,7 @@ def run_programs(*words):
     """Runs programs by a script, and returns how many runs passed and how many failed."""
     status, said = ran(*(PROGRAMS.get(it, it) for it in words))
     print(said, end="", flush=True)
-    found = re.search(r"(\d+) of (\d+) (?:runs ended as they must|cases agree)", said)
+    found = re.search(r"(\d+) of (\d+) (?:runs ended as they must|cases agree|events are under the spans of their lines)", said)
     if not found:
         return 0, 1
     passed, runs = int(found[1]), int(found[2])

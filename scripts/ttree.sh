@@ -18,13 +18,16 @@ top=$(cd "$(dirname "$0")/.." && pwd)
 room=$(mktemp -d)
 trap 'rm -rf "$room"' EXIT
 . "$top/scripts/ttree_tracing.sh"
+. "$top/scripts/ttree_logs.sh"
 . "$top/scripts/ttree_chrome.sh"
 runs=0
 right=0
 
+# Runs the program. A message's file is left out if it is one of these tests' own: `count` compares the rest.
 run() {
     timeout 300 "$ttree" "$@" > "$room/out" 2> "$room/err"
     status=$?
+    sed -i "s#^ttree: \($room\|$top\)/[^:]*: #ttree: #" "$room/err"
 }
 
 # Counts the run of this name: what stands in `out` must be this file, on standard error this text, and the status this one.
@@ -78,19 +81,21 @@ run_odd() {
     cp "$room/odd" "$room/skipped"
     printf '[1]\n{"Action":"run"}\n\377\n' >> "$room/skipped"
     run "$room/skipped"
-    count 'on lines that tell nothing' want 'ttree: line 7: "Action": expected a text
-ttree: line 8: "Package": expected a text
-ttree: line 9: expected UTF-8' 1
+    count 'on lines that tell nothing' want 'ttree: line 7: "Action" must be a string, skipped
+ttree: line 8: "Package" must be a string, skipped
+ttree: line 9: not UTF-8, skipped
+ttree: 3 lines skipped' 1
     printf '{"Action":"output","Package":"p"}\n' > "$room/textless"
-    echo 'INFO passed=0, failed=0, skipped=0, unfinished=0' > "$room/want"
+    echo 'INFO passed=0, failed=0, skipped=0, unfinished=0, packages=0, packages_failed=0' > "$room/want"
     run "$room/textless"
-    count 'on output without a text' want 'ttree: line 1: "Output": expected a text' 1
+    count 'on output without a text' want 'ttree: line 1: "Output" must be a string, skipped
+ttree: 1 line skipped' 1
     sed 's/$/\r/' "$top/examples/go-test.jsonl" > "$room/crlf"
     expect "$top/examples/go-test.jsonl" 's/^//'
     run "$room/crlf"
     count 'on lines that end as on Windows' want '' 1
     : > "$room/none"
-    echo 'INFO passed=0, failed=0, skipped=0, unfinished=0' > "$room/want"
+    : > "$room/want"
     run "$room/none"
     count 'on an empty file' want '' 0
 }
@@ -113,7 +118,7 @@ END_OF_LINES
     cat > "$room/want" << 'END_OF_TREE'
 ┐p 
 └─┐TestA 
-  └─┐TestA/x 
+  └─┐x 
     ├─ INFO x
 ├─ ERROR unfinished TestB
 └─┐TestB 
@@ -127,14 +132,14 @@ END_OF_LINES
   ├─ ERROR unfinished
 ┌─┘
 └─┐TestA 
-  └─┐TestA/x 
+  └─┐x 
     ├─ ERROR unfinished
   ┌─┘
   ├─ ERROR unfinished
 ┌─┘
 ├─ ERROR fail
 ┘
-ERROR passed=0, failed=0, skipped=0, unfinished=4
+ERROR passed=0, failed=0, skipped=0, unfinished=4, packages=2, packages_failed=1, failed_packages=p
 END_OF_TREE
     run "$room/left"
     count 'on tests that still run' want '' 1
@@ -155,11 +160,9 @@ END_OF_LINES
 └─┐TestA 
 ┐q 
 ├─ INFO pass TestB, elapsed=0.5
-┐r 
-├─ INFO r warns
 ┐p 
 └─┐TestA 
-  └─┐TestA/x 
+  └─┐x 
     ├─ INFO half
     ├─ ERROR unfinished
   ┌─┘
@@ -170,15 +173,124 @@ END_OF_LINES
 ┐q 
 ├─ ERROR unfinished
 ┘
-ERROR passed=1, failed=0, skipped=0, unfinished=2
+┐r 
+├─ WARN r warns
+ERROR passed=1, failed=0, skipped=0, unfinished=2, packages=2, packages_failed=2, failed_packages=p q
 END_OF_TREE
     run "$room/ended"
     count 'on an input that ends while tests run' want '' 1
     drawing "$room/ended" 1
     echo '{"ImportPath":"r","Action":"build-output","Output":"r warns\n"}' > "$room/ended"
-    printf '┐r \n├─ INFO r warns\nINFO passed=0, failed=0, skipped=0, unfinished=0\n' > "$room/want"
+    printf '┐r \n├─ WARN r warns\nINFO passed=0, failed=0, skipped=0, unfinished=0, packages=0, packages_failed=0\n' > "$room/want"
     run "$room/ended"
     count 'on a build alone' want '' 0
+}
+
+# The run on lines, which come on standard input up to a line `--`, with this status. The tree comes after that line; it is made by hand of
+# what docs/FORMATS.md says.
+tree_of_lines() {
+    cat > "$room/both"
+    sed '/^--$/,$d' "$room/both" > "$room/lines"
+    sed '1,/^--$/d' "$room/both" > "$room/want"
+    run --from go-test "$room/lines"
+    count "$1" want '' "$2"
+    expect "$room/lines" 's/^//'
+    count "$1, as go_lines.py tells them" want '' "$2"
+}
+
+# What Go 1.20 and later print: benchmarks without an end, frames behind half a line, kinds of strings, builds, and how packages end.
+run_newer() {
+    tree_of_lines 'on benchmarks without an end' 0 << 'END_OF_LINES'
+{"Action":"start","Package":"p"}
+{"Action":"run","Package":"p","Test":"BenchmarkA"}
+{"Action":"output","Package":"p","Test":"BenchmarkA","Output":"=== RUN   BenchmarkA\n"}
+{"Action":"output","Package":"p","Test":"BenchmarkA","Output":"BenchmarkA\n"}
+{"Action":"output","Package":"p","Test":"BenchmarkA","Output":"BenchmarkA-4  \t"}
+{"Action":"output","Package":"p","Test":"BenchmarkA","Output":"  10\t 16 ns/op\n"}
+{"Action":"run","Package":"p","Test":"BenchmarkB"}
+{"Action":"output","Package":"p","Output":"PASS\n"}
+{"Action":"pass","Package":"p","Elapsed":0.1}
+--
+┐p 
+└─┐BenchmarkA 
+  ├─ INFO BenchmarkA-4  	  10	 16 ns/op
+├─ INFO pass BenchmarkB
+└─┐BenchmarkA 
+  ├─ INFO pass
+┌─┘
+├─ INFO pass, elapsed=0.1
+┘
+INFO passed=2, failed=0, skipped=0, unfinished=0, packages=1, packages_failed=0
+END_OF_LINES
+    tree_of_lines 'on frames behind half a line' 0 << 'END_OF_LINES'
+{"Action":"run","Package":"p","Test":"T"}
+{"Action":"output","Package":"p","Test":"T","Output":"x"}
+{"Action":"run","Package":"p","Test":"T/s"}
+{"Action":"output","Package":"p","Test":"T/s","Output":"=== ATTR  T/s owner me\n"}
+{"Action":"output","Package":"p","Test":"T/s","Output":"y"}
+{"Action":"output","Package":"p","Test":"T/s","Output":"--- PASS: T/s (0.00s)\n"}
+{"Action":"pass","Package":"p","Test":"T/s","Elapsed":0}
+{"Action":"output","Package":"p","Test":"T","Output":"wrong\n","OutputType":"error"}
+{"Action":"output","Package":"p","Test":"T","Output":"z"}
+{"Action":"output","Package":"p","Test":"T","Output":"--- any frame\n","OutputType":"frame"}
+{"Action":"pass","Package":"p","Test":"T","Elapsed":0}
+{"Action":"output","Package":"p","Output":"coverage: 80.0% of statements\n"}
+{"Action":"output","Package":"p","Output":"ok  \tp\t(cached)\tcoverage: 80.0% of statements\n"}
+{"Action":"pass","Package":"p","Elapsed":0}
+--
+┐p 
+└─┐T 
+  ├─ INFO x
+  └─┐s 
+    ├─ INFO y
+    ├─ INFO pass, elapsed=0
+  ┌─┘
+  ├─ ERROR wrong
+  ├─ INFO z
+  ├─ INFO pass, elapsed=0
+┌─┘
+├─ INFO pass, elapsed=0, cached=true, coverage=80.0%
+┘
+INFO passed=2, failed=0, skipped=0, unfinished=0, packages=1, packages_failed=0
+END_OF_LINES
+    tree_of_lines 'on what builds print, and lines among them' 1 << 'END_OF_LINES'
+go: downloading example.com/x v1.2.3
+{"ImportPath":"r [r.test]","Action":"build-output","Output":"# r [r.test]\n"}
+{"ImportPath":"r [r.test]","Action":"build-output","Output":"./a.go:3: undefined: x\n"}
+{"ImportPath":"s","Action":"build-output","Output":"# s\n"}
+{"ImportPath":"s","Action":"build-output","Output":"s warns\n"}
+{"ImportPath":"r [r.test]","Action":"build-fail"}
+{"Action":"start","Package":"r"}
+{"Action":"fail","Package":"r","Elapsed":0,"FailedBuild":"r [r.test]"}
+{"Action":"start","Package":"s"}
+note
+panic: oops
+{"Action":"skip","Package":"s"}
+after
+--
+INFO go: downloading example.com/x v1.2.3
+┐r 
+├─ ERROR ./a.go:3: undefined: x
+├─ ERROR fail, elapsed=0
+┘
+┐s 
+├─ WARN s warns
+├─ INFO note
+├─ ERROR panic: oops
+├─ WARN skip
+┘
+INFO after
+ERROR passed=0, failed=0, skipped=0, unfinished=0, packages=2, packages_failed=1, failed_packages=r
+END_OF_LINES
+    { for name in {01..12}; do printf '{"Action":"fail","Package":"p","Test":"T%s"}\n' "$name"; done; echo '{"Action":"pass","Package":"p"}'; } > "$room/lines"
+    {
+        echo '┐p '
+        printf '├─ ERROR fail T%s\n' {01..12}
+        printf '├─ INFO pass\n┘\n'
+        echo "ERROR passed=0, failed=12, skipped=0, unfinished=0, packages=1, packages_failed=0, failed_tests=$(echo p.T{01..10}) and 2 more"
+    } > "$room/want"
+    run "$room/lines"
+    count 'on twelve tests that fail' want '' 1
 }
 
 # Lines that are skipped: the first ten are told, and then how many there are.
@@ -186,15 +298,15 @@ run_skipped() {
     local number notes=''
     { cat "$room/odd"; printf '[1]\n%.0s' {1..12}; } > "$room/many"
     for number in {7..16}; do
-        notes+="ttree: line $number: \"Action\": expected a text"$'\n'
+        notes+="ttree: line $number: \"Action\" must be a string, skipped"$'\n'
     done
     expect "$room/odd" 's/^//'
     run "$room/many"
-    count 'on twelve lines that tell nothing' want "${notes}ttree: lines skipped: 12" 1
+    count 'on twelve lines that tell nothing' want "${notes}ttree: 12 lines skipped" 1
     { head -n 1 "$room/odd"; echo '[1]'; tail -n 2 "$room/odd"; } > "$room/strict"
     python3 "$top/scripts/go_lines.py" < <(head -n 1 "$room/odd") | head -n -3 | "$tree" > "$room/want"
     run --strict "$room/strict"
-    count 'with --strict' want 'ttree: line 2: "Action": expected a text' 1
+    count 'with --strict' want 'ttree: line 2: "Action" must be a string' 1
     expect "$room/odd" 's/^//'
     run --strict "$room/odd"
     count 'with --strict on lines that are known' want '' 1
@@ -216,7 +328,7 @@ run_levels() {
 ┘
 ┐example.com/fail/ok 
 └─┐TestSum 
-  └─┐TestSum/#00 
+  └─┐#00 
     ├─ ERROR fail, elapsed=0
   ┌─┘
   ├─ ERROR fail, elapsed=0
@@ -225,7 +337,7 @@ run_levels() {
 ┘
 ┐example.com/fail/panics 
 └─┐TestSecond 
-  └─┐TestSecond/inner 
+  └─┐inner 
     ├─ ERROR fail, elapsed=0
   ┌─┘
   ├─ ERROR fail, elapsed=0
@@ -233,7 +345,7 @@ run_levels() {
 ├─ ERROR unfinished TestFirst
 ├─ ERROR fail, elapsed=0.005
 ┘
-ERROR passed=3, failed=4, skipped=0, unfinished=1
+ERROR passed=3, failed=4, skipped=0, unfinished=1, packages=3, packages_failed=3, failed_packages=example.com/fail/broken example.com/fail/ok example.com/fail/panics, failed_tests=example.com/fail/ok.TestSum/#00 example.com/fail/ok.TestSum example.com/fail/panics.TestSecond/inner example.com/fail/panics.TestSecond
 END_OF_TREE
     cat > "$room/calm" << 'END_OF_LINES'
 {"Action":"run","Package":"p","Test":"TestA"}
@@ -266,13 +378,12 @@ END_OF_TREE
 ├─ WARN skip TestC
 ├─ INFO pass, elapsed=0.2
 ┘
-INFO passed=1, failed=0, skipped=2, unfinished=0
+INFO passed=1, failed=0, skipped=2, unfinished=0, packages=1, packages_failed=0
 END_OF_TREE
     level_of error "$room/calm" 0 < "$room/none"
     { cat "$room/calm"; echo '[1]'; } > "$room/unknown"
-    level_of error "$room/unknown" 1 'ttree: line 9: "Action": expected a text' < "$room/none"
-    "$tree" < "$top/examples/server.jsonl" > "$room/drawn"
-    level_of error "$top/examples/server.jsonl" 0 < "$room/drawn"
+    level_of error "$room/unknown" 1 'ttree: line 9: "Action" must be a string, skipped
+ttree: 1 line skipped' < "$room/none"
 }
 
 # The run with --failed on this file, as `level_of`. Each tree is made by hand of what docs/FORMATS.md says.
@@ -290,7 +401,7 @@ run_failed() {
 ┘
 ┐example.com/fail/ok 
 └─┐TestSum 
-  └─┐TestSum/#00 
+  └─┐#00 
     ├─ INFO adding 0    ok_test.go:6: two
     ├─ INFO         lines
     ├─ INFO     ok_test.go:6: 0
@@ -303,7 +414,7 @@ run_failed() {
 ┘
 ┐example.com/fail/panics 
 └─┐TestSecond 
-  └─┐TestSecond/inner 
+  └─┐inner 
     ├─ INFO panic: runtime error: index out of range [3] with length 0 [recovered]
     ├─ INFO 	panic: runtime error: index out of range [3] with length 0
     ├─ INFO goroutine 8 [running]:
@@ -327,12 +438,12 @@ run_failed() {
 ├─ ERROR unfinished TestFirst
 ├─ ERROR fail, elapsed=0.005
 ┘
-ERROR passed=3, failed=4, skipped=0, unfinished=1
+ERROR passed=3, failed=4, skipped=0, unfinished=1, packages=3, packages_failed=3, failed_packages=example.com/fail/broken example.com/fail/ok example.com/fail/panics, failed_tests=example.com/fail/ok.TestSum/#00 example.com/fail/ok.TestSum example.com/fail/panics.TestSecond/inner example.com/fail/panics.TestSecond
 END_OF_TREE
     failed_of "$top/examples/go-test.jsonl" 1 << 'END_OF_TREE'
 ┐sample 
 └─┐TestAdd 
-  └─┐TestAdd/large 
+  └─┐large 
     ├─ INFO     a_test.go:3: big
     ├─ INFO     a_test.go:3: wrong sum
     ├─ ERROR fail, elapsed=0
@@ -341,30 +452,28 @@ END_OF_TREE
 ┌─┘
 ├─ ERROR fail, elapsed=0.005
 ┘
-ERROR passed=2, failed=2, skipped=1, unfinished=0
+ERROR passed=2, failed=2, skipped=1, unfinished=0, packages=1, packages_failed=1, failed_packages=sample, failed_tests=sample.TestAdd/large sample.TestAdd
 END_OF_TREE
     failed_of "$top/examples/go-std.jsonl" 0 << END_OF_TREE
-INFO passed=$(grep '"Action":"pass"' "$top/examples/go-std.jsonl" | grep -c '"Test"'), failed=0, skipped=2, unfinished=0
+INFO passed=$(grep '"Action":"pass"' "$top/examples/go-std.jsonl" | grep -c '"Test"'), failed=0, skipped=2, unfinished=0, packages=$(grep -v '"Test"' "$top/examples/go-std.jsonl" | grep -c '"Action":"pass"'), packages_failed=0
 END_OF_TREE
-    failed_of "$room/calm" 0 <<< 'INFO passed=1, failed=0, skipped=2, unfinished=0'
-    failed_of "$room/none" 0 <<< 'INFO passed=0, failed=0, skipped=0, unfinished=0'
+    failed_of "$room/calm" 0 <<< 'INFO passed=1, failed=0, skipped=2, unfinished=0, packages=1, packages_failed=0'
+    failed_of "$room/none" 0 < "$room/none"
     run_failed_apart
     run_failed_builds
     run_failed_ends
     run_failed_in_part
-    "$tree" < "$top/examples/server.jsonl" > "$room/drawn"
-    failed_of "$top/examples/server.jsonl" 0 < "$room/drawn"
     cat > "$room/want" << 'END_OF_TREE'
 ┐sample 
 └─┐TestAdd 
-  └─┐TestAdd/large 
+  └─┐large 
     ├─ ERROR fail, elapsed=0
   ┌─┘
   ├─ ERROR fail, elapsed=0
 ┌─┘
 ├─ ERROR fail, elapsed=0.005
 ┘
-ERROR passed=2, failed=2, skipped=1, unfinished=0
+ERROR passed=2, failed=2, skipped=1, unfinished=0, packages=1, packages_failed=1, failed_packages=sample, failed_tests=sample.TestAdd/large sample.TestAdd
 END_OF_TREE
     run --failed --level error "$top/examples/go-test.jsonl"
     count 'with --failed and --level error' want '' 1
@@ -393,14 +502,14 @@ END_OF_LINES
     cat > "$room/want" << 'END_OF_TREE'
 ┐p 
 └─┐TestA 
-  └─┐TestA/x 
+  └─┐x 
   ├─ INFO a
   ├─ ERROR fail
-  └─┐TestA/x 
-    └─┐TestA/x/deep 
+  └─┐x 
+    └─┐deep 
       ├─ INFO deep
     ├─ INFO pass
-    └─┐TestA/x/deep 
+    └─┐deep 
       ├─ INFO pass
     ┌─┘
   ┌─┘
@@ -421,7 +530,7 @@ END_OF_LINES
 ┌─┘
 ├─ ERROR fail
 ┘
-ERROR passed=2, failed=1, skipped=1, unfinished=3
+ERROR passed=2, failed=1, skipped=1, unfinished=3, packages=1, packages_failed=1, failed_packages=p, failed_tests=p.TestA
 END_OF_TREE
     run "$room/late"
     count 'on tests that outlast the one in which they began' want '' 1
@@ -461,7 +570,8 @@ run_failed_apart() {
 {"Action":"fail","Package":"p","Elapsed":3}
 {"Action":"fail","Package":"q","Elapsed":4}
 END_OF_LINES
-    failed_of "$room/apart" 1 'ttree: line 5: "Package": expected a text' << 'END_OF_TREE'
+    failed_of "$room/apart" 1 'ttree: line 5: "Package" must be a string, skipped
+ttree: 1 line skipped' << 'END_OF_TREE'
 ┐p 
 └─┐TestA 
   ├─ INFO p one
@@ -480,7 +590,7 @@ END_OF_LINES
 ┐q 
 ├─ ERROR fail, elapsed=4
 ┘
-ERROR passed=1, failed=2, skipped=0, unfinished=0
+ERROR passed=1, failed=2, skipped=0, unfinished=0, packages=2, packages_failed=2, failed_packages=p q, failed_tests=p.TestA q.TestB
 END_OF_TREE
 }
 
@@ -500,11 +610,10 @@ run_failed_builds() {
 END_OF_LINES
     failed_of "$room/builds" 1 << 'END_OF_TREE'
 ┐r 
-├─ INFO # r [r.test]
-├─ INFO ./a.go:3: undefined: x
+├─ ERROR ./a.go:3: undefined: x
 ├─ ERROR fail, elapsed=0
 ┘
-ERROR passed=0, failed=0, skipped=0, unfinished=0
+ERROR passed=0, failed=0, skipped=0, unfinished=0, packages=2, packages_failed=1, failed_packages=r
 END_OF_TREE
 }
 
@@ -539,17 +648,17 @@ END_OF_LINES
     failed_of "$room/ends" 1 << 'END_OF_TREE'
 ┐p 
 └─┐TestA 
-  └─┐TestA/b 
+  └─┐b 
     ├─ INFO b
     ├─ ERROR fail
   ┌─┘
-  └─┐TestA/d 
+  └─┐d 
     ├─ INFO d
   ├─ INFO a
   ├─ ERROR fail
 ├─ INFO late
 └─┐TestA 
-  └─┐TestA/d 
+  └─┐d 
     ├─ ERROR unfinished
   ┌─┘
 ┌─┘
@@ -564,7 +673,7 @@ END_OF_LINES
 ┌─┘
 ├─ ERROR unfinished
 ┘
-ERROR passed=2, failed=2, skipped=2, unfinished=2
+ERROR passed=2, failed=2, skipped=2, unfinished=2, packages=2, packages_failed=2, failed_packages=p q, failed_tests=p.TestA/b p.TestA
 END_OF_TREE
 }
 
@@ -599,19 +708,19 @@ END_OF_LINES
     failed_of "$room/part" 1 << 'END_OF_TREE'
 ┐p 
 └─┐TestB 
-  └─┐TestB/x 
+  └─┐x 
     ├─ INFO x
   ├─ ERROR fail
 └─┐TestC 
-  ├─ INFO pass TestC/x
-  └─┐TestC/x 
+  ├─ INFO pass x
+  └─┐x 
     ├─ INFO second
     ├─ ERROR fail
   ┌─┘
   ├─ ERROR fail
 ┌─┘
 └─┐TestB 
-  └─┐TestB/x 
+  └─┐x 
     ├─ INFO later
     ├─ INFO pass
   ┌─┘
@@ -629,7 +738,7 @@ END_OF_LINES
 ├─ INFO log
 ├─ INFO pass
 ┘
-ERROR passed=3, failed=4, skipped=0, unfinished=1
+ERROR passed=3, failed=4, skipped=0, unfinished=1, packages=2, packages_failed=1, failed_packages=p, failed_tests=p.TestB p.TestC/x p.TestC q.TestA
 END_OF_TREE
 }
 
@@ -651,7 +760,6 @@ END_OF_LINES
 ├─2026-11-24 2:31:19.38950542  1.51ms INFO three
 2026-11-24 2:31:19.38950542 INFO four
 1969-12-31 23:59:59.0 INFO five
-┘
 END_OF_TREE
     run --times "$room/timed"
     count 'with --times on tracing' want '' 0
@@ -663,7 +771,6 @@ w\u{1b}x├─ WARN two
 2:main├─ INFO three
 9INFO four
 ThreadId(3INFO five
-ThreadId(3┘
 END_OF_TREE
     run --threads "$room/timed"
     count 'with --threads on tracing' want '' 0
@@ -683,14 +790,111 @@ END_OF_LINES
 ┌─┘
 ├─2026-11-24 2:31:21.25  2.25s  INFO pass, elapsed=3
 ┘
-2026-11-24 2:31:21.25 INFO passed=1, failed=0, skipped=0, unfinished=0
+2026-11-24 2:31:21.25 INFO passed=1, failed=0, skipped=0, unfinished=0, packages=1, packages_failed=0
 END_OF_TREE
     run --times "$room/timed"
-    count "with --times on Go's tests" want 'ttree: line 5: "Output": expected a text' 1
-    sed -i 5d "$room/timed"
-    expect "$room/timed" 's/^//'
-    run --threads "$room/timed"
-    count "with --threads on Go's tests" want '' 0
+    count "with --times on Go's tests" want 'ttree: line 5: "Output" must be a string, skipped
+ttree: 1 line skipped' 1
+}
+
+# Options that a format doesn't have.
+run_options_of_other_formats() {
+    local option
+    : > "$room/want"
+    for option in --min=1ms --depth=2 --threads; do
+        run "$option" "$top/examples/go-test.jsonl"
+        count "with $option on Go's tests" want "ttree: ${option%=*} has no meaning for go-test" 2
+    done
+    for option in --failed --min=1ms --depth=2; do
+        run "$option" "$top/examples/tracing.jsonl"
+        count "with $option on tracing" want "ttree: ${option%=*} has no meaning for tracing" 2
+    done
+    for option in --failed --min=1ms --depth=2 --threads; do
+        run "$option" "$top/examples/log-zap.jsonl"
+        count "with $option on a log" want "ttree: ${option%=*} has no meaning for logs" 2
+    done
+    for option in --failed --level=error --threads; do
+        run "$option" "$top/examples/clang-trace.json"
+        count "with $option on a trace" want "ttree: ${option%=*} has no meaning for chrome" 2
+    done
+    for option in --amount=2 --color=never --depth=2 --failed --level=error --min=1ms --no-lines --no-retrace --threads --times; do
+        run "$option" "$top/examples/server.jsonl"
+        count "with $option on settings and calls" want "ttree: ${option%=*} has no meaning for lines" 2
+    done
+}
+
+# Several files are drawn one after another, and the status is the worst of theirs.
+run_files() {
+    local passed=$top/examples/go-std.jsonl failed=$top/examples/go-test.jsonl calls=$top/examples/server.jsonl
+    for input in "$passed" "$failed" "$calls"; do
+        run "$input"
+        cp "$room/out" "$room/$(basename "$input").tree"
+    done
+    cat "$room"/{go-std.jsonl,go-test.jsonl,server.jsonl}.tree > "$room/want"
+    run "$passed" "$failed" "$calls"
+    count 'on three files' want '' 1
+    run "$passed" - "$calls" < "$failed"
+    count 'on two files and standard input' want '' 1
+    cat "$room"/{go-std.jsonl,server.jsonl}.tree > "$room/want"
+    run "$passed" "$room/missing" "$calls"
+    count 'on a missing file between two' want 'ttree: No such file or directory (os error 2)' 2
+    printf '[1]\n' > "$room/bad"
+    timeout 300 "$ttree" "$room/bad" --from go-test > "$room/out" 2> "$room/err"
+    status=$?
+    echo 'INFO passed=0, failed=0, skipped=0, unfinished=0, packages=0, packages_failed=0' > "$room/want"
+    count 'on a bad line of a file' want "ttree: $room/bad: line 1: \"Action\" must be a string, skipped
+ttree: $room/bad: 1 line skipped" 1
+}
+
+# Rows that are cut: the trees are made by hand. `…` takes the last column, a wide character two, and what switches colours none.
+run_widths() {
+    printf '%s\n' '{"indent_lines":true}' '{"call":"new","name":"abcdefgh"}' \
+        '{"call":"event","level":"INFO","fields":[["message","wide 日本語"]],"current":1}' > "$room/wide"
+    run --width 20 "$room/wide"
+    printf '┐abcdefgh \n├─INFO wide 日本語\n' > "$room/fits"
+    sed -i 's/├─INFO/├─ INFO/' "$room/fits"
+    cp "$room/fits" "$room/want"
+    count 'with --width as wide as the rows' want '' 0
+    printf '┐abcdefgh \n├─ INFO wide 日本…\n' > "$room/want"
+    run --width 18 "$room/wide"
+    count 'with --width before a wide character' want '' 0
+    printf '┐abcdefgh \n├─ INFO wide 日…\n' > "$room/want"
+    run --width 17 "$room/wide"
+    count 'with --width within a wide character' want '' 0
+    printf '┐abc…\n├─ I…\n' > "$room/want"
+    run --width 5 "$room/wide"
+    count 'with --width 5' want '' 0
+    printf '…\n…\n' > "$room/want"
+    run --width 1 "$room/wide"
+    count 'with --width 1' want '' 0
+    cp "$room/fits" "$room/want"
+    run --width 0 "$room/wide"
+    count 'with --width 0' want '' 0
+    COLUMNS=5 run "$room/wide"
+    count 'with COLUMNS, and not on a terminal' want '' 0
+    printf '┐abc…\n├─ I…\n' > "$room/want"
+    COLUMNS=5 on_terminal "$room/wide"
+    count 'with COLUMNS on a terminal' want '' 0
+    cp "$room/fits" "$room/want"
+    COLUMNS=5 on_terminal --width 0 "$room/wide"
+    count 'with COLUMNS and --width 0 on a terminal' want '' 0
+    COLUMNS=wide on_terminal "$room/wide"
+    count 'with COLUMNS that is no number on a terminal' want '' 0
+    printf '{"ansi":true}\n{"call":"new","name":"abcdefgh"}\n' > "$room/coloured"
+    printf ' \033[1;32mabc…\033[0m\n' > "$room/want"
+    run --width 5 "$room/coloured"
+    count 'with --width and colours' want '' 0
+}
+
+# Output whose reader goes away, as `head` does, ends the program without a message.
+run_closed() {
+    local input
+    for input in go-std.jsonl clang-trace.json server.jsonl; do
+        { timeout 300 "$ttree" "$top/examples/$input" "$top/examples/go-std.jsonl" 2> "$room/err"; echo "$?" > "$room/status"; } | head -n 1 > "$room/out"
+        timeout 300 "$ttree" "$top/examples/$input" | head -n 1 > "$room/want"
+        status=$(cat "$room/status")
+        count "on $input into head" want '' 0
+    done
 }
 
 # Lines of settings and calls: the first line decides, or --from.
@@ -705,26 +909,79 @@ run_lines() {
     count 'on standard input by its name' want '' 0
     { cat "$input"; echo '{"call":"close"}'; echo '{"call":"event","level":"INFO"}'; } > "$room/ended"
     run "$room/ended"
-    count 'on a line that is no call' want "ttree: line $(($(wc -l < "$input") + 1)): not a call" 1
+    count 'on a line that is no call' want "ttree: line $(($(wc -l < "$input") + 1)): expected a JSON object with a call" 1
     printf '%s\r\n' '{"indent_lines":true}' '{"call":"new","name":"a"}' > "$room/lines"
     printf '┐a \n' > "$room/want"
     run "$room/lines"
     count 'on calls that end as on Windows' want '' 0
     printf '{"indent_lines":true}\n{"call":"new","name":"a"}\n{"call":"ne' > "$room/lines"
     run "$room/lines"
-    count 'on a call that is cut off' want 'ttree: line 3: not a call' 1
+    count 'on a call that is cut off' want 'ttree: line 3: expected a JSON object with a call' 1
     : > "$room/want"
     run --from lines "$room/none"
-    count 'on an empty file with --from lines' want 'ttree: line 1: settings' 2
+    count 'on an empty file with --from lines' want 'ttree: line 1: expected a JSON object with settings' 2
     printf '{"Actions":"x"}\n' > "$room/lines"
-    run "$room/lines"
-    count 'on an object that has other keys' want 'ttree: line 1: settings' 2
-    echo 'INFO passed=0, failed=0, skipped=0, unfinished=0' > "$room/want"
+    passes_on 'an object that has other keys' "$room/lines"
+    run --from lines "$room/lines"
+    : > "$room/want"
+    count 'with --from lines on an object that has other keys' want 'ttree: line 1: expected a JSON object with settings' 2
+    echo 'INFO passed=0, failed=0, skipped=0, unfinished=0, packages=0, packages_failed=0' > "$room/want"
     run --from go-test "$room/lines"
-    count 'with --from go-test on an object that has other keys' want 'ttree: line 1: "Action": expected a text' 1
+    count 'with --from go-test on an object that has other keys' want 'ttree: line 1: "Action" must be a string, skipped
+ttree: 1 line skipped' 1
     printf '[]\n' > "$room/lines"
     run --from go-test "$room/lines"
-    count 'with --from go-test on an array' want 'ttree: line 1: "Action": expected a text' 1
+    count 'with --from go-test on an array' want 'ttree: line 1: "Action" must be a string, skipped
+ttree: 1 line skipped' 1
+}
+
+# Counts the run on this input, no line of which determines its format: it is printed unchanged.
+passes_on() {
+    run "$2"
+    cp "$2" "$room/want"
+    count "on $1" want "ttree: no line determines the format; expected the output of go test -json, the JSON of Rust's tracing-subscriber, a Chrome trace, JSON logs, or settings and calls; --from names the format" 2
+}
+
+# Counts the run on this input, whose tree comes on standard input.
+detects() {
+    printf "$2" > "$room/lines"
+    cat > "$room/want"
+    run "$room/lines"
+    count "on $1" want "${4-}" "${3-0}"
+}
+
+# The lines that come before the one that determines the format, and inputs without such a line.
+run_detection() {
+    local event='{"level":"INFO","fields":{"message":"x"},"target":"t"}\n'
+    detects 'a line before tracing' "Starting\n$event" <<< $'INFO Starting\nINFO x'
+    detects 'blank lines before tracing' "\n \t\r\n$event" <<< 'INFO x'
+    detects 'a byte order mark' "\xef\xbb\xbf$event" <<< 'INFO x'
+    detects 'an object of another format before tracing' "{\"a\":1}\n$event" 1 'ttree: line 1: "level" must be one of TRACE, DEBUG, INFO, WARN, ERROR, skipped
+ttree: 1 line skipped' <<< 'INFO x'
+    detects 'services of docker compose' 'Attaching to web-1\nweb-1  | {"level":"WARN","fields":{"message":"x"},"target":"t"}\ndb-1   | ready\n{"level":"INFO","fields":{"message":"a | b"},"target":"t"}\n' <<< $'INFO Attaching to web-1\nWARN x, prefix=web-1\nINFO ready, prefix=db-1\nINFO a | b'
+    detects 'pods of kubectl' '[pod/web/a] {"Action":"pass","Package":"p"}\n' <<< $'INFO pass p, prefix=pod/web/a\nINFO passed=0, failed=0, skipped=0, unfinished=0, packages=1, packages_failed=0'
+    detects 'times before tracing' '2026-11-24T02:31:19Z {"level":"INFO","fields":{"message":"x"},"target":"t"}\nStarting up\n2026-11-24T02:31:20Z  up\n' <<< $'INFO x, prefix=2026-11-24T02:31:19Z\nINFO Starting up\nINFO up, prefix=2026-11-24T02:31:20Z'
+    detects 'a panic before a trace' 'panic: x\n[\n{"ph":"i","ts":1,"name":"a"}]' <<< $'ERROR panic: x\nINFO a'
+    detects 'lines before settings' 'Starting\n\n{"indent_lines":true}\n{"call":"new","name":"a"}\n{"call":"ne' 1 'ttree: line 5: expected a JSON object with a call' <<< $'INFO Starting\n┐a '
+    detects 'settings without a key' '{}\n\n{"call":"event","level":"INFO","fields":[["message","x"]]}\n' <<< ' INFO x'
+    detects 'a call without settings' 'Starting\n{"call":"event","level":"INFO"}\n' 2 'ttree: line 2: expected a JSON object with settings' <<< 'INFO Starting'
+    detects 'a mark before named lines' "\xef\xbb\xbf{\"indent_lines\":true}\n" < "$room/none"
+    printf '\n \n' > "$room/lines"
+    : > "$room/want"
+    run "$room/lines"
+    count 'on blank lines' want '' 0
+    printf '=== RUN   TestA\n--- PASS: TestA (0.00s)\nPASS\nok  \tp\t0.002s' > "$room/lines"
+    passes_on "Go's tests without -json" "$room/lines"
+    printf '{}\n{ x }\n[info] a\n' > "$room/lines"
+    passes_on 'lines that look like JSON' "$room/lines"
+    yes '{"level":"info"}' | head -n 5000 > "$room/lines"
+    passes_on 'many lines of another format' "$room/lines"
+    { head -c 1100000 /dev/zero | tr '\0' x; printf '\n%b' "$event"; } > "$room/lines"
+    passes_on 'a long line of another format' "$room/lines"
+    { yes x | head -n 999; printf "$event"; } > "$room/lines"
+    { yes 'INFO x' | head -n 1000; } > "$room/want"
+    run "$room/lines"
+    count 'on 999 lines before tracing' want '' 0
 }
 
 # Colours on a terminal, but not under NO_COLOR or on one without colours. A terminal ends lines with a carriage return too.
@@ -759,9 +1016,9 @@ END
 run_faults() {
     : > "$room/want"
     run "$room/missing"
-    count 'on a missing file' want "ttree: $room/missing: No such file or directory (os error 2)" 2
+    count 'on a missing file' want 'ttree: No such file or directory (os error 2)' 2
     run "$room"
-    count 'on a directory' want 'ttree: line 1: read' 1
+    count 'on a directory' want "ttree: $room: line 1: the input can't be read" 1
     gzip -c "$top/examples/go-test.jsonl" > "$room/packed"
     for word in --color=auto --from=chrome; do
         run "$word" "$room/packed"
@@ -772,7 +1029,7 @@ run_faults() {
     : > "$room/out"
     [ -s "$room/err" ] && [ "$status" = 1 ] && : > "$room/err"
     count 'on a full device' want '' 1
-    for word in --amount=x --from=cargo --level=fatal --level=WARN --unknown; do
+    for word in --amount=x --width=x --width=-1 --from=cargo --level=fatal --level=WARN --unknown; do
         run "$word"
         [ -s "$room/err" ] && : > "$room/err"
         count "with $word" want '' 2
@@ -788,15 +1045,22 @@ run_samples
 run_options
 run_odd
 run_left
+run_newer
 run_skipped
 run_levels
 run_failed
 run_random
 run_times_and_threads
+run_options_of_other_formats
+run_files
+run_widths
+run_closed
 run_lines
 run_terminal
 run_faults
 run_tracing
+run_logs
+run_detection
 run_spans_of_traces
 run_threads_of_traces
 run_cut_traces

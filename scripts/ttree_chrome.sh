@@ -183,7 +183,7 @@ END
         : > "$room/want"
         count "with --min=$word" want "error: invalid value for '--min <TIME>': expected a length of time, such as 5ms or 1.5s
 
-Usage: ttree [OPTIONS] [FILE]
+Usage: ttree [OPTIONS] [FILE]...
 
 For more information, try '--help'." 2
     done
@@ -196,13 +196,15 @@ run_odd_traces() {
 --
 INFO only
 END
-    trace_of 'on an object that ends in an element' -- 1 'ttree: element 2: expected a JSON object' << 'END'
+    trace_of 'on an object that ends in an element' -- 1 'ttree: element 2: not a JSON object, skipped
+ttree: 1 element skipped' << 'END'
 {"displayTimeUnit":"ms","traceEvents":[{"ph":"X","ts":1,"dur":1,"name":"]}\"{"},{"ph":"X","ts":
 --
 ┐]}"{ time=1.000μs
 ┘
 END
-    trace_of 'on an object with more than its list' -- 1 'ttree: element 2: expected a JSON object' << 'END'
+    trace_of 'on an object with more than its list' -- 1 'ttree: element 2: not a JSON object, skipped
+ttree: 1 element skipped' << 'END'
 {"otherData":{"x":[{"ph":"i","ts":0,"name":"other"}]},"traceEvents":[{"ph":"i","ts":0,"name":"mine"}],"last":{"y":
 --
 INFO mine
@@ -212,7 +214,8 @@ END
 --
 INFO a
 END
-    trace_of 'on what is no JSON after the list' -- 1 'ttree: element 2: expected a JSON object' << 'END'
+    trace_of 'on what is no JSON after the list' -- 1 'ttree: element 2: not a JSON object, skipped
+ttree: 1 element skipped' << 'END'
 {"traceEvents":[{"ph":"i","ts":0,"name":"a"}],"x":NaN}
 --
 INFO a
@@ -220,7 +223,8 @@ END
     printf '[{"ph":"i","ts":0,"name":"a"},{"ph":"i","ts":1,"name":"\303' > "$room/bytes"
     echo 'INFO a' > "$room/want"
     run "$room/bytes"
-    count 'on a trace that ends in a character' want 'ttree: element 2: expected a JSON object' 1
+    count 'on a trace that ends in a character' want 'ttree: element 2: not a JSON object, skipped
+ttree: 1 element skipped' 1
     trace_of 'on a large number of a thread' << 'END'
 [{"ph":"X","tid":18446744073709551615,"ts":0,"dur":1,"name":"a"},{"ph":"X","tid":-1,"ts":0,"dur":1,"name":"b"}]
 --
@@ -239,23 +243,24 @@ END
     count 'on a word in brackets before the lines of a test' want '' 1
     local unknown='[1,{"ph":"X","ts":1},{"ph":"B","ts":-1},{"ph":"B","ts":1e3},{"ph":"i","ts":1,"pid":"x"},{"ph":"i","ts":1,"tid":1.5},
 {"ph":"C","ts":"anything"},{"ph":"i","ts":0,"name":"kept"}]'
-    trace_of 'on elements that say nothing' --from chrome -- 1 'ttree: element 1: "ph": expected a text
-ttree: element 2: "dur": expected microseconds
-ttree: element 3: "ts": expected microseconds
-ttree: element 4: "ts": expected microseconds
-ttree: element 5: "pid": expected a whole number
-ttree: element 6: "tid": expected a whole number' << END
+    trace_of 'on elements that say nothing' --from chrome -- 1 'ttree: element 1: "ph" must be a string, skipped
+ttree: element 2: "dur" must be a number of microseconds, skipped
+ttree: element 3: "ts" must be a number of microseconds, skipped
+ttree: element 4: "ts" must be a number of microseconds, skipped
+ttree: element 5: "pid" must be a whole number, skipped
+ttree: element 6: "tid" must be a whole number, skipped
+ttree: 6 elements skipped' << END
 $unknown
 --
 INFO kept
 END
-    trace_of 'with --strict on a trace' --from chrome --strict -- 1 'ttree: element 1: "ph": expected a text' < <(echo "$unknown"; echo --)
+    trace_of 'with --strict on a trace' --from chrome --strict -- 1 'ttree: element 1: "ph" must be a string' < <(echo "$unknown"; echo --)
     local number notes=''
     for number in {1..10}; do
-        notes+="ttree: element $number: \"ph\": expected a text"$'\n'
+        notes+="ttree: element $number: \"ph\" must be a string, skipped"$'\n'
     done
-    trace_of 'on twelve elements that say nothing' --from chrome -- 1 "${notes}ttree: elements skipped: 12" < <(printf '[%s]\n--\n' "$(printf '0,%.0s' {1..11})0")
-    local none='ttree: expected an array, or an object with an array at "traceEvents"'
+    trace_of 'on twelve elements that say nothing' --from chrome -- 1 "${notes}ttree: 12 elements skipped" < <(printf '[%s]\n--\n' "$(printf '0,%.0s' {1..11})0")
+    local none='ttree: not a trace: expected an array, or an object with an array at "traceEvents"'
     trace_of 'on an object that is no trace' --from chrome -- 1 "$none" < <(printf '{"a":1}\n--\n')
     trace_of 'on a text that is no trace' --from chrome -- 1 "$none" < <(printf '"x"\n--\n')
     trace_of 'on a list that is no JSON' -- 1 "$none" < <(printf '[{"ph":"i","ts":0,"name":"a"},,{}]\n--\n')
@@ -264,7 +269,7 @@ END
     printf '[{"ph":"i","ts":0,"name":"\377"}]' > "$room/bytes"
     : > "$room/want"
     run "$room/bytes"
-    count 'on a trace that is not UTF-8' want 'ttree: expected UTF-8' 1
+    count 'on a trace that is not UTF-8' want 'ttree: not UTF-8' 1
     many_spans "$long_spans"
 }
 

@@ -25,33 +25,24 @@ INFO open
 ├─ INFO received
 └─┐check item=tea
   ├─ DEBUG in stock, left=4
-┌─┘
 └─┐check item=cups
   ├─ DEBUG in stock, left=1
 ├─ INFO shipped
-┌─┘
-┘
 ┐order id=2
 ├─ INFO received
 └─┐check item=tea
   ├─ DEBUG in stock, left=4
-┌─┘
 └─┐check item=cups
   ├─ WARN sold out
 ├─ INFO shipped
-┌─┘
-┘
 ┐order id=3
 ├─ INFO received
 └─┐check item=tea
   ├─ DEBUG in stock, left=4
-┌─┘
 └─┐check item=cups
   ├─ DEBUG in stock, left=1
 ├─ INFO shipped
 INFO closed
-┌─┘
-┘
 END_OF_TREE
     head -n 17 "$top/examples/tracing-full.jsonl" > "$room/part"
     tree_of 'on tracing with all span events' "$room/part" 0 '' << 'END_OF_TREE'
@@ -67,7 +58,7 @@ INFO open
   ├─ INFO close, time.busy=20.6µs, time.idle=17.8µs
 ┌─┘
 ├─ INFO shipped
-├─ INFO close, time.busy=157µs, time.idle=33.4µs
+├─ INFO close, time.busy=157µs, time.idle=33.4µs, total=12.5
 ┘
 END_OF_TREE
     head -n 11 "$top/examples/tracing-flat.jsonl" > "$room/part"
@@ -84,7 +75,7 @@ INFO open
   ├─ INFO close, time.busy=24.9µs, time.idle=5.82µs
 ┌─┘
 ├─ INFO shipped
-├─ INFO close, time.busy=92.4µs, time.idle=8.39µs
+├─ INFO close, time.busy=92.4µs, time.idle=8.39µs, total=12.5
 ┘
 END_OF_TREE
     grep -v 'ThreadId([24])' "$top/examples/tracing.jsonl" > "$room/part"
@@ -97,7 +88,7 @@ END_OF_TREE
     ├─ DEBUG parsing
     ├─ WARN slow
     │  answer, kind=late
-    ├─ INFO close, time.busy=147µs, time.idle=56.6µs
+    ├─ INFO close, time.busy=147µs, time.idle=56.6µs, rows=3
   ┌─┘
   ├─ INFO close, time.busy=377µs, time.idle=109µs
 ┌─┘
@@ -122,12 +113,8 @@ run_tracing_threads() {
   ├─ INFO b
 └─┐r id=1
   ├─ INFO c
-┌─┘
 └─┐r id=3
   ├─ INFO d
-┌─┘
-┌─┘
-┘
 END_OF_LINES
     lines_of 'on tasks of tracing that take turns' << 'END_OF_LINES'
 {"level":"INFO","fields":{"message":"a"},"target":"t","span":{"id":1,"name":"r"},"spans":[{"id":1,"name":"r"}]}
@@ -136,13 +123,10 @@ END_OF_LINES
 --
 ┐r id=1
 ├─ INFO a
-┘
 ┐r id=2
 ├─ INFO b
-┘
 ┐r id=1
 ├─ INFO c
-┘
 END_OF_LINES
     lines_of 'on two alike spans of tracing' << 'END_OF_LINES'
 {"level":"INFO","fields":{"message":"new"},"target":"t","span":{"name":"r"},"spans":[]}
@@ -172,7 +156,25 @@ END_OF_LINES
   ├─ INFO a
 ┌─┘
 ├─ INFO b
-┘
+END_OF_LINES
+    lines_of 'on a parent that tracing names' << 'END_OF_LINES'
+{"level":"INFO","fields":{"message":"a"},"target":"t","span":{"id":1,"name":"r"},"spans":[{"id":1,"name":"r"}]}
+{"level":"INFO","fields":{"message":"b"},"target":"t","span":{"name":"s"},"spans":[{"name":"s"}]}
+{"level":"INFO","fields":{"message":"c"},"target":"t","span":{"id":1,"name":"r"},"spans":[{"name":"s"}]}
+{"level":"INFO","fields":{"message":"d"},"target":"t","span":{"name":"s"},"spans":[{"name":"s"},{"name":"u"}]}
+{"level":"INFO","fields":{"message":"e"},"target":"t","span":{"name":"v"},"spans":[]}
+--
+┐r id=1
+├─ INFO a
+┐s 
+├─ INFO b
+┐r id=1
+├─ INFO c
+┐s 
+└─┐u 
+├─ INFO d
+┐v 
+├─ INFO e
 END_OF_LINES
 }
 
@@ -191,8 +193,7 @@ INFO new
 ├─ INFO new
 ├─ INFO close, door=3
 ├─ INFO close
-INFO news
-┘
+├─ INFO news
 END_OF_LINES
     lines_of 'on spans of tracing with one name' << 'END_OF_LINES'
 {"level":"INFO","fields":{"message":"new"},"target":"t","span":{"id":1,"name":"r"},"spans":[]}
@@ -206,7 +207,6 @@ END_OF_LINES
   ├─ INFO a
 ┌─┘
 ├─ INFO b
-┘
 END_OF_LINES
     lines_of 'on closes of tracing without their opening' << 'END_OF_LINES'
 {"level":"DEBUG","fields":{"message":"close","time.busy":"1ms","time.idle":"2ms"},"target":"t","span":{"id":1,"name":"r"},"spans":[{"name":"s"}]}
@@ -218,7 +218,6 @@ END_OF_LINES
   ├─ DEBUG close, time.busy=1ms, time.idle=2ms
 ┌─┘
 ├─ INFO a
-┘
 END_OF_LINES
     lines_of 'on late fields of tracing without span events' << 'END_OF_LINES'
 {"level":"INFO","fields":{"message":"a"},"target":"t","span":{"id":1,"name":"r"},"spans":[{"id":1,"name":"r"}]}
@@ -228,9 +227,30 @@ END_OF_LINES
 ┐r id=1
 ├─ INFO a
 ├─ INFO b
-┘
 ┐r rows=3
 ├─ INFO c
+END_OF_LINES
+    lines_of 'on late fields of tracing that are shown again' << 'END_OF_LINES'
+{"level":"INFO","fields":{"message":"new"},"target":"t","span":{"id":1,"name":"r"},"spans":[]}
+{"level":"INFO","fields":{"message":"a"},"target":"t","span":{"id":1,"name":"r"},"spans":[{"id":1,"name":"r"}]}
+{"level":"INFO","fields":{"message":"b"},"target":"t","span":{"id":1,"rows":3,"name":"r"},"spans":[{"id":1,"rows":3,"name":"r"}]}
+{"level":"INFO","fields":{"message":"c"},"target":"t"}
+{"level":"INFO","fields":{"message":"new"},"target":"t","span":{"id":2,"name":"r"},"spans":[]}
+{"level":"INFO","fields":{"message":"d"},"target":"t","span":{"id":1,"rows":3,"name":"r"},"spans":[{"id":1,"rows":3,"name":"r"}]}
+{"level":"INFO","fields":{"message":"close","time.busy":"1ms","time.idle":"2ms"},"target":"t","span":{"id":1,"rows":3,"status":200,"name":"r"},"spans":[]}
+{"level":"INFO","fields":{"message":"close"},"target":"t","span":{"id":2,"ok":true,"name":"r"},"spans":[]}
+--
+┐r id=1
+├─ INFO a
+├─ INFO b
+INFO c
+┐r id=2
+┐r id=1, rows=3
+├─ INFO d
+├─ INFO close, time.busy=1ms, time.idle=2ms, rows=3, status=200
+┘
+┐r id=2, ok=true
+├─ INFO close, ok=true
 ┘
 END_OF_LINES
     lines_of 'on tracing that names the current span alone' << 'END_OF_LINES'
@@ -259,8 +279,6 @@ END_OF_LINES
 └─┐r id=2
   ├─ WARN b
 ├─ ERROR d
-┌─┘
-┘
 END_OF_TREE
     cat > "$room/told" << 'END_OF_LINES'
 {"level":"DEBUG","fields":{"message":"new"},"target":"t","span":{"id":1,"name":"r"},"spans":[]}
@@ -291,19 +309,46 @@ run_tracing_lines() {
 TRACE a\u{1b}[31m, text=b c, n=-1.50, yes=true, no=false, none=null, some=[..], more={..}
 WARN code=7
 END_OF_LINES
-    lines_of 'on lines of tracing that are cut off or lack a level' 1 'ttree: line 2: "level": expected a level
-ttree: line 3: expected a JSON object
-ttree: line 4: "level": expected a level
-ttree: line 5: expected a JSON object' << 'END_OF_LINES'
+    lines_of 'on lines of tracing that are cut off or lack a level' 1 'ttree: line 2: "level" must be one of TRACE, DEBUG, INFO, WARN, ERROR, skipped
+ttree: line 4: "level" must be one of TRACE, DEBUG, INFO, WARN, ERROR, skipped
+ttree: 2 lines skipped' << 'END_OF_LINES'
 {"level":"INFO","fields":{"message":"a"},"target":"t","spans":[{"name":"s"}]}
 {"fields":{"message":"b"},"target":"t"}
-panicked at src/main.rs:1
+loading plugins
 {"level":"info","fields":{"message":"c"},"target":"t"}
 {"level":"INFO","fields":{"mess
 --
 ┐s 
 ├─ INFO a
+├─ INFO loading plugins
+├─ INFO {"level":"INFO","fields":{"mess
+END_OF_LINES
+    lines_of 'on plain lines among those of tracing' << 'END_OF_LINES'
+{"level":"INFO","fields":{"message":"new"},"target":"t","span":{"name":"s"},"spans":[]}
+{"level":"INFO","fields":{"message":"a"},"target":"t","span":{"name":"s"},"spans":[{"name":"s"}]}
+thread 'main' panicked at src/main.rs:2:5:
+	index out of bounds
+{"level":"INFO","fields":{"message":"close"},"target":"t","span":{"name":"s"},"spans":[]}
+goroutine 1 [running]:
+goroutine leak
+panic: boom
+fatal error: all goroutines are asleep
+Traceback (most recent call last):
+Exception in thread "main" java.lang.Error
+17
+--
+┐s 
+├─ INFO a
+├─ ERROR thread 'main' panicked at src/main.rs:2:5:
+├─ INFO 	index out of bounds
 ┘
+ERROR goroutine 1 [running]:
+INFO goroutine leak
+ERROR panic: boom
+ERROR fatal error: all goroutines are asleep
+ERROR Traceback (most recent call last):
+ERROR Exception in thread "main" java.lang.Error
+INFO 17
 END_OF_LINES
     sed 's/$/\r/' "$top/examples/tracing-full.jsonl" > "$room/crlf"
     run --from tracing "$top/examples/tracing-full.jsonl"
@@ -313,10 +358,10 @@ END_OF_LINES
     printf '{"fields":{"message":"a"}}\n' > "$room/part"
     : > "$room/want"
     run --from tracing "$room/part"
-    count 'with --from tracing' want 'ttree: line 1: "level": expected a level' 1
-    printf '{"level":"INFO","msg":"a"}\n' > "$room/part"
-    run "$room/part"
-    count 'on an object with a level alone' want 'ttree: line 1: settings' 2
+    count 'with --from tracing' want 'ttree: line 1: "level" must be one of TRACE, DEBUG, INFO, WARN, ERROR, skipped
+ttree: 1 line skipped' 1
+    printf '{"level":"INFO","text":"a"}\n' > "$room/part"
+    passes_on 'an object with a level only' "$room/part"
 }
 
 run_tracing() {

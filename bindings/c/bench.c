@@ -1,5 +1,6 @@
-/* Calls whose instructions bench.sh counts: bench COUNT KIND. KIND 0 is an event in two spans, KIND 1 two spans, an event and two
- * closes, each COUNT times, with lines; 2 and 3 are the same with colours, targets and retracing. */
+/* Makes the calls whose instructions bench.sh counts: bench COUNT KIND. KIND 0 makes COUNT events
+ * in two spans, with lines. KIND 1 opens two spans, draws an event and closes both, COUNT times.
+ * KIND 2 and 3 are like 0 and 1, but with colours, targets and retracing. */
 #include "tracing_tree.h"
 #include <stdio.h>
 #include <stdlib.h>

@@ -1,4 +1,4 @@
-/* The calls of program.jsonl, drawn under each of the settings that the arguments number: program NUMBER.. */
+/* Draws the calls of program.jsonl with the settings of each number: program NUMBER.. */
 #include "tracing_tree.h"
 #include <stdio.h>
 #include <stdlib.h>
@@ -15,7 +15,8 @@ static void show(uint32_t status) {
   fwrite(text, 1, length, stdout);
 }
 
-/* The settings with this number: each bit is a switch, and the number says amount and wraparound. */
+/* Returns the settings with this number. Each bit is a switch, and the number determines the indent
+ * amount and the wraparound. */
 static tt_settings numbered(unsigned number) {
   tt_settings s = tt_default_settings();
   bool *switches[] = {&s.ansi,         &s.indent_lines,   &s.targets,       &s.thread_names, &s.verbose_entry,   &s.verbose_exit,

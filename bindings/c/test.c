@@ -1,10 +1,11 @@
-/* Calls the library as no proof speaks of it: from a C program, with what callers get wrong, and with each allocation refused in
- * turn. Prints what fails, and at the end how many checks passed and failed. Linked with --wrap=malloc and --wrap=realloc. */
+/* Tests what no proof covers: calls from a C program, mistakes of callers, and each allocation
+ * failing in turn. Prints each check that fails, and at the end how many checks passed and failed.
+ * Linked with --wrap=malloc and --wrap=realloc. */
 #include "tracing_tree.h"
 #include <stdio.h>
 #include <stdlib.h>
 
-/* ---- memory that is refused */
+/* ---- allocations that fail */
 
 static long asked, refused_at;
 static bool counting;
@@ -40,7 +41,7 @@ enum kind { OPEN, NEW, EVENT, TIMED, RECORD, CLONE, CLOSE };
 typedef struct step {
   enum kind kind;
   const char *name;
-  uint64_t id;      /* the current span of a new span and an event, else the span that is meant */
+  uint64_t id;      /* the current span for NEW, EVENT and TIMED, otherwise the span itself */
   uint32_t level;
   const char *value;
 } step;
@@ -74,7 +75,7 @@ static const step script[] = {
 
 enum { STEPS = sizeof script / sizeof script[0], ROOM = 4096 };
 
-/* What a step gave. */
+/* The result of a step. */
 typedef struct given {
   uint32_t status;
   uint64_t id;
@@ -88,7 +89,7 @@ static tt_context context(uint64_t current) {
   return made;
 }
 
-/* Which settings the script is run under, and whether by the functions whose caller vouches for UTF-8. */
+/* The settings of the script's run, and whether it calls the functions `tt_utf8_..`. */
 static int variant;
 static bool vouched;
 
@@ -103,7 +104,7 @@ static void set_variant(tt_settings *settings) {
   if (variant == 2) settings->wraparound = 2;
 }
 
-/* A timer of the caller's own: it shows the text that it is passed. */
+/* Returns the string that it is passed, for a custom timer. */
 static tt_text_ref shown(void *data, const tt_context *here) {
   (void)here;
   return tt_str((const char *)data);
@@ -142,8 +143,8 @@ static bool same(const given *a, const given *b) {
          memcmp(a->text, b->text, ROOM) == 0;
 }
 
-/* Runs the script with one allocation refused. The refused call draws nothing and, made again, gives what it gives with ample memory.
- * Returns whether an allocation was refused. */
+/* Runs the script with one allocation failing. The call that fails draws nothing. Made again, it
+ * has the same result as with ample memory. Returns whether an allocation failed. */
 static bool run(given *ample, long at) {
   static given now;
   tt_tree tree = TT_NO_TREE;
@@ -181,7 +182,7 @@ static void refusals(void) {
   free(ample);
 }
 
-/* ---- what callers get wrong */
+/* ---- mistakes of callers */
 
 static const tt_context NOWHERE = {0, 1, {(const uint8_t *)"", 0}, 0, 0, false};
 static const uint8_t BAD[] = {'a', 0xff};
@@ -216,7 +217,7 @@ static void settings_that_are_none(void) {
   }
 }
 
-/* A tree with lines in which the span 1 is open. */
+/* Returns a tree with lines and one open span, whose id is 1. */
 static tt_tree started(void) {
   tt_tree tree = TT_NO_TREE;
   tt_settings settings = tt_default_settings();
@@ -228,7 +229,7 @@ static tt_tree started(void) {
   return tree;
 }
 
-/* The text of the last call is this one. */
+/* Returns whether this is the output of the last call. */
 static bool drew(tt_tree *tree, const char *text) {
   uint8_t room[256];
   size_t length = tt_text(tree, room, sizeof room);
@@ -304,7 +305,7 @@ static void spans_that_are_none(void) {
   tt_free(&tree);
 }
 
-/* Each call with each pointer and each text's address NULL, one at a time. */
+/* Makes each call with each pointer and each string's address NULL, one at a time. */
 static void nulls(void) {
   static const tt_text_ref null = {NULL, 0}, long_null = {NULL, 7};
   tt_tree tree = started();
@@ -395,7 +396,7 @@ static void timers(void) {
   }
 }
 
-/* Each call on a tree that isn't. */
+/* Makes each call on a missing tree. */
 static void all_missing(tt_tree *tree, long at) {
   tt_attributes attributes = {tt_str("b"), tt_str(""), 0, TT_ROOT};
   tt_event_ref event = {tt_bytes(BAD, 2), 0, TT_ROOT, TT_INFO};
@@ -423,7 +424,7 @@ static void trees_that_are_none(void) {
   tt_free(&tree);
 }
 
-/* ---- the text and its room */
+/* ---- the output and its buffer */
 
 static void rooms(void) {
   static const char text[] = "┐a \n";

@@ -6,31 +6,44 @@
  *     .. a call, and after each call that may draw: tt_text(&tree, room, size) ..
  *     tt_free(&tree);
  *
- * `tt_version` and the functions `tt_raw_..` and `tt_utf8_..` are proved: each meets the contract that
- * crates/tracing_tree_c/src/calls.rt states. The proof ends at them. The other functions stand in this header: they look for NULL
- * and call the proved function of that name.
- * Nothing checks the caller beyond this, who must ensure:
- * - A pointer that isn't NULL points to a whole value of its type, a text's to as many bytes as it says, and `fields` to as many
- *   fields as `field_count` says. (NULL is refused with `TT_NULL`, a text whose address is NULL at length 0 too: `tt_bytes` and
- *   `tt_str` make the empty text of NULL. `fields` may be NULL at a count of 0, and `room` to ask for the length.)
+ * Output. What a call draws is its output. `tt_text` copies the output of the last call.
+ *
+ * Proof. `tt_version` and the functions `tt_raw_..` and `tt_utf8_..` are proved: each meets its
+ * contract in crates/tracing_tree_c/src/calls.rt. The proof ends at these functions. The other
+ * functions are defined in this header. They check for NULL and call the proved function of that
+ * name.
+ *
+ * Obligations. A call checks only for NULL and for what its statuses name. The caller must ensure:
+ * - A pointer that isn't NULL points to a whole value of its type. A string's address points to
+ *   `len` bytes, and `fields` points to `field_count` fields.
  * - A `bool` is 0 or 1.
- * - A `tt_tree` is first made by `TT_NO_TREE`, or by setting all its bytes to 0: at file scope in C, `static tt_tree tree;` does so.
- *   It is never copied: a copy that is used after the other was freed can't be caught. It may lie anywhere in memory that is aligned
- *   for it, and may be moved between calls if the old place is then left alone.
- * - What `tree`, `id`, `went` and `room` point to overlaps nothing else that is passed, and no thread changes what is passed before
- *   the call returns.
- * - `malloc`, `realloc` and `free` belong to one allocator. No function is called from a signal handler, or in the forked child
- *   of a process with threads.
+ * - A `tt_tree` is initialized with `TT_NO_TREE`, or by setting all its bytes to 0. In C,
+ *   `static tt_tree tree;` at file scope does that.
+ * - A `tt_tree` is never copied. The library can't detect a copy that is used after the other was
+ *   freed. A `tt_tree` may be anywhere in memory that is aligned for it. It may be moved between
+ *   calls if the old place is no longer used.
+ * - What `tree`, `id`, `went` and `room` point to overlaps nothing else that is passed. No thread
+ *   changes what is passed before the call returns.
+ * - `malloc`, `realloc` and `free` belong to one allocator.
+ * - No function is called from a signal handler, or in the forked child of a process with threads.
  *
- * Threads. A call may come from any thread, but a tree serves one call at a time, `tt_text` and `tt_free` too: callers on several
- * threads take a lock around each call together with its `tt_text`. Different trees share nothing. That a tree may go from one
- * thread to another is proved.
+ * NULL. A call that is passed NULL returns `TT_NULL`, also if a string's address is NULL and its
+ * length is 0. `tt_bytes` and `tt_str` return the empty string for NULL. `fields` may be NULL if
+ * `field_count` is 0. `room` may be NULL to get only the length. The address of `thread_name` may
+ * be NULL if `has_thread_name` is false. `data` of a `tt_timer` may be NULL.
  *
- * Ownership. The tree owns its memory, and `tt_free` returns it. No function keeps a pointer that it was passed: texts, fields
- * and settings are copied or no longer needed when the call returns.
+ * Threads. A call may come from any thread. But a tree serves one call at a time, including
+ * `tt_text` and `tt_free`. Callers on several threads hold a lock around each call together with
+ * its `tt_text`. Different trees share nothing. It is proved that a tree may move from one thread
+ * to another.
  *
- * Memory. A call that is refused memory changes nothing, and the same call made again with memory does what it would have done the
- * first time.
+ * Ownership. The tree owns its memory, and `tt_free` returns it. No function keeps a pointer that
+ * it was passed: strings, fields and settings are copied, or no longer needed when the call
+ * returns.
+ *
+ * Memory. A call that returns `TT_NO_MEMORY` changes nothing, except as described at the statuses.
+ * If the same call is made again with enough memory, it does what it would have done the first
+ * time.
  */
 #ifndef TRACING_TREE_H
 #define TRACING_TREE_H
@@ -44,32 +57,40 @@
 extern "C" {
 #endif
 
-/* The version of this header. A library whose `tt_version` differs must not be used with it. */
+/* The version of this header. It must not be used with a library whose `tt_version` differs. */
 #define TT_VERSION 1u
 
-/* What a call returns. After any status but `TT_OK` no span has been made, changed or closed, nothing has been drawn, and
- * `tt_text` gives no text until the next call (after a refused `tt_new` it gives what it gave before). Where several statuses apply,
- * `TT_NULL` comes before all others, then `TT_MISSING`; of the rest any may come. `TT_TIMER` and `TT_FAILED` don't come in this
- * version: each timer has a text for every moment. */
+/* What a call returns. After any status except `TT_OK`:
+ * - No span has been made, changed or closed, and nothing has been drawn.
+ * - `tt_text` returns 0 until the next call. After a refused `tt_new` the output is unchanged.
+ * - The timer is unchanged, except that `tt_event_timed` may have set its strings.
+ * If several statuses apply, `TT_NULL` is returned before all others, then `TT_MISSING`, then any
+ * of the rest. `tt_event_timed` has its own order.
+ *
+ * A row's indent is its level times `indent_amount` columns. The level is taken modulo
+ * `wraparound`. With `indent_lines`, the row of a parent that is shown again counts as one level
+ * more.
+ *
+ * `TT_TIMER` and `TT_FAILED` don't occur in this version: each timer can show every moment. */
 enum {
   TT_OK = 0,
   TT_NOT_HELD = 1,  /* a span that the call names isn't live, or has no handle left to close */
-  TT_TOO_WIDE = 2,  /* the level of a row times `indent_amount` is above 2^64 - 1 */
+  TT_TOO_WIDE = 2,  /* a row's indent is above 2^64 - 1 columns */
   TT_TOO_MANY = 3,  /* no id, or no further handle of this span, is left */
-  TT_NO_MEMORY = 4, /* memory was refused; the call may be made again */
-  TT_TIMER = 5,     /* the timer has no text for this moment */
+  TT_NO_MEMORY = 4, /* out of memory; the call may be made again */
+  TT_TIMER = 5,     /* the timer can't show this moment */
   TT_FAILED = 6,    /* the tree has failed earlier */
-  TT_MISSING = 7,   /* there is no tree: none was made yet, or it was freed */
-  TT_NOT_UTF8 = 8,  /* a text isn't UTF-8 */
+  TT_MISSING = 7,   /* the tree hasn't been made yet, or it was freed */
+  TT_NOT_UTF8 = 8,  /* a string isn't UTF-8 */
   TT_UNKNOWN = 9,   /* a kind of parent or a level is unknown */
-  TT_THERE = 10,    /* `tt_new` where there is a tree already */
-  TT_SIZE = 11,     /* `tt_new` was passed settings of another size, as of another version of this header */
-  TT_SETTINGS = 12, /* `tt_new` was passed settings that aren't any */
-  TT_NULL = 13      /* a pointer is NULL, or a text's address */
+  TT_THERE = 10,    /* `tt_new`: there is a tree already */
+  TT_SIZE = 11,     /* `tt_new`: `size` isn't the library's, as in another version of the header */
+  TT_SETTINGS = 12, /* `tt_new`: the settings are invalid */
+  TT_NULL = 13      /* a pointer or a string's address is NULL */
 };
 
-/* A tree; none where `there` is false, as in zeroed memory. The fields are the library's. Padding, here and in the other structs,
- * isn't read. */
+/* A tree. If `there` is false, as in zeroed memory, the tree is missing. Only the library uses the
+ * fields. Padding isn't read, here and in the other structs. */
 typedef struct tt_tree {
   void *inside;
   bool there;
@@ -81,14 +102,15 @@ typedef struct tt_tree {
 #define TT_NO_TREE ((tt_tree){NULL, false})
 #endif
 
-/* A text in UTF-8, without an end mark: its address, never NULL, and its length in bytes. */
+/* A UTF-8 string without a terminating NUL: its address, never NULL, and its length in bytes. */
 typedef struct tt_text_ref {
   const uint8_t *at;
   size_t len;
 } tt_text_ref;
 
-/* A field. The value is shown as it is: write quotes around it where quotes are to be seen. Of a field `message` the value is shown
- * alone, in an event wherever it stands, in a span only in first place. An event leaves out fields whose names begin with `log.`. */
+/* A field. The value is drawn unchanged: include quotes if they should be drawn. A field named
+ * `message` is drawn as its value only. In a span this holds only for the first field, in an event
+ * for every field. An event omits fields whose names start with `log.`. */
 typedef struct tt_field {
   tt_text_ref name;
   tt_text_ref value;
@@ -102,15 +124,18 @@ enum {
   TT_TIMER_LOCAL = 3   /* the date and time of `wall` at `offset` */
 };
 
-/* What a tree draws and how. `tt_default_settings` sets all of it. */
+/* What a tree draws and how. `tt_default_settings` sets all fields. `tt_new` refuses any other
+ * `size` than sizeof(tt_settings). Whether this header fits the library is shown by `tt_version`,
+ * not by `size`. */
 typedef struct tt_settings {
-  uint64_t size;          /* sizeof(tt_settings). Any other number is refused; `tt_version` tells whether the header fits */
+  uint64_t size;          /* sizeof(tt_settings) */
   uint64_t indent_amount; /* columns for each level */
-  uint64_t wraparound;    /* after this many levels the indent begins again at the left; not 0 */
-  uint64_t epoch;         /* for TT_TIMER_UPTIME: where the uptime begins, in nanoseconds of `mono`; before it the uptime is 0 */
+  uint64_t wraparound;    /* after this many levels the indent starts again at the left; not 0 */
+  uint64_t epoch;         /* for TT_TIMER_UPTIME: the start of the uptime, in nanoseconds of `mono`;
+                             before it the uptime is 0 */
   uint32_t timer;         /* one of TT_TIMER_.. */
   int32_t offset;         /* for TT_TIMER_LOCAL: seconds east of UTC, -93599 to 93599 */
-  bool higher_precision;  /* elapsed times with two decimals */
+  bool higher_precision;  /* elapsed times have two decimals */
   bool ansi;              /* colours, by escape sequences */
   bool indent_lines;      /* lines between a span and what is in it */
   bool targets;           /* the targets of spans and events */
@@ -118,20 +143,24 @@ typedef struct tt_settings {
   bool thread_names;      /* `thread_name` in front of each line */
   bool verbose_entry;     /* a span's parent is shown again before the span opens */
   bool verbose_exit;      /* a closing span is shown whole, and its parent again after it */
-  bool span_retrace;      /* the spans around an event are shown again where another span was shown last */
-  bool deferred_spans;    /* a span is shown only once it, or one below it, is the current span of an event */
-  bool close_retrace;     /* beside one of the last two: a span that closes is shown again where its parent isn't on the path of
-                             the last span */
-  bool span_modes;        /* rows of spans are labelled, as `open: ` */
-  bool bracketed_fields;  /* a span's fields stand in braces */
+  bool span_retrace;      /* the path to an event or a new span is shown again if another branch was
+                             shown last */
+  bool deferred_spans;    /* a span is shown when it, or one of its descendants, is first the
+                             current span of an event; the path to an event is shown again as
+                             with `span_retrace` */
+  bool close_retrace;     /* with one of the last two: a span that closes is shown again if its
+                             parent isn't on the path of the last span */
+  bool span_modes;        /* rows of spans are labelled, for example `open: ` */
+  bool bracketed_fields;  /* a span's fields are in braces */
 } tt_settings;
 
-/* What goes with a call. */
+/* The context of a call. */
 typedef struct tt_context {
-  uint64_t current;         /* the id of the current span, or 0 for none */
+  uint64_t current;         /* the id of the current span, or 0 if there is no such span */
   uint64_t thread_id;       /* the number of the thread */
-  tt_text_ref thread_name;  /* the thread's name, read only if has_thread_name */
-  uint64_t mono;            /* nanoseconds on a clock that only goes forward; where it goes back, the time in a span counts as 0 */
+  tt_text_ref thread_name;  /* the thread's name, read only if `has_thread_name` is true */
+  uint64_t mono;            /* nanoseconds on a clock that only moves forward; if it is below its
+                               value when a span opened, the time in that span counts as 0 */
   int64_t wall;             /* nanoseconds since 1970-01-01T00:00:00Z, negative before it */
   bool has_thread_name;
 } tt_context;
@@ -143,7 +172,7 @@ enum {
   TT_OF = 2       /* the span with the id `parent` */
 };
 
-/* What a new span is made of, beside its fields. */
+/* A new span, except its fields. */
 typedef struct tt_attributes {
   tt_text_ref name;
   tt_text_ref target;
@@ -154,7 +183,7 @@ typedef struct tt_attributes {
 /* Levels (`level` of `tt_event_ref`). */
 enum { TT_TRACE = 0, TT_DEBUG = 1, TT_INFO = 2, TT_WARN = 3, TT_ERROR = 4 };
 
-/* An event, beside its fields. */
+/* An event, except its fields. */
 typedef struct tt_event_ref {
   tt_text_ref target;
   uint64_t parent;      /* an id, read only if parent_kind is TT_OF */
@@ -162,17 +191,19 @@ typedef struct tt_event_ref {
   uint32_t level;       /* TT_TRACE to TT_ERROR */
 } tt_event_ref;
 
-/* The texts of the time (`tt_set_time`). */
+/* The strings that are shown as the time (`tt_set_time`). */
 typedef struct tt_time {
   tt_text_ref moment;
   tt_text_ref elapsed;
 } tt_time;
 
-/* The version of the library: `TT_VERSION` of the header that it fits. Any thread may call it at any time. */
+/* Returns the version of the library: `TT_VERSION` of the header that fits it. Any thread may call
+ * it at any time. */
 uint32_t tt_version(void);
 
-/* ---- The proved functions. No pointer may be NULL, and no text's address: not at length 0, nor the thread's name where there is
- * none. The functions below call them and say what each does; bindings to other languages call these. */
+/* ---- The proved functions. No pointer may be NULL, and no string's address, even if the string is
+ * empty. This includes `thread_name` if the thread has no name. The functions below call these and
+ * say what each does. Bindings to other languages call these. */
 
 void tt_raw_free(tt_tree *tree);
 uint32_t tt_raw_new(tt_tree *tree, const tt_settings *settings);
@@ -186,18 +217,19 @@ uint32_t tt_raw_close(tt_tree *tree, uint64_t id, const tt_context *context, boo
 uint32_t tt_raw_set_time(tt_tree *tree, const tt_time *time);
 size_t tt_raw_text(tt_tree *tree, uint8_t *room, size_t size);
 
-/* The same for a caller whose texts are UTF-8 for sure, as those of a language with such a type of text: they aren't looked at, and
- * TT_NOT_UTF8 doesn't come. Where a text isn't UTF-8, nothing is promised any more, also of later calls: call `tt_raw_new_span` and
- * `tt_raw_event` with texts from elsewhere. `thread_name` counts only if has_thread_name. */
+/* For a caller whose strings are always UTF-8, as in a language with a UTF-8 string type. These
+ * functions don't check the strings and never return TT_NOT_UTF8. If a string isn't UTF-8, nothing
+ * is promised any more, for this call and all later ones. For strings from elsewhere, call
+ * `tt_raw_new_span` and `tt_raw_event`. `thread_name` counts only if `has_thread_name` is true. */
 
 uint32_t tt_utf8_new_span(tt_tree *tree, const tt_attributes *attributes, const tt_field *fields, size_t field_count,
                           const tt_context *context, uint64_t *id);
 uint32_t tt_utf8_event(tt_tree *tree, const tt_event_ref *event, const tt_field *fields, size_t field_count,
                        const tt_context *context);
 
-/* ---- Texts, fields and settings. */
+/* ---- Strings, fields and settings. */
 
-/* A text of `len` bytes. NULL makes the empty text. */
+/* Returns a string of `len` bytes, or the empty string if `at` is NULL. */
 static inline tt_text_ref tt_bytes(const void *at, size_t len) {
   tt_text_ref text;
   text.at = at ? (const uint8_t *)at : (const uint8_t *)"";
@@ -205,13 +237,14 @@ static inline tt_text_ref tt_bytes(const void *at, size_t len) {
   return text;
 }
 
-/* A text that ends with a NUL. NULL makes the empty text. */
+/* Returns a NUL-terminated string, without the NUL, or the empty string if `text` is NULL. */
 static inline tt_text_ref tt_str(const char *text) { return tt_bytes(text, text ? strlen(text) : 0); }
 
-/* No fields, with a count of 0. */
+/* No fields, for a `field_count` of 0. */
 static const tt_field TT_NO_FIELDS[1] = {{{(const uint8_t *)"", 0}, {(const uint8_t *)"", 0}}};
 
-/* The settings of the Rust crate without a terminal: two columns for each level, no wraparound, no timer, all else off. */
+/* Returns the settings of the Rust crate without a terminal: two columns for each level, no
+ * wraparound, no timer, everything else off. */
 static inline tt_settings tt_default_settings(void) {
   tt_settings settings;
   memset(&settings, 0, sizeof settings);
@@ -221,7 +254,7 @@ static inline tt_settings tt_default_settings(void) {
   return settings;
 }
 
-/* ---- What is NULL. */
+/* ---- Checks for NULL. */
 
 static inline bool tt_null_fields(const tt_field *fields, size_t field_count) {
   size_t i;
@@ -236,47 +269,52 @@ static inline bool tt_null_context(const tt_context *context) {
   return !context || (context->has_thread_name && !context->thread_name.at);
 }
 
-/* The context with a name, also where the thread has none. */
+/* Returns the context with a thread name whose address isn't NULL. The name is empty if the thread
+ * has no name. */
 static inline tt_context tt_named(const tt_context *context) {
   tt_context named = *context;
   if (!named.has_thread_name) named.thread_name = tt_bytes(NULL, 0);
   return named;
 }
 
-/* No span has the id 0: the call only lets the text of the last call go. */
+/* Discards the output of the last call, and returns TT_NULL. No span has the id 0, so the clone
+ * changes nothing else. */
 static inline uint32_t tt_refuse_null(tt_tree *tree) {
   if (tree) (void)tt_raw_clone_span(tree, 0);
   return TT_NULL;
 }
 
-/* ---- The functions for C and C++. Where a pointer or a text's address is NULL, each that returns a status returns TT_NULL and makes
- * no call, though `tt_event_timed` may have set its texts; `tt_free` does nothing then, and `tt_text` returns 0. */
+/* ---- The functions for C and C++. If a pointer or a string's address is NULL, each function that
+ * returns a status makes no call and returns TT_NULL. (`tt_event_timed` checks some of them only
+ * after it has set its strings.) `tt_free` does nothing if `tree` is NULL, and `tt_text` returns
+ * 0. */
 
-/* Makes a tree without spans, where there is none.
+/* Makes a tree without spans, if `tree` is missing.
  *   TT_OK         the tree is made; `tt_free` must free it
- *   TT_THERE      there is a tree already, which stays
- *   TT_SIZE       `size` isn't sizeof(tt_settings); there is no tree
- *   TT_SETTINGS   `wraparound` is 0, `timer` is unknown, or `offset` is out of range where the timer is TT_TIMER_LOCAL; there is
- *                 no tree
- *   TT_NO_MEMORY  the settings are right, but memory was refused; there is no tree */
+ *   TT_THERE      there is a tree already, which is unchanged
+ *   TT_SIZE       `size` isn't sizeof(tt_settings); no tree is made
+ *   TT_SETTINGS   `wraparound` is 0, `timer` is unknown, or `offset` is outside its range and the
+ *                 timer is TT_TIMER_LOCAL; no tree is made
+ *   TT_NO_MEMORY  the settings are valid, but memory ran out; no tree is made */
 static inline uint32_t tt_new(tt_tree *tree, const tt_settings *settings) {
   if (!tree || !settings) return TT_NULL;
   return tt_raw_new(tree, settings);
 }
 
-/* Frees a tree. There is none afterwards. Does nothing where there is none. */
+/* Frees a tree, which is missing afterwards. Does nothing if it is missing already. */
 static inline void tt_free(tt_tree *tree) {
   if (tree) tt_raw_free(tree);
 }
 
-/* Makes a span with one handle, and draws that it opens. Its id is written to `id` at TT_OK alone. Ids begin at 1 and are never
- * used again.
+/* Opens a span with one handle, and draws it as the settings say. Writes its id to `id` only if the
+ * status is TT_OK. A tree's ids start at 1 and are never used again.
  *   TT_OK         the span is live
- *   TT_MISSING    there is no tree
+ *   TT_MISSING    the tree is missing
  *   TT_UNKNOWN    `parent_kind` is unknown
- *   TT_NOT_UTF8   a text isn't UTF-8 (the thread's name counts if has_thread_name)
- *   TT_NO_MEMORY  memory was refused
- *   TT_NOT_HELD   the parent isn't live: `parent` for TT_OF, or `current` for TT_CURRENT where it isn't 0
+ *   TT_NOT_UTF8   a string isn't UTF-8 (the thread's name counts if `has_thread_name` is true)
+ *   TT_NO_MEMORY  memory ran out
+ *   TT_NOT_HELD   the parent isn't live: `parent` for TT_OF, or `current` for TT_CURRENT if it
+ *                 isn't 0
  *   TT_TOO_MANY   no id is left
  *   TT_TOO_WIDE   a row is too wide
  *   TT_FAILED     the tree has failed earlier */
@@ -290,9 +328,9 @@ static inline uint32_t tt_new_span(tt_tree *tree, const tt_attributes *attribute
   return tt_raw_new_span(tree, attributes, fields ? fields : TT_NO_FIELDS, field_count, &named, id);
 }
 
-/* Adds a handle to a live span. Draws nothing and takes no memory.
+/* Adds a handle to a live span. Draws nothing and never allocates.
  *   TT_OK         the span has one handle more
- *   TT_MISSING    there is no tree
+ *   TT_MISSING    the tree is missing
  *   TT_NOT_HELD   the span isn't live
  *   TT_TOO_MANY   the span has 2^64 - 1 handles
  *   TT_FAILED     the tree has failed earlier */
@@ -301,25 +339,26 @@ static inline uint32_t tt_clone_span(tt_tree *tree, uint64_t id) {
   return tt_raw_clone_span(tree, id);
 }
 
-/* Puts fields at the end of a span's fields. They are seen where the span is shown again. Draws nothing.
- *   TT_OK         the fields were added; or the span isn't live, and nothing happened
- *   TT_MISSING    there is no tree
- *   TT_NOT_UTF8   a text isn't UTF-8
- *   TT_NO_MEMORY  memory was refused
+/* Appends fields to a span's fields. They are drawn when the span is shown again. Draws nothing.
+ *   TT_OK         the fields were appended; or the span isn't live, and nothing happened
+ *   TT_MISSING    the tree is missing
+ *   TT_NOT_UTF8   a string isn't UTF-8
+ *   TT_NO_MEMORY  memory ran out
  *   TT_FAILED     the tree has failed earlier */
 static inline uint32_t tt_record(tt_tree *tree, uint64_t id, const tt_field *fields, size_t field_count) {
   if (!tree || tt_null_fields(fields, field_count)) return tt_refuse_null(tree);
   return tt_raw_record(tree, id, fields ? fields : TT_NO_FIELDS, field_count);
 }
 
-/* Draws an event. Nothing of it is kept. A parent or a current span that isn't live counts as none.
+/* Draws an event. Nothing of it is kept. If its parent isn't live, it is drawn without a parent. If
+ * its current span isn't live, it is drawn as if it had no current span.
  *   TT_OK         the event is drawn
- *   TT_MISSING    there is no tree
+ *   TT_MISSING    the tree is missing
  *   TT_UNKNOWN    `parent_kind` or `level` is unknown
- *   TT_NOT_UTF8   a text isn't UTF-8 (the thread's name counts if has_thread_name)
- *   TT_NO_MEMORY  memory was refused
+ *   TT_NOT_UTF8   a string isn't UTF-8 (the thread's name counts if `has_thread_name` is true)
+ *   TT_NO_MEMORY  memory ran out
  *   TT_TOO_WIDE   a row is too wide
- *   TT_TIMER      the timer has no text for the moment; the tree has failed
+ *   TT_TIMER      the timer can't show the moment; the tree has failed
  *   TT_FAILED     the tree has failed earlier */
 static inline uint32_t tt_event(tt_tree *tree, const tt_event_ref *event, const tt_field *fields, size_t field_count,
                                 const tt_context *context) {
@@ -330,13 +369,16 @@ static inline uint32_t tt_event(tt_tree *tree, const tt_event_ref *event, const 
   return tt_raw_event(tree, event, fields ? fields : TT_NO_FIELDS, field_count, &named);
 }
 
-/* Takes a handle of a span away. With its last handle and its last child the span goes, and draws that it closes; a parent whose
- * last handle was taken away before goes with its last child. `went` is set at TT_OK alone: whether the span went.
- *   TT_OK         the span has one handle less, or is gone
- *   TT_MISSING    there is no tree
+/* Drops a handle of a span. The span closes when it has no handles and no live children left, and
+ * its close is drawn. Its parent then closes too if it has no handles and no other live children,
+ * and so on upward. If the status is TT_OK, `went` is set to whether the span `id` closed.
+ * Otherwise `went` is unchanged.
+ *   TT_OK         the span has one handle less, or has closed
+ *   TT_MISSING    the tree is missing
  *   TT_NOT_UTF8   the thread has a name that isn't UTF-8
- *   TT_NO_MEMORY  memory was refused; not where the span only loses a handle and the thread's name has at most 16 bytes
- *   TT_NOT_HELD   the span isn't live, or all its handles were taken away before
+ *   TT_NO_MEMORY  memory ran out; never if the span only loses a handle and the thread's name has
+ *                 at most 16 bytes
+ *   TT_NOT_HELD   the span isn't live, or has no handle left
  *   TT_TOO_WIDE   a row is too wide
  *   TT_FAILED     the tree has failed earlier */
 static inline uint32_t tt_close(tt_tree *tree, uint64_t id, const tt_context *context, bool *went) {
@@ -345,13 +387,14 @@ static inline uint32_t tt_close(tt_tree *tree, uint64_t id, const tt_context *co
   return tt_raw_close(tree, id, &named, went);
 }
 
-/* Shows these texts as the time of each event from now on, in place of the timer of the settings, which doesn't come back: `moment`
- * in front of the event, and `elapsed` where the current span is live. They are shown as they are, without colours. A space follows
- * `moment` if it isn't empty, and `elapsed` in any case. Both are copied.
- *   TT_OK         the texts are shown from now on
- *   TT_MISSING    there is no tree
- *   TT_NOT_UTF8   a text isn't UTF-8
- *   TT_NO_MEMORY  memory was refused; texts of at most 16 bytes take none */
+/* Shows these strings as the time of each event from now on. They replace the timer of the
+ * settings, which doesn't come back. `moment` is drawn in front of the event, with a space after it
+ * if it isn't empty. `elapsed` follows if the current span is live, always with a space after it.
+ * Both are copied, and drawn unchanged, without colours.
+ *   TT_OK         the strings are shown from now on
+ *   TT_MISSING    the tree is missing
+ *   TT_NOT_UTF8   a string isn't UTF-8
+ *   TT_NO_MEMORY  memory ran out; never if each string has at most 16 bytes */
 static inline uint32_t tt_set_time(tt_tree *tree, tt_text_ref moment, tt_text_ref elapsed) {
   tt_time time;
   if (!tree || !moment.at || !elapsed.at) return tt_refuse_null(tree);
@@ -360,18 +403,20 @@ static inline uint32_t tt_set_time(tt_tree *tree, tt_text_ref moment, tt_text_re
   return tt_raw_set_time(tree, &time);
 }
 
-/* A timer of the caller's own: two functions, which return the texts for the time of an event with this context. A text must live
- * until `tt_event_timed` returns. */
+/* A custom timer: two functions that return the strings for the time of an event with this context.
+ * A string must live until `tt_event_timed` returns. */
 typedef struct tt_timer {
   tt_text_ref (*moment)(void *data, const tt_context *context);  /* the moment */
-  tt_text_ref (*elapsed)(void *data, const tt_context *context); /* how long the current span has been open */
+  tt_text_ref (*elapsed)(void *data, const tt_context *context); /* the time in the current span */
   void *data;                                                    /* passed to both; may be NULL */
 } tt_timer;
 
-/* Draws an event as `tt_event` does, with the time that this timer shows. The functions are called once each, in either order, before
- * anything is drawn, `elapsed` also where no span is current, and must not call the tree. Each text needs room of its own. Returns
- * what `tt_set_time` returns where that isn't TT_OK, and else what `tt_event` returns: where the event is refused the texts stay
- * set. */
+/* Draws an event as `tt_event` does, with the time that this timer shows. Calls each function once,
+ * in either order, before anything is drawn. `elapsed` is also called if the context has no current
+ * span. The functions must not call the tree, and each string needs its own memory. Sets the
+ * strings with `tt_set_time`, then draws the event with `tt_event`. Returns the first status that
+ * isn't TT_OK, otherwise TT_OK. Once set, the strings stay set, even if the event is refused. NULL
+ * for `event`, `fields` or a string in them or in `context` is only found by `tt_event`. */
 static inline uint32_t tt_event_timed(tt_tree *tree, const tt_timer *timer, const tt_event_ref *event, const tt_field *fields,
                                       size_t field_count, const tt_context *context) {
   uint32_t status;
@@ -380,9 +425,11 @@ static inline uint32_t tt_event_timed(tt_tree *tree, const tt_timer *timer, cons
   return status == TT_OK ? tt_event(tree, event, fields, field_count, context) : status;
 }
 
-/* Returns the length in bytes of the text that the last call drew, and copies the text into `room` if all of it fits in `size`
- * bytes; else `room` stays as it is. The length is 0 where the last call drew nothing or was refused, and where there is no tree.
- * The text stays until the next call, so it can be copied again. It is UTF-8, ends with a line feed and has no end mark. */
+/* Returns the length in bytes of the output of the last call. Copies the output to `room` if all of
+ * it fits in `size` bytes. Otherwise `room` is unchanged. The length is 0 if the last call drew
+ * nothing or was refused (except `tt_new`), or if the tree is missing. The output stays until the
+ * next call, so it can be copied again. It is UTF-8, ends with a line feed and has no terminating
+ * NUL. */
 static inline size_t tt_text(tt_tree *tree, uint8_t *room, size_t size) {
   uint8_t none[1];
   if (!tree) return 0;

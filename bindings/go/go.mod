@@ -1,3 +1,3 @@
-module tracing_tree_server
+module tracingtree
 
 go 1.19

@@ -1,5 +1,5 @@
-//! The spans that a thread is in, as each layer has seen them entered. The registry knows them too, but answers only after a look
-//! at the span's record.
+//! The spans that a thread is in, as each layer has seen them entered. The registry knows them too,
+//! but it reads the span's record first, which takes longer.
 
 use std::cell::RefCell;
 use std::sync::atomic::{AtomicU64, Ordering};
@@ -7,8 +7,8 @@ use tracing_core::span::Id;
 
 /// One entry into a span.
 struct Entry {
-    /// The layer's number, or one more where the thread was in the span already. The registry then goes on with the span that it was
-    /// in last.
+    /// The layer's number, plus one if the thread was in the span already. Such an entry doesn't
+    /// change the current span, as in the registry.
     layer: u64,
     id: u64,
 }
@@ -20,7 +20,7 @@ impl Entry {
     }
 }
 
-// By itself, so that the usual case keeps nothing over a call.
+// Separate, so that the usual case saves no registers.
 #[cold]
 #[inline(never)]
 fn remove_last_of(entries: &mut Vec<Entry>, layer: u64, id: u64) {
@@ -29,13 +29,13 @@ fn remove_last_of(entries: &mut Vec<Entry>, layer: u64, id: u64) {
     }
 }
 
-/// An even number that no other layer has.
+/// Returns an even number that no other layer has.
 pub(crate) fn new_layer() -> u64 {
     static LAYERS: AtomicU64 = AtomicU64::new(0);
     LAYERS.fetch_add(2, Ordering::Relaxed)
 }
 
-/// The spans that a thread is in, of all layers, the last entry last.
+/// The spans that a thread is in, for all layers, in the order of the entries.
 pub(crate) struct Entered(RefCell<Vec<Entry>>);
 
 impl Entered {
@@ -43,7 +43,7 @@ impl Entered {
         Entered(RefCell::new(Vec::new()))
     }
 
-    /// The thread enters a span.
+    /// Records that the thread enters a span.
     #[inline]
     pub(crate) fn enter(&self, layer: u64, id: &Id) {
         let id = id.into_u64();
@@ -52,12 +52,12 @@ impl Entered {
         entries.push(Entry { layer: layer + u64::from(again), id });
     }
 
-    /// The thread leaves a span, where it entered that last.
+    /// Removes the last entry into a span.
     #[inline]
     pub(crate) fn leave(&self, layer: u64, id: &Id) {
         let id = id.into_u64();
         let mut entries = self.0.borrow_mut();
-        // Most spans are left in the order in which they were entered.
+        // Usually the last span that was entered is left first.
         if entries.last().is_some_and(|entry| entry.is_of(layer, id)) {
             entries.pop();
         } else {
@@ -65,7 +65,7 @@ impl Entered {
         }
     }
 
-    /// The span that the thread is in.
+    /// Returns the span that the thread is in.
     #[inline]
     pub(crate) fn current(&self, layer: u64) -> Option<u64> {
         let entries = self.0.borrow();

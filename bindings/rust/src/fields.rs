@@ -1,10 +1,10 @@
-//! Fields as texts.
+//! Fields as strings.
 
 use crate::sys;
 use std::fmt::{self, Write as _};
 use tracing_core::field::{Field, Visit};
 
-/// Fields with the texts of their values.
+/// Fields, with their values as strings.
 pub(crate) struct Fields(sys::Fields);
 
 impl Fields {
@@ -12,14 +12,14 @@ impl Fields {
         Fields(sys::Fields::new())
     }
 
-    /// Forgets all fields, keeps the room, and takes the fields that `record` visits.
+    /// Replaces all fields by those that `record` visits. Keeps the capacity.
     #[inline(always)]
     pub(crate) fn take(&mut self, record: impl FnOnce(&mut dyn Visit)) {
         self.0.clear();
         record(self);
     }
 
-    /// The fields.
+    /// Returns the fields.
     #[inline]
     pub(crate) fn as_slice(&mut self) -> &[sys::Field<'_>] {
         self.0.as_slice()
@@ -37,13 +37,13 @@ impl Fields {
     }
 }
 
-// Whether `Debug` shows a byte as it is.
+// Returns whether `Debug` shows a byte unchanged.
 #[inline]
 fn is_shown(byte: u8) -> bool {
     matches!(byte, b' '..=b'~') & (byte != b'"') & (byte != b'\\')
 }
 
-// Whether `Debug` shows a text as it is, between quotes. Eight bytes are looked at at once.
+// Returns whether `Debug` only puts a string in quotes. Checks eight bytes at a time.
 #[inline]
 fn is_shown_as_it_is(text: &str) -> bool {
     let mut eights = text.as_bytes().chunks_exact(8);
@@ -51,10 +51,10 @@ fn is_shown_as_it_is(text: &str) -> bool {
     all_eights && eights.remainder().iter().all(|byte| is_shown(*byte))
 }
 
-// Each value is shown as `Debug` shows it. The usual types are written without its machinery.
+// Writes each value as `Debug` does. The usual types are written without `fmt`.
 impl Visit for Fields {
     fn record_debug(&mut self, field: &Field, value: &dyn fmt::Debug) {
-        // A `Debug` that fails leaves what it has written.
+        // If `Debug` fails, what it wrote before stays.
         let _ = write!(self.0.text(), "{value:?}");
         self.0.end(field.name());
     }

@@ -1,4 +1,5 @@
-//! What a thread keeps: the spans that it is in, and the buffers of its calls. All stands in one place, which a call looks up once.
+//! The data of a thread: the spans that it is in, and the buffers of its calls. All of it is in one
+//! thread local, which a call looks up once.
 
 use crate::entered::Entered;
 use crate::fields::Fields;
@@ -6,7 +7,7 @@ use std::cell::{Cell, OnceCell, RefCell};
 use std::thread::{self, Thread};
 use tracing_core::span::Id;
 
-/// What a thread keeps, beside its buffers.
+/// The data of a thread, except its buffers.
 pub(crate) struct Here {
     /// The spans that it is in.
     pub(crate) entered: Entered,
@@ -19,12 +20,12 @@ impl Here {
         Here { entered: Entered::new(), thread: OnceCell::new(), number: OnceCell::new() }
     }
 
-    /// The thread's name.
+    /// Returns the thread's name.
     pub(crate) fn name(&self) -> Option<&str> {
         self.thread.get_or_init(thread::current).name()
     }
 
-    /// The number in `ThreadId(7)`.
+    /// Returns the thread's number, as the 7 in `ThreadId(7)`.
     pub(crate) fn number(&self) -> u64 {
         *self.number.get_or_init(|| {
             let shown = format!("{:?}", thread::current().id());
@@ -34,14 +35,15 @@ impl Here {
 }
 
 thread_local! {
-    // The buffers are borrowed for as long as the thread is in a call.
+    // The buffers are borrowed while the thread is in a call.
     static HERE: (Here, RefCell<Fields>) = const { (Here::new(), RefCell::new(Fields::new())) };
-    // Whether the thread is in a call at its end, when the above has gone. This has no destructor and never goes.
+    // Whether the thread is in a call at its end, when `HERE` is already destroyed. This has no
+    // destructor and is never destroyed.
     static IN_LAST_CALL: Cell<bool> = const { Cell::new(false) };
 }
 
-/// Makes a call, with what the thread keeps. A call inside a call isn't made, as in `tracing-tree`: a writer or a `Debug` that logs
-/// would wait for itself.
+/// Makes a call with the data of the thread. A call inside a call isn't made, as in `tracing-tree`,
+/// and returns `None`. Otherwise a writer or a `Debug` that logs would wait for itself.
 #[inline(always)]
 pub(crate) fn call<R>(make: impl FnOnce(&Here, &mut Fields) -> R) -> Option<R> {
     let mut make = Some(make);
@@ -52,7 +54,8 @@ pub(crate) fn call<R>(make: impl FnOnce(&Here, &mut Fields) -> R) -> Option<R> {
     made.unwrap_or_else(|_| last_call(make?))
 }
 
-// The same at the end of a thread, in the destructor of another of its own. It has left all spans by then.
+// Like `call`, but at the end of a thread, in the destructor of another thread local. The thread
+// has left all spans by then.
 #[cold]
 #[inline(never)]
 fn last_call<R>(make: impl FnOnce(&Here, &mut Fields) -> R) -> Option<R> {
@@ -69,13 +72,13 @@ fn last_call<R>(make: impl FnOnce(&Here, &mut Fields) -> R) -> Option<R> {
     Some(make(&Here::new(), &mut Fields::new()))
 }
 
-/// The thread enters a span.
+/// Records that the thread enters a span.
 #[inline]
 pub(crate) fn enter(layer: u64, id: &Id) {
     let _ = HERE.try_with(|(here, _)| here.entered.enter(layer, id));
 }
 
-/// The thread leaves a span.
+/// Records that the thread leaves a span.
 #[inline]
 pub(crate) fn leave(layer: u64, id: &Id) {
     let _ = HERE.try_with(|(here, _)| here.entered.leave(layer, id));

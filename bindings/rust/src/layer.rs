@@ -1,4 +1,4 @@
-//! The layer's part of the work: what `tracing` tells goes to the library, and the text that comes back goes to the writer.
+//! Passes the calls of `tracing` to the library, and writes what they draw to the writer.
 
 use crate::here::{self, Here};
 use crate::spans::{Kept, Spans};
@@ -15,18 +15,18 @@ use tracing_subscriber::fmt::MakeWriter;
 use tracing_subscriber::layer::{Context, Layer};
 use tracing_subscriber::registry::LookupSpan;
 
-/// The tree, which is made at the first call, with its spans and a buffer for texts.
+/// The tree, its spans and a buffer for its output. It is made at the first call.
 pub(crate) struct State {
     tree: sys::Tree,
     spans: Spans,
     room: Vec<u8>,
 }
 
-/// Spans that closed while their thread was in a call of this layer, in the order in which they closed.
+/// Spans that closed while their thread was in a call of this layer, in the order of their closes.
 #[derive(Default)]
 pub(crate) struct Late {
     ids: Mutex<VecDeque<Id>>,
-    // Whether there are any, so that most calls take no lock to know it.
+    // Whether `ids` isn't empty, so that most calls needn't take the lock.
     any: AtomicBool,
 }
 
@@ -50,7 +50,8 @@ impl Late {
     }
 }
 
-// What a lock guards is whole even after a panic: each call of the library is made whole or not at all.
+// The data behind a lock is consistent even after a panic: a call of the library has its whole
+// effect or no effect.
 #[inline]
 fn locked<T>(mutex: &Mutex<T>) -> MutexGuard<'_, T> {
     mutex.lock().unwrap_or_else(PoisonError::into_inner)
@@ -72,7 +73,7 @@ where
     W: for<'writer> MakeWriter<'writer> + 'static,
     FT: FormatTime,
 {
-    // What the timer of the caller's shows of an event here and now.
+    // Returns what the caller's timer shows for an event here and now.
     #[cold]
     #[inline(never)]
     fn time(&self, here: &Here) -> (String, String) {
@@ -87,15 +88,15 @@ where
         (moment, elapsed)
     }
 
-    // Makes the tree, at the first call. One that can't be made is tried again at the next call.
+    // Makes the tree at the first call. If that fails, the next call tries again.
     #[cold]
     #[inline(never)]
     fn make_tree(&self, state: &mut Option<State>) {
         *state = sys::Tree::new(&self.settings).ok().map(|tree| State { tree, spans: Spans::default(), room: vec![0; 1024] });
     }
 
-    // Makes a call, which opens this span or none, and writes its text. Where there is no tree nothing is drawn, nor where the call
-    // is refused or isn't made.
+    // Makes a call and writes what it draws. `opens` is the span that the call opens, if it opens
+    // one. Draws nothing if the tree can't be made, or if the call is refused or isn't made.
     #[inline(always)]
     fn draw(&self, here: &Here, opens: Option<&Id>, make: impl FnOnce(&mut sys::Tree, &mut Spans) -> Option<()>) {
         let mut state = locked(&self.state);
@@ -103,7 +104,7 @@ where
             self.make_tree(&mut state);
         }
         let Some(state) = state.as_mut() else { return };
-        // A span that had this id before has closed, if late.
+        // A span that had this id before has closed, but its close isn't drawn yet.
         if opens.is_some_and(|id| self.late.any() && state.spans.get(id.into_u64()).is_some()) {
             self.close_late(here, state);
         }
@@ -115,7 +116,7 @@ where
         }
     }
 
-    // Writes the text of the last call. What the writer refuses is lost, and the tree goes on.
+    // Writes what the last call drew. What the writer refuses is lost, and later calls are drawn.
     #[inline(always)]
     fn write(&self, state: &mut State) {
         let text = state.tree.text(&mut state.room);
@@ -124,7 +125,8 @@ where
         }
     }
 
-    // Closes the spans that closed in the course of calls. Their ids may be given anew once they are out of `late`.
+    // Closes the spans that closed during calls. Their ids may be used again once they aren't in
+    // `late` any more.
     #[cold]
     #[inline(never)]
     fn close_late(&self, here: &Here, state: &mut State) {
@@ -136,7 +138,7 @@ where
         }
     }
 
-    // What goes with a call, outside all spans.
+    // Returns the context of a call, without a current span.
     #[inline(always)]
     fn context<'a>(&self, here: &'a Here) -> sys::Context<'a> {
         if self.settings.shows_context() {

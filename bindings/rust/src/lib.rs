@@ -1,7 +1,8 @@
 //! The layer of the crate `tracing-tree`, over a proved library.
 //!
-//! [`HierarchicalLayer`] has the builders of `tracing_tree::HierarchicalLayer` 0.4.1 and draws the same bytes. A service changes
-//! the dependency and the `use` line:
+//! [`HierarchicalLayer`] has the builders of `tracing_tree::HierarchicalLayer` 0.4.1. It draws the
+//! same bytes, except for the differences that README.md lists. A service changes the dependency
+//! and the `use` line:
 //!
 //! ```no_run
 //! use tracing_subscriber::prelude::*;
@@ -12,9 +13,9 @@
 //! }
 //! ```
 //!
-//! What a call draws is proved, up to the functions of the C header. This crate is ordinary Rust: it hands spans, events and clocks
-//! to the library, one call at a time under a lock, and the text of each call to the writer. README.md lists what differs from
-//! `tracing-tree`.
+//! What a call draws is proved, up to the functions of the C header. This crate is ordinary Rust.
+//! It passes spans, events and clocks to the library, one call at a time under a lock, and writes
+//! what each call draws.
 #![deny(missing_docs)]
 #![deny(unsafe_code)]
 
@@ -47,21 +48,22 @@ where
     state: Mutex<Option<layer::State>>,
     late: layer::Late,
     timer: FT,
-    // Whether the timer is none of the library's.
+    // Whether the timer is a custom one.
     own_timer: bool,
-    // What tells this layer from others.
+    // Differs from the number of every other layer.
     number: u64,
 }
 
 impl Default for HierarchicalLayer {
-    /// Two columns for each level.
+    /// Returns a layer with two columns for each level. See [`HierarchicalLayer::new`].
     fn default() -> Self {
         Self::new(2)
     }
 }
 
 impl HierarchicalLayer {
-    /// A layer that writes to standard error, with `indent_amount` columns for each level. It uses colours if standard error is a terminal.
+    /// Returns a layer that writes to standard error, with `indent_amount` columns for each level.
+    /// Colours are on if standard error is a terminal.
     ///
     /// # Panics
     ///
@@ -100,34 +102,36 @@ where
     FT: FormatTime,
 {
     switches! {
-        /// Whether colours are used.
+        /// Sets whether colours are used.
         with_ansi: ansi;
-        /// Whether the tree is drawn with lines and not by spaces alone.
+        /// Sets whether the tree is drawn with lines, not only with spaces.
         with_indent_lines: indent_lines;
-        /// Whether the targets of spans and events are shown.
+        /// Sets whether the targets of spans and events are shown.
         with_targets: targets;
-        /// Whether each line begins with the number of the thread.
+        /// Sets whether each line starts with the thread's number.
         with_thread_ids: thread_ids;
-        /// Whether each line begins with the name of the thread, if it has one.
+        /// Sets whether each line starts with the thread's name, if it has one.
         with_thread_names: thread_names;
-        /// Whether the parent of a span is shown again before the span opens.
+        /// Sets whether a span's parent is shown again before the span opens.
         with_verbose_entry: verbose_entry;
-        /// Whether a closing span is shown whole, and its parent again after it.
+        /// Sets whether a closing span is shown whole, and its parent again after it.
         with_verbose_exit: verbose_exit;
-        /// Whether the spans around an event are shown again where another span was shown last.
+        /// Sets whether the path to an event or a new span is shown again if another branch was
+        /// shown last.
         with_span_retrace: span_retrace;
-        /// Whether a span is shown only once an event happens in it.
+        /// Sets whether a span is drawn only when the first event occurs in it or in one of its
+        /// descendants. The path to an event is shown again as with `with_span_retrace`.
         with_deferred_spans: deferred_spans;
-        /// Whether, beside one of the last two, a closing span is shown again where its parent isn't on the path of the span
-        /// that was shown last. `tracing-tree` has no such setting.
+        /// Sets whether a closing span is shown again if its parent isn't on the path of the last
+        /// span shown. It needs one of the last two settings. `tracing-tree` has no such setting.
         with_close_retrace: close_retrace;
-        /// Whether the rows of spans are labelled, as `open: `.
+        /// Sets whether the rows of spans are labelled, for example `open: `.
         with_span_modes: span_modes;
-        /// Whether a span's fields stand in braces.
+        /// Sets whether a span's fields are in braces.
         with_bracketed_fields: bracketed_fields;
     }
 
-    /// Writes to the writers that this makes, one for each call that draws.
+    /// Writes to the writers that `make_writer` makes, one for each call that draws.
     pub fn with_writer<W2>(self, make_writer: W2) -> HierarchicalLayer<W2, FT>
     where
         W2: for<'writer> MakeWriter<'writer> + 'static,
@@ -143,19 +147,20 @@ where
         }
     }
 
-    /// Sets how many columns each level takes.
+    /// Sets the number of columns for each level.
     pub fn with_indent_amount(mut self, indent_amount: usize) -> Self {
         self.settings.indent_amount = indent_amount as u64;
         self
     }
 
-    /// Begins the indent again at the left after `wraparound` levels. 0 counts as 1.
+    /// Starts the indent again at the left after `wraparound` levels. 0 counts as 1.
     pub fn with_wraparound(mut self, wraparound: usize) -> Self {
         self.settings.wraparound = wraparound.max(1) as u64;
         self
     }
 
-    /// Shows the time by this timer: `()` shows none, [`time`] has others, and any other type can implement [`FormatTime`].
+    /// Shows the time with this timer. `()` shows no time, and [`time`] has other timers. A custom
+    /// timer implements [`FormatTime`].
     pub fn with_timer<FT2: FormatTime>(self, timer: FT2) -> HierarchicalLayer<W, FT2> {
         let set = timer.set(self.settings);
         HierarchicalLayer {

@@ -7,16 +7,17 @@ use tracing_core::Subscriber;
 use tracing_subscriber::layer::Context;
 use tracing_subscriber::registry::LookupSpan;
 
-/// What is kept of a span.
+/// The data that is kept for a span.
 #[derive(Clone, Copy)]
 pub(crate) struct Kept {
-    /// Its id in the tree.
+    /// The span's id in the tree.
     pub(crate) id: u64,
-    /// When it opened, on the clock of `monotonic`, for a layer with a timer of the caller's.
+    /// When the span opened, on the clock of `monotonic`. 0 if the layer has no custom timer.
     pub(crate) opened: u64,
 }
 
-/// The spans that were drawn and haven't closed, by their ids in `tracing`. An id is given anew only after its span has closed.
+/// The open spans of the tree, by their ids in `tracing`. An id is only used again after its span
+/// has closed.
 #[derive(Default)]
 pub(crate) struct Spans {
     kept: HashMap<u64, Kept, BuildHasherDefault<ByProduct>>,
@@ -38,7 +39,8 @@ impl Spans {
         self.kept.remove(&id.into_u64())
     }
 
-    /// The parent of a new span; where it is hidden from this layer, the next one around it that isn't.
+    /// Returns the parent of a new span. If a filter hides the parent from this layer, returns the
+    /// nearest ancestor that isn't hidden.
     #[inline(always)]
     pub(crate) fn parent<S>(&self, id: &Id, named: Option<u64>, ctx: &Context<'_, S>) -> Option<Kept>
     where
@@ -48,7 +50,8 @@ impl Spans {
     }
 }
 
-/// A hash for ids, which count up from a place of their own in each thread: a product spreads them.
+/// Hashes ids by a multiplication. The ids of a thread count up from a separate start, and the
+/// product spreads them.
 #[derive(Default)]
 pub(crate) struct ByProduct(u64);
 

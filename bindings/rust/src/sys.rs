@@ -1,4 +1,4 @@
-//! The library's functions, as `tracing_tree.h` has them. All that is unsafe stands in this file.
+//! The library's functions, as in `tracing_tree.h`. All unsafe code is in this file.
 
 #[path = "layout.rs"]
 mod layout;
@@ -6,7 +6,7 @@ mod layout;
 use std::fmt;
 use std::marker::PhantomData;
 
-/// A text.
+/// A borrowed UTF-8 string.
 #[repr(C)]
 #[derive(Clone, Copy)]
 pub struct Text<'a> {
@@ -16,7 +16,7 @@ pub struct Text<'a> {
 }
 
 impl Text<'_> {
-    /// The empty text.
+    /// The empty string.
     pub const NONE: Text<'static> = Text { at: "".as_ptr(), len: 0, of: PhantomData };
 }
 
@@ -46,23 +46,24 @@ const PAIRS: [[u8; 2]; 100] = {
     pairs
 };
 
-/// Fields whose values stand one after another in one text.
+/// Fields whose values are stored one after another in one string.
 pub struct Fields {
     text: String,
     list: Vec<Field<'static>>,
-    // Where the values end that are in the list.
+    // The end in `text` of the values that are in the list.
     end: usize,
-    // The text's capacity when the addresses in the list were said anew. With another one the text has moved since.
+    // The capacity of `text` when the addresses in the list were set. `text` only moves when its
+    // capacity changes.
     capacity: usize,
 }
 
 impl Fields {
-    /// No fields.
+    /// Returns no fields.
     pub const fn new() -> Fields {
         Fields { text: String::new(), list: Vec::new(), end: 0, capacity: 0 }
     }
 
-    /// Forgets all fields, and keeps the room.
+    /// Removes all fields. Keeps the capacity.
     #[inline]
     pub fn clear(&mut self) {
         self.text.clear();
@@ -70,18 +71,19 @@ impl Fields {
         self.end = 0;
     }
 
-    /// What writes to the end of the text. It can't take away room from the text, which only grows.
+    /// Returns a writer to the end of `text`. It can't shrink the capacity of `text`.
     #[inline]
     pub fn text(&mut self) -> &mut impl fmt::Write {
         &mut self.text
     }
 
-    /// Writes a text between quotes to the end of the text.
+    /// Appends a string in quotes to `text`.
     #[inline]
     pub fn push_quoted(&mut self, quoted: &str) {
         let (len, size) = (self.text.len(), quoted.len() + 2);
         self.text.reserve(size);
-        // SAFETY: room for the text and two quotes was reserved, they are UTF-8 together, and the text lies elsewhere.
+        // SAFETY: capacity for the string and two quotes was reserved. Together they are UTF-8, and
+        // `quoted` doesn't overlap `text`.
         unsafe {
             let text = self.text.as_mut_vec();
             let to = text.as_mut_ptr().add(len);
@@ -92,7 +94,7 @@ impl Fields {
         }
     }
 
-    /// Writes a number to the end of the text.
+    /// Appends a number to `text`.
     #[inline]
     pub fn push_number(&mut self, number: u64, is_negative: bool) {
         let mut digits = [0; 21];
@@ -114,7 +116,7 @@ impl Fields {
         self.text.push_str(unsafe { std::str::from_utf8_unchecked(&digits[at..]) });
     }
 
-    /// What was written since the last field is the value of this one.
+    /// Ends a field: its value is what was appended since the last field.
     #[inline]
     pub fn end(&mut self, name: &'static str) {
         if self.list.len() == self.list.capacity() {
@@ -125,7 +127,7 @@ impl Fields {
         self.list.push(Field { name: name.into(), value });
     }
 
-    // By itself, so that the usual case keeps nothing over a call.
+    // Separate, so that the usual case saves no registers.
     #[cold]
     #[inline(never)]
     fn end_beyond(&mut self, name: &'static str) {
@@ -133,7 +135,7 @@ impl Fields {
         self.end(name);
     }
 
-    /// The fields.
+    /// Returns the fields.
     #[inline]
     pub fn as_slice(&mut self) -> &[Field<'_>] {
         if self.text.capacity() != self.capacity {
@@ -142,7 +144,7 @@ impl Fields {
         &self.list
     }
 
-    // Says anew where each value lies.
+    // Sets the address of each value again.
     #[cold]
     #[inline(never)]
     fn move_values(&mut self) {
@@ -155,7 +157,7 @@ impl Fields {
     }
 }
 
-/// Settings; the names are those of the header.
+/// Settings, with the names of the header.
 #[repr(C)]
 #[derive(Clone, Copy, Debug)]
 pub struct Settings {
@@ -181,7 +183,7 @@ pub struct Settings {
 }
 
 impl Default for Settings {
-    /// Two columns for each level, no wraparound, no timer, all else off.
+    /// Returns two columns for each level, no wraparound, no timer, everything else off.
     fn default() -> Self {
         Settings {
             size: std::mem::size_of::<Settings>() as u64,
@@ -207,20 +209,20 @@ impl Default for Settings {
     }
 }
 
-/// Kinds of parents: none, the current span, or the span that is named.
+/// Kinds of parents: no parent, the current span, or the span `parent`.
 pub const ROOT: u32 = 0;
 pub const CURRENT: u32 = 1;
 pub const OF: u32 = 2;
 
 impl Settings {
-    /// Whether any of the thread's name, its number and the clocks is shown.
+    /// Returns whether the thread's name, its number or a time is shown.
     #[inline]
     pub fn shows_context(&self) -> bool {
         (self.timer != 0) | self.thread_names | self.thread_ids
     }
 }
 
-/// What goes with a call.
+/// The context of a call.
 #[repr(C)]
 #[derive(Clone, Copy)]
 pub struct Context<'a> {
@@ -233,12 +235,12 @@ pub struct Context<'a> {
 }
 
 impl Context<'_> {
-    /// Nothing.
+    /// No current span, thread or time.
     pub const NONE: Context<'static> =
         Context { current: 0, thread_id: 0, thread_name: Text::NONE, mono: 0, wall: 0, has_thread_name: false };
 }
 
-/// What a new span is made of.
+/// A new span, except its fields.
 #[repr(C)]
 #[derive(Clone, Copy)]
 pub struct Attributes<'a> {
@@ -248,7 +250,7 @@ pub struct Attributes<'a> {
     pub parent_kind: u32,
 }
 
-/// An event.
+/// An event, except its fields.
 #[repr(C)]
 #[derive(Clone, Copy)]
 pub struct Event<'a> {
@@ -258,7 +260,7 @@ pub struct Event<'a> {
     pub level: u32,
 }
 
-/// The texts of the time.
+/// The strings that are shown as the time.
 #[repr(C)]
 #[derive(Clone, Copy)]
 pub struct Time<'a> {
@@ -321,23 +323,24 @@ pub struct Tree {
     raw: RawTree,
 }
 
-// SAFETY: that a tree may go to another thread is proved (`Handle` of crates/tracing_tree_c), and `&mut` gives it to one call at a
-// time.
+// SAFETY: it is proved that a tree may move to another thread (`Handle` of crates/tracing_tree_c).
+// `&mut` allows only one call at a time.
 unsafe impl Send for Tree {}
 
 impl Tree {
-    /// A tree with these settings. A library of another version is refused, whose settings may have other fields in the same size.
+    /// Returns a tree with these settings. Refuses a library of another version: its settings may
+    /// have other fields in the same size.
     pub fn new(settings: &Settings) -> Result<Tree, Refused> {
         if version() != VERSION {
             return Err(OTHER_SIZE);
         }
         let mut raw = RawTree { inside: std::ptr::null_mut(), there: false };
-        // SAFETY: the tree is missing, and the settings are whole.
+        // SAFETY: the tree is missing, and `settings` is a whole value.
         answered(unsafe { tt_raw_new(&mut raw, settings) })?;
         Ok(Tree { raw })
     }
 
-    /// Makes a span.
+    /// Opens a span, and returns its id.
     #[inline]
     pub fn new_span(
         &mut self,
@@ -346,34 +349,35 @@ impl Tree {
         context: &Context<'_>,
     ) -> Result<u64, Refused> {
         let mut id = 0;
-        // SAFETY: each reference is whole for the call, a slice's address is never null, and each text was a `str`.
+        // SAFETY: each reference is to a whole value during the call, a slice's address is never
+        // null, and each string was a `str`.
         answered(unsafe {
             tt_utf8_new_span(&mut self.raw, attributes, fields.as_ptr(), fields.len(), context, &mut id)
         })?;
         Ok(id)
     }
 
-    /// Puts fields at the end of a span's.
+    /// Appends fields to a span's fields.
     #[inline]
     pub fn record(&mut self, id: u64, fields: &[Field<'_>]) -> Result<(), Refused> {
         // SAFETY: as for a new span.
         answered(unsafe { tt_raw_record(&mut self.raw, id, fields.as_ptr(), fields.len()) })
     }
 
-    /// Tells of an event.
+    /// Draws an event.
     #[inline]
     pub fn event(&mut self, event: &Event<'_>, fields: &[Field<'_>], context: &Context<'_>) -> Result<(), Refused> {
         // SAFETY: as for a new span.
         answered(unsafe { tt_utf8_event(&mut self.raw, event, fields.as_ptr(), fields.len(), context) })
     }
 
-    /// Shows these texts as the time from now on.
+    /// Shows these strings as the time of each event from now on.
     pub fn set_time(&mut self, time: &Time<'_>) -> Result<(), Refused> {
         // SAFETY: as for a new span.
         answered(unsafe { tt_raw_set_time(&mut self.raw, time) })
     }
 
-    /// Takes a handle of a span away.
+    /// Drops a handle of a span, and returns whether the span closed.
     #[inline]
     pub fn close(&mut self, id: u64, context: &Context<'_>) -> Result<bool, Refused> {
         let mut went = false;
@@ -382,10 +386,10 @@ impl Tree {
         Ok(went)
     }
 
-    /// The text of the last call, in a buffer that is used again.
+    /// Returns what the last call drew, in `room`, which grows if it is too small.
     #[inline]
     pub fn text<'a>(&mut self, room: &'a mut Vec<u8>) -> &'a [u8] {
-        // SAFETY: the room has as many bytes as are said.
+        // SAFETY: `room` has `room.len()` bytes.
         let length = unsafe { tt_raw_text(&mut self.raw, room.as_mut_ptr(), room.len()) };
         if length > room.len() {
             room.resize(length, 0);
@@ -399,7 +403,7 @@ impl Tree {
 
 impl Drop for Tree {
     fn drop(&mut self) {
-        // SAFETY: the tree is no one else's.
+        // SAFETY: nothing else uses the tree.
         unsafe { tt_raw_free(&mut self.raw) }
     }
 }
@@ -414,8 +418,8 @@ pub fn require_version() {
     );
 }
 
-/// The version of the library.
+/// Returns the version of the library.
 pub fn version() -> u32 {
-    // SAFETY: it asks nothing.
+    // SAFETY: the function requires nothing.
     unsafe { tt_version() }
 }

@@ -5,19 +5,20 @@ use std::fmt;
 use std::sync::OnceLock;
 use std::time::{Duration, Instant, SystemTime, UNIX_EPOCH};
 
-/// What shows the time of an event. (`FormatTime` of `tracing-tree`.)
+/// Shows the time of an event. (`FormatTime` of `tracing-tree`.)
 ///
-/// The library shows the timers of this module itself. A timer of your own has the two functions: for each event the layer calls
-/// `format_time` once, and `style_timestamp` once where a span is current, and shows what they wrote, also where they return an error.
-/// An event that they tell isn't drawn.
+/// The library itself shows the timers of this module. A custom timer has the two functions. For
+/// each event the layer calls `format_time` once, and `style_timestamp` once if there is a current
+/// span. It shows what they wrote, even if they return an error. An event that they emit isn't
+/// drawn.
 pub trait FormatTime: 'static {
-    /// Writes the moment that it is now.
+    /// Writes the current moment.
     fn format_time(&self, w: &mut impl fmt::Write) -> fmt::Result;
 
     /// Writes how long the current span has been open.
     fn style_timestamp(&self, ansi: bool, elapsed: Duration, w: &mut impl fmt::Write) -> fmt::Result;
 
-    // The same settings with this timer, if it is one of the library's.
+    // Returns the settings with this timer, or `None` for a custom timer.
     #[doc(hidden)]
     #[allow(private_interfaces)]
     fn set(&self, settings: Settings) -> Option<Settings> {
@@ -26,7 +27,7 @@ pub trait FormatTime: 'static {
     }
 }
 
-// What the library shows at this moment with these settings: the moment, and the time since `begin`.
+// Returns what the library shows now with these settings: the moment, and the time since `begin`.
 fn texts(settings: Settings, begin: u64, mono: u64) -> Option<(String, String)> {
     let event = sys::Event { target: "".into(), parent: 0, parent_kind: sys::ROOT, level: 2 };
     let attributes = sys::Attributes { name: "".into(), target: "".into(), parent: 0, parent_kind: sys::ROOT };
@@ -54,7 +55,7 @@ fn texts(settings: Settings, begin: u64, mono: u64) -> Option<(String, String)> 
     Some((moment.to_owned(), elapsed.to_owned()))
 }
 
-// The two functions of a timer that the library shows.
+// The two functions, for a timer that the library shows.
 macro_rules! shown_by_the_library {
     () => {
         fn format_time(&self, w: &mut impl fmt::Write) -> fmt::Result {
@@ -96,7 +97,7 @@ pub struct Uptime {
 }
 
 impl Default for Uptime {
-    /// The time from now on.
+    /// Returns a timer whose uptime starts now.
     fn default() -> Self {
         Uptime { epoch: monotonic(), higher_precision: false }
     }
@@ -127,7 +128,7 @@ impl FormatTime for UtcDateTime {
     }
 }
 
-/// The date and time at an offset. The machine isn't asked for it.
+/// The date and time at a fixed offset. The machine's own offset isn't read.
 #[derive(Clone, Copy, Debug, Default, PartialEq, Eq)]
 pub struct LocalDateTime {
     offset: i32,
@@ -136,7 +137,8 @@ pub struct LocalDateTime {
 }
 
 impl LocalDateTime {
-    /// At this offset in seconds east of UTC. `None` at 26 hours and above, and at that much west.
+    /// Returns a timer at this offset in seconds east of UTC. Returns `None` if the offset is 26
+    /// hours or more, east or west.
     pub fn with_offset(seconds: i32) -> Option<Self> {
         let fits = (-93_599..=93_599).contains(&seconds);
         fits.then_some(LocalDateTime { offset: seconds, higher_precision: false })
@@ -152,13 +154,13 @@ impl FormatTime for LocalDateTime {
     }
 }
 
-// Nanoseconds since the first call of this function.
+// Returns the nanoseconds since the first call of this function.
 pub(crate) fn monotonic() -> u64 {
     static BEGIN: OnceLock<Instant> = OnceLock::new();
     BEGIN.get_or_init(Instant::now).elapsed().as_nanos() as u64
 }
 
-// Nanoseconds since 1970, and before it, as far as they fit.
+// Returns the nanoseconds since 1970, negative before it, limited to what fits.
 pub(crate) fn wall() -> i64 {
     match SystemTime::now().duration_since(UNIX_EPOCH) {
         Ok(since) => i64::try_from(since.as_nanos()).unwrap_or(i64::MAX),

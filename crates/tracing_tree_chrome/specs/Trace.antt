@@ -78,6 +78,15 @@ EndsHearing Read h all = ⊥
 EndsHearing Memory h all = ⊤
 EndsHearing (Refused refusal) h all = ⊥
 
+-- Why no calls were read, and how many elements were unknown by then: an allocation failed, or the notes
+-- ended the run after something unknown.
+abbrev pub EndsReading : LineCause → ℕ → Heard → Type 0
+EndsReading NoSettings unknown all = ⊥
+EndsReading NotACall unknown all = (0 < unknown) × (0 < all.unknown)
+EndsReading Read unknown all = ⊥
+EndsReading Memory unknown all = ⊤
+EndsReading (Refused refusal) unknown all = ⊥
+
 -- these items in the one order in which they are drawn
 abbrev pub IsInOrder : List Item → List Item → Type 0
 IsInOrder items ordered = IsPermutation items ordered × IsSorted item_cmp ordered

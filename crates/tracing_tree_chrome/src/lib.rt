@@ -1,7 +1,7 @@
 //! Traces in Chrome's trace event format drawn as a tree.
 //!
 //! [`run_trace`] draws a whole trace: its processes and threads are spans, and in each thread its spans stand nested by time.
-//! [`Cut`] says which spans are left out.
+//! [`trace_calls`] returns the calls that it makes. [`Cut`] says which spans are left out.
 #![tactic(auto)]
 
 mod element;
@@ -12,4 +12,4 @@ mod text;
 pub mod trace;
 mod tree;
 
-pub use trace::{Cut, run_trace};
+pub use trace::{Cut, TraceCalls, run_trace, trace_calls};

@@ -1,9 +1,9 @@
 //! Traces in Chrome's trace event format.
 
-ghost use Rattle.std.specs.Prelude.{◌≡◌, [], ◌∷◌, IfErr, IfOk, OnOk, Some, is_none, is_ok, true};
+ghost use Rattle.std.specs.Prelude.{◌≡◌, [], ◌∷◌, IfErr, IfOk, MatchResult, OnOk, Some, is_none, is_ok, true};
 ghost use Rattle.json.specs.Value.{items_view, value_view};
 ghost use Rattle.tracing_tree_layer.specs.Layer.Layers.{seen, Changes};
-ghost use Rattle.tracing_tree_chrome.specs.Trace.{AreCallsOf, DrawsOrEnds, EndsHearing, RunsTrace, heard_all, heard_as, heard_cut, heard_from, heard_mended, heard_unknown, heard_value, nothing_heard_of};
+ghost use Rattle.tracing_tree_chrome.specs.Trace.{AreCallsOf, DrawsOrEnds, EndsHearing, EndsReading, RunsTrace, heard_all, heard_as, heard_cut, heard_from, heard_in, heard_mended, heard_unknown, heard_value, nothing_heard_of};
 ghost use Rattle.tracing_tree_chrome.specs.Element.{element_of};
 ghost use Rattle.tracing_tree_chrome.specs.Text.{elements_in};
 ghost use Rattle.tracing_tree_chrome.specs.Notes.{IsNoted, cut_notes, element_note, element_notes, mended_notes, notes_in, trace_notes};
@@ -79,6 +79,55 @@ pub fn run_trace<W: Output, FT: FormatTime, N: Notes>(
             fault: None,
         },
         Err(cause) => ended(unknown, cause),
+    }
+}
+
+/// What was read of a trace.
+#[derive(Drop)]
+pub struct TraceCalls {
+    /// The calls that draw it, or what ended the reading.
+    pub calls: Result<Vec<Call>, LineCause>,
+
+    /// How many of its elements were unknown.
+    pub unknown: u64,
+}
+
+/// Reads a trace, and returns the calls that [`run_trace`] makes on its receiver. The arguments are
+/// those of `run_trace`, and so are the notes.
+#[tactic(auto, using(crate::proofs::Noting::noted_less))]
+pub fn trace_calls<N: Notes>(
+    alloc: Global,
+    next: u64,
+    moment: Moment,
+    cut: Cut,
+    text: &str,
+    notes: &mut N,
+) -> TraceCalls
+    ensures read { MatchResult result.calls
+        (λ calls. AreCallsOf next moment cut (heard_in text.now).gathered calls.items
+        × (result.unknown ≡ (heard_in text.now).unknown))
+        (λ cause. EndsReading cause result.unknown (heard_in text.now)) }
+    ensures noted { IsNoted (notes_in text.now) (is_ok result.calls) 0 result.unknown
+        (N.noted notes.old) (N.noted notes.new) }
+{
+    let mut read = Heard::new(alloc);
+    if let Err(cause) = hear(alloc, text, &mut read, notes) {
+        return TraceCalls {
+            calls: Err(cause),
+            unknown: read.unknown,
+        };
+    }
+    let Heard {
+        gathered,
+        unknown: count,
+    } = read;
+    let calls = match calls_of(alloc, next, moment, cut, gathered) {
+        Ok(calls) => Ok(calls),
+        Err(AllocError) => Err(LineCause::Memory),
+    };
+    TraceCalls {
+        calls,
+        unknown: count,
     }
 }
 

@@ -2,30 +2,34 @@
 use Rattle.std.proofs.Common.{◌≡◌, ℕ, Bool, true, false, List, [], ◌∷◌, ◌++◌, Option, Some, None, refl, sym, ap, subst, ◌∙◌, arith}
 use Rattle.std.proofs.lemmas.Bool.Decides.{nat_tests}
 use Rattle.std.proofs.lemmas.Slice.Eq.{bytes_eq-Decides}
-use Rattle.std.specs.Prelude.{⊤, ◌||◌, ◌&&◌, not, if◌then◌else◌, cond, bytes_eq, codes, length, unwrap_or, drop}
+use Rattle.std.specs.Prelude.{⊤, ◌||◌, ◌&&◌, not, if◌then◌else◌, cond, bytes_eq, codes, length, unwrap_or, drop, option_map, ◌==◌}
 use Rattle.std.specs.List.{list_any}
 use Rattle.std.specs.Ordering.{is_eq, match_ordering, nat_cmp}
 use Rattle.std.specs.Cmp.Lexicographic.{slice_cmp}
 use Rattle.std.specs.declared.cmp.Ordering.{Ordering}
 use Rattle.std.specs.declared.cmp.Ordering.TheVariants.{Less, Equal, Greater}
-use Rattle.std.specs.Prelude.{option_map, ◌==◌}
 use Rattle.std.specs.Str.{is_utf8}
 use Rattle.json.specs.Json.{Json, document}
+use Rattle.tracing_tree_context.specs.declared.context.Id.{Id}
 use Rattle.tracing_tree_context.specs.declared.context.Moment.{Moment}
+use Rattle.tracing_tree_text.specs.declared.field.Field.{Field}
+use Rattle.tracing_tree_text.specs.declared.style.Level.{Level}
+use Rattle.tracing_tree_text.specs.declared.style.Level.TheVariants.{Warn, Error}
+use Rattle.tracing_tree_lines.specs.Lines.Spelled.{is_skipped}
+use Rattle.tracing_tree_sources.specs.Counts.{one_more}
 use Rattle.tracing_tree_sources.specs.Marks.{begins, is_empty}
 use Rattle.tracing_tree_sources.specs.Source.{Heard, hear, hear_line, heard_step, nothing_heard}
+use Rattle.tracing_tree_sources.specs.Told.{event_call, message_field}
 use Rattle.tracing_tree_sources.specs.Values.{text_at}
 use Rattle.tracing_tree_go_test.specs.Failures.{has_begun, is_fail, is_failure, package_runs, some_failed, tells_failure}
 use Rattle.tracing_tree_go_test.specs.Names.{named, put, without}
+use Rattle.tracing_tree_go_test.specs.Texts.{ends_line, is_frame, is_package_frame, own_name, up_to_space, without_line_end}
+use Rattle.tracing_tree_go_test.specs.declared.go_test.builds.Build.{Build}
+use Rattle.tracing_tree_go_test.specs.declared.go_test.running.Kind.{Kind}
 use Rattle.tracing_tree_go_test.specs.declared.go_test.running.Running.{Running}
-use Rattle.tracing_tree_go_test.specs.declared.go_test.Ending.{Ending}
-use Rattle.tracing_tree_go_test.specs.declared.go_test.Ending.TheVariants.{Passed, Failed, Skipped, Unfinished}
-use Rattle.tracing_tree_context.specs.declared.context.Id.{Id}
-use Rattle.tracing_tree_text.specs.declared.style.Level.{Level}
-use Rattle.tracing_tree_text.specs.declared.style.Level.TheVariants.{Info, Error}
-use Rattle.tracing_tree_lines.specs.Lines.Spelled.{is_skipped}
-use Rattle.tracing_tree_sources.specs.Told.{event_call, message_field}
-use Rattle.tracing_tree_go_test.specs.GoTest.{GoState, Held, Tests, above_held, acted, acted_for, all_ended, all_left_over, elapsed_in, go_takes, handed_out, is_package_frame, nothing_run, package_left, package_of, packages_left, printed_if, takes_failure, takes_heading, takes_json, takes_plain, takes_text, test_of, timed, up_to_space, begun, begun_in, counted, elapsed_fields, ended, ends_line, event_told, failed_by, finished, held, holds, is_frame, kept, left_one, left_over, level_of, line_of, line_told, more_printed, name_of, noted_left, opened, opened_as, owner, package_ended, part_told, placed, printed, quiet_told, ran, running_as, said, span_ended, started, started_if, test_ended, tests_of, told, told_if_ended, without_line_end, without_package, word_of}
+use Rattle.tracing_tree_go_test.specs.declared.go_test.tally.Ending.{Ending}
+use Rattle.tracing_tree_go_test.specs.declared.go_test.tally.Ending.TheVariants.{Passed, Failed, Skipped, Unfinished}
+use Rattle.tracing_tree_go_test.specs.GoTest.{GoState, Held, Tests, above_held, acted, acted_for, all_ended, all_left_over, begun, begun_in, build_printed, build_printed_if, build_said, build_told, builds_said, builds_told, counted, elapsed_fields, elapsed_in, end_fields, ended, event_told, failed_counted, fails_as, finished, frame_printed, framed, go_takes, handed_out, has_failed, held, holds, is_aside, is_framing, kept, kind_in, left_as, left_one, left_over, level_of, level_of_line, level_of_text, line_of, line_told, more_printed, moved, noted, noted_left, nothing_run, one_ended, opened, opened_as, owner, package_counted, package_ended, package_failed, package_left, package_of, packages_left, part_told, placed, printed, printed_if, quiet_told, ran, running_as, said, span_ended, started, string_printed, takes_failure, takes_heading, takes_json, takes_plain, takes_text, test_ended, test_of, tests_of, text_printed, texts_told, timed, told, told_of_build, without_build, without_heading, without_package, word_of}
 
 -- ---- names
 
@@ -146,12 +150,12 @@ all_found path (e ∷ es) h = by (is_eq (cmp path e.0)) (all_found path es h.1) 
 
 -- it stays, and so do the names
 record Stays (s t : GoState) : Type 0 where
-  failed : AllNamed s.packages → t.has_failed ≡ s.has_failed
+  failed : AllNamed s.packages → has_failed t ≡ has_failed s
   named_too : AllNamed s.packages → AllNamed t.packages
 
 -- it is set if this holds, and else it stays
 record Goes (b : Bool) (s t : GoState) : Type 0 where
-  failed : AllNamed s.packages → t.has_failed ≡ (s.has_failed || b)
+  failed : AllNamed s.packages → has_failed t ≡ (has_failed s || b)
   named_too : AllNamed s.packages → AllNamed t.packages
 
 or_false : (a : Bool) → (a || false) ≡ a
@@ -173,7 +177,7 @@ then_stays : (s t u : GoState) → Stays s t → Stays t u → Stays s u
 then_stays s t u h k = record { failed = λ w. k.failed (h.named_too w) ∙ h.failed w; named_too = λ w. k.named_too (h.named_too w) }
 
 goes_of : (s t : GoState) → Stays s t → Goes false s t
-goes_of s t h = record { failed = λ w. h.failed w ∙ sym (or_false s.has_failed); named_too = h.named_too }
+goes_of s t h = record { failed = λ w. h.failed w ∙ sym (or_false (has_failed s)); named_too = h.named_too }
 
 goes_stays : (b : Bool) (s t u : GoState) → Goes b s t → Stays t u → Goes b s u
 goes_stays b s t u h k = record { failed = λ w. k.failed (h.named_too w) ∙ h.failed w; named_too = λ w. k.named_too (h.named_too w) }
@@ -186,7 +190,7 @@ stays_goes b s t u h k = record {
 
 goes_then : (a b : Bool) (s t u : GoState) → Goes a s t → Goes b t u → Goes (a || b) s u
 goes_then a b s t u h k = record {
-  failed = λ w. k.failed (h.named_too w) ∙ ap (λ f. f || b) (h.failed w) ∙ or_assoc s.has_failed a b;
+  failed = λ w. k.failed (h.named_too w) ∙ ap (λ f. f || b) (h.failed w) ∙ or_assoc (has_failed s) a b;
   named_too = λ w. k.named_too (h.named_too w);
 }
 
@@ -204,9 +208,9 @@ held_if false s h k i j = j
 
 -- ---- what is drawn
 
-event_stays : (level : Level) (text : List ℕ) (elapsed : Option (List ℕ)) (above : Option Id) (s : GoState) → Stays s (event_told level text elapsed above s)
-event_stays level text elapsed above s =
-    stays_if (is_skipped text) s s (told (event_call s.moment level (message_field text ∷ elapsed_fields elapsed) above) s) (same s) (record { failed = λ w. refl; named_too = λ w. w })
+event_stays : (level : Level) (text : List ℕ) (rest : List Field) (above : Option Id) (s : GoState) → Stays s (event_told level text rest above s)
+event_stays level text rest above s =
+    stays_if (is_skipped text) s s (told above (event_call s.moment level (message_field text ∷ rest) above) s) (same s) (record { failed = λ w. refl; named_too = λ w. w })
 
 opened_by : (span : Option Id) (h : Held) → Stays h.state (opened_as span h).state
 opened_by (Some id) h = same h.state
@@ -215,28 +219,35 @@ opened_by None h = record { failed = λ w. refl; named_too = λ w. w }
 opened_stays : (h : Held) → Stays h.state (opened h).state
 opened_stays h = opened_by h.one.span h
 
-line_stays : (text : List ℕ) (h : Held) → Stays h.state (line_of text h).state
-line_stays text h =
+said_stays : (level : Level) (text : List ℕ) (h : Held) → Stays h.state (said level text (opened h)).state
+said_stays level text h =
+    then_stays h.state (opened h).state (said level text (opened h)).state (opened_stays h) (event_stays level text [] (opened h).one.span (opened h).state)
+
+framed_stays : (line : List ℕ) (h : Held) → Stays h.state (framed line h).state
+framed_stays line h = held_if (is_empty h.one.test) h.state (record h { one = noted line h.one }) h (same h.state) (same h.state)
+
+line_stays : (level : Level) (text : List ℕ) (h : Held) → Stays h.state (line_of level text h).state
+line_stays level text h =
     let line = without_line_end text in
-    held_if (is_frame h.one.test line) h.state h (said Info line (opened h)) (same h.state)
-    (then_stays h.state (opened h).state (said Info line (opened h)).state (opened_stays h) (event_stays Info line None (opened h).one.span (opened h).state))
+    held_if (is_frame h.one.test line) h.state (framed line h) (said level line (opened h)) (framed_stays line h) (said_stays level line h)
 
 told_line_stays : (h : Held) → Stays h.state (line_told h).state
-told_line_stays h = line_stays h.one.part (record h { one = record h.one { part = [] } })
+told_line_stays h = line_stays (level_of_line h.one.is_error) h.one.part (record h { one = record h.one { part = []; is_error = false } })
 
 part_stays : (h : Held) → Stays h.state (part_told h).state
 part_stays h = held_if (is_empty h.one.part) h.state h (line_told h) (same h.state) (told_line_stays h)
 
-span_stays : (ending : Ending) (elapsed : Option (List ℕ)) (span : Option Id) (h : Held) → Stays h.state (span_ended ending elapsed span h)
-span_stays ending elapsed (Some id) h =
-    let event = event_stays (level_of ending) (word_of ending) elapsed (Some id) h.state in
+span_stays : (ending : Ending) (rest : List Field) (span : Option Id) (h : Held) → Stays h.state (span_ended ending rest span h)
+span_stays ending rest (Some id) h =
+    let event = event_stays (level_of ending) (word_of ending) rest (Some id) h.state in
     record { failed = event.failed; named_too = event.named_too }
-span_stays ending elapsed None h = event_stays (level_of ending) (word_of ending ++ codes " " ++ name_of h.one) elapsed h.one.above h.state
+span_stays ending rest None h = event_stays (level_of ending) (word_of ending ++ codes " " ++ h.one.name) rest h.one.above h.state
 
 finished_stays : (ending : Ending) (elapsed : Option (List ℕ)) (h : Held) → Stays h.state (finished ending elapsed h)
 finished_stays ending elapsed h =
     let last = part_told h in
-    then_stays h.state last.state (span_ended ending elapsed last.one.span last) (part_stays h) (span_stays ending elapsed last.one.span last)
+    let rest = end_fields elapsed last.one in
+    then_stays h.state last.state (span_ended ending rest last.one.span last) (part_stays h) (span_stays ending rest last.one.span last)
 
 -- ---- what runs
 
@@ -263,75 +274,102 @@ kept_stays h =
           (named_put h.one.test h.one tests refl (all_found h.one.path h.state.packages w)) (all_without h.one.path h.state.packages w);
     }
 
-noted_by : (b : Bool) (s : GoState) → b ≡ false → Stays s (if b then record s { has_failed = true } else counted Unfinished s)
-noted_by true s e = cc
-noted_by false s e = record { failed = λ w. refl; named_too = λ w. w }
+-- ---- counts
 
--- a test that ends unfinished fails nothing
-left_stays : (one : Running) (s : GoState) → is_empty one.test ≡ false → Stays s (left_one one s)
-left_stays one s full =
-    stays_if one.has_begun s (finished Unfinished None (holds one (noted_left one s))) s
-    (then_stays s (noted_left one s) (finished Unfinished None (holds one (noted_left one s))) (noted_by (is_empty one.test) s full) (finished_stays Unfinished None (holds one (noted_left one s))))
+one_more_counts : (n : ℕ) → not (one_more n == 0) ≡ true
+one_more_counts n = grind (arith, nat_tests)
+
+failed_test : (path test : List ℕ) (s : GoState) → Goes true s (failed_counted path test s)
+failed_test path test s = record {
+  failed = λ w. ap (λ b. b || not (s.tally.packages_failed == 0)) (one_more_counts s.tally.failed) ∙ sym (or_true (has_failed s));
+  named_too = λ w. w;
+}
+
+failed_package : (path : List ℕ) (s : GoState) → Goes true s (package_failed path (one_ended s))
+failed_package path s = record {
+  failed = λ w. ap (λ b. not (s.tally.failed == 0) || b) (one_more_counts s.tally.packages_failed) ∙ or_true (not (s.tally.failed == 0)) ∙ sym (or_true (has_failed s));
+  named_too = λ w. w;
+}
+
+-- an end that fails nothing, where a test comes to it
+is_calm : Ending → Bool
+is_calm Passed = true
+is_calm Failed = false
+is_calm Skipped = true
+is_calm Unfinished = true
+
+calm_stays : (ending : Ending) (path test : List ℕ) (s : GoState) → is_calm ending ≡ true → Stays s (counted ending path test s)
+unfolding is_calm
+calm_stays Passed path test s e = record { failed = λ w. refl; named_too = λ w. w }
+calm_stays Failed path test s e = cc
+calm_stays Skipped path test s e = record { failed = λ w. refl; named_too = λ w. w }
+calm_stays Unfinished path test s e = record { failed = λ w. refl; named_too = λ w. w }
+
+calm_left : (ending : Ending) → is_calm (left_as ending) ≡ true
+unfolding is_calm
+calm_left Passed = refl
+calm_left Failed = refl
+calm_left Skipped = refl
+calm_left Unfinished = refl
+
+-- ---- what is left
+
+noted_by : (b : Bool) (ending : Ending) (one : Running) (s : GoState) → b ≡ false → is_calm ending ≡ true →
+    Stays s (if b then package_counted ending one.path s else counted ending one.path one.test s)
+noted_by true ending one s e calm = cc
+noted_by false ending one s e calm = calm_stays ending one.path one.test s calm
+
+-- a test that doesn't tell of its end fails nothing
+left_stays : (ending : Ending) (one : Running) (s : GoState) → is_empty one.test ≡ false → is_calm ending ≡ true → Stays s (left_one ending one s)
+left_stays ending one s full calm =
+    let noted_too : GoState = noted_left ending one s in
+    stays_if one.has_begun s (finished ending None (holds one noted_too)) s
+    (then_stays s noted_too (finished ending None (holds one noted_too)) (noted_by (is_empty one.test) ending one s full calm) (finished_stays ending None (holds one noted_too)))
     (same s)
 
-left_over_stays : (root : Option Id) (earlier tests : Tests) (s : GoState) → AreFull tests → Stays s (left_over root earlier tests s)
-left_over_stays root earlier [] s h = same s
-left_over_stays root earlier (test ∷ later) s h =
-    let rest : GoState = left_over root (earlier ++ test ∷ []) later s in
-    then_stays s rest (left_one (placed root earlier test.1) rest) (left_over_stays root (earlier ++ test ∷ []) later s h.2) (left_stays (placed root earlier test.1) rest h.1)
+left_over_stays : (ending : Ending) (root : Option Id) (earlier tests : Tests) (s : GoState) → AreFull tests → is_calm ending ≡ true → Stays s (left_over ending root earlier tests s)
+left_over_stays ending root earlier [] s h calm = same s
+left_over_stays ending root earlier (test ∷ later) s h calm =
+    let rest : GoState = left_over ending root (earlier ++ test ∷ []) later s in
+    then_stays s rest (left_one ending (placed root earlier test.1) rest) (left_over_stays ending root (earlier ++ test ∷ []) later s h.2 calm)
+    (left_stays ending (placed root earlier test.1) rest h.1 calm)
 
-all_left_stays : (path : List ℕ) (s : GoState) → AllNamed s.packages → Stays s (all_left_over path s)
-all_left_stays path s w =
+all_left_stays : (ending : Ending) (path : List ℕ) (s : GoState) → is_calm ending ≡ true → AllNamed s.packages → Stays s (all_left_over ending path s)
+all_left_stays ending path s calm w =
     let tests : Tests = tests_of path s in
-    then_stays s (without_package path s) (all_left_over path s) (without_stays path s)
-    (left_over_stays (running_as path [] tests).span [] (without [] tests) (without_package path s) (full_inner tests (all_found path s.packages w)))
+    then_stays s (without_package path s) (all_left_over ending path s) (without_stays path s)
+    (left_over_stays ending (running_as path [] tests).span [] (without [] tests) (without_package path s) (full_inner tests (all_found path s.packages w)) calm)
 
-package_stays : (ending : Ending) (path : List ℕ) (elapsed : Option (List ℕ)) (s : GoState) → Stays (failed_by ending s) (package_ended ending path elapsed s)
+package_stays : (ending : Ending) (path : List ℕ) (elapsed : Option (List ℕ)) (s : GoState) → Stays (package_counted ending path s) (package_ended ending path elapsed s)
 unfolding package_ended
 package_stays ending path elapsed s =
-    let noted : GoState = failed_by ending s in
-    let last : Held = holds (running_as path [] (tests_of path noted)) (all_left_over path noted) in
+    let counted_too : GoState = package_counted ending path s in
+    let last : Held = holds (running_as path [] (tests_of path counted_too)) (all_left_over (left_as ending) path counted_too) in
     record {
-      failed = λ w. (then_stays noted last.state (finished ending elapsed last) (all_left_stays path noted w) (finished_stays ending elapsed last)).failed w;
-      named_too = λ w. (then_stays noted last.state (finished ending elapsed last) (all_left_stays path noted w) (finished_stays ending elapsed last)).named_too w;
+      failed = λ w. (then_stays counted_too last.state (finished ending elapsed last) (all_left_stays (left_as ending) path counted_too (calm_left ending) w) (finished_stays ending elapsed last)).failed w;
+      named_too = λ w. (then_stays counted_too last.state (finished ending elapsed last) (all_left_stays (left_as ending) path counted_too (calm_left ending) w) (finished_stays ending elapsed last)).named_too w;
     }
-
-is_failed : Ending → Bool
-is_failed Passed = false
-is_failed Failed = true
-is_failed Skipped = false
-is_failed Unfinished = false
-
-by_failed : (ending : Ending) (s : GoState) → Goes (is_failed ending) s (failed_by ending s)
-unfolding is_failed
-by_failed Passed s = goes_of s s (same s)
-by_failed Failed s = record { failed = λ w. sym (or_true s.has_failed); named_too = λ w. w }
-by_failed Skipped s = goes_of s s (same s)
-by_failed Unfinished s = goes_of s s (same s)
-
-by_count : (ending : Ending) (s : GoState) → Goes (is_failed ending) s (counted ending s)
-unfolding is_failed
-by_count Passed s = record { failed = λ w. sym (or_false s.has_failed); named_too = λ w. w }
-by_count Failed s = record { failed = λ w. sym (or_true s.has_failed); named_too = λ w. w }
-by_count Skipped s = record { failed = λ w. sym (or_false s.has_failed); named_too = λ w. w }
-by_count Unfinished s = record { failed = λ w. sym (or_false s.has_failed); named_too = λ w. w }
 
 test_stays : (ending : Ending) (test : List ℕ) (elapsed : Option (List ℕ)) (h : Held) → Stays h.state (test_ended ending test elapsed h)
 test_stays ending test elapsed h =
-    let shown : Held = opened h in
-    let quiet : Held = record shown { state = quiet_told ending test elapsed shown.one.span shown.state } in
+    let above : Held = opened h in
+    let name : List ℕ = own_name above.one.test test in
+    let quiet : Held = record above { state = quiet_told ending name (elapsed_fields elapsed) above.one.span above.state } in
     stays_if (bytes_eq h.one.test test) h.state (finished ending elapsed h) (kept quiet) (finished_stays ending elapsed h)
     (then_stays h.state quiet.state (kept quiet)
-    (then_stays h.state shown.state quiet.state (opened_stays h) (event_stays (level_of ending) (word_of ending ++ codes " " ++ test) elapsed shown.one.span shown.state))
+    (then_stays h.state above.state quiet.state (opened_stays h) (event_stays (level_of ending) (word_of ending ++ codes " " ++ name) (elapsed_fields elapsed) above.one.span above.state))
     (kept_stays quiet))
 
-ended_goes : (ending : Ending) (path test : List ℕ) (elapsed : Option (List ℕ)) (s : GoState) → Goes (is_failed ending) s (ended ending path test elapsed s)
-ended_goes ending path test elapsed s =
-    let h : Held = held path test (counted ending s) in
-    goes_if (is_empty test) (is_failed ending) s (package_ended ending path elapsed s) (test_ended ending test elapsed h)
-    (goes_stays (is_failed ending) s (failed_by ending s) (package_ended ending path elapsed s) (by_failed ending s) (package_stays ending path elapsed s))
-    (goes_stays (is_failed ending) s (counted ending s) (test_ended ending test elapsed h) (by_count ending s)
-    (then_stays (counted ending s) h.state (test_ended ending test elapsed h) (held_stays path test (counted ending s)) (test_stays ending test elapsed h)))
+-- an end fails something exactly if it is counted so
+ended_as : (f : Bool) (ending : Ending) (path test : List ℕ) (elapsed : Option (List ℕ)) (s : GoState) → Goes f s (counted ending path test s) → Goes f s (package_counted ending path s) →
+    Goes f s (ended ending path test elapsed s)
+ended_as f ending path test elapsed s of_test of_package =
+    let at : GoState = counted ending path test s in
+    let h : Held = held path test at in
+    goes_if (is_empty test) f s (package_ended ending path elapsed s) (test_ended ending test elapsed h)
+    (goes_stays f s (package_counted ending path s) (package_ended ending path elapsed s) of_package (package_stays ending path elapsed s))
+    (goes_stays f s at (test_ended ending test elapsed h) of_test
+    (then_stays at h.state (test_ended ending test elapsed h) (held_stays path test at) (test_stays ending test elapsed h)))
 
 -- ---- a test begins or prints
 
@@ -341,13 +379,14 @@ full_again [] (y ∷ ys) h = let e : true ≡ false = (rw (full y ys) at h) in c
 full_again (x ∷ xs) test h = full x xs
 
 above_by : (path test : List ℕ) (s : GoState) (b : Bool) → (is_empty test || not (bytes_eq (held path test s).one.test test)) ≡ b →
-    Stays s (if b then held path test s else held path test (left_one (held path test s).one (held path test s).state)).state
+    Stays s (if b then held path test s else held path test (left_one Unfinished (held path test s).one (held path test s).state)).state
+unfolding is_calm
 above_by path test s true e = held_stays path test s
 above_by path test s false e =
     let h : Held = held path test s in
-    let left : GoState = left_one h.one h.state in
+    let left : GoState = left_one Unfinished h.one h.state in
     then_stays s left (held path test left).state
-    (then_stays s h.state left (held_stays path test s) (left_stays h.one h.state (full_again h.one.test test e)))
+    (then_stays s h.state left (held_stays path test s) (left_stays Unfinished h.one h.state (full_again h.one.test test e) refl))
     (held_stays path test left)
 
 above_stays : (path test : List ℕ) (s : GoState) → Stays s (above_held path test s).state
@@ -362,34 +401,78 @@ begun_stays path test h =
 ran_stays : (path test : List ℕ) (s : GoState) → Stays s (ran path test s)
 ran_stays path test s =
     let h : Held = above_held path test s in
-    then_stays s (opened h).state (ran path test s) (then_stays s h.state (opened h).state (above_stays path test s) (opened_stays h)) (begun_stays path test (started (opened h)))
+    let last : Held = part_told h in
+    then_stays s (opened last).state (ran path test s)
+    (then_stays s last.state (opened last).state (then_stays s h.state last.state (above_stays path test s) (part_stays h)) (opened_stays last))
+    (begun_stays path test (started (opened last)))
 
-printed_stays : (is_started : Bool) (path test text : List ℕ) (s : GoState) → Stays s (printed is_started path test text s)
-printed_stays is_started path test text s =
-    let h : Held = more_printed text (started_if is_started (held path test s)) in
-    let line : Held = told_if_ended text h in
-    then_stays s h.state (kept line) (held_stays path test s)
-    (then_stays h.state line.state (kept line) (held_if (ends_line text) h.state (line_told h) h (told_line_stays h) (same h.state)) (kept_stays line))
+text_stays : (is_error : Bool) (text : List ℕ) (h : Held) → Stays h.state (text_printed is_error text h).state
+text_stays is_error text h =
+    let more : Held = more_printed is_error text h in
+    held_if (ends_line text) h.state (line_told more) more (told_line_stays more) (same h.state)
+
+string_stays : (kind : Kind) (text : List ℕ) (h : Held) → Stays h.state (string_printed kind text h).state
+string_stays kind text h =
+    let last : Held = part_told h in
+    held_if (is_framing kind h.one.test text) h.state (frame_printed text h) (text_printed (fails_as kind) text h)
+    (then_stays h.state last.state (frame_printed text h).state (part_stays h) (framed_stays (without_line_end text) last)) (text_stays (fails_as kind) text h)
+
+printed_stays : (kind : Kind) (path test text : List ℕ) (s : GoState) → Stays s (printed kind path test text s)
+printed_stays kind path test text s =
+    let h : Held = started (held path test s) in
+    let line : Held = string_printed kind text h in
+    then_stays s h.state (kept line) (held_stays path test s) (then_stays h.state line.state (kept line) (string_stays kind text h) (kept_stays line))
+
+-- ---- builds
+
+build_said_stays : (level : Level) (text : List ℕ) (h : Held) → Stays h.state (build_said level text h).state
+build_said_stays level text h =
+    let line = without_line_end (without_heading text) in
+    held_if (is_skipped line) h.state h (said level line (opened h)) (same h.state) (said_stays level line h)
+
+builds_said_stay : (level : Level) (texts : List (List ℕ)) (h : Held) → Stays h.state (builds_said level texts h).state
+builds_said_stay level [] h = same h.state
+builds_said_stay level (text ∷ later) h =
+    let first : Held = build_said level text h in
+    then_stays h.state first.state (builds_said level later first).state (build_said_stays level text h) (builds_said_stay level later first)
+
+texts_stay : (level : Level) (build : Build) (s : GoState) → Stays s (texts_told level build s)
+texts_stay level build s =
+    let h : Held = held build.path [] s in
+    let all : Held = builds_said level build.texts h in
+    then_stays s h.state (kept all) (held_stays build.path [] s) (then_stays h.state all.state (kept all) (builds_said_stay level build.texts h) (kept_stays all))
+
+build_by : (level : Level) (build : Option Build) (s : GoState) → Stays s (told_of_build level build s)
+build_by level None s = same s
+build_by level (Some build) s = texts_stay level build s
+
+build_stays : (level : Level) (path : List ℕ) (s : GoState) → Stays s (build_told level path s)
+build_stays level path s =
+    then_stays s (without_build path s) (build_told level path s) (record { failed = λ w. refl; named_too = λ w. w }) (build_by level (named path s.builds) (without_build path s))
+
+builds_stay : (builds : List (List ℕ × Build)) (s : GoState) → Stays s (builds_told builds s)
+builds_stay [] s = same s
+builds_stay (one ∷ others) s =
+    let first : GoState = texts_told Warn one.1 s in
+    then_stays s first (builds_told others first) (texts_stay Warn one.1 s) (builds_stay others first)
 
 -- ---- lines
 
 plain_stays : (line : List ℕ) (s : GoState) → Stays s (takes_plain line s)
 plain_stays line s =
     let h : Held = held s.building [] s in
-    let shown : Held = opened h in
-    let event : Held = said Error line shown in
-    stays_if (is_package_frame line) s s (if is_empty s.building then event_told Error line None None s else kept event) (same s)
-    (stays_if (is_empty s.building) s (event_told Error line None None s) (kept event) (event_stays Error line None None s)
-    (then_stays s shown.state (kept event) (then_stays s h.state shown.state (held_stays s.building [] s) (opened_stays h))
-    (then_stays shown.state event.state (kept event) (event_stays Error line None shown.one.span shown.state) (kept_stays event))))
+    let event : Held = said Error line (opened h) in
+    stays_if (is_package_frame line) s s (if is_aside line s then event_told (level_of_text line) line [] s.last s else kept event) (same s)
+    (stays_if (is_aside line s) s (event_told (level_of_text line) line [] s.last s) (kept event) (event_stays (level_of_text line) line [] s.last s)
+    (then_stays s h.state (kept event) (held_stays s.building [] s)
+    (then_stays h.state event.state (kept event) (said_stays Error line h) (kept_stays event))))
 
 failure_by : (b : Bool) (rest line : List ℕ) (s : GoState) → Goes b s (takes_failure (if b then Some rest else None) line s)
-unfolding is_failed
 failure_by true rest line s =
     let at : GoState = record s { building = [] } in
-    let ended_at : GoState = package_ended Failed (up_to_space rest) None at in
-    stays_goes true s at ended_at (record { failed = λ w. refl; named_too = λ w. w })
-    (goes_stays true at (failed_by Failed at) ended_at (by_failed Failed at) (package_stays Failed (up_to_space rest) None at))
+    let path : List ℕ = up_to_space rest in
+    stays_goes true s at (package_ended Failed path None at) (record { failed = λ w. refl; named_too = λ w. w })
+    (goes_stays true at (package_counted Failed path at) (package_ended Failed path None at) (failed_package path at) (package_stays Failed path None at))
 failure_by false rest line s = goes_of s (takes_plain line s) (plain_stays line s)
 
 -- a heading tells of no failure
@@ -422,9 +505,6 @@ goes_by false f s x y h k = k refl
 as_false : (f : Bool) (s t : GoState) → f ≡ false → Stays s t → Goes f s t
 as_false f s t e h = let P : Bool → Type 0 = λ b. Goes b s t in subst P (sym e) (goes_of s t h)
 
-as_ended : (f : Bool) (ending : Ending) (path test : List ℕ) (elapsed : Option (List ℕ)) (s : GoState) → is_failed ending ≡ f → Goes f s (ended ending path test elapsed s)
-as_ended f ending path test elapsed s e = let P : Bool → Type 0 = λ b. Goes b s (ended ending path test elapsed s) in subst P e (ended_goes ending path test elapsed s)
-
 not_fail : (action word : List ℕ) → bytes_eq action word ≡ true → bytes_eq word (codes "fail") ≡ false → bytes_eq action (codes "fail") ≡ false
 not_fail action word is other =
     let e : action ≡ word = (bytes_eq-Decides action word).0 is in
@@ -437,25 +517,47 @@ neither_fail action one two is a b = by (bytes_eq action one) refl where
   by true e = not_fail action one e a
   by false e = not_fail action two (rw e at is) b
 
-printed_if_goes : (f is_started : Bool) (path test : List ℕ) (text : Option (List ℕ)) (s : GoState) → f ≡ false → GoesIf f s (printed_if is_started path test text s)
-printed_if_goes f is_started path test None s e = e
-printed_if_goes f is_started path test (Some text) s e = as_false f s (printed is_started path test text s) e (printed_stays is_started path test text s)
+printed_if_goes : (f : Bool) (kind : Kind) (path test : List ℕ) (text : Option (List ℕ)) (s : GoState) → f ≡ false → GoesIf f s (printed_if kind path test text s)
+printed_if_goes f kind path test None s e = e
+printed_if_goes f kind path test (Some text) s e =
+    let built : GoState = build_told Warn path s in
+    as_false f s (printed kind path test text built) e (then_stays s built (printed kind path test text built) (build_stays Warn path s) (printed_stays kind path test text built))
+
+build_printed_goes : (f : Bool) (path : List ℕ) (text : Option (List ℕ)) (s : GoState) → f ≡ false → GoesIf f s (build_printed_if path text s)
+build_printed_goes f path None s e = e
+build_printed_goes f path (Some text) s e = as_false f s (build_printed path text s) e (record { failed = λ w. refl; named_too = λ w. w })
+
+goes_choice : (b f : Bool) (s x y : GoState) → (b ≡ true → Goes f s x) → (b ≡ false → Goes f s y) → Goes f s (if b then x else y)
+goes_choice true f s x y h k = h refl
+goes_choice false f s x y h k = k refl
+
+as_true : (f : Bool) (s t : GoState) → f ≡ true → Goes true s t → Goes f s t
+as_true f s t e h = let P : Bool → Type 0 = λ b. Goes b s t in subst P (sym e) h
+
+moved_goes : (action path test : List ℕ) (elapsed : Option (List ℕ)) (s : GoState) → Goes (bytes_eq action (codes "fail")) s (moved action path test elapsed s)
+moved_goes action path test elapsed s =
+    let f : Bool = bytes_eq action (codes "fail") in
+    goes_choice (bytes_eq action (codes "run")) f s (ran path test s) _ (λ is. as_false f s (ran path test s) (not_fail action (codes "run") is refl) (ran_stays path test s))
+    (λ _. goes_choice (bytes_eq action (codes "pass") || bytes_eq action (codes "bench")) f s (ended Passed path test elapsed s) _
+    (λ is. let no : f ≡ false = neither_fail action (codes "pass") (codes "bench") is refl refl in
+    ended_as f Passed path test elapsed s (as_false f s (counted Passed path test s) no (record { failed = λ w. refl; named_too = λ w. w }))
+    (as_false f s (one_ended s) no (record { failed = λ w. refl; named_too = λ w. w })))
+    (λ _. goes_choice f f s (ended Failed path test elapsed s) _
+    (λ is. ended_as f Failed path test elapsed s (as_true f s (failed_counted path test s) is (failed_test path test s))
+    (as_true f s (package_failed path (one_ended s)) is (failed_package path s)))
+    (λ none. goes_choice (bytes_eq action (codes "skip")) f s (ended Skipped path test elapsed s) s
+    (λ _. ended_as f Skipped path test elapsed s (as_false f s (counted Skipped path test s) none (record { failed = λ w. refl; named_too = λ w. w }))
+    (as_false f s (one_ended s) none (record { failed = λ w. refl; named_too = λ w. w })))
+    (λ _. as_false f s s none (same s)))))
 
 acted_goes : (action path test : List ℕ) (value : Json) (s : GoState) → GoesIf (bytes_eq action (codes "fail")) s (acted action path test value s)
-unfolding is_failed
 acted_goes action path test value s =
     let f : Bool = bytes_eq action (codes "fail") in
-    let elapsed : Option (List ℕ) = elapsed_in value in
-    goes_by (bytes_eq action (codes "run")) f s (Some (ran path test s)) _ (λ is. as_false f s (ran path test s) (not_fail action (codes "run") is refl) (ran_stays path test s))
-    (λ _. goes_by (bytes_eq action (codes "output") || bytes_eq action (codes "build-output")) f s _ _
-    (λ is. printed_if_goes f (bytes_eq action (codes "output")) path test (text_at (codes "Output") value) s (neither_fail action (codes "output") (codes "build-output") is refl refl))
-    (λ _. goes_by (bytes_eq action (codes "pass") || bytes_eq action (codes "bench")) f s _ _
-    (λ is. as_ended f Passed path test elapsed s (sym (neither_fail action (codes "pass") (codes "bench") is refl refl)))
-    (λ _. goes_by f f s _ _
-    (λ is. as_ended f Failed path test elapsed s (sym is))
-    (λ none. goes_by (bytes_eq action (codes "skip")) f s _ _
-    (λ _. as_ended f Skipped path test elapsed s (sym none))
-    (λ _. as_false f s s none (same s))))))
+    let built : GoState = build_told Warn path s in
+    goes_by (bytes_eq action (codes "build-output")) f s _ _ (λ is. build_printed_goes f path (text_at (codes "Output") value) s (not_fail action (codes "build-output") is refl))
+    (λ _. goes_by (bytes_eq action (codes "output")) f s _ _ (λ is. printed_if_goes f (kind_in value) path test (text_at (codes "Output") value) s (not_fail action (codes "output") is refl))
+    (λ _. goes_by (bytes_eq action (codes "build-fail")) f s _ _ (λ is. as_false f s (build_told Error path s) (not_fail action (codes "build-fail") is refl) (build_stays Error path s))
+    (λ _. stays_goes f s built (moved action path test (elapsed_in value) built) (build_stays Warn path s) (moved_goes action path test (elapsed_in value) built))))
 
 json_goes : (action path : Option (List ℕ)) (value : Json) (s : GoState) → GoesIf (is_fail action path) s (acted_for action path value s)
 json_goes (Some action) (Some path) value s = acted_goes action path (test_of value) value s
@@ -493,21 +595,25 @@ lines_go (line ∷ lines) s =
 
 -- ---- the end
 
-failed_by_name : (b : Bool) (s : GoState) → b ≡ true → Goes true s (if b then record s { has_failed = true } else counted Unfinished s)
-failed_by_name true s e = record { failed = λ w. sym (or_true s.has_failed); named_too = λ w. w }
-failed_by_name false s e = cc
+unfinished_by : (b : Bool) (one : Running) (s : GoState) → b ≡ true → Goes true s (if b then package_counted Unfinished one.path s else counted Unfinished one.path one.test s)
+unfinished_by true one s e = failed_package one.path s
+unfinished_by false one s e = cc
 
-left_by : (b : Bool) (one : Running) (s : GoState) → is_empty one.test ≡ true → Goes b s (if b then finished Unfinished None (holds one (noted_left one s)) else s)
+left_by : (b : Bool) (one : Running) (s : GoState) → is_empty one.test ≡ true →
+    Goes b s (if b then finished Unfinished None (holds one (noted_left Unfinished one s)) else s)
 left_by true one s e =
-    goes_stays true s (noted_left one s) (finished Unfinished None (holds one (noted_left one s))) (failed_by_name (is_empty one.test) s e) (finished_stays Unfinished None (holds one (noted_left one s)))
+    let noted_too : GoState = noted_left Unfinished one s in
+    goes_stays true s noted_too (finished Unfinished None (holds one noted_too)) (unfinished_by (is_empty one.test) one s e) (finished_stays Unfinished None (holds one noted_too))
 left_by false one s e = goes_of s s (same s)
 
 package_by : (tests : Tests) (s : GoState) (own : Option Running) → AreNamed tests → named [] tests ≡ own → Goes (has_begun own) s (package_left tests s)
+unfolding is_calm
 package_by tests s None h is =
-    rw is (goes_of s (left_over None [] (without [] tests) s) (left_over_stays None [] (without [] tests) s (full_inner tests h)))
+    rw is (goes_of s (left_over Unfinished None [] (without [] tests) s) (left_over_stays Unfinished None [] (without [] tests) s (full_inner tests h) refl))
 package_by tests s (Some own) h is =
-    let rest : GoState = left_over own.span [] (without [] tests) s in
-    rw is (stays_goes own.has_begun s rest (left_one own rest) (left_over_stays own.span [] (without [] tests) s (full_inner tests h)) (left_by own.has_begun own rest (package_named tests own h is)))
+    let rest : GoState = left_over Unfinished own.span [] (without [] tests) s in
+    rw is (stays_goes own.has_begun s rest (left_one Unfinished own rest) (left_over_stays Unfinished own.span [] (without [] tests) s (full_inner tests h) refl)
+    (left_by own.has_begun own rest (package_named tests own h is)))
 
 packages_go : (packages : List (List ℕ × Tests)) (s : GoState) → AllNamed packages → Goes (list_any package_runs packages) s (packages_left packages s)
 packages_go [] s h = goes_of s s (same s)
@@ -517,9 +623,11 @@ packages_go ((path, tests) ∷ others) s h =
 
 -- tests have failed exactly if a line tells of a failure, or a package still ran
 pub some_failed_after : (next : ℕ) (moment : Moment) (lines : List (List ℕ)) →
-    (all_ended (hear go_takes (nothing_run next moment) lines).source).has_failed ≡ some_failed lines (hear go_takes (nothing_run next moment) lines).source
+    has_failed (all_ended (hear go_takes (nothing_run next moment) lines).source) ≡ some_failed lines (hear go_takes (nothing_run next moment) lines).source
 some_failed_after next moment lines =
     let heard = lines_go lines (nothing_run next moment) in
     let s : GoState = (hear go_takes (nothing_run next moment) lines).source in
-    (packages_go s.packages (record s { packages = [] }) (heard.named_too tt)).failed tt
-    ∙ ap (λ b. b || list_any package_runs s.packages) (heard.failed tt)
+    let at : GoState = record s { builds = []; packages = [] } in
+    let left : GoState = packages_left s.packages at in
+    let all = goes_stays (list_any package_runs s.packages) at left (builds_told s.builds left) (packages_go s.packages at (heard.named_too tt)) (builds_stay s.builds left) in
+    all.failed tt ∙ ap (λ b. b || list_any package_runs s.packages) (heard.failed tt)

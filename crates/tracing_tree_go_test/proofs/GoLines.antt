@@ -5,6 +5,7 @@ use Rattle.tracing_tree_context.specs.declared.context.Id.{Id}
 use Rattle.tracing_tree_layer.specs.declared.call.Call.{Call}
 use Rattle.tracing_tree_sources.specs.Source.{Tells}
 use Rattle.tracing_tree_go_test.specs.declared.go_test.running.Running.{Running}
+use Rattle.tracing_tree_go_test.specs.declared.go_test.tally.Ending.{Ending}
 use Rattle.tracing_tree_go_test.specs.GoTest.{GoState, Tests, handed_out, left_one, left_over, placed, takes_json, takes_timed, takes_value, takes_value_as, timed}
 
 pub tells_unknown : (state : Option GoState) (old new : GoState) → takes_value_as state old new false → Tells (option_map handed_out state) old new None
@@ -43,10 +44,10 @@ taken_back value old at left new known on h is back =
     put_back (takes_json value (timed value old)) value old left new known (subst taken on h) is back
 
 -- the test of the last name ends first, and stands in all others
-pub from_the_last : (root : Option Id) (earlier tests : Tests) (name : List ℕ) (one : Running) (s : GoState) →
-    left_over root earlier (tests ++ (name, one) ∷ []) s ≡ left_over root earlier tests (left_one (placed root (earlier ++ tests) one) s)
-from_the_last root earlier [] name one s = ap (λ others. left_one (placed root others one) s) (sym (append-nil earlier))
-from_the_last root earlier (test ∷ later) name one s =
-    ap (left_one (placed root earlier test.1))
-    (from_the_last root (earlier ++ test ∷ []) later name one s
-    ∙ ap (λ others. left_over root (earlier ++ test ∷ []) later (left_one (placed root others one) s)) (append_assoc earlier (test ∷ []) later))
+pub from_the_last : (ending : Ending) (root : Option Id) (earlier tests : Tests) (name : List ℕ) (one : Running) (s : GoState) →
+    left_over ending root earlier (tests ++ (name, one) ∷ []) s ≡ left_over ending root earlier tests (left_one ending (placed root (earlier ++ tests) one) s)
+from_the_last ending root earlier [] name one s = ap (λ others. left_one ending (placed root others one) s) (sym (append-nil earlier))
+from_the_last ending root earlier (test ∷ later) name one s =
+    ap (left_one ending (placed root earlier test.1))
+    (from_the_last ending root (earlier ++ test ∷ []) later name one s
+    ∙ ap (λ others. left_over ending root (earlier ++ test ∷ []) later (left_one ending (placed root others one) s)) (append_assoc earlier (test ∷ []) later))

@@ -3,3 +3,5 @@ pub mod GoLines
 pub mod FailedLines
 mod Worked
 pub mod Failing
+pub mod Passing
+pub mod OwnNames

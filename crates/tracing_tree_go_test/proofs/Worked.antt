@@ -2,24 +2,75 @@
 use Rattle.std.proofs.Common.{◌≡◌, ℕ, List, true, false, None, Some, [], ◌∷◌, codes, refl}
 use Rattle.json.specs.Json.{string, object, member, no_members}
 use Rattle.tracing_tree_go_test.specs.Failed.{FailedState, Untold, forgotten, is_inner, is_over, none_failed, outermost, released, verdict_of}
-use Rattle.tracing_tree_go_test.specs.GoTest.{GoState, Tests, begun, go_lacks, is_frame, left_over, nothing_run, owner, placed, ran, up_to_space, above_held, held, kept}
+use Rattle.tracing_tree_go_test.specs.GoTest.{GoState, Tests, above_held, begun, build_printed, build_told, failed_counted, go_lacks, held, kept, kind_named, left_as, left_over, level_of_text, more_names, no_counts, nothing_run, owner, package_counted, placed, printed, ran, takes_text, without_heading}
+use Rattle.tracing_tree_go_test.specs.Texts.{coverage_in, is_cached, is_frame, is_frame_line, own_name, up_to_space}
+use Rattle.tracing_tree_go_test.specs.declared.go_test.running.Kind.TheVariants.{Plain, Frame, Failure}
+use Rattle.tracing_tree_go_test.specs.declared.go_test.tally.Ending.TheVariants.{Passed, Failed, Unfinished}
 use Rattle.tracing_tree_go_test.specs.declared.failed.Kept.{Kept}
 use Rattle.tracing_tree_go_test.specs.declared.failed.Verdict.{Verdict}
 use Rattle.tracing_tree_go_test.specs.declared.failed.Verdict.TheVariants.{Open, Good, Bad}
 use Rattle.tracing_tree_sources.specs.declared.notes.Lack.TheVariants.{Package}
 use Rattle.tracing_tree_context.specs.declared.context.Moment.{Moment}
-use Rattle.tracing_tree_text.specs.declared.style.Level.TheVariants.{Error}
+use Rattle.tracing_tree_text.specs.declared.style.Level.TheVariants.{Info, Error}
 use Rattle.tracing_tree_spans.specs.Registry.Ids.{id_of}
-use Rattle.tracing_tree_sources.specs.Told.{event_call, message_field}
+use Rattle.tracing_tree_sources.specs.Told.{event_call, message_field, span_call}
 
 pub frame_of_its_own : is_frame (codes "TestSum") (codes "    --- PASS: TestSum (0.00s)") ≡ true
+unfolding is_frame
 frame_of_its_own = refl
 
 pub frame_of_another : is_frame (codes "TestSum") (codes "--- PASS: TestSums (0.00s)") ≡ false
+unfolding is_frame
 frame_of_another = refl
 
 pub frame_of_a_package : is_frame [] (codes "ok  \texample.com/ok\t0.003s") ≡ true
+unfolding is_frame coverage_in
 frame_of_a_package = refl
+
+pub frame_of_a_benchmark : (is_frame (codes "BenchmarkAtoi/Pos") (codes "BenchmarkAtoi/Pos") ≡ true) × (is_frame (codes "TestAtoi") (codes "TestAtoi") ≡ false)
+unfolding is_frame
+frame_of_a_benchmark = (refl, refl)
+
+pub frame_of_an_attribute : is_frame (codes "TestSum") (codes "=== ATTR  TestSum owner me") ≡ true
+unfolding is_frame
+frame_of_an_attribute = refl
+
+pub a_frame_is_a_whole_line : (is_frame_line (codes "TestSum") (codes "--- PASS: TestSum (0.00s)\n") ≡ true) × (is_frame_line (codes "TestSum") (codes "--- PASS: TestSum") ≡ false)
+unfolding is_frame
+a_frame_is_a_whole_line = (refl, refl)
+
+pub name_in_the_test_around : (own_name (codes "TestSum") (codes "TestSum/a/b") ≡ codes "a/b") × (own_name (codes "TestSum/a") (codes "TestSum/a/b") ≡ codes "b")
+name_in_the_test_around = (refl, refl)
+
+pub name_in_the_package : own_name [] (codes "TestSum/a/b") ≡ codes "TestSum/a/b"
+name_in_the_package = refl
+
+pub coverage_by_itself : coverage_in (codes "coverage: 80.0% of statements in ./...") ≡ Some (codes "80.0%")
+unfolding coverage_in
+coverage_by_itself = refl
+
+pub coverage_behind_the_time : coverage_in (codes "ok  \tp\t0.003s\tcoverage: 80.0% of statements") ≡ Some (codes "80.0%")
+unfolding coverage_in
+coverage_behind_the_time = refl
+
+pub no_coverage : (coverage_in (codes "coverage: [no statements]") ≡ None) × (coverage_in (codes "ok  \tp\t0.003s") ≡ None)
+unfolding coverage_in
+no_coverage = (refl, refl)
+
+pub a_cached_result : (is_cached (codes "ok  \tp\t(cached)\tcoverage: 80.0% of statements") ≡ true) × (is_cached (codes "ok  \tp\t0.003s") ≡ false)
+a_cached_result = (refl, refl)
+
+pub kinds_of_strings : (kind_named (codes "frame") ≡ Frame) × (kind_named (codes "error-continue") ≡ Failure) × (kind_named [] ≡ Plain)
+kinds_of_strings = (refl, refl, refl)
+
+pub without_its_heading : (without_heading (codes "# r [r.test]\n./a.go:3: x\n") ≡ codes "./a.go:3: x\n") × (without_heading (codes "# r [r.test]\n") ≡ [])
+without_its_heading = (refl, refl)
+
+pub a_panic_among_lines : (level_of_text (codes "panic: oops") ≡ Error) × (level_of_text (codes "go: downloading x v1") ≡ Info)
+a_panic_among_lines = (refl, refl)
+
+pub ten_names_and_no_more : (more_names 9 (codes "p.A") (codes "p.B") ≡ codes "p.A p.B") × (more_names 10 (codes "p.A") (codes "p.B") ≡ codes "p.A")
+ten_names_and_no_more = (refl, refl)
 
 pub package_of_a_heading : up_to_space (codes "q [q.test]") ≡ codes "q"
 package_of_a_heading = refl
@@ -40,7 +91,7 @@ module _ (moment : Moment) where
   pub a_longer_name_is_the_packages : owner two_that_run (codes "TestAll") ≡ []
   a_longer_name_is_the_packages = refl
 
-  pub what_stands_in_a_test_ends_first : (left_over None [] two_that_run (nothing_run 1 moment)).calls
+  pub what_stands_in_a_test_ends_first : (left_over Unfinished None [] two_that_run (nothing_run 1 moment)).calls
       ≡ event_call moment Error (message_field (codes "unfinished TestA/b") ∷ []) None
       ∷ event_call moment Error (message_field (codes "unfinished TestA") ∷ []) None ∷ []
   what_stands_in_a_test_ends_first = refl
@@ -53,6 +104,55 @@ module _ (moment : Moment) where
 
   pub once_that_ended_it_stands_in_the_package : (placed (Some (id_of 3)) [] (begun (codes "p") (codes "TestA/b/c"))).above ≡ Some (id_of 3)
   once_that_ended_it_stands_in_the_package = refl
+
+  pub a_benchmark_without_an_end_has_passed : (left_over (left_as Passed) None [] two_that_run (nothing_run 1 moment)).tally
+      ≡ record no_counts { passed = 2 }
+  a_benchmark_without_an_end_has_passed = refl
+
+  pub but_not_in_a_package_that_fails : (left_over (left_as Failed) None [] two_that_run (nothing_run 1 moment)).tally
+      ≡ record no_counts { unfinished = 2 }
+  but_not_in_a_package_that_fails = refl
+
+  pub a_package_that_fails_is_counted_and_named : (package_counted Failed (codes "p") (nothing_run 1 moment)).tally
+      ≡ record no_counts { packages = 1; packages_failed = 1 }
+  a_package_that_fails_is_counted_and_named = refl
+
+  pub a_test_that_fails_is_named : (failed_counted (codes "p") (codes "TestA/b") (nothing_run 1 moment)).failing.tests ≡ codes "p.TestA/b"
+  a_test_that_fails_is_named = refl
+
+  abbrev half_a_line : GoState
+  half_a_line = printed Plain (codes "p") (codes "T") (codes "x") (ran (codes "p") (codes "T") (nothing_run 1 moment))
+
+  pub a_frame_ends_the_line_before_it : (printed Plain (codes "p") (codes "T") (codes "--- PASS: T (0.00s)\n") half_a_line).calls
+      ≡ span_call moment (codes "p") [] None ∷ span_call moment (codes "T") [] (Some (id_of 1))
+      ∷ event_call moment Info (message_field (codes "x") ∷ []) (Some (id_of 2)) ∷ []
+  unfolding above_held held kept is_frame coverage_in
+  a_frame_ends_the_line_before_it = refl
+
+  pub so_does_a_test_that_begins_in_it : (ran (codes "p") (codes "T/s") half_a_line).calls
+      ≡ span_call moment (codes "p") [] None ∷ span_call moment (codes "T") [] (Some (id_of 1))
+      ∷ event_call moment Info (message_field (codes "x") ∷ []) (Some (id_of 2)) ∷ []
+  unfolding above_held held kept is_frame coverage_in
+  so_does_a_test_that_begins_in_it = refl
+
+  pub an_error_is_one : (printed Failure (codes "p") [] (codes "x\n") (nothing_run 1 moment)).calls
+      ≡ span_call moment (codes "p") [] None ∷ event_call moment Error (message_field (codes "x") ∷ []) (Some (id_of 1)) ∷ []
+  unfolding held kept is_frame coverage_in
+  an_error_is_one = refl
+
+  abbrev built : GoState
+  built = build_printed (codes "p") (codes "x\n") (nothing_run 1 moment)
+
+  pub a_build_is_told_when_it_is_known_whether_it_fails : (built.calls ≡ [])
+      × ((build_told Error (codes "p") built).calls
+      ≡ span_call moment (codes "p") [] None ∷ event_call moment Error (message_field (codes "x") ∷ []) (Some (id_of 1)) ∷ [])
+  unfolding held kept
+  a_build_is_told_when_it_is_known_whether_it_fails = (refl, refl)
+
+  pub a_line_that_isnt_json_is_told_in_the_last_span : (takes_text (codes "note") (ran (codes "p") [] (nothing_run 1 moment))).calls
+      ≡ span_call moment (codes "p") [] None ∷ event_call moment Info (message_field (codes "note") ∷ []) (Some (id_of 1)) ∷ []
+  unfolding above_held held kept
+  a_line_that_isnt_json_is_told_in_the_last_span = refl
 
   abbrev run_twice : GoState
   run_twice = ran (codes "p") (codes "TestA") (ran (codes "p") (codes "TestA") (nothing_run 1 moment))

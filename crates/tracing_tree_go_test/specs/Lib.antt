@@ -1,4 +1,5 @@
 pub mod Names
+pub mod Texts
 pub mod GoTest
 pub mod Failed
 pub mod Failures

@@ -3,7 +3,7 @@
 ghost use Rattle.std.specs.Prelude.{◌≡◌, ◌++◌, ◌∷◌, ◌&&◌, ◌||◌, ℕ, List, [], not, IfOk, OnOk, option_map};
 ghost use Rattle.std.specs.BTreeSet.{contains_text};
 ghost use Rattle.json.specs.Value.{value_view};
-ghost use Rattle.tracing_tree_go_test.specs.GoTest.{go_takes};
+ghost use Rattle.tracing_tree_go_test.specs.GoTest.{go_takes, has_failed};
 ghost use Rattle.tracing_tree_go_test.specs.Failed.{Knows, all_released, forgotten, is_bad, is_good, is_inner, is_open, is_over, kept_in, kept_shown, line_kept, line_shown, line_taken, none_failed, outermost, package_released, path_of, released, released_each, released_one, says, someone_says, told_of, tests_released, untold_of, value_taken, verdict_in, verdict_of, with_line, with_untold, without_untold};
 ghost use Rattle.tracing_tree_go_test.specs.Names.{without};
 
@@ -114,7 +114,7 @@ impl Failed {
 
     /// Whether something has failed.
     pub fn has_failed(&self) -> bool
-        ensures { result ≡ self.now.whole.has_failed }
+        ensures { result ≡ has_failed self.now.whole }
     {
         self.whole.has_failed()
     }

@@ -1,79 +1,46 @@
 //! Go's tests: the lines of `go test -json`.
 
-ghost use Rattle.std.specs.Prelude.{◌≡◌, ◌++◌, ◌∷◌, ◌<◌, [], Bool, true, false, IfOk, IfSome, ◌||◌, OnOk, Option, None, Some, option_map, length, bytes_eq, codes, unwrap_or};
+ghost use Rattle.std.specs.Prelude.{◌≡◌, ◌++◌, ◌∷◌, [], IfOk, OnOk, Option, None, Some, option_map};
 ghost use Rattle.tracing_tree_go_test.specs.Names.{without};
 ghost use Rattle.json.specs.Value.{value_view};
-ghost use Rattle.tracing_tree_sources.specs.Marks.{after_mark};
-ghost use Rattle.tracing_tree_go_test.specs.GoTest.{acted, failed_by, takes_plain, takes_value_as, test_ended, told_if_ended, begun, counted, elapsed_in, ended, ends_line, ends_word, event_told, finished, frames, go_ends, holds, is_frame, is_package_frame, kept, is_end_frame, is_step_frame, lack_in, level_of, line_of, line_told, name_of, nothing_run, opened, package_ended, package_of, printed, quiet_told, ran, takes_text, takes_timed, takes_value, timed, test_of, up_to_space, without_line_end, without_spaces, word_of, above_held, all_ended, left_one, noted_left, package_left, packages_left, placed, runs, tally_call, left_over, owner, held, running_as, tests_of, with_package, without_package};
+ghost use Rattle.tracing_tree_go_test.specs.GoTest.{acted, build_printed_if, failed_counted, has_failed, is_aside, kind_in, level_of_text, moved, one_ended, package_counted, package_failed, packages_ended, printed_if, takes_plain, takes_value_as, test_ended, begun, counted, elapsed_in, ended, holds, kept, lack_in, nothing_run, package_ended, package_of, printed, ran, takes_text, takes_timed, takes_value, timed, test_of, above_held, all_ended, left_one, noted_left, package_left, packages_left, placed, runs, tally_call, left_over, held, running_as, tests_of, with_package, without_package};
 
+mod builds;
 mod running;
+mod tally;
+mod telling;
 mod text;
 
 use crate::names::{Named, key};
+use builds::Build;
 use json::Value;
-use running::{Running, owner, span_in};
+use running::{Kind, Running, owner, span_in};
 use std::alloc::{AllocError, Global};
 use std::marker::Model;
 use std::mem;
-use text::{ends_line, ends_word, is_frame, is_package_frame, up_to_space, without_line_end};
+pub use tally::Tally;
+use tally::{Ending, Failing, more_names};
+use telling::elapsed_fields;
+use text::{is_package_frame, own_name, up_to_space};
 use tracing_tree_context::Id;
 use tracing_tree_layer::call::Call;
-use tracing_tree_lines::lines::is_skipped;
 use tracing_tree_sources::marks::after_mark;
 use tracing_tree_sources::moments::moment_after;
 use tracing_tree_sources::notes::Lack;
 use tracing_tree_sources::source::Source;
-use tracing_tree_sources::told::{close_call, event_call, message_field, span_call};
+use tracing_tree_sources::told::event_call;
+use tracing_tree_sources::traces::begins_trace;
 use tracing_tree_sources::values::text_at;
-use tracing_tree_text::field::{Field, Fields};
+use tracing_tree_text::field::Fields;
 use tracing_tree_text::style::Level;
 use tracing_tree_text::text::Text;
 use tracing_tree_time::Moment;
 
-/// How many tests came to which end.
-#[derive(Clone, Copy, Debug)]
-pub struct Tally {
-    pub passed: u64,
-    pub failed: u64,
-    pub skipped: u64,
-    pub unfinished: u64,
-}
-
-// How a test or a package ends.
-#[derive(Clone, Copy)]
-enum Ending {
-    Passed,
-    Failed,
-    Skipped,
-    Unfinished,
-}
-
-impl Ending {
-    fn word(self) -> &'static str
-        ensures { result.now ≡ word_of self }
-    {
-        match self {
-            Ending::Passed => "pass",
-            Ending::Failed => "fail",
-            Ending::Skipped => "skip",
-            Ending::Unfinished => "unfinished",
-        }
-    }
-
-    fn level(self) -> Level
-        ensures { result ≡ level_of self }
-    {
-        match self {
-            Ending::Passed => Level::Info,
-            Ending::Failed | Ending::Unfinished => Level::Error,
-            Ending::Skipped => Level::Warn,
-        }
-    }
-}
-
 /// What is known of the tests that run. A test's parent is the longest beginning of its name, at a `/`, that runs, or its
-/// package. A test that tells nothing before its end is one event in the span above it. If a test begins while one of its name
-/// runs, that one ends as unfinished first, and so does at the end of the input what still runs. A line takes time for the length of its names, and hardly more where many tests run.
+/// package. A test that tells nothing before its end is one event in the span above it. A test that runs when its package passes has
+/// passed. If a test begins while one of its name runs, that one ends as unfinished first, and so does at the end of the input what
+/// still runs. What a build prints is told when it fails or another line of its package comes. A line takes time for the length of its
+/// names, and hardly more where many tests run.
 #[derive(Drop)]
 pub struct GoTest {
     alloc: Global,
@@ -82,10 +49,14 @@ pub struct GoTest {
     moment: Moment,
     // What runs by the packages' paths, and of each by the tests' names. The package itself has the empty name.
     packages: Named<Named<Running>>,
+    // What builds printed, by the packages' paths.
+    builds: Named<Build>,
     tally: Tally,
+    failing: Failing,
     // The package whose build tells lines that aren't JSON.
     building: Text,
-    has_failed: bool,
+    // The span of the last call.
+    last: Option<Id>,
     calls: Vec<Call>,
 }
 
@@ -98,9 +69,11 @@ impl Model for GoTest {
       next = g.next;
       moment = g.moment;
       packages = g.packages;
+      builds = g.builds;
       tally = g.tally;
+      failing = g.failing;
       building = g.building;
-      has_failed = g.has_failed;
+      last = g.last;
       calls = g.calls.items;
     } };
 }
@@ -115,23 +88,23 @@ impl GoTest {
             next,
             moment,
             packages: Named::new(alloc),
-            tally: Tally {
-                passed: 0,
-                failed: 0,
-                skipped: 0,
-                unfinished: 0,
+            builds: Named::new(alloc),
+            tally: Tally::new(),
+            failing: Failing {
+                packages: Text::from_str(alloc, "")?,
+                tests: Text::from_str(alloc, "")?,
             },
             building: Text::from_str(alloc, "")?,
-            has_failed: false,
+            last: None,
             calls: Vec::new(alloc),
         })
     }
 
-    /// Whether something has failed.
+    /// Whether a test or a package has failed, or a package didn't end.
     pub fn has_failed(&self) -> bool
-        ensures { result ≡ self.now.has_failed }
+        ensures { result ≡ has_failed self.now }
     {
-        self.has_failed
+        self.tally.has_failed()
     }
 
     /// How many tests came to which end.
@@ -159,7 +132,7 @@ impl GoTest {
         mem::replace(&mut self.calls, Vec::new(self.alloc))
     }
 
-    // A line of text: of a build that fails.
+    // A line of text: of a build that fails, or of anything else that prints.
     pub(crate) fn take_text(&mut self, line: &str) -> Result<(), AllocError>
         ensures { OnOk result (self.new ≡ takes_text line.now self.old) }
     {
@@ -181,21 +154,29 @@ impl GoTest {
         Ok(())
     }
 
-    // A line that a build prints.
+    // A line that a build prints, or anything else.
     fn take_plain(&mut self, line: &str) -> Result<(), AllocError>
         ensures { OnOk result (self.new ≡ takes_plain line.now self.old) }
     {
         if is_package_frame(line.as_bytes()) {
             return Ok(());
         }
-        if self.building.as_str().is_empty() {
-            return self.push_event(Level::Error, line, None, None);
+        if self.is_aside(line) {
+            return self.push_event(level_of_text(line), line, self.last);
         }
         let path = self.building.clone()?;
         let mut owner = self.take_owner(path.as_str(), "")?;
         self.open(&mut owner)?;
-        self.push_event(Level::Error, line, None, owner.span)?;
+        self.push_event(Level::Error, line, owner.span)?;
         self.keep(owner)
+    }
+
+    // Whether no build is known to print, or `go` says what it does.
+    fn is_aside(&self, line: &str) -> bool
+        ensures { result ≡ is_aside line.now self.now }
+    {
+        self.building.as_str().is_empty()
+            || line.as_bytes().starts_with("go: downloading ".as_bytes())
     }
 
     // A line that is a JSON value. Returns whether it is known.
@@ -256,21 +237,76 @@ impl GoTest {
             (acted action.now path.now test.now (value_view value.now) self.old) self.old
             self.new) }
     {
-        if action == "run" {
-            self.run(path, test)?;
-        } else if action == "output" || action == "build-output" {
-            let Some(text) = text_at(value, "Output") else {
-                return Ok(false);
-            };
-            self.output(action, path, test, text)?;
-        } else if action == "pass" || action == "bench" {
-            self.end(Ending::Passed, path, test, value)?;
-        } else if action == "fail" {
-            self.end(Ending::Failed, path, test, value)?;
-        } else if action == "skip" {
-            self.end(Ending::Skipped, path, test, value)?;
+        if action == "build-output" {
+            return self.take_build_output(path, text_at(value, "Output"));
         }
+        if action == "output" {
+            return self.take_output(kind_in(value), path, test, text_at(value, "Output"));
+        }
+        if action == "build-fail" {
+            self.tell_build(Level::Error, path)?;
+            return Ok(true);
+        }
+        self.tell_build(Level::Warn, path)?;
+        self.step(action, path, test, elapsed_in(value))?;
         Ok(true)
+    }
+
+    // A build prints. Returns whether the line has a text.
+    fn take_build_output(&mut self, path: &str, text: Option<&str>) -> Result<bool, AllocError>
+        ensures { IfOk result (takes_value_as
+            (build_printed_if path.now (option_map (λ t. t.now) text.entry) self.old) self.old
+            self.new) }
+    {
+        let Some(text) = text else {
+            return Ok(false);
+        };
+        self.print_build(path, text)?;
+        Ok(true)
+    }
+
+    // A test prints, or a package. Returns whether the line has a text.
+    fn take_output(
+        &mut self,
+        kind: Kind,
+        path: &str,
+        test: &str,
+        text: Option<&str>,
+    ) -> Result<bool, AllocError>
+        ensures { IfOk result (takes_value_as
+            (printed_if kind path.now test.now (option_map (λ t. t.now) text.entry) self.old)
+            self.old self.new) }
+    {
+        let Some(text) = text else {
+            return Ok(false);
+        };
+        self.tell_build(Level::Warn, path)?;
+        self.output(kind, path, test, text)?;
+        Ok(true)
+    }
+
+    // A test begins or ends, or its package.
+    fn step(
+        &mut self,
+        action: &str,
+        path: &str,
+        test: &str,
+        elapsed: Option<&str>,
+    ) -> Result<(), AllocError>
+        ensures { OnOk result (self.new ≡ moved action.now path.now test.now
+            (option_map (λ e. e.now) elapsed.entry) self.old) }
+    {
+        if action == "run" {
+            self.run(path, test)
+        } else if action == "pass" || action == "bench" {
+            self.end(Ending::Passed, path, test, elapsed)
+        } else if action == "fail" {
+            self.end(Ending::Failed, path, test, elapsed)
+        } else if action == "skip" {
+            self.end(Ending::Skipped, path, test, elapsed)
+        } else {
+            Ok(())
+        }
     }
 
     // A test begins, or its package.
@@ -278,6 +314,7 @@ impl GoTest {
         ensures { OnOk result (self.new ≡ ran path.now test.now self.old) }
     {
         let mut owner = self.take_above(path, test)?;
+        self.tell_part(&mut owner)?;
         self.open(&mut owner)?;
         owner.has_begun = true;
         self.keep(owner)?;
@@ -296,52 +333,18 @@ impl GoTest {
         if test.is_empty() || owner.test.as_str() != test {
             return Ok(owner);
         }
-        self.leave_one(owner)?;
+        self.leave_one(Ending::Unfinished, owner)?;
         self.take_owner(path, test)
     }
 
-    // A test prints, or a build.
-    fn output(&mut self, action: &str, path: &str, test: &str, text: &str) -> Result<(), AllocError>
-        ensures { OnOk result (self.new ≡ printed (bytes_eq action.now (codes "output")) path.now
-            test.now text.now self.old) }
+    // A test prints, or a package.
+    fn output(&mut self, kind: Kind, path: &str, test: &str, text: &str) -> Result<(), AllocError>
+        ensures { OnOk result (self.new ≡ printed kind path.now test.now text.now self.old) }
     {
         let mut owner = self.take_owner(path, test)?;
-        owner.start_if(action == "output");
-        owner.add_to_part(self.alloc, text)?;
-        self.tell_if_ended(&mut owner, text)?;
+        owner.has_begun = true;
+        self.print_string(&mut owner, kind, text)?;
         self.keep(owner)
-    }
-
-    // Tells the line that this text ends.
-    fn tell_if_ended(&mut self, owner: &mut Running, text: &str) -> Result<(), AllocError>
-        ensures { OnOk result (holds owner.new self.new
-            ≡ told_if_ended text.now (holds owner.old self.old)) }
-    {
-        if ends_line(text.as_bytes()) {
-            return self.tell_part(owner);
-        }
-        Ok(())
-    }
-
-    // Tells the line that a test has printed, but for one that only frames.
-    fn tell_part(&mut self, owner: &mut Running) -> Result<(), AllocError>
-        ensures { OnOk result (holds owner.new self.new ≡ line_told (holds owner.old self.old)) }
-    {
-        let part = owner.take_part(self.alloc)?;
-        self.tell_line(owner, part.as_str())
-    }
-
-    // Tells this line of what runs, unless it only frames.
-    fn tell_line(&mut self, owner: &mut Running, text: &str) -> Result<(), AllocError>
-        ensures { OnOk result (holds owner.new self.new
-            ≡ line_of text.now (holds owner.old self.old)) }
-    {
-        let line = without_line_end(text);
-        if is_frame(owner.test.as_str().as_bytes(), line.as_bytes()) {
-            return Ok(());
-        }
-        self.open(owner)?;
-        self.push_event(Level::Info, line, None, owner.span)
     }
 
     // A test ends, or a package.
@@ -350,16 +353,15 @@ impl GoTest {
         ending: Ending,
         path: &str,
         test: &str,
-        value: &Value<'_>,
+        elapsed: Option<&str>,
     ) -> Result<(), AllocError>
         ensures { OnOk result (self.new ≡ ended ending path.now test.now
-            (elapsed_in (value_view value.now)) self.old) }
+            (option_map (λ e. e.now) elapsed.entry) self.old) }
     {
-        let elapsed = elapsed_in(value);
         if test.is_empty() {
             return self.end_package(ending, path, elapsed);
         }
-        self.count(ending);
+        self.count(ending, path, test)?;
         let owner = self.take_owner(path, test)?;
         self.end_test(owner, ending, test, elapsed)
     }
@@ -380,7 +382,9 @@ impl GoTest {
         }
         let mut owner = owner;
         self.open(&mut owner)?;
-        self.push_quiet(ending, test, elapsed, owner.span)?;
+        let rest = elapsed_fields(self.alloc, elapsed)?;
+        let name = own_name(owner.test.as_str(), test);
+        self.push_quiet(ending, name, rest, owner.span)?;
         self.keep(owner)
     }
 
@@ -393,33 +397,25 @@ impl GoTest {
         ensures { OnOk result (self.new ≡ package_ended ending path.now
             (option_map (λ e. e.now) elapsed.entry) self.old) }
     {
-        self.note_failed(ending);
+        self.count_package(ending, path)?;
         let mut tests = self.take_package(path);
         let package = self.take_running(&mut tests, path, "".as_bytes())?;
-        self.leave_over(package.span, tests)?;
+        self.leave_over(ending.of_left(), package.span, tests)?;
         self.finish(package, ending, elapsed)
-    }
-
-    fn note_failed(&mut self, ending: Ending)
-        ensures { self.new ≡ failed_by ending self.old }
-    {
-        match ending {
-            Ending::Failed => self.has_failed = true,
-            Ending::Passed | Ending::Skipped | Ending::Unfinished => {}
-        }
     }
 
     // Ends what still runs of a package with this span, from the last name on, so that a test ends after those in it.
     fn leave_over(
         &mut self,
+        ending: Ending,
         package_span: Option<Id>,
         tests: Named<Running>,
     ) -> Result<(), AllocError>
-        ensures { OnOk result (self.new ≡ left_over package_span [] tests self.old) }
+        ensures { OnOk result (self.new ≡ left_over ending package_span [] tests self.old) }
     {
         let mut tests = tests;
         while let Some(one) = tests.take_last() {
-            self.leave_placed(package_span, &tests, one)?;
+            self.leave_placed(ending, package_span, &tests, one)?;
         }
         Ok(())
     }
@@ -427,41 +423,52 @@ impl GoTest {
     // Ends one test, which stands in these others.
     fn leave_placed(
         &mut self,
+        ending: Ending,
         package_span: Option<Id>,
         others: &Named<Running>,
         one: Running,
     ) -> Result<(), AllocError>
-        ensures { OnOk result (self.new ≡ left_one (placed package_span others.now one) self.old) }
+        ensures { OnOk result (self.new
+            ≡ left_one ending (placed package_span others.now one) self.old) }
     {
         let mut one = one;
-        one.place(package_span, others);
-        self.leave_one(one)
+        one.place(self.alloc, package_span, others)?;
+        self.leave_one(ending, one)
     }
 
-    fn leave_one(&mut self, one: Running) -> Result<(), AllocError>
-        ensures { OnOk result (self.new ≡ left_one one self.old) }
+    fn leave_one(&mut self, ending: Ending, one: Running) -> Result<(), AllocError>
+        ensures { OnOk result (self.new ≡ left_one ending one self.old) }
     {
         if !one.has_begun {
             return Ok(());
         }
-        self.note_left(&one);
-        self.finish(one, Ending::Unfinished, None)
+        self.note_left(ending, &one)?;
+        self.finish(one, ending, None)
     }
 
-    // Counts a test that ends unfinished. A package that does has failed.
-    fn note_left(&mut self, one: &Running)
-        ensures { self.new ≡ noted_left one.now self.old }
+    // Counts what doesn't tell of its end.
+    fn note_left(&mut self, ending: Ending, one: &Running) -> Result<(), AllocError>
+        ensures { OnOk result (self.new ≡ noted_left ending one.now self.old) }
     {
         if one.test.as_str().is_empty() {
-            self.has_failed = true;
+            self.count_package(ending, one.path.as_str())
         } else {
-            self.count(Ending::Unfinished);
+            self.count(ending, one.path.as_str(), one.test.as_str())
         }
     }
 
-    // Ends what still runs, one package after the other.
+    // Ends what still runs, and tells what builds printed.
     pub(crate) fn leave_all(&mut self) -> Result<(), AllocError>
         ensures { OnOk result (self.new ≡ all_ended self.old) }
+    {
+        let builds = mem::replace(&mut self.builds, Named::new(self.alloc));
+        self.end_packages()?;
+        self.tell_builds(builds)
+    }
+
+    // Ends what still runs, one package after the other.
+    fn end_packages(&mut self) -> Result<(), AllocError>
+        ensures { OnOk result (self.new ≡ packages_ended self.old) }
     {
         let packages = mem::replace(&mut self.packages, Named::new(self.alloc));
         self.leave_packages(packages)
@@ -484,24 +491,20 @@ impl GoTest {
         let mut tests = tests;
         let span = span_in(&tests, "".as_bytes());
         let package = tests.take("".as_bytes());
-        self.leave_over(span, tests)?;
+        self.leave_over(Ending::Unfinished, span, tests)?;
         match package {
-            Some(package) => self.leave_one(package),
+            Some(package) => self.leave_one(Ending::Unfinished, package),
             None => Ok(()),
         }
     }
 
-    // The line that counts the tests.
+    // The line that counts tests and packages, and names those that failed.
     pub(crate) fn tally_call(&self, alloc: Global) -> Result<Call, AllocError>
         ensures { IfOk result (λ call. call ≡ tally_call self.now) }
     {
-        let tally = self.tally;
-        let mut fields = Vec::with_capacity(alloc, 4)?;
-        fields.push(Field::whole(alloc, "passed", i128::from(tally.passed))?)?;
-        fields.push(Field::whole(alloc, "failed", i128::from(tally.failed))?)?;
-        fields.push(Field::whole(alloc, "skipped", i128::from(tally.skipped))?)?;
-        fields.push(Field::whole(alloc, "unfinished", i128::from(tally.unfinished))?)?;
-        let level = if self.has_failed {
+        let mut fields = self.tally.fields(alloc)?;
+        self.failing.push_fields(alloc, &self.tally, &mut fields)?;
+        let level = if self.has_failed() {
             Level::Error
         } else {
             Level::Info
@@ -509,101 +512,54 @@ impl GoTest {
         event_call(alloc, self.moment, level, Fields::from(fields), None)
     }
 
-    fn count(&mut self, ending: Ending)
-        ensures { self.new ≡ counted ending self.old }
+    // Counts a test that came to this end.
+    fn count(&mut self, ending: Ending, path: &str, test: &str) -> Result<(), AllocError>
+        ensures { OnOk result (self.new ≡ counted ending path.now test.now self.old) }
     {
         match ending {
             Ending::Passed => self.tally.passed = self.tally.passed.saturating_add(1),
-            Ending::Failed => {
-                self.tally.failed = self.tally.failed.saturating_add(1);
-                self.has_failed = true;
-            }
+            Ending::Failed => return self.count_failed(path, test),
             Ending::Skipped => self.tally.skipped = self.tally.skipped.saturating_add(1),
             Ending::Unfinished => self.tally.unfinished = self.tally.unfinished.saturating_add(1),
         }
+        Ok(())
     }
 
-    // What runs no longer: its end is told in its span, which closes, or where it told nothing in one line in the span above.
-    fn finish(
-        &mut self,
-        one: Running,
-        ending: Ending,
-        elapsed: Option<&str>,
-    ) -> Result<(), AllocError>
-        ensures { OnOk result (self.new ≡ finished ending (option_map (λ e. e.now) elapsed.entry)
-            (holds one self.old)) }
+    fn count_failed(&mut self, path: &str, test: &str) -> Result<(), AllocError>
+        ensures { OnOk result (self.new ≡ failed_counted path.now test.now self.old) }
     {
-        let mut one = one;
-        if !one.part.as_str().is_empty() {
-            self.tell_part(&mut one)?;
-        }
-        match one.span {
-            Some(id) => {
-                self.push_event(ending.level(), ending.word(), elapsed, Some(id))?;
-                let call = close_call(self.moment, id, one.above);
-                Ok(self.calls.push(call)?)
-            }
-            None => { self.push_quiet(ending, one.name(), elapsed, one.above) }
+        let mut name = String::from_str(self.alloc, path)?;
+        name.push_str(".")?;
+        name.push_str(test)?;
+        let count = self.tally.failed;
+        self.failing.tests = more_names(self.alloc, count, &self.failing.tests, name.as_str())?;
+        self.tally.failed = count.saturating_add(1);
+        Ok(())
+    }
+
+    // Counts a package that came to this end.
+    fn count_package(&mut self, ending: Ending, path: &str) -> Result<(), AllocError>
+        ensures { OnOk result (self.new ≡ package_counted ending path.now self.old) }
+    {
+        self.count_end();
+        match ending {
+            Ending::Failed | Ending::Unfinished => self.count_failed_package(path),
+            Ending::Passed | Ending::Skipped => Ok(()),
         }
     }
 
-    // The end of a test that told nothing.
-    fn push_quiet(
-        &mut self,
-        ending: Ending,
-        name: &str,
-        elapsed: Option<&str>,
-        above: Option<Id>,
-    ) -> Result<(), AllocError>
-        ensures { OnOk result (self.new ≡ quiet_told ending name.now
-            (option_map (λ e. e.now) elapsed.entry) above self.old) }
+    fn count_end(&mut self)
+        ensures { self.new ≡ one_ended self.old }
     {
-        let mut text = String::from_str(self.alloc, ending.word())?;
-        text.push_str(" ")?;
-        text.push_str(name)?;
-        self.push_event(ending.level(), text.as_str(), elapsed, above)
+        self.tally.packages = self.tally.packages.saturating_add(1);
     }
 
-    // An event in this span, unless its text is blank.
-    fn push_event(
-        &mut self,
-        level: Level,
-        text: &str,
-        elapsed: Option<&str>,
-        above: Option<Id>,
-    ) -> Result<(), AllocError>
-        ensures { OnOk result (self.new ≡ event_told level text.now
-            (option_map (λ e. e.now) elapsed.entry) above self.old) }
+    fn count_failed_package(&mut self, path: &str) -> Result<(), AllocError>
+        ensures { OnOk result (self.new ≡ package_failed path.now self.old) }
     {
-        if is_skipped(text.as_bytes()) {
-            return Ok(());
-        }
-        let mut fields = Vec::with_capacity(self.alloc, 2)?;
-        fields.push(message_field(self.alloc, text)?)?;
-        if let Some(elapsed) = elapsed {
-            fields.push(Field::rendered(self.alloc, "elapsed", elapsed)?)?;
-        }
-        let call = event_call(self.alloc, self.moment, level, Fields::from(fields), above)?;
-        Ok(self.calls.push(call)?)
-    }
-
-    // Opens the span of what runs, unless it is open.
-    fn open(&mut self, one: &mut Running) -> Result<(), AllocError>
-        ensures { OnOk result (holds one.new self.new ≡ opened (holds one.old self.old)) }
-    {
-        if one.span.is_some() {
-            return Ok(());
-        }
-        let call = span_call(
-            self.alloc,
-            self.moment,
-            one.name(),
-            Fields::new(self.alloc),
-            one.above,
-        )?;
-        self.calls.push(call)?;
-        one.span = Some(Id(self.next));
-        self.next = self.next.saturating_add(1);
+        let count = self.tally.packages_failed;
+        self.failing.packages = more_names(self.alloc, count, &self.failing.packages, path)?;
+        self.tally.packages_failed = count.saturating_add(1);
         Ok(())
     }
 
@@ -614,7 +570,7 @@ impl GoTest {
         let mut tests = self.take_package(path);
         let name = owner(&tests, test.as_bytes());
         let mut one = self.take_running(&mut tests, path, name)?;
-        one.place(span_in(&tests, "".as_bytes()), &tests);
+        one.place(self.alloc, span_in(&tests, "".as_bytes()), &tests)?;
         self.put_package(path, tests)?;
         Ok(one)
     }
@@ -717,6 +673,27 @@ fn lack_in(value: &Value<'_>) -> Lack
         Lack::Package
     } else {
         Lack::Output
+    }
+}
+
+// The level of a line that no build prints.
+fn level_of_text(line: &str) -> Level
+    ensures { result ≡ level_of_text line.now }
+{
+    if begins_trace(line) {
+        Level::Error
+    } else {
+        Level::Info
+    }
+}
+
+// What a line says that its string is.
+fn kind_in(value: &Value<'_>) -> Kind
+    ensures { result ≡ kind_in (value_view value.now) }
+{
+    match text_at(value, "OutputType") {
+        Some(word) => Kind::named(word),
+        None => Kind::named(""),
     }
 }
 

@@ -1,17 +1,18 @@
 //! When Go's tests have failed.
 
-ghost use Rattle.std.specs.Prelude.{◌≡◌, ℕ, List, IfSome};
-ghost use Rattle.std.specs.Io.Buffered.{reader_remaining};
+ghost use Rattle.std.specs.Prelude.{◌≡◌, ◌==◌, ◌||◌, ◌++◌, [], ℕ, List, Option, IfSome, codes, false, not};
 ghost use Rattle.tracing_tree_context.specs.declared.context.Moment.{Moment};
 ghost use Rattle.tracing_tree_lines.specs.Lines.Spelled.{input_lines};
 ghost use Rattle.tracing_tree_sources.specs.Source.{hear, source_after};
 ghost use Rattle.tracing_tree_go_test.specs.Failures.{some_failed};
-ghost use Rattle.tracing_tree_go_test.specs.GoTest.{go_ended, go_takes, nothing_run};
+ghost use Rattle.tracing_tree_go_test.specs.GoTest.{GoState, go_ended, go_takes, has_failed, moved, nothing_run};
+ghost use Rattle.tracing_tree_go_test.specs.Texts.{own_name};
+ghost use Rattle.tracing_tree_sources.specs.Marks.{is_empty};
 
 use std::alloc::Global;
-use std::io::{BufReader, Read};
 use tracing_tree_go_test::GoTest;
 use tracing_tree_layer::layered::Layered;
+use tracing_tree_lines::lines::LineInput;
 use tracing_tree_output::Output;
 use tracing_tree_sources::{Notes, draw_source};
 use tracing_tree_time::{FormatTime, Moment};
@@ -20,21 +21,40 @@ use tracing_tree_time::{FormatTime, Moment};
 /// failed, or a package still ran after the last line.
 pub fn tests_fail_by_a_line_or_a_package_that_runs()
     ensures { (next : ℕ) (moment : Moment) (lines : List (List ℕ)) →
-        (source_after go_takes go_ended (nothing_run next moment) lines).has_failed
+        has_failed (source_after go_takes go_ended (nothing_run next moment) lines)
         ≡ some_failed lines (hear go_takes (nothing_run next moment) lines).source }
+{}
+
+/// Whether tests have failed is said by the counts: a test or a package failed, or a package didn't end.
+pub fn failures_agree_with_the_counts()
+    ensures { (s : GoState) → has_failed s
+        ≡ (not (s.tally.failed == 0) || not (s.tally.packages_failed == 0)) }
+{}
+
+/// When a package passes, no test of it is counted as unfinished: each that still runs has passed.
+pub fn packages_that_pass_leave_nothing_unfinished()
+    ensures { (path : List ℕ) (elapsed : Option (List ℕ)) (s : GoState) →
+        (moved (codes "pass") path [] elapsed s).tally.unfinished ≡ s.tally.unfinished }
+{}
+
+/// In the span of an outer test, a test shows what comes after the outer test's name and a `/`. So the
+/// names on a path, joined by `/`, are the whole name.
+pub fn own_names_make_the_whole_name()
+    ensures { (outer name : List ℕ) → is_empty outer ≡ false →
+        own_name outer (outer ++ codes "/" ++ name) ≡ name }
 {}
 
 /// Runs Go's tests over an input. Returns whether a test or a package failed, or didn't end; None if
 /// something ended the run early.
-pub fn have_tests_failed<R: Read, W: Output, FT: FormatTime, N: Notes>(
+pub fn have_tests_failed<L: LineInput, W: Output, FT: FormatTime, N: Notes>(
     alloc: Global,
     next: u64,
     moment: Moment,
-    lines: &mut BufReader<R>,
+    lines: &mut L,
     layered: &mut Layered<W, FT>,
     notes: &mut N,
 ) -> Option<bool>
-    ensures { IfSome (reader_remaining R.remaining lines.old) (λ input. IfSome result (λ failed. failed
+    ensures { IfSome (L.remaining lines.old) (λ input. IfSome result (λ failed. failed
         ≡ some_failed (input_lines input)
         (hear go_takes (nothing_run next moment) (input_lines input)).source)) }
 {

@@ -1,18 +1,16 @@
 -- Lines that a reader's buffer holds, judged one after another.
-use Rattle.std.proofs.Common.{◌≡◌, ℕ, zero, suc, ◌+◌, ◌<◌, ◌≤◌, ◌==◌, Bool, true, false, List, ◌++◌, length, take, drop, drop-drop, slice_range, if◌then◌else◌, Option, Some, None, Result, Ok, Err, position, get_or, get_or-drop, eqb-true, IfSome, refl, sym, ap, subst, ◌∙◌, arith, append_assoc}
-use Rattle.std.specs.declared.alloc.Global.{Global}
-use Rattle.std.specs.declared.io.buffered.BufReader.{BufReader}
-use Rattle.std.specs.Io.Buffered.{reader_buffer, reader_inner, reader_capacity, reader_remaining}
+use Rattle.std.proofs.Common.{◌≡◌, ℕ, zero, suc, ◌+◌, ◌<◌, ◌≤◌, true, false, List, ◌++◌, length, take, drop, drop-drop, slice_range, Option, Some, None, Result, Ok, Err, position, get_or, get_or-drop, eqb-true, IfSome, refl, sym, ap, subst, ◌∙◌, arith, append_assoc}
 use Rattle.std.specs.Io.KnownBytes.{prepend_known}
 use Rattle.std.specs.Prelude.{IsUtf8, MatchResult}
 use Rattle.std.specs.Str.{IsCharBoundary}
 use Rattle.std.specs.Result.{result_ok}
-use Rattle.std.proofs.lemmas.List.{drop-append-le, length-drop}
+use Rattle.std.proofs.lemmas.List.{drop-append-le, length-append, length-drop}
 use Rattle.std.proofs.lemmas.List.Quantifiers.{position-Some}
 use Rattle.std.proofs.Math.Seq.{take-length}
 use Rattle.std.proofs.lemmas.Str.{IsCharBoundary-start, IsCharBoundary-before_ascii, IsCharBoundary-after_ascii}
 use Rattle.tracing_tree_layer.specs.Layer.Layers.{LayeredView, Changes}
 use Rattle.tracing_tree_layer.specs.Layered.Seen.{Seen}
+use Rattle.tracing_tree_lines.specs.Lines.Inputs.{DropsHeld, HoldsFront}
 use Rattle.tracing_tree_lines.specs.Lines.Reads.{TakesLine}
 use Rattle.tracing_tree_lines.specs.Lines.Runs.{last_number}
 use Rattle.tracing_tree_lines.specs.Lines.SoFar.{GoesOver, RunsHeld, RunsSome, counted}
@@ -131,78 +129,79 @@ module _ {W FT : Type 0} (see : LayeredView W FT → Seen) where
 
 -- ---- what the buffer holds, and what follows
 
--- what stands after the bytes that a reader's buffer holds, where that is known
-abbrev beyond : {T : Type 0} → (T → Option (List ℕ)) → BufReader T Global → Option (List ℕ)
-beyond remaining lines = if reader_capacity lines == 0 then None else remaining (reader_inner lines)
+-- what is left are the held bytes, and what is unread
+split : (held rest : List ℕ) (unread : Option (List ℕ)) → prepend_known (held ++ rest) unread ≡ prepend_known held (prepend_known rest unread)
+split held rest None = refl
+split held rest (Some more) = ap Some (append_assoc held rest more)
 
--- what is left are the bytes of the buffer, and what stands after them
-split : (is_empty : Bool) (held rest : List ℕ) (inner : Option (List ℕ)) →
-    (if is_empty then None else prepend_known (held ++ rest) inner) ≡ prepend_known held (prepend_known rest (if is_empty then None else inner))
-split true held rest inner = refl
-split false held rest None = refl
-split false held rest (Some more) = ap Some (append_assoc held rest more)
+-- The whole lines `held` and a part of a line (`rest`) are in the buffer, and `known` is left of the input.
+pub record IsInput (known : Option (List ℕ)) (held rest : List ℕ) : Type 0 where
+  pub unread : Option (List ℕ)
+  pub is : known ≡ prepend_known held (prepend_known rest unread)
 
-remaining_is : {T : Type 0} (remaining : T → Option (List ℕ)) (lines : BufReader T Global) (held rest : List ℕ) → reader_buffer lines ≡ held ++ rest →
-    reader_remaining remaining lines ≡ prepend_known held (prepend_known rest (beyond remaining lines))
-remaining_is remaining lines held rest holds =
-    ap (λ bytes. if reader_capacity lines == 0 then None else prepend_known bytes (remaining (reader_inner lines))) holds
-    ∙ split (reader_capacity lines == 0) held rest (remaining (reader_inner lines))
+pub is_input : (known : Option (List ℕ)) (buffer held rest : List ℕ) → HoldsFront buffer known → buffer ≡ held ++ rest → IsInput known held rest
+is_input known buffer held rest front holds = record {
+  unread = front.unread;
+  is = front.front ∙ ap (λ bytes. prepend_known bytes front.unread) holds ∙ split held rest front.unread;
+}
 
 module _ {W FT : Type 0} (see : LayeredView W FT → Seen) where
   -- the held lines that were judged are consumed
-  pub consumed : {T : Type 0} (remaining : T → Option (List ℕ)) (old new : BufReader T Global) (held rest : List ℕ) (before after : Progress) (judged : ℕ) →
-      reader_buffer old ≡ held ++ rest → judged ≤ length held → reader_buffer new ≡ drop judged (reader_buffer old) → reader_inner new ≡ reader_inner old →
-      reader_capacity new ≡ reader_capacity old → (first now : LayeredView W FT) → RunsHeld see held before after (Ok judged) first now →
-      RunsSome see (reader_remaining remaining old) (reader_remaining remaining new) before after (Ok true) first now
-  consumed remaining old new held rest before after judged holds within drops inner room first now ran =
-      let left : reader_buffer new ≡ drop judged held ++ rest = drops ∙ ap (drop judged) holds ∙ drop-append-le judged held rest within in
-      let same : beyond remaining new ≡ beyond remaining old = (λ i. if room i == 0 then None else remaining (inner i)) in
-      let is : reader_remaining remaining new ≡ prepend_known (drop judged held) (prepend_known rest (beyond remaining old)) =
-      remaining_is remaining new (drop judged held) rest left ∙ ap (λ more. prepend_known (drop judged held) (prepend_known rest more)) same in
+  pub consumed : (middle left : Option (List ℕ)) (buffer held rest : List ℕ) (before after : Progress) (judged : ℕ) →
+      HoldsFront buffer middle → buffer ≡ held ++ rest → judged ≤ length held → DropsHeld judged buffer middle left →
+      (first now : LayeredView W FT) → RunsHeld see held before after (Ok judged) first now → RunsSome see middle left before after (Ok true) first now
+  consumed middle left buffer held rest before after judged front holds within drops first now ran =
+      let unread = front.unread in
+      let from_is : middle ≡ prepend_known held (prepend_known rest unread) = front.front ∙ ap (λ bytes. prepend_known bytes unread) holds ∙ split held rest unread in
+      let inside : judged ≤ length buffer = omega (arith, within, ap length holds ∙ length-append held rest) in
+      let is : left ≡ prepend_known (drop judged held) (prepend_known rest unread) =
+      drops inside unread front.front ∙ ap (λ bytes. prepend_known bytes unread) (ap (drop judged) holds ∙ drop-append-le judged held rest within) ∙ split (drop judged held) rest unread in
       λ known start from. subst (λ l. GoesOver see known l after.accepted after.number start now) (sym is)
-      (ran known (prepend_known rest (beyond remaining old)) start
-      (subst (λ l. GoesOver see known l before.accepted before.number start first) (remaining_is remaining old held rest holds) from))
+      (ran known (prepend_known rest unread) start
+      (subst (λ l. GoesOver see known l before.accepted before.number start first) from_is from))
 
   -- a held line ended the run
-  pub held_fault : {T : Type 0} (remaining : T → Option (List ℕ)) (old : BufReader T Global) (left : Option (List ℕ)) (held rest : List ℕ) (before after : Progress) (cause : LineCause) →
-      reader_buffer old ≡ held ++ rest → (first now : LayeredView W FT) → RunsHeld see held before after (Err cause) first now →
-      RunsSome see (reader_remaining remaining old) left before after (Err cause) first now
-  held_fault remaining old left held rest before after cause holds first now ran =
-      λ known start from. ran known (prepend_known rest (beyond remaining old)) start
-      (subst (λ l. GoesOver see known l before.accepted before.number start first) (remaining_is remaining old held rest holds) from)
+  pub held_fault : (middle left : Option (List ℕ)) (held rest : List ℕ) (before after : Progress) (cause : LineCause) →
+      IsInput middle held rest → (first now : LayeredView W FT) → RunsHeld see held before after (Err cause) first now →
+      RunsSome see middle left before after (Err cause) first now
+  held_fault middle left held rest before after cause input first now ran =
+      λ known start from. ran known (prepend_known rest input.unread) start
+      (subst (λ l. GoesOver see known l before.accepted before.number start first) input.is from)
 
   -- no held line was judged
-  none_judged : {T : Type 0} (remaining : T → Option (List ℕ)) (old : BufReader T Global) (held rest : List ℕ) (before after : Progress) →
-      reader_buffer old ≡ held ++ rest → (first now : LayeredView W FT) → RunsHeld see held before after (Ok 0) first now →
-      RunsSome see (reader_remaining remaining old) (reader_remaining remaining old) before after (Ok true) first now
-  none_judged remaining old held rest before after holds first now ran =
-      consumed remaining old old held rest before after 0 holds (omega arith) refl refl refl first now ran
+  none_judged : (middle : Option (List ℕ)) (held rest : List ℕ) (before after : Progress) →
+      IsInput middle held rest → (first now : LayeredView W FT) → RunsHeld see held before after (Ok 0) first now →
+      RunsSome see middle middle before after (Ok true) first now
+  none_judged middle held rest before after input first now ran =
+      λ known start from. subst (λ l. GoesOver see known l after.accepted after.number start now) (sym input.is)
+      (ran known (prepend_known rest input.unread) start
+      (subst (λ l. GoesOver see known l before.accepted before.number start first) input.is from))
 
-  -- ---- the next line, where none was held
+  -- ---- the next line, if none was held
 
   -- it doesn't end the run
-  pub next_more : {T : Type 0} (remaining : T → Option (List ℕ)) (old : BufReader T Global) (left : Option (List ℕ)) (held rest : List ℕ) (before run : Progress) (judged : Judged) →
-      reader_buffer old ≡ held ++ rest → (judged ≡ End → ⊥) → (first now next : LayeredView W FT) → RunsHeld see held before run (Ok 0) first now →
-      ShowsAndJudges see (reader_remaining remaining old) left (Ok judged) now next →
-      RunsSome see (reader_remaining remaining old) left before (counted judged run) (Ok true) first next
-  next_more remaining old left held rest before run judged holds more first now next ran line = λ known start from.
-      shown_first see known (reader_remaining remaining old) left run.accepted run.number (Ok judged) (goes_on see known (reader_remaining remaining old) left run judged more) start now next
-      (none_judged remaining old held rest before run holds first now ran known start from) line
+  pub next_more : (middle left : Option (List ℕ)) (held rest : List ℕ) (before run : Progress) (judged : Judged) →
+      IsInput middle held rest → (judged ≡ End → ⊥) → (first now next : LayeredView W FT) → RunsHeld see held before run (Ok 0) first now →
+      ShowsAndJudges see middle left (Ok judged) now next →
+      RunsSome see middle left before (counted judged run) (Ok true) first next
+  next_more middle left held rest before run judged input more first now next ran line = λ known start from.
+      shown_first see known middle left run.accepted run.number (Ok judged) (goes_on see known middle left run judged more) start now next
+      (none_judged middle held rest before run input first now ran known start from) line
 
   -- there is none
-  pub next_none : {T : Type 0} (remaining : T → Option (List ℕ)) (old : BufReader T Global) (left : Option (List ℕ)) (held rest : List ℕ) (before run : Progress) →
-      reader_buffer old ≡ held ++ rest → run.number < last_number → (first now next : LayeredView W FT) → RunsHeld see held before run (Ok 0) first now →
-      ShowsAndJudges see (reader_remaining remaining old) left (Ok End) now next →
-      RunsSome see (reader_remaining remaining old) left before run (Ok false) first next
-  next_none remaining old left held rest before run holds below first now next ran line = λ known start from.
-      shown_first see known (reader_remaining remaining old) left run.accepted run.number (Ok End) (ends_input see known (reader_remaining remaining old) left run.accepted run.number below) start now next
-      (none_judged remaining old held rest before run holds first now ran known start from) line
+  pub next_none : (middle left : Option (List ℕ)) (held rest : List ℕ) (before run : Progress) →
+      IsInput middle held rest → run.number < last_number → (first now next : LayeredView W FT) → RunsHeld see held before run (Ok 0) first now →
+      ShowsAndJudges see middle left (Ok End) now next →
+      RunsSome see middle left before run (Ok false) first next
+  next_none middle left held rest before run input below first now next ran line = λ known start from.
+      shown_first see known middle left run.accepted run.number (Ok End) (ends_input see known middle left run.accepted run.number below) start now next
+      (none_judged middle held rest before run input first now ran known start from) line
 
   -- it ends the run
-  pub next_fault : {T : Type 0} (remaining : T → Option (List ℕ)) (old : BufReader T Global) (left : Option (List ℕ)) (held rest : List ℕ) (before run : Progress) (cause : LineCause) →
-      reader_buffer old ≡ held ++ rest → run.number < last_number → (first now next : LayeredView W FT) → RunsHeld see held before run (Ok 0) first now →
-      ShowsAndJudges see (reader_remaining remaining old) left (Err cause) now next →
-      RunsSome see (reader_remaining remaining old) left before run (Err cause) first next
-  next_fault remaining old left held rest before run cause holds below first now next ran line = λ known start from.
-      shown_first see known (reader_remaining remaining old) left run.accepted run.number (Err cause) (ends_at see known (reader_remaining remaining old) left run.accepted run.number cause below) start now next
-      (none_judged remaining old held rest before run holds first now ran known start from) line
+  pub next_fault : (middle left : Option (List ℕ)) (held rest : List ℕ) (before run : Progress) (cause : LineCause) →
+      IsInput middle held rest → run.number < last_number → (first now next : LayeredView W FT) → RunsHeld see held before run (Ok 0) first now →
+      ShowsAndJudges see middle left (Err cause) now next →
+      RunsSome see middle left before run (Err cause) first next
+  next_fault middle left held rest before run cause input below first now next ran line = λ known start from.
+      shown_first see known middle left run.accepted run.number (Err cause) (ends_at see known middle left run.accepted run.number cause below) start now next
+      (none_judged middle held rest before run input first now ran known start from) line

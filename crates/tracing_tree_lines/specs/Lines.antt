@@ -3,6 +3,7 @@ pub mod Spelled
 pub mod Values
 pub mod Runs
 pub mod Reads
+pub mod Inputs
 pub mod Steps
 pub mod SoFar
 pub mod CallKinds

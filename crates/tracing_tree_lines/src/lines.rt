@@ -3,6 +3,7 @@
 mod call;
 mod context;
 mod field_list;
+mod input;
 mod number;
 mod pair;
 mod part;
@@ -21,17 +22,17 @@ ghost use Rattle.tracing_tree_lines.specs.Lines.Runs.{CountsEnd, EndsAtFirst, Le
 ghost use Rattle.tracing_tree_lines.specs.Lines.SoFar.{counted, IsTextOf, RunsHeld, RunsSome};
 ghost use Rattle.tracing_tree_lines.specs.declared.lines.Judged.TheVariants.{End};
 ghost use Rattle.tracing_tree_lines.specs.Lines.Steps.{EndsLines, JudgesLine, ShowsAndJudges};
-ghost use Rattle.tracing_tree_output.specs.Writers.{IsShown};
 
 use call::make_call;
+pub use input::{LineInput, holds_line};
 use json::{Invalid, Scratch};
 use read::{line_end, whole_lines};
-pub use read::{BLOCK, holds_line, is_skipped, read_line};
+pub use read::{BLOCK, is_skipped, read_line};
 use settings::{Setup, settings_of_line};
 use simdutf8::basic::from_utf8;
 use std::alloc::{AllocError, AllocFailed, Global};
 use std::fmt;
-use std::io::{BufRead, BufReader, Read};
+use std::io::{BufReader, Read};
 use thiserror::Error;
 use tracing_tree_context::Refusal;
 use tracing_tree_layer::layer::HierarchicalLayer;
@@ -192,7 +193,7 @@ where
     let (config, timer) = setup.into_parts();
     let layer = HierarchicalLayer::with_config(alloc, config, writer).with_timer(timer);
     let mut layered = Layered::new(alloc, layer);
-    let (accepted, fault) = run_calls(alloc, &mut lines, &mut layered);
+    let (accepted, fault) = draw_lines(alloc, &mut lines, &mut layered);
     let (_registry, layer) = layered.into_parts();
     LinesRun {
         writer: layer.into_writer(),
@@ -221,14 +222,18 @@ where
     Ok((lines, setup))
 }
 
-// Makes the calls that the lines spell, from the second line on. Returns how many were accepted, and the fault that ended the run.
-fn run_calls<R: Read, W: Output, FT: FormatTime>(
+/// Draws the calls of lines, as [`run_lines`] does from the second line on. Returns how many calls
+/// were accepted, and the line that ended the run: the first of these lines is line 2.
+///
+/// The lines are read by the methods of [`LineInput`] only, so what is drawn is shown before each
+/// wait for a line.
+pub fn draw_lines<L: LineInput, W: Output, FT: FormatTime>(
     alloc: Global,
-    lines: &mut BufReader<R>,
+    lines: &mut L,
     layered: &mut Layered<W, FT>,
 ) -> (u64, Option<LineFault>)
-    ensures { EndsLines (seen FT.FormatTime W.Output) (reader_remaining R.remaining lines.old)
-        result.0 result.1 layered.old layered.new }
+    ensures { EndsLines (seen FT.FormatTime W.Output) (L.remaining lines.old) result.0 result.1
+        layered.old layered.new }
 {
     let mut line = Vec::new(alloc);
     let mut scratch = Scratch::new(alloc);
@@ -291,9 +296,9 @@ enum Judged {
 
 // Makes the calls of the whole lines that the reader's buffer holds; where it holds none, the call of the next line. Returns whether
 // there was a line. A line that ends the run isn't counted: its number is that of the next line.
-fn run_some<R: Read, W: Output, FT: FormatTime>(
+fn run_some<L: LineInput, W: Output, FT: FormatTime>(
     alloc: Global,
-    lines: &mut BufReader<R>,
+    lines: &mut L,
     line: &mut Vec<u8>,
     scratch: &mut Scratch,
     layered: &mut Layered<W, FT>,
@@ -303,10 +308,10 @@ fn run_some<R: Read, W: Output, FT: FormatTime>(
     requires below { run.old.number < last_number }
     ensures room { (run.new.accepted + 2 ≤ run.new.number) × (run.new.number ≤ last_number) }
     ensures onward { IfOk result (λ more. IsTrue more → run.old.number < run.new.number) }
-    ensures ran { RunsSome (seen FT.FormatTime W.Output) (reader_remaining R.remaining lines.old)
-        (reader_remaining R.remaining lines.new) run.old run.new result layered.old layered.new }
+    ensures ran { RunsSome (seen FT.FormatTime W.Output) (L.remaining lines.old)
+        (L.remaining lines.new) run.old run.new result layered.old layered.new }
 {
-    let judged = run_held(alloc, whole_lines(lines.buffer()), scratch, layered, run)?;
+    let judged = run_held(alloc, whole_lines(lines.held()), scratch, layered, run)?;
     if judged > 0 {
         lines.consume(judged);
         return Ok(true);
@@ -372,15 +377,15 @@ fn line_text<'a>(
 }
 
 // Makes the call of the next line.
-fn run_line<R: Read, W: Output, FT: FormatTime>(
+fn run_line<L: LineInput, W: Output, FT: FormatTime>(
     alloc: Global,
-    lines: &mut BufReader<R>,
+    lines: &mut L,
     line: &mut Vec<u8>,
     scratch: &mut Scratch,
     layered: &mut Layered<W, FT>,
 ) -> Result<Judged, LineCause>
-    ensures { ShowsAndJudges (seen FT.FormatTime W.Output) (reader_remaining R.remaining lines.old)
-        (reader_remaining R.remaining lines.new) result layered.old layered.new }
+    ensures { ShowsAndJudges (seen FT.FormatTime W.Output) (L.remaining lines.old)
+        (L.remaining lines.new) result layered.old layered.new }
 {
     if !read_next(lines, line, layered)? {
         return Ok(Judged::End);
@@ -389,32 +394,17 @@ fn run_line<R: Read, W: Output, FT: FormatTime>(
     judge(alloc, line.as_slice(), text, scratch, layered)
 }
 
-// Reads the next line. What is drawn is passed on first, since the read may wait.
-fn read_next<R: Read, W: Output, FT: FormatTime>(
-    lines: &mut BufReader<R>,
+// Reads the next line. What is drawn is shown first, since the read may wait.
+fn read_next<L: LineInput, W: Output, FT: FormatTime>(
+    lines: &mut L,
     line: &mut Vec<u8>,
     layered: &mut Layered<W, FT>,
 ) -> Result<bool, LineCause>
     ensures shown { Changes (seen FT.FormatTime W.Output) Flushes layered.old layered.new }
-    ensures read { ReadsNext (reader_remaining R.remaining lines.old)
-        (reader_remaining R.remaining lines.new) line.new.items result }
+    ensures read { ReadsNext (L.remaining lines.old) (L.remaining lines.new) line.new.items result }
 {
     layered.flush();
-    read_shown(lines, line, layered)
-}
-
-// Reads the next line, as `read_line` does. The caller must ensure that the layer's writer holds
-// back nothing: each row is shown before the read.
-fn read_shown<R: Read, W: Output, FT: FormatTime>(
-    lines: &mut BufReader<R>,
-    line: &mut Vec<u8>,
-    _layered: &Layered<W, FT>,
-) -> Result<bool, LineCause>
-    requires { IsShown W.Output _layered.now.layer.writer }
-    ensures { ReadsNext (reader_remaining R.remaining lines.old)
-        (reader_remaining R.remaining lines.new) line.new.items result }
-{
-    read_line(lines, line)
+    lines.read_line(line, layered)
 }
 
 // What becomes of a line with this text: it is skipped, or the call that it spells is made.

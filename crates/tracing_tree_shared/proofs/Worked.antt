@@ -1,8 +1,9 @@
 -- Worked examples of what a book keeps, of receipts out of order, and of timers.
-use Rattle.std.specs.Prelude.{◌≡◌, ℕ, Bool, List, [], ◌∷◌, Result, Some, None, true, false, refl, codes, encode_utf8_all}
-use Rattle.std.proofs.Common.{arith, ap}
+use Rattle.std.specs.Prelude.{◌≡◌, ℕ, Bool, List, [], ◌∷◌, Result, Err, Some, None, true, false, refl, codes, encode_utf8_all}
+use Rattle.std.proofs.Common.{arith, ap, inr}
 use Rattle.std.specs.Char.{encode_utf8}
 use Rattle.tracing_tree_context.specs.declared.context.Refusal.{Refusal}
+use Rattle.tracing_tree_context.specs.declared.context.Refusal.TheVariants.{Memory}
 use Rattle.tracing_tree_output.specs.Outputs.{TapeView}
 use Rattle.tracing_tree_spans.specs.Registry.Forest.{empty_forest}
 use Rattle.tracing_tree_spans.specs.Registry.Ids.{id_of}
@@ -14,7 +15,8 @@ use Rattle.tracing_tree_layer.specs.declared.call.Reply.TheVariants.{Span, Close
 use Rattle.tracing_tree_layer.specs.Layer.Layers.{LayerView, LayeredView, Changes}
 use Rattle.tracing_tree_layer.specs.Layered.State.{opening_state}
 use Rattle.tracing_tree_layer.proofs.WorkedCalls.{lined, outside, made, informed, closed, left_by}
-use Rattle.tracing_tree_shared.specs.History.{Entry, IsKept, Slip, IsLateIn}
+use Rattle.tracing_tree_layer.proofs.Reading.Ancestors.{reading-laws}
+use Rattle.tracing_tree_shared.specs.History.{Entry, IsKept, Slip, IsLateIn, calls_in}
 use Rattle.tracing_tree_shared.specs.Finish.{IsReplay}
 use Rattle.tracing_tree_shared.specs.Kept.{IsAnsweredOrLacks, seen_on_tape}
 
@@ -56,12 +58,27 @@ pub timed_is_no_replay : IsReplay silent lined one_event (encode_utf8_all (codes
 unfolding encode_utf8
 timed_is_no_replay r = let differ : Some (encode_utf8_all (codes "now INFO x\n")) ≡ Some (encode_utf8_all (codes "INFO x\n")) = r.kept.output in cc
 
+-- drawn without times, it is one
+pub untimed_replay : IsReplay silent lined one_event (encode_utf8_all (codes "INFO x\n"))
+unfolding encode_utf8
+untimed_replay = record {
+  timer = false;
+  first = Some (id_of 1);
+  state = opening_state (Some (id_of 1));
+  kept = record { forest = refl; last = refl; sound = refl; replies = refl; output = refl };
+  reads = reading-laws lined no_timer (Some (id_of 1)) (calls_in one_event);
+}
+
 -- a layer with this timer
 abbrev with_timer : Bool → LayeredView TapeView Bool
 with_timer timer = record {
   forest = empty_forest (id_of 1);
   layer = record { settings = lined; writer = record { bytes = []; faults = 0 }; timer = timer; last = None; failed = false; unwritten = [] };
 }
+
+-- a call that is refused for memory changes nothing
+pub refused_call : (call : Call) → Changes (seen_on_tape silent) (IsAnsweredOrLacks call (Err Memory)) (with_timer false) (with_timer false)
+refused_call call = record { changed = inr (record { cause = refl; sound = refl; same = refl }); fixed = refl }
 
 -- No call changes the timer, also not for one that states the same.
 pub timer_stays : (call : Call) (answer : Result Reply Refusal)

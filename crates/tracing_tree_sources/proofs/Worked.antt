@@ -2,9 +2,10 @@
 use Rattle.std.proofs.Common.{◌≡◌, true, false, None, Some, [], ◌∷◌, codes, refl, arith}
 use Rattle.std.specs.Prelude.{negsuc}
 use Rattle.json.specs.Json.{array, boolean, string, object, no_items, member, no_members}
-use Rattle.tracing_tree_sources.specs.First.{begins_list, begins_with, format_by, format_of, format_of_line}
+use Rattle.tracing_tree_sources.specs.First.{begins_list, begins_object, detected, format_by, format_of, format_of_line, holding, without_mark}
 use Rattle.tracing_tree_sources.specs.Marks.{after_mark}
-use Rattle.tracing_tree_sources.specs.declared.first.Format.TheVariants.{Chrome, GoTest, Lines, Tracing}
+use Rattle.tracing_tree_sources.specs.declared.first.Detection.TheVariants.{Full, Held}
+use Rattle.tracing_tree_sources.specs.declared.first.Format.TheVariants.{Chrome, GoTest, Lines, Logs, Tracing}
 use Rattle.tracing_tree_context.specs.declared.context.Moment.{Moment}
 use Rattle.tracing_tree_text.specs.declared.style.Level.TheVariants.{Trace, Debug, Info, Warn, Error}
 use Rattle.tracing_tree_spans.specs.Registry.Ids.{id_of}
@@ -12,6 +13,7 @@ use Rattle.tracing_tree_sources.specs.Levels.{is_shown, shown_calls, level_in}
 use Rattle.tracing_tree_sources.specs.Moments.{moment_after, since_1970}
 use Rattle.tracing_tree_lines.specs.declared.lines.LineCause.TheVariants.{NotACall, Read}
 use Rattle.tracing_tree_sources.specs.Source.{CountsUnknown}
+use Rattle.tracing_tree_sources.specs.Traces.{begins_trace, without_return}
 use Rattle.tracing_tree_sources.specs.Told.{close_call, event_call, is_escaped, span_call}
 
 pub heading_of_a_build : after_mark (codes "# ") (codes "# q [q.test]") ≡ Some (codes "q [q.test]")
@@ -26,14 +28,44 @@ so_does_one_of_the_higher_controls = refl
 pub tabs_and_letters_stay : (is_escaped 9 ≡ false) × (is_escaped 233 ≡ false)
 tabs_and_letters_stay = (refl, refl)
 
-pub a_build_is_gos : format_of None ≡ GoTest
-a_build_is_gos = refl
+pub a_plain_line_determines_nothing : format_of None ≡ None
+a_plain_line_determines_nothing = refl
 
-pub an_action_is_gos : format_of (Some (object (member (codes "Action") (string (codes "start")) no_members))) ≡ GoTest
+pub an_action_is_gos : format_of (Some (object (member (codes "Action") (string (codes "start")) no_members))) ≡ Some GoTest
 an_action_is_gos = refl
 
-pub settings_are_lines : format_of (Some (object (member (codes "indent_lines") (boolean true) no_members))) ≡ Lines
+pub settings_are_lines : format_of (Some (object (member (codes "indent_lines") (boolean true) no_members))) ≡ Some Lines
 settings_are_lines = refl
+
+pub another_key_is_no_setting :
+    format_of (Some (object (member (codes "indent_lines") (boolean true) (member (codes "a") (boolean true) no_members)))) ≡ None
+another_key_is_no_setting = refl
+
+pub an_object_without_a_key_determines_nothing : format_of (Some (object no_members)) ≡ None
+an_object_without_a_key_determines_nothing = refl
+
+pub a_call_is_of_lines_though_it_has_a_level :
+    format_of (Some (object (member (codes "call") (string (codes "event"))
+    (member (codes "level") (string (codes "INFO")) (member (codes "fields") (array no_items) no_members)))))
+    ≡ Some Lines
+a_call_is_of_lines_though_it_has_a_level = refl
+
+-- ---- plain lines
+
+pub rust_panics : begins_trace (codes "thread 'main' (7) panicked at src/main.rs:2:5:") ≡ true
+rust_panics = refl
+
+pub a_thread_by_itself_is_no_panic : begins_trace (codes "thread 'main' started") ≡ false
+a_thread_by_itself_is_no_panic = refl
+
+pub go_lists_a_goroutine : begins_trace (codes "goroutine 17 [running]:") ≡ true
+go_lists_a_goroutine = refl
+
+pub a_word_about_goroutines_is_no_trace : begins_trace (codes "goroutine leak [found]") ≡ false
+a_word_about_goroutines_is_no_trace = refl
+
+pub a_carriage_return_is_left_out : without_return (codes "x\r") ≡ codes "x"
+a_carriage_return_is_left_out = refl
 
 -- ---- where a run ends
 
@@ -81,23 +113,41 @@ no_time_before_1970 = refl
 
 -- ---- whose output a line begins
 
-pub a_level_and_a_target_are_of_tracing : format_of (Some (object (member (codes "level") (string (codes "WARN")) (member (codes "target") (string (codes "shop")) no_members)))) ≡ Tracing
+pub a_level_and_a_target_are_of_tracing : format_of (Some (object (member (codes "level") (string (codes "WARN")) (member (codes "target") (string (codes "shop")) no_members)))) ≡ Some Tracing
 a_level_and_a_target_are_of_tracing = refl
 
-pub a_level_alone_is_settings : format_of (Some (object (member (codes "level") (string (codes "WARN")) no_members))) ≡ Lines
-a_level_alone_is_settings = refl
+pub a_level_alone_determines_nothing : format_of (Some (object (member (codes "level") (string (codes "WARN")) no_members))) ≡ None
+a_level_alone_determines_nothing = refl
 
-pub a_list_that_goes_on_is_of_chrome : format_of_line (codes "\t[") ≡ Chrome
+pub a_level_and_a_message_are_a_log : format_of (Some (object (member (codes "level") (string (codes "info")) (member (codes "msg") (string (codes "up")) no_members)))) ≡ Some Logs
+a_level_and_a_message_are_a_log = refl
+
+pub a_line_of_tracing_with_a_message_is_no_log : format_of (Some (object (member (codes "level") (string (codes "INFO")) (member (codes "message") (string (codes "up")) (member (codes "target") (string (codes "shop")) no_members))))) ≡ Some Tracing
+a_line_of_tracing_with_a_message_is_no_log = refl
+
+pub a_list_that_goes_on_is_of_chrome : format_of_line (codes "\t[") ≡ Some Chrome
 a_list_that_goes_on_is_of_chrome = refl
 
-pub an_object_that_goes_on_is_of_chrome : format_by (begins_with 123 (codes "{\"traceEvents\": [")) None ≡ Chrome
+pub an_object_that_goes_on_is_of_chrome : format_by (begins_object (codes "{\"traceEvents\": [")) None ≡ Some Chrome
 an_object_that_goes_on_is_of_chrome = refl
 
-pub events_of_a_trace_are_of_chrome : format_of (Some (object (member (codes "traceEvents") (array no_items) no_members))) ≡ Chrome
+pub words_in_braces_are_no_object : begins_object (codes "{ x }") ≡ false
+words_in_braces_are_no_object = refl
+
+pub events_of_a_trace_are_of_chrome : format_of (Some (object (member (codes "traceEvents") (array no_items) no_members))) ≡ Some Chrome
 events_of_a_trace_are_of_chrome = refl
 
-pub an_action_beside_events_is_gos : format_of (Some (object (member (codes "traceEvents") (array no_items) (member (codes "Action") (string (codes "start")) no_members)))) ≡ GoTest
+pub an_action_beside_events_is_gos : format_of (Some (object (member (codes "traceEvents") (array no_items) (member (codes "Action") (string (codes "start")) no_members)))) ≡ Some GoTest
 an_action_beside_events_is_gos = refl
+
+pub a_mark_is_skipped : without_mark (239 ∷ 187 ∷ 191 ∷ codes "x") ≡ codes "x"
+a_mark_is_skipped = refl
+
+pub a_line_is_held : detected None (holding (codes "[info] x") (record { lines = 0; bytes = 0 })) ≡ Held
+a_line_is_held = refl
+
+pub the_thousandth_line_is_the_last : detected None (holding (codes "[info] x") (record { lines = 999; bytes = 9000 })) ≡ Full
+the_thousandth_line_is_the_last = refl
 
 pub a_word_in_brackets_begins_no_list : begins_list (codes "[info] started") ≡ false
 a_word_in_brackets_begins_no_list = refl

@@ -1,13 +1,19 @@
--- The first line of an input, which tells whose output it is.
-use Rattle.std.specs.Prelude.{ℕ, ◌&&◌, ◌||◌, ◌==◌, Bool, true, false, if◌then◌else◌, List, [], ◌∷◌, Option, Some, None, is_some, is_none, codes}
+-- What a line determines about the format of its input.
+use Rattle.std.specs.Prelude.{ℕ, ◌+◌, ◌-◌, ◌^◌, ◌&&◌, ◌||◌, ◌==◌, nat_lt, Bool, true, false, if◌then◌else◌, List, [], ◌∷◌, length, min, Option, Some, None, is_some, is_none, bytes_eq, codes}
+use Rattle.std.specs.List.{list_any}
 use Rattle.std.specs.Str.{is_utf8}
-use Rattle.json.specs.Json.{Json, document}
+use Rattle.json.specs.Json.{Json, Members, no_members, member, document}
 use Rattle.json.specs.Find.{as_object, get}
 use Rattle.tracing_tree_sources.specs.Blanks.{after_blanks, first_byte}
+use Rattle.tracing_tree_sources.specs.Counts.{one_more}
 use Rattle.tracing_tree_sources.specs.Levels.{level_in}
+use Rattle.tracing_tree_sources.specs.Marks.{after_mark}
 use Rattle.tracing_tree_sources.specs.Values.{array_at, text_at}
+use Rattle.tracing_tree_sources.specs.declared.first.Detector.{Detector}
+use Rattle.tracing_tree_sources.specs.declared.first.Detection.{Detection}
+use Rattle.tracing_tree_sources.specs.declared.first.Detection.TheVariants.{Determined, Held, Full}
 use Rattle.tracing_tree_sources.specs.declared.first.Format.{Format}
-use Rattle.tracing_tree_sources.specs.declared.first.Format.TheVariants.{Lines, GoTest, Tracing, Chrome}
+use Rattle.tracing_tree_sources.specs.declared.first.Format.TheVariants.{Lines, GoTest, Tracing, Chrome, Logs}
 
 -- one of the five levels, and anything at one of two other keys
 abbrev pub is_of_tracing : Json → Bool
@@ -15,23 +21,75 @@ is_of_tracing value =
     is_some (level_in value)
     && (is_some (get (codes "fields") value) || is_some (get (codes "target") value))
 
-abbrev pub format_of_value : Json → Format
-format_of_value value =
-    if is_some (text_at (codes "Action") value) then GoTest
-    else if is_some (array_at (codes "traceEvents") value) then Chrome
-    else if is_of_tracing value then Tracing
-    else if is_some (as_object value) then Lines
-    else GoTest
+abbrev pub has_key_of_level : Json → Bool
+has_key_of_level value =
+    is_some (get (codes "level") value) || is_some (get (codes "severity") value)
+    || is_some (get (codes "lvl") value) || is_some (get (codes "log.level") value)
+    || is_some (get (codes "PRIORITY") value)
 
--- a line that isn't JSON comes from a build of Go's
-abbrev pub format_of : Option Json → Format
-format_of None = GoTest
+abbrev pub has_key_of_message : Json → Bool
+has_key_of_message value =
+    is_some (get (codes "msg") value) || is_some (get (codes "message") value)
+    || is_some (get (codes "event") value) || is_some (get (codes "MESSAGE") value)
+
+-- a log of a service: anything at a key of levels, and at a key of messages
+abbrev pub is_log : Json → Bool
+is_log value = has_key_of_level value && has_key_of_message value
+
+-- the keys of settings
+abbrev pub setting_keys : List (List ℕ)
+setting_keys =
+    codes "indent_amount" ∷ codes "wraparound" ∷ codes "ansi" ∷ codes "indent_lines" ∷ codes "targets"
+    ∷ codes "thread_ids" ∷ codes "thread_names" ∷ codes "verbose_entry" ∷ codes "verbose_exit"
+    ∷ codes "span_retrace" ∷ codes "deferred_spans" ∷ codes "close_retrace" ∷ codes "span_modes"
+    ∷ codes "bracketed_fields" ∷ codes "timer" ∷ []
+
+abbrev pub is_setting : List ℕ → Bool
+is_setting key = list_any (bytes_eq key) setting_keys
+
+abbrev pub are_settings : Members → Bool
+are_settings no_members = true
+are_settings (member key value others) = is_setting key && are_settings others
+
+abbrev pub has_settings : Members → Bool
+has_settings no_members = false
+has_settings (member key value others) = is_setting key && are_settings others
+
+-- settings: an object with a key, and each of its keys is a setting's
+abbrev pub spells_settings : Json → Bool
+spells_settings value = among (as_object value) where
+  among : Option Members → Bool
+  among None = false
+  among (Some members) = has_settings members
+
+abbrev pub call_words : List (List ℕ)
+call_words = codes "new" ∷ codes "clone" ∷ codes "record" ∷ codes "event" ∷ codes "close" ∷ []
+
+-- a call: an object with one of the five words at `call`
+abbrev pub spells_call : Json → Bool
+spells_call value = among (text_at (codes "call") value) where
+  among : Option (List ℕ) → Bool
+  among None = false
+  among (Some word) = list_any (bytes_eq word) call_words
+
+abbrev pub format_of_value : Json → Option Format
+format_of_value value =
+    if is_some (text_at (codes "Action") value) then Some GoTest
+    else if is_some (array_at (codes "traceEvents") value) then Some Chrome
+    else if spells_settings value || spells_call value then Some Lines
+    else if is_of_tracing value then Some Tracing
+    else if is_log value then Some Logs
+    else None
+
+-- a line that isn't JSON determines nothing
+abbrev pub format_of : Option Json → Option Format
+format_of None = None
 format_of (Some value) = format_of_value value
 
 -- an object that isn't whole goes on in the lines below
-abbrev pub format_by : Bool → Option Json → Format
+abbrev pub format_by : Bool → Option Json → Option Format
 format_by begins_object value =
-    if begins_object && is_none value then Chrome else format_of value
+    if begins_object && is_none value then Some Chrome else format_of value
 
 abbrev pub may_follow : Option ℕ → Bool
 may_follow None = true
@@ -45,15 +103,59 @@ list_begins (byte ∷ rest) = if byte == 91 then may_follow (first_byte rest) el
 abbrev pub begins_list : List ℕ → Bool
 begins_list line = list_begins (after_blanks line)
 
--- whether this is the first byte that is no blank
-abbrev pub begins_with : ℕ → List ℕ → Bool
-begins_with byte line = is_byte (first_byte line) where
-  is_byte : Option ℕ → Bool
-  is_byte None = false
-  is_byte (Some first) = first == byte
+abbrev pub ends_object : List ℕ → Bool
+ends_object [] = false
+ends_object (byte ∷ rest) = if byte == 125 then is_none (first_byte rest) else false
 
--- 123 begins an object
-abbrev pub format_of_line : List ℕ → Format
+abbrev pub only_ends : List ℕ → Bool
+only_ends [] = false
+only_ends (byte ∷ rest) = if byte == 123 then ends_object (after_blanks rest) else false
+
+-- an object without a key: 125 ends an object
+abbrev pub is_empty_object : List ℕ → Bool
+is_empty_object line = only_ends (after_blanks line)
+
+-- a quotation mark, or nothing
+abbrev pub may_be_key : Option ℕ → Bool
+may_be_key None = true
+may_be_key (Some byte) = byte == 34
+
+abbrev pub object_begins : List ℕ → Bool
+object_begins [] = false
+object_begins (byte ∷ rest) = if byte == 123 then may_be_key (first_byte rest) else false
+
+-- an object with a key begins, or nothing but an object does: 123 begins an object
+abbrev pub begins_object : List ℕ → Bool
+begins_object line = object_begins (after_blanks line)
+
+-- the format that a line determines, if it determines one
+abbrev pub format_of_line : List ℕ → Option Format
 format_of_line line =
-    if begins_list line then Chrome
-    else format_by (begins_with 123 line) (if is_utf8 line then document line else None)
+    if begins_list line then Some Chrome
+    else format_by (begins_object line) (if is_utf8 line then document line else None)
+
+-- a line without the byte order mark at its front
+abbrev pub without_mark : List ℕ → List ℕ
+without_mark line = after (after_mark (239 ∷ 187 ∷ 191 ∷ []) line) where
+  after : Option (List ℕ) → List ℕ
+  after (Some rest) = rest
+  after None = line
+
+-- 1,000 lines, or 1 MiB with their line ends, are held at most
+abbrev pub is_full : Detector → Bool
+is_full detector = nat_lt 999 detector.lines || nat_lt 1048575 detector.bytes
+
+-- one more line is held, with its line end
+abbrev pub holding : List ℕ → Detector → Detector
+holding line detector = record {
+  lines = one_more detector.lines;
+  bytes = one_more (min (detector.bytes + length line) (2 ^ 64 - 1));
+}
+
+abbrev pub detected : Option Format → Detector → Detection
+detected (Some format) detector = Determined format
+detected None detector = if is_full detector then Full else Held
+
+-- what is known of the format after one more line: no line before it determined one
+abbrev pub detects : List ℕ → Detector → Detection
+detects line detector = detected (format_of_line line) (holding line detector)

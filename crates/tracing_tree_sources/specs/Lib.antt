@@ -11,3 +11,5 @@ pub mod First
 pub mod Levels
 pub mod Tallies
 pub mod LeveledCalls
+pub mod Traces
+pub mod Plain

@@ -1,6 +1,6 @@
 -- What lines of another tool's output mean: a source takes a line's text and value in and gives calls
 -- and its next state out.
-use Rattle.std.specs.Prelude.{◌≡◌, ◌⊎◌, ℕ, zero, suc, ◌+◌, Bool, true, false, if◌then◌else◌, List, [], ◌∷◌, ◌++◌, ◌-◌, ◌==◌, length, take, position, Option, Some, None, is_some, Result, Ok, Err, option_map, IfSome, MatchOption, ⊤, ◌<◌}
+use Rattle.std.specs.Prelude.{◌≡◌, ◌⊎◌, ℕ, zero, suc, ◌+◌, Bool, true, false, if◌then◌else◌, List, [], ◌∷◌, ◌++◌, ◌-◌, ◌==◌, length, take, Option, Some, None, Result, Ok, Err, option_map, IfSome, MatchOption, ⊤, ◌<◌}
 use Rattle.std.specs.Io.KnownBytes.{Appends}
 use Rattle.std.specs.Option.{option_map_or}
 use Rattle.std.specs.Str.{is_utf8}
@@ -79,13 +79,6 @@ module _ {S : Type 0} where
     source_after ended source lines = ended (hear source lines).source
 
 module _ {C : Type 0} (flushes : C → C → Type 0) where
-  -- Input may be read, which may wait: a flush left the receiver so, unless the reader's buffer
-  -- holds the next line.
-  abbrev pub MayRead : List ℕ → C → Type 0
-  MayRead buffer receiver =
-      is_some (position (λ byte. byte == 10) buffer) ≡ false
-      → (before : C) × flushes before receiver
-
   -- the receiver was flushed `count` times
   abbrev pub FlushedTimes : ℕ → C → C → Type 0
   FlushedTimes zero old new = new ≡ old

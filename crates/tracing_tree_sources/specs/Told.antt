@@ -49,6 +49,9 @@ event_call moment level fields above =
 abbrev pub close_call : Moment → Id → Option Id → Call
 close_call moment id above = Close id (context_at moment above)
 
+abbrev pub record_call : Id → List Field → Call
+record_call id fields = Record id (record { fields = fields })
+
 -- a call on the thread of this name
 abbrev pub on_thread : List ℕ → Call → Call
 on_thread name (New attributes context) = New attributes (record context { thread_name = Some name })

@@ -67,7 +67,7 @@ fn push_member(
 }
 
 // Whether the text is one of these.
-fn is_among(text: &str, keys: &[&str]) -> bool
+pub(crate) fn is_among(text: &str, keys: &[&str]) -> bool
     ensures { result ≡ list_any (bytes_eq text.now) (map (λ key. key.now) keys.now) }
 {
     for key in keys {

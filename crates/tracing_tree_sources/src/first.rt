@@ -1,18 +1,46 @@
-//! The first line of an input, which tells whose output it is.
+//! Detection of the format of an input by its lines.
 
 ghost use Rattle.std.specs.Prelude.{◌≡◌, IfOk, option_map};
 ghost use Rattle.json.specs.Json.{document};
-ghost use Rattle.json.specs.Value.{value_view};
-ghost use Rattle.tracing_tree_sources.specs.First.{begins_list, begins_with, format_by, format_of, format_of_line, format_of_value, is_of_tracing};
+ghost use Rattle.json.specs.Value.{members_view, value_view};
+ghost use Rattle.tracing_tree_sources.specs.First.{are_settings, begins_list, begins_object, detects, ends_object, format_by, format_of, format_of_line, format_of_value, has_key_of_level, has_key_of_message, has_settings, holding, is_empty_object, is_full, is_log, is_of_tracing, is_setting, spells_call, spells_settings, without_mark};
 
 use crate::blanks::{after_blanks, first_byte};
+use crate::fields::is_among;
 use crate::level::level_in;
-use crate::values::{array_at, is_object, text_at, value_of};
+use crate::values::{array_at, text_at, value_of};
 use json::{Scratch, Value};
 use simdutf8::basic::from_utf8;
 use std::alloc::{AllocError, Global};
 
-/// Whose output an input is.
+// The keys of settings.
+const SETTING_KEYS: [&str; 15] = [
+    "indent_amount",
+    "wraparound",
+    "ansi",
+    "indent_lines",
+    "targets",
+    "thread_ids",
+    "thread_names",
+    "verbose_entry",
+    "verbose_exit",
+    "span_retrace",
+    "deferred_spans",
+    "close_retrace",
+    "span_modes",
+    "bracketed_fields",
+    "timer",
+];
+
+// The words that name a call.
+const CALL_WORDS: [&str; 5] = ["new", "clone", "record", "event", "close"];
+
+// How many lines are held at most, and how many bytes.
+const MAX_LINES: usize = 1000;
+
+const MAX_BYTES: usize = 1024 * 1024;
+
+/// The format of an input.
 #[derive(Clone, Copy, Debug, PartialEq, Eq)]
 pub enum Format {
     /// Lines of settings and calls.
@@ -26,22 +54,103 @@ pub enum Format {
 
     /// Chrome's trace event format.
     Chrome,
+
+    /// JSON logs of services.
+    Logs,
 }
 
-/// Whose output begins with this line. A line that begins with `[` after its blanks is Chrome's, where nothing else, `{` or `]` comes
-/// next, and so is one that begins with `{` and is no JSON value. An object with a text at `Action` is Go's. Another with an array at `traceEvents` is Chrome's. Another
-/// with one of the five levels at `level`, and anything at `fields` or at `target`, is tracing's. Any other object has settings. All
-/// else is Go's, whose builds print lines that aren't JSON. `AllocError` where memory is refused.
-pub fn first_format(alloc: Global, line: &[u8]) -> Result<Format, AllocError>
+/// What is known of a format after a line.
+#[derive(Clone, Copy, Debug, PartialEq, Eq)]
+pub enum Detection {
+    /// The line determines the format.
+    Determined(Format),
+
+    /// The line determines nothing, and the next may be read.
+    Held,
+
+    /// The line determines nothing, and no more lines are held.
+    Full,
+}
+
+/// Detects the format of an input from its lines, one after another.
+///
+/// The first line that determines a format counts. At most 1,000 lines, or 1 MiB with their line
+/// ends, are held before it.
+#[derive(Clone, Copy, Debug, PartialEq, Eq)]
+pub struct Detector {
+    /// How many lines were held.
+    pub lines: usize,
+
+    /// How many bytes these lines have with their line ends.
+    pub bytes: usize,
+}
+
+impl Detector {
+    /// No line has been read yet.
+    pub fn new() -> Detector
+        ensures { result ≡ record { lines = 0; bytes = 0 } }
+    {
+        Detector { lines: 0, bytes: 0 }
+    }
+
+    /// Takes the next line and returns what is known after it.
+    ///
+    /// # Errors
+    ///
+    /// `AllocError` if an allocation fails.
+    pub fn take(&mut self, alloc: Global, line: &[u8]) -> Result<Detection, AllocError>
+        ensures detection { IfOk result (λ detection. detection ≡ detects line.now self.old) }
+        ensures held { self.new ≡ holding line.now self.old }
+    {
+        self.lines = self.lines.saturating_add(1);
+        self.bytes = self.bytes.saturating_add(line.len()).saturating_add(1);
+        match format_of_line(alloc, line)? {
+            Some(format) => Ok(Detection::Determined(format)),
+            None if self.is_full() => Ok(Detection::Full),
+            None => Ok(Detection::Held),
+        }
+    }
+
+    fn is_full(&self) -> bool
+        ensures { result ≡ is_full self.now }
+    {
+        self.lines >= MAX_LINES || self.bytes >= MAX_BYTES
+    }
+}
+
+/// Returns a line without the byte order mark at its front.
+pub fn without_mark(line: &[u8]) -> &[u8]
+    ensures { result.now ≡ without_mark line.now }
+{
+    match line.strip_prefix(&[0xef, 0xbb, 0xbf][..]) {
+        Some(rest) => rest,
+        None => line,
+    }
+}
+
+/// Returns the format that a line determines, if it determines one.
+///
+/// A line that begins with `[` after its blanks is Chrome's if nothing more, `{` or `]` follows, and so
+/// is one that begins with `{`, followed by `"` or nothing more, and isn't a whole JSON value. An object
+/// with a string at `Action` is Go's. Another with an array at `traceEvents` is Chrome's. Another that
+/// has a key, and only keys of settings, or that names a call at `call`, is a line of settings and
+/// calls. Another with one of the five levels at `level`, and anything at `fields` or `target`, is
+/// tracing's. Another with a key of levels (`level`, `severity`, `lvl`, `log.level`, `PRIORITY`) and a
+/// key of messages (`msg`, `message`, `event`, `MESSAGE`) is a log. Every other line determines nothing.
+///
+/// # Errors
+///
+/// `AllocError` if an allocation fails.
+pub fn format_of_line(alloc: Global, line: &[u8]) -> Result<Option<Format>, AllocError>
     ensures { IfOk result (λ format. format ≡ format_of_line line.now) }
 {
     if begins_list(line) {
-        return Ok(Format::Chrome);
+        return Ok(Some(Format::Chrome));
     }
-    let begins_object = begins_with(b'{', line);
+    let is_object = begins_object(line);
     match from_utf8(line) {
-        Ok(text) => format_of_text(alloc, begins_object, text),
-        Err(_) => Ok(format_by(begins_object, None)),
+        Ok(text) => format_of_text(alloc, is_object, text),
+        Err(_) => Ok(format_by(is_object, None)),
     }
 }
 
@@ -58,17 +167,43 @@ fn begins_list(line: &[u8]) -> bool
     }
 }
 
-// Whether this is the first byte that is no blank.
-fn begins_with(byte: u8, line: &[u8]) -> bool
-    ensures { result ≡ begins_with byte line.now }
+/// Returns whether a line is an object without a key, which may be settings or not.
+pub fn is_empty_object(line: &[u8]) -> bool
+    ensures { result ≡ is_empty_object line.now }
 {
-    match first_byte(line) {
-        Some(first) => first == byte,
-        None => false,
+    match after_blanks(line) {
+        [b'{', rest @ ..] => ends_object(after_blanks(rest)),
+        _ => false,
     }
 }
 
-fn format_of_text(alloc: Global, begins_object: bool, text: &str) -> Result<Format, AllocError>
+fn ends_object(text: &[u8]) -> bool
+    ensures { result ≡ ends_object text.now }
+{
+    match text {
+        [b'}', rest @ ..] => first_byte(rest).is_none(),
+        _ => false,
+    }
+}
+
+// Whether an object with a key begins, or nothing but an object does.
+fn begins_object(line: &[u8]) -> bool
+    ensures { result ≡ begins_object line.now }
+{
+    match after_blanks(line) {
+        [b'{', rest @ ..] => match first_byte(rest) {
+            Some(byte) => byte == b'"',
+            None => true,
+        },
+        _ => false,
+    }
+}
+
+fn format_of_text(
+    alloc: Global,
+    begins_object: bool,
+    text: &str,
+) -> Result<Option<Format>, AllocError>
     ensures { IfOk result (λ format. format ≡ format_by begins_object (document text.now)) }
 {
     let mut scratch = Scratch::new(alloc);
@@ -76,37 +211,87 @@ fn format_of_text(alloc: Global, begins_object: bool, text: &str) -> Result<Form
     Ok(format_by(begins_object, value.as_ref()))
 }
 
-fn format_by(begins_object: bool, value: Option<&Value<'_>>) -> Format
+fn format_by(begins_object: bool, value: Option<&Value<'_>>) -> Option<Format>
     ensures { result ≡ format_by begins_object (option_map (λ v. value_view v.now) value.entry) }
 {
     if begins_object && value.is_none() {
-        return Format::Chrome;
+        return Some(Format::Chrome);
     }
     format_of(value)
 }
 
-fn format_of(value: Option<&Value<'_>>) -> Format
+fn format_of(value: Option<&Value<'_>>) -> Option<Format>
     ensures { result ≡ format_of (option_map (λ v. value_view v.now) value.entry) }
 {
     match value {
         Some(value) => format_of_value(value),
-        None => Format::GoTest,
+        None => None,
     }
 }
 
-fn format_of_value(value: &Value<'_>) -> Format
+fn format_of_value(value: &Value<'_>) -> Option<Format>
     ensures { result ≡ format_of_value (value_view value.now) }
 {
     if text_at(value, "Action").is_some() {
-        Format::GoTest
+        Some(Format::GoTest)
     } else if array_at(value, "traceEvents").is_some() {
-        Format::Chrome
+        Some(Format::Chrome)
+    } else if spells_settings(value) || spells_call(value) {
+        Some(Format::Lines)
     } else if is_of_tracing(value) {
-        Format::Tracing
-    } else if is_object(value) {
-        Format::Lines
+        Some(Format::Tracing)
+    } else if is_log(value) {
+        Some(Format::Logs)
     } else {
-        Format::GoTest
+        None
+    }
+}
+
+// Whether an object has a key, and each of its keys is a setting's.
+fn spells_settings(value: &Value<'_>) -> bool
+    ensures { result ≡ spells_settings (value_view value.now) }
+{
+    match value {
+        Value::Object(members) => has_settings(members),
+        _ => false,
+    }
+}
+
+fn has_settings(members: &Vec<(&str, Value<'_>)>) -> bool
+    ensures { result ≡ has_settings (members_view members.now.items) }
+{
+    match members.as_slice() {
+        [member, others @ ..] => is_setting(member.0) && are_settings(others),
+        [] => false,
+    }
+}
+
+fn is_setting(key: &str) -> bool
+    ensures { result ≡ is_setting key.now }
+{
+    is_among(key, &SETTING_KEYS)
+}
+
+fn are_settings(members: &[(&str, Value<'_>)]) -> bool
+    ensures { result ≡ are_settings (members_view members.now) }
+{
+    let mut rest = members;
+    while let [member, others @ ..] = rest {
+        if !is_setting(member.0) {
+            return false;
+        }
+        rest = others;
+    }
+    true
+}
+
+// Whether an object names a call.
+fn spells_call(value: &Value<'_>) -> bool
+    ensures { result ≡ spells_call (value_view value.now) }
+{
+    match text_at(value, "call") {
+        Some(word) => is_among(word, &CALL_WORDS),
+        None => false,
     }
 }
 
@@ -115,4 +300,30 @@ fn is_of_tracing(value: &Value<'_>) -> bool
     ensures { result ≡ is_of_tracing (value_view value.now) }
 {
     level_in(value).is_some() && (value.get("fields").is_some() || value.get("target").is_some())
+}
+
+// Whether a value has a key of levels and a key of messages, as the logs of services have.
+fn is_log(value: &Value<'_>) -> bool
+    ensures { result ≡ is_log (value_view value.now) }
+{
+    has_key_of_level(value) && has_key_of_message(value)
+}
+
+fn has_key_of_level(value: &Value<'_>) -> bool
+    ensures { result ≡ has_key_of_level (value_view value.now) }
+{
+    value.get("level").is_some()
+        || value.get("severity").is_some()
+        || value.get("lvl").is_some()
+        || value.get("log.level").is_some()
+        || value.get("PRIORITY").is_some()
+}
+
+fn has_key_of_message(value: &Value<'_>) -> bool
+    ensures { result ≡ has_key_of_message (value_view value.now) }
+{
+    value.get("msg").is_some()
+        || value.get("message").is_some()
+        || value.get("event").is_some()
+        || value.get("MESSAGE").is_some()
 }

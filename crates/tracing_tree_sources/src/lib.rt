@@ -3,7 +3,7 @@
 //! [`run_source`] makes the calls of any [`Source`]'s lines on any receiver, and [`draw_source`]
 //! draws them: what they mean is said in a crate for each tool. [`count_source`] counts them.
 //! [`AtLeast`] is a source, and [`CallsAtLeast`] a receiver, with only the events of a level and
-//! above. [`first_format`] detects the format of an input by its first line.
+//! above. A [`Detector`] detects the format of an input by its lines.
 #![tactic(auto)]
 
 pub mod blanks;
@@ -14,16 +14,19 @@ pub mod level;
 pub mod marks;
 pub mod moments;
 pub mod notes;
+pub mod plain;
 pub mod run;
 pub mod source;
 pub mod tally;
 pub mod told;
+pub mod traces;
 pub mod values;
 
 pub use calls_at_least::CallsAtLeast;
-pub use first::{Format, first_format};
+pub use first::{Detection, Detector, Format, format_of_line, is_empty_object, without_mark};
 pub use level::AtLeast;
 pub use notes::{Lack, Notes};
+pub use plain::Plain;
 pub use run::{SourceRun, draw_source, run_source};
 pub use source::Source;
 pub use tally::{Tally, count_source};

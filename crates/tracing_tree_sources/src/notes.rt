@@ -5,55 +5,55 @@ ghost use Rattle.tracing_tree_sources.specs.Noted.{AddsNotes, Note};
 
 use thiserror::Error;
 
-/// What a line lacks that each line of its tool has. It is shown as the key and what was expected there.
+/// What a line lacks that each line of its tool has. It is shown as a sentence about the line.
 #[derive(Clone, Copy, Debug, PartialEq, Eq, Error)]
 pub enum Lack {
     /// The line isn't UTF-8.
-    #[error("expected UTF-8")]
+    #[error("not UTF-8")]
     Utf8,
 
     /// The line isn't a JSON object.
-    #[error("expected a JSON object")]
+    #[error("not a JSON object")]
     Object,
 
     /// No text at `Action`.
-    #[error("\"Action\": expected a text")]
+    #[error("\"Action\" must be a string")]
     Action,
 
     /// No text at `Package`, and none at `ImportPath`.
-    #[error("\"Package\": expected a text")]
+    #[error("\"Package\" must be a string")]
     Package,
 
     /// No text at `Output`, which the line's action needs.
-    #[error("\"Output\": expected a text")]
+    #[error("\"Output\" must be a string")]
     Output,
 
     /// None of the five levels at `level`.
-    #[error("\"level\": expected a level")]
+    #[error("\"level\" must be one of TRACE, DEBUG, INFO, WARN, ERROR")]
     Level,
 
     /// No text at `ph`.
-    #[error("\"ph\": expected a text")]
+    #[error("\"ph\" must be a string")]
     Phase,
 
     /// What stands at `pid` is no whole number.
-    #[error("\"pid\": expected a whole number")]
+    #[error("\"pid\" must be a whole number")]
     Process,
 
     /// What stands at `tid` is no whole number.
-    #[error("\"tid\": expected a whole number")]
+    #[error("\"tid\" must be a whole number")]
     Thread,
 
     /// No number of microseconds at `ts`.
-    #[error("\"ts\": expected microseconds")]
+    #[error("\"ts\" must be a number of microseconds")]
     Start,
 
     /// No number of microseconds at `dur`, which a span needs.
-    #[error("\"dur\": expected microseconds")]
+    #[error("\"dur\" must be a number of microseconds")]
     Duration,
 
     /// The input isn't a trace.
-    #[error("expected an array, or an object with an array at \"traceEvents\"")]
+    #[error("not a trace: expected an array, or an object with an array at \"traceEvents\"")]
     Trace,
 }
 

@@ -1,14 +1,13 @@
 //! The run of a source over an input.
 
 ghost use Rattle.std.specs.Prelude.{◌≡◌, [], true, Err, IfErr, IfOk, IfSome, OnOk, MatchResult, option_map};
-ghost use Rattle.std.specs.Io.Buffered.{reader_buffer, reader_remaining};
 ghost use Rattle.json.specs.Json.{document};
 ghost use Rattle.json.specs.Value.{value_view};
 ghost use Rattle.tracing_tree_layer.specs.Layer.Layers.{seen, Changes};
 ghost use Rattle.tracing_tree_layer.specs.Layered.Answered.{IsAnswered};
-ghost use Rattle.tracing_tree_sources.specs.Source.{Accepts, HearsLine, HearsNext, Makes, MakesAll, MakesEach, RunsSource, MayEnd, MayRead, Tells, is_quiet, lack_of, noted_lines, notes_of};
+ghost use Rattle.tracing_tree_sources.specs.Source.{Accepts, HearsLine, HearsNext, Makes, MakesAll, MakesEach, RunsSource, MayEnd, Tells, is_quiet, lack_of, noted_lines, notes_of};
 ghost use Rattle.tracing_tree_sources.specs.Noted.{AddsNotes, note_if};
-ghost use Rattle.tracing_tree_lines.specs.Lines.Reads.{ReadsNext};
+ghost use Rattle.tracing_tree_lines.specs.Lines.Inputs.{MayWait};
 ghost use Rattle.tracing_tree_lines.specs.Lines.Spelled.{input_lines};
 
 use crate::notes::{Lack, Notes};
@@ -17,12 +16,11 @@ use crate::values::value_of;
 use json::{Error, Scratch, Value};
 use simdutf8::basic::from_utf8;
 use std::alloc::{AllocError, Global};
-use std::io::{BufReader, Read};
 use tracing_tree_context::Refusal;
 use tracing_tree_layer::call::Call;
 use tracing_tree_layer::calls::Calls;
 use tracing_tree_layer::layered::Layered;
-use tracing_tree_lines::lines::{LineCause, LineFault, holds_line, is_skipped, read_line};
+use tracing_tree_lines::lines::{LineCause, LineFault, LineInput, holds_line, is_skipped};
 use tracing_tree_output::Output;
 use tracing_tree_time::FormatTime;
 
@@ -40,21 +38,21 @@ pub struct SourceRun {
 ///
 /// An unknown line is counted and skipped, and what it lacks is noted. The run ends early if the input
 /// can't be read, if an allocation fails, if a call is refused, and if the notes end it at a skipped
-/// line: `NotACall` is the cause then, and never otherwise. The receiver is flushed before each read of
-/// the input.
+/// line: `NotACall` is the cause then, and never otherwise. The input is read by the methods of
+/// [`LineInput`] only, so the receiver is flushed before each wait for a line.
 #[tactic(auto, using(crate::proofs::Ended::ends_line, crate::proofs::Ended::ends_noted))]
-pub fn run_source<S: Source, R: Read, C: Calls, N: Notes>(
+pub fn run_source<S: Source, L: LineInput, C: Calls, N: Notes>(
     alloc: Global,
     source: &mut S,
-    lines: &mut BufReader<R>,
+    lines: &mut L,
     receiver: &mut C,
     notes: &mut N,
 ) -> SourceRun
     ensures run { RunsSource (Accepts C.answers C.flushes) C.answers S.takes S.ends S.ended
-        (reader_remaining R.remaining lines.old) source.old source.new result
+        (L.remaining lines.old) source.old source.new result
         receiver.old receiver.new }
     ensures cause { IfSome result.fault (λ fault. MayEnd fault.cause result.unknown) }
-    ensures noted { IfSome (reader_remaining R.remaining lines.old) (λ input. AddsNotes
+    ensures noted { IfSome (L.remaining lines.old) (λ input. AddsNotes
         (notes_of S.takes S.lacks 1 source.old (noted_lines result (input_lines input)))
         (N.noted notes.old) (N.noted notes.new)) }
 {
@@ -62,7 +60,7 @@ pub fn run_source<S: Source, R: Read, C: Calls, N: Notes>(
     let mut scratch = Scratch::new(alloc);
     let mut unknown = 0;
     for number in 1..u64::MAX {
-        show_before_read(lines, receiver);
+        flush_before_wait(lines, receiver);
         match run_next(alloc, source, lines, &mut line, &mut scratch, receiver) {
             Ok(Judged::End) => {
                 return SourceRun {
@@ -99,18 +97,18 @@ pub fn run_source<S: Source, R: Read, C: Calls, N: Notes>(
 }
 
 /// Draws a source's lines: [`run_source`] on a [`Layered`].
-pub fn draw_source<S: Source, R: Read, W: Output, FT: FormatTime, N: Notes>(
+pub fn draw_source<S: Source, L: LineInput, W: Output, FT: FormatTime, N: Notes>(
     alloc: Global,
     source: &mut S,
-    lines: &mut BufReader<R>,
+    lines: &mut L,
     layered: &mut Layered<W, FT>,
     notes: &mut N,
 ) -> SourceRun
     ensures run { Changes (seen FT.FormatTime W.Output)
-        (RunsSource Makes IsAnswered S.takes S.ends S.ended (reader_remaining R.remaining lines.old)
+        (RunsSource Makes IsAnswered S.takes S.ends S.ended (L.remaining lines.old)
         source.old source.new result) layered.old layered.new }
     ensures cause { IfSome result.fault (λ fault. MayEnd fault.cause result.unknown) }
-    ensures noted { IfSome (reader_remaining R.remaining lines.old) (λ input. AddsNotes
+    ensures noted { IfSome (L.remaining lines.old) (λ input. AddsNotes
         (notes_of S.takes S.lacks 1 source.old (noted_lines result (input_lines input)))
         (N.noted notes.old) (N.noted notes.new)) }
 {
@@ -173,21 +171,21 @@ enum Judged {
 
 // Reads one line, and makes the calls that it tells, or those that the end brings.
 #[tactic(auto, using(crate::proofs::Ended::ends_outside))]
-fn run_next<S: Source, R: Read, C: Calls>(
+fn run_next<S: Source, L: LineInput, C: Calls>(
     alloc: Global,
     source: &mut S,
-    lines: &mut BufReader<R>,
+    lines: &mut L,
     line: &mut Vec<u8>,
     scratch: &mut Scratch,
     receiver: &mut C,
 ) -> Result<Judged, LineCause>
-    requires shown { MayRead C.flushes (reader_buffer lines.old) receiver.old }
+    requires shown { MayWait C.flushes (L.held lines.old) receiver.old }
     ensures next { HearsNext (Accepts C.answers C.flushes) C.answers S.takes S.ends S.ended
-        (reader_remaining R.remaining lines.old) (reader_remaining R.remaining lines.new)
+        (L.remaining lines.old) (L.remaining lines.new)
         line.new.items source.old source.new result receiver.old receiver.new }
     ensures cause { IfErr result (λ cause. MayEnd cause 0) }
 {
-    match read_next(lines, line, receiver) {
+    match lines.read_line(line, receiver) {
         Ok(true) => match run_line(alloc, source, line.as_slice(), scratch, receiver) {
             Ok(true) => Ok(Judged::Known),
             Ok(false) => Ok(Judged::Unknown),
@@ -201,24 +199,10 @@ fn run_next<S: Source, R: Read, C: Calls>(
     }
 }
 
-// Reads one line. The receiver must have been flushed, since the read may wait, unless the buffer
-// holds the line.
-fn read_next<R: Read, C: Calls>(
-    lines: &mut BufReader<R>,
-    line: &mut Vec<u8>,
-    _receiver: &C,
-) -> Result<bool, LineCause>
-    requires shown { MayRead C.flushes (reader_buffer lines.old) _receiver.now }
-    ensures { ReadsNext (reader_remaining R.remaining lines.old)
-        (reader_remaining R.remaining lines.new) line.new.items result }
-{
-    read_line(lines, line)
-}
-
-// Flushes the receiver if the buffer doesn't hold the next line, since the read may wait.
-fn show_before_read<R: Read, C: Calls>(lines: &BufReader<R>, receiver: &mut C)
+// Flushes the receiver, unless the buffer holds the next line, since the read may wait.
+fn flush_before_wait<L: LineInput, C: Calls>(lines: &L, receiver: &mut C)
     ensures flushed { Accepts C.answers C.flushes [] receiver.old receiver.new }
-    ensures shown { MayRead C.flushes (reader_buffer lines.now) receiver.new }
+    ensures shown { MayWait C.flushes (L.held lines.now) receiver.new }
 {
     if !holds_line(lines) {
         receiver.flush();

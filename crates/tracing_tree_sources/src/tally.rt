@@ -1,7 +1,6 @@
 //! Counts of calls.
 
 ghost use Rattle.std.specs.Prelude.{◌≡◌, ◌+◌, IfSome, MatchResult};
-ghost use Rattle.std.specs.Io.Buffered.{reader_remaining};
 ghost use Rattle.tracing_tree_lines.specs.Lines.Spelled.{input_lines};
 ghost use Rattle.tracing_tree_sources.specs.Source.{calls_of};
 ghost use Rattle.tracing_tree_sources.specs.Tallies.{CountsCalls, nothing_counted};
@@ -10,11 +9,11 @@ use crate::notes::Notes;
 use crate::run::{SourceRun, run_source};
 use crate::source::Source;
 use std::alloc::Global;
-use std::io::{BufReader, Read};
 use tracing_tree_context::{Context, Id, Refusal};
 use tracing_tree_layer::call::{Call, Reply};
 use tracing_tree_layer::calls::Calls;
 use tracing_tree_layer::told::ToldEvent;
+use tracing_tree_lines::lines::LineInput;
 use tracing_tree_spans::registry::{Attributes, Record};
 
 /// A receiver that counts its calls by kind, and keeps nothing else of them. Its spans get the ids
@@ -120,13 +119,13 @@ fn one_more(count: u64) -> Result<u64, Refusal>
 }
 
 /// Counts the calls of a source's lines and of its end: [`run_source`] on a [`Tally`].
-pub fn count_source<S: Source, R: Read, N: Notes>(
+pub fn count_source<S: Source, L: LineInput, N: Notes>(
     alloc: Global,
     source: &mut S,
-    lines: &mut BufReader<R>,
+    lines: &mut L,
     notes: &mut N,
 ) -> (SourceRun, Tally)
-    ensures { IfSome (reader_remaining R.remaining lines.old) (λ input. CountsCalls result.0.fault
+    ensures { IfSome (L.remaining lines.old) (λ input. CountsCalls result.0.fault
         (calls_of S.takes S.ends source.old (input_lines input)) result.1) }
 {
     let mut tally = Tally::new();

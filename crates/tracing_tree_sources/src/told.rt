@@ -1,12 +1,12 @@
 //! Calls as a source tells them: each names the span that it stands in as its current span.
 
 ghost use Rattle.std.specs.Prelude.{◌≡◌, ◌++◌, IfOk, OnOk, [], ◌∷◌, map, string_bytes};
-ghost use Rattle.tracing_tree_sources.specs.Told.{all_on_thread, close_call, context_at, event_call, is_escaped, message_field, on_thread, shown, shown_char, span_call};
+ghost use Rattle.tracing_tree_sources.specs.Told.{all_on_thread, close_call, context_at, event_call, is_escaped, message_field, on_thread, record_call, shown, shown_char, span_call};
 
 use std::alloc::{AllocError, Global};
 use tracing_tree_context::{Context, Id};
 use tracing_tree_layer::call::Call;
-use tracing_tree_spans::registry::{Attributes, Event, Parent};
+use tracing_tree_spans::registry::{Attributes, Event, Parent, Record};
 use tracing_tree_text::field::{Field, Fields};
 use tracing_tree_text::style::Level;
 use tracing_tree_text::text::Text;
@@ -112,6 +112,13 @@ pub fn close_call(moment: Moment, id: Id, above: Option<Id>) -> Call
     ensures { result ≡ close_call moment id above }
 {
     Call::Close(id, context_at(moment, above))
+}
+
+/// A record of these fields, which come after those of the span.
+pub fn record_call(id: Id, fields: Fields) -> Call
+    ensures { result ≡ record_call id fields }
+{
+    Call::Record(id, Record { fields })
 }
 
 /// These calls on the thread of this name, if it has one. `AllocError` where memory is refused.

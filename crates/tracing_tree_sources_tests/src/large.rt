@@ -4,7 +4,7 @@ use super::seen::{START, heard};
 use std::alloc::{AllocError, Global};
 use std::test::*;
 use tracing_tree_go_test::{Failed, GoTest};
-use tracing_tree_sources::{Format, Source, first_format};
+use tracing_tree_sources::{Format, Source, format_of_line};
 use tracing_tree_tracing::Tracing;
 
 // Runs a source to the input's end. Returns whether each line was known and nothing ended the run.
@@ -59,7 +59,7 @@ fn a_first_line_is_long(rt: HostRuntime) -> Result<(), Fail> {
     let mut line = String::from_str(rt.alloc(), "{\"Action\":\"run\",\"Package\":\"")?;
     line.push_str(long.as_str())?;
     line.push_str("\"}")?;
-    assert!(rt; first_format(rt.alloc(), line.as_bytes())? == Format::GoTest);
+    assert!(rt; format_of_line(rt.alloc(), line.as_bytes())? == Some(Format::GoTest));
     Ok(())
 }
 

@@ -7,6 +7,8 @@ mod large;
 #[cfg(test)]
 mod laws;
 #[cfg(test)]
+mod prefixes;
+#[cfg(test)]
 mod receivers;
 #[cfg(test)]
 mod runs;

@@ -7,39 +7,46 @@ use tracing_tree::style::Level;
 use tracing_tree_go_test::{Failed, GoTest};
 use tracing_tree_sources::AtLeast;
 
-// Lines, how many tests passed, failed, were skipped and didn't finish, and whether they failed.
-const ROWS: [(&str, [u64; 4], bool); 8] = [
-    ("", [0, 0, 0, 0], false),
+// Lines, how many tests passed, failed, were skipped and didn't finish, how many packages there were and how many of them failed, and
+// whether something failed.
+const ROWS: [(&str, [u64; 6], bool); 9] = [
+    ("", [0, 0, 0, 0, 0, 0], false),
     (
         "{\"Action\":\"pass\",\"Package\":\"p\",\"Test\":\"A\"}\n",
-        [1, 0, 0, 0],
+        [1, 0, 0, 0, 0, 0],
         false,
     ),
     (
         "{\"Action\":\"fail\",\"Package\":\"p\",\"Test\":\"A\"}\n",
-        [0, 1, 0, 0],
+        [0, 1, 0, 0, 0, 0],
         true,
     ),
     (
         "{\"Action\":\"skip\",\"Package\":\"p\",\"Test\":\"A\"}\n",
-        [0, 0, 1, 0],
+        [0, 0, 1, 0, 0, 0],
         false,
     ),
     // The package still runs.
     (
         "{\"Action\":\"run\",\"Package\":\"p\",\"Test\":\"A\"}\n",
-        [0, 0, 0, 1],
+        [0, 0, 0, 1, 1, 1],
         true,
     ),
     // The failure of a build is told by the package's end, which isn't there.
     (
         "{\"Action\":\"build-fail\",\"ImportPath\":\"p\"}\n",
-        [0, 0, 0, 0],
+        [0, 0, 0, 0, 0, 0],
         false,
     ),
-    ("FAIL\tp [build failed]\n", [0, 0, 0, 0], true),
+    ("FAIL\tp [build failed]\n", [0, 0, 0, 0, 1, 1], true),
+    // A benchmark without an end passes with its package.
+    (
+        "{\"Action\":\"run\",\"Package\":\"p\",\"Test\":\"BenchmarkA\"}\n{\"Action\":\"pass\",\"Package\":\"p\"}\n",
+        [1, 0, 0, 0, 1, 0],
+        false,
+    ),
     // Nothing is known of this line.
-    ("{\"Action\":\"fail\"}\n", [0, 0, 0, 0], false),
+    ("{\"Action\":\"fail\"}\n", [0, 0, 0, 0, 0, 0], false),
 ];
 
 #[test]
@@ -68,9 +75,16 @@ fn ran(alloc: Global, input: &str) -> Result<Box<GoTest>, AllocError> {
     Ok(source)
 }
 
-fn counts_of(source: &GoTest) -> [u64; 4] {
+fn counts_of(source: &GoTest) -> [u64; 6] {
     let tally = source.tally();
-    [tally.passed, tally.failed, tally.skipped, tally.unfinished]
+    [
+        tally.passed,
+        tally.failed,
+        tally.skipped,
+        tally.unfinished,
+        tally.packages,
+        tally.packages_failed,
+    ]
 }
 
 fn fail_above_all(alloc: Global, input: &str) -> Result<bool, AllocError> {

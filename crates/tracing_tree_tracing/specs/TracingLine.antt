@@ -1,5 +1,5 @@
 -- What one line of tracing's JSON says.
-use Rattle.std.specs.Prelude.{ℕ, ◌-◌, ◌==◌, ◌&&◌, ◌||◌, Bool, true, false, not, if◌then◌else◌, List, [], ◌∷◌, ◌++◌, length, take, slice_get, Option, Some, None, is_some, unwrap_or, option_map, codes, bytes_eq}
+use Rattle.std.specs.Prelude.{ℕ, ◌-◌, ◌==◌, ◌&&◌, ◌||◌, Bool, true, false, not, if◌then◌else◌, List, [], ◌∷◌, ◌++◌, length, take, slice_get, Option, Some, None, is_none, is_some, unwrap_or, option_map, codes, bytes_eq}
 use Rattle.std.specs.List.{ends_with, list_any}
 use Rattle.json.specs.Json.{Json, Items, no_items, item}
 use Rattle.json.specs.Find.{get, as_object}
@@ -152,3 +152,16 @@ path_in kind value = listed_or_current (spans_in value) where
   listed_or_current : Option (List Listed) → List Listed
   listed_or_current (Some spans) = spans
   listed_or_current None = current kind (span_in value)
+
+-- the current span, if spans are listed and it isn't the last of them
+abbrev pub other_parent : Json → Option Listed
+other_parent value =
+    if is_none (array_at (codes "spans") value) || is_current value then None else span_in value
+
+-- the span that an event names as its parent
+abbrev pub parent_in : Kind → Json → Option Listed
+parent_in AnEvent value = other_parent value
+parent_in New value = None
+parent_in Enter value = None
+parent_in Exit value = None
+parent_in Close value = None

@@ -1,15 +1,17 @@
 //! Lines of Rust's tracing: what tracing-subscriber's JSON format writes.
 
-ghost use Rattle.std.specs.Prelude.{◌≡◌, ◌++◌, ◌∷◌, [], IfOk, None, OnOk, Some};
+ghost use Rattle.std.specs.Prelude.{◌≡◌, ◌++◌, ◌∷◌, [], IfOk, None, OnOk, Some, length, map, option_map, position};
 ghost use Rattle.json.specs.Value.{value_view};
 ghost use Rattle.std.specs.List.{list_any};
 ghost use Rattle.tracing_tree_spans.specs.Registry.Ids.{same_id};
-ghost use Rattle.tracing_tree_tracing.specs.Tracing.{acted, anywhere, begun, child, child_of_thread, close_at, close_told, closed, closes, closing, ended, event_told, goes_with, is_child, is_child_of_thread, is_in, is_passing, new_told, nothing_open, opened, parted, parted_one, passing, placed, reached, same_above, stepped};
+ghost use Rattle.tracing_tree_tracing.specs.Tracing.{acted, anywhere, begun, child, child_of_thread, close_told, closed, closing, ended, event_told, found, goes_with, if_live, if_unknown, is_child, is_child_of_thread, is_in, is_known, is_untold, late_in, late_of, learned, located, met, new_told, nothing_open, opened, parent_found, parted, parted_one, placed, plain_told, reached, same_above, span_of, spared, stepped, unknown_in, untold_from, with_late, with_untold};
 
 mod line;
 
 use json::Value;
-use line::{Kind, Listed, kind_in, label_in, line_fields, may_be, path_in, span_in, thread_in};
+use line::{
+    Kind, Listed, kind_in, label_in, line_fields, may_be, parent_in, path_in, span_in, thread_in,
+};
 use std::alloc::{AllocError, Global};
 use std::marker::Model;
 use std::mem;
@@ -19,9 +21,10 @@ use tracing_tree_sources::level::level_in;
 use tracing_tree_sources::moments::moment_after;
 use tracing_tree_sources::notes::Lack;
 use tracing_tree_sources::source::Source;
-use tracing_tree_sources::told::{all_on_thread, close_call, event_call, span_call};
-use tracing_tree_sources::values::text_at;
-use tracing_tree_text::field::Fields;
+use tracing_tree_sources::told::{all_on_thread, close_call, event_call, record_call, span_call};
+use tracing_tree_sources::traces::plain_event;
+use tracing_tree_sources::values::{is_object, text_at};
+use tracing_tree_text::field::{Field, Fields};
 use tracing_tree_text::style::Level;
 use tracing_tree_text::text::Text;
 use tracing_tree_time::Moment;
@@ -34,13 +37,19 @@ struct Live {
     above: Option<Id>,
     // As it was first listed.
     first: Listed,
+    // The fields that were recorded later, in the order in which lines listed them.
+    late: Fields,
     // That of the line with which it opened, empty where the line doesn't tell it.
     thread: Text,
     // Whether it was told by `new`.
     is_told: bool,
 }
 
-/// What is known of the spans that live. A span is told by its place in the list of spans, its name and its fields.
+// How many of the spans that no `new` reported are known at most, beside those of a line. A span that
+// comes back after that opens again.
+const KNOWN: usize = 64;
+
+/// What is known of the spans that live. A span is identified by its position in the list of spans, its name and its fields.
 #[derive(Drop)]
 pub struct Tracing {
     alloc: Global,
@@ -52,6 +61,8 @@ pub struct Tracing {
     thread_shown: Option<Text>,
     // The oldest first.
     live: Vec<Live>,
+    // The last span of the last line.
+    at: Option<Id>,
     calls: Vec<Call>,
 }
 
@@ -65,6 +76,7 @@ impl Model for Tracing {
       moment = t.moment;
       thread_shown = t.thread_shown;
       live = t.live.items;
+      at = t.at;
       calls = t.calls.items;
     } };
 }
@@ -80,6 +92,7 @@ impl Tracing {
             moment,
             thread_shown: None,
             live: Vec::new(alloc),
+            at: None,
             calls: Vec::new(alloc),
         }
     }
@@ -107,8 +120,8 @@ impl Tracing {
     {
         let fields = line_fields(self.alloc, value)?;
         let kind = kind_in(self.alloc, fields.as_slice(), value)?;
-        let path = path_in(self.alloc, kind, value)?;
-        let at = self.reach(path, thread_in(value))?;
+        let at = self.locate(kind, value)?;
+        self.at = at;
         match kind {
             Kind::Event => self.push_event(level, fields, at),
             Kind::Enter | Kind::Exit => Ok(()),
@@ -117,35 +130,111 @@ impl Tracing {
         }
     }
 
+    // Comes to the span of a line: its parent, if it names one, otherwise the last of its spans.
+    fn locate(&mut self, kind: Kind, value: &Value<'_>) -> Result<Option<Id>, AllocError>
+        ensures { IfOk result (λ at. located kind (value_view value.now) self.old ≡ record { at = at; state = self.new }) }
+    {
+        let path = path_in(self.alloc, kind, value)?;
+        let at = self.reach(path, thread_in(value))?;
+        match parent_in(self.alloc, kind, value)? {
+            Some(parent) => Ok(Some(self.find_parent(parent, thread_in(value))?)),
+            None => Ok(at),
+        }
+    }
+
+    // The newest span that this entry may be. Opens a root if there is none.
+    fn find_parent(&mut self, listed: Listed, thread: &str) -> Result<Id, AllocError>
+        ensures { IfOk result (λ id. parent_found thread.now listed self.old ≡ record { at = Some id; state = self.new }) }
+    {
+        let id = anywhere(self.live.as_slice(), &listed);
+        self.meet(id, &listed)?;
+        match id {
+            Some(id) => Ok(id),
+            None => self.begin(1, listed, thread, None),
+        }
+    }
+
     // Comes to the last of these spans from the root on. Those that don't live open.
     fn reach(&mut self, path: Vec<Listed>, thread: &str) -> Result<Option<Id>, AllocError>
-        ensures { IfOk result (λ at. reached thread.now path.items None self.old ≡ record { at = at; state = self.new }) }
+        ensures { IfOk result (λ at. reached (length path.items) thread.now path.items None self.old ≡ record { at = at; state = self.new }) }
     {
+        let depth = path.len();
         let mut at = None;
         for listed in path {
-            at = Some(self.step(listed, thread, at)?);
+            at = Some(self.step(depth, listed, thread, at)?);
         }
         Ok(at)
     }
 
     // The span of this entry in the one above; it opens unless it lives.
-    fn step(&mut self, listed: Listed, thread: &str, above: Option<Id>) -> Result<Id, AllocError>
-        ensures { IfOk result (λ id. stepped thread.now listed above self.old ≡ record { at = Some id; state = self.new }) }
+    fn step(
+        &mut self,
+        depth: usize,
+        listed: Listed,
+        thread: &str,
+        above: Option<Id>,
+    ) -> Result<Id, AllocError>
+        ensures { IfOk result (λ id. stepped depth thread.now listed above self.old ≡ record { at = Some id; state = self.new }) }
     {
-        match child(self.live.as_slice(), above, &listed) {
+        let id = child(self.live.as_slice(), above, &listed);
+        self.meet(id, &listed)?;
+        match id {
             Some(id) => Ok(id),
-            None => self.begin(listed, thread, above),
+            None => self.begin(depth, listed, thread, above),
         }
     }
 
-    // Opens a span that no `new` told. The one before it in the same place, on the same thread, closes.
-    fn begin(&mut self, listed: Listed, thread: &str, above: Option<Id>) -> Result<Id, AllocError>
-        ensures { IfOk result (λ id. begun thread.now listed above self.old ≡ record { at = Some id; state = self.new }) }
+    // Records the fields of this entry that aren't known of the span.
+    fn meet(&mut self, id: Option<Id>, listed: &Listed) -> Result<(), AllocError>
+        ensures { OnOk result (self.new ≡ met id listed.now self.old) }
     {
-        if let Some(id) = passing(self.live.as_slice(), above, thread) {
-            self.close(id)?;
+        match id {
+            Some(id) => {
+                let late = late_in(self.alloc, id, listed, self.live.as_slice())?;
+                self.learn(id, late)
+            }
+            None => Ok(()),
         }
+    }
+
+    // Records these fields of a span, which come after those that it has.
+    fn learn(&mut self, id: Id, late: Fields) -> Result<(), AllocError>
+        ensures { OnOk result (self.new ≡ learned id late self.old) }
+    {
+        if late.as_slice().is_empty() {
+            return Ok(());
+        }
+        self.calls.push(record_call(id, late.clone()?))?;
+        let live = self.take_live();
+        self.live = with_late_all(self.alloc, id, &late, live)?;
+        Ok(())
+    }
+
+    // Opens a span that no `new` reported, of a line that lists `depth` spans.
+    fn begin(
+        &mut self,
+        depth: usize,
+        listed: Listed,
+        thread: &str,
+        above: Option<Id>,
+    ) -> Result<Id, AllocError>
+        ensures { IfOk result (λ id. begun depth thread.now listed above self.old ≡ record { at = Some id; state = self.new }) }
+    {
+        self.spare(depth);
         self.open(false, listed, thread, above)
+    }
+
+    // Forgets the oldest of the spans that no `new` reported if too many of them are known.
+    fn spare(&mut self, depth: usize)
+        ensures { self.new ≡ spared depth self.old }
+    {
+        if untold_count(self.live.as_slice()).saturating_sub(KNOWN) < depth {
+            return;
+        }
+        match oldest_untold(self.live.as_slice()) {
+            Some(place) if place < self.live.len() => forget(self.live.remove(place)),
+            _ => {}
+        }
     }
 
     // Opens a span.
@@ -167,6 +256,7 @@ impl Tracing {
             id,
             above,
             first: listed,
+            late: Fields::new(self.alloc),
             thread,
             is_told,
         })?;
@@ -223,23 +313,33 @@ impl Tracing {
     fn closing(&mut self, listed: Listed, thread: &str, above: Option<Id>) -> Result<Id, AllocError>
         ensures { IfOk result (λ id. closing thread.now listed above self.old ≡ record { at = Some id; state = self.new }) }
     {
-        if let Some(id) = child(self.live.as_slice(), above, &listed) {
-            return Ok(id);
-        }
-        match anywhere(self.live.as_slice(), &listed) {
+        let id = found(self.live.as_slice(), above, &listed);
+        self.meet(id, &listed)?;
+        match id {
             Some(id) => Ok(id),
             None => self.open(false, listed, thread, above),
         }
     }
 
-    // Ends a span: an event tells its times, where there are any, and it closes.
+    // Ends a span: an event shows its times and its late fields, if there are any, and it closes.
     fn end(&mut self, level: Level, fields: Fields, id: Id) -> Result<(), AllocError>
         ensures { OnOk result (self.new ≡ ended level fields id self.old) }
     {
+        let mut fields = fields;
+        fields.append(late_of(self.alloc, id, self.live.as_slice())?)?;
         if fields.as_slice().len() > 1 {
             self.push_event(level, fields, Some(id))?;
         }
         self.close(id)
+    }
+
+    // Takes a line that isn't a JSON object: an event in the last span of the line before it.
+    fn take_plain(&mut self, line: &str) -> Result<(), AllocError>
+        ensures { OnOk result (self.new ≡ plain_told line.now self.old) }
+    {
+        let at = if_live(self.at, self.live.as_slice());
+        let call = plain_event(self.alloc, self.moment, line, at)?;
+        Ok(self.calls.push(call)?)
     }
 
     // Closes a span with all that live in it.
@@ -337,15 +437,14 @@ fn child_of_thread(live: &[Live], above: Option<Id>, thread: &str) -> Option<Id>
     Some(found.id)
 }
 
-// The newest span in the one above that opened on this thread and that no `new` told.
-fn passing(live: &[Live], above: Option<Id>, thread: &str) -> Option<Id>
-    ensures { result ≡ passing live.now above thread.now }
+// The span of an entry in the one above, otherwise one anywhere.
+fn found(live: &[Live], above: Option<Id>, listed: &Listed) -> Option<Id>
+    ensures { result ≡ found live.now above listed.now }
 {
-    let found = live.iter().rev().find(|one| {
-        let one: &Live = one;
-        is_passing(one, above, thread)
-    })?;
-    Some(found.id)
+    match child(live, above, listed) {
+        Some(id) => Some(id),
+        None => anywhere(live, listed),
+    }
 }
 
 fn is_child(one: &Live, above: Option<Id>, listed: &Listed) -> bool
@@ -358,12 +457,6 @@ fn is_child_of_thread(one: &Live, above: Option<Id>, thread: &str) -> bool
     ensures { result ≡ is_child_of_thread above thread.now one.now }
 {
     same_above(one.above, above) && one.thread.as_str() == thread
-}
-
-fn is_passing(one: &Live, above: Option<Id>, thread: &str) -> bool
-    ensures { result ≡ is_passing above thread.now one.now }
-{
-    !one.is_told && is_child_of_thread(one, above, thread)
 }
 
 fn same_above(one: Option<Id>, other: Option<Id>) -> bool
@@ -390,17 +483,19 @@ impl Source for Tracing {
     fn take(
         &mut self,
         alloc: Global,
-        _line: &str,
+        line: &str,
         value: Option<&Value<'_>>,
     ) -> Result<Option<Vec<Call>>, AllocError> {
-        let Some(value) = value else {
-            return Ok(None);
-        };
-        let Some(level) = level_in(value) else {
-            return Ok(None);
-        };
-        self.place(value)?;
-        self.act(level, value)?;
+        match value {
+            Some(value) if is_object(value) => {
+                let Some(level) = level_in(value) else {
+                    return Ok(None);
+                };
+                self.place(value)?;
+                self.act(level, value)?;
+            }
+            _ => self.take_plain(line)?,
+        }
         let calls = self.told();
         Ok(Some(all_on_thread(alloc, &self.thread_shown, calls)?))
     }
@@ -413,26 +508,138 @@ impl Source for Tracing {
     }
 
     fn end(&mut self, alloc: Global) -> Result<Vec<Call>, AllocError> {
-        let moment = self.moment;
-        let live = self.take_live();
-        let calls = closes(alloc, moment, live)?;
-        all_on_thread(alloc, &self.thread_shown, calls)
+        Ok(Vec::new(alloc))
     }
 }
 
-// The closes of these spans.
-fn closes(alloc: Global, moment: Moment, live: Vec<Live>) -> Result<Vec<Call>, AllocError>
-    ensures { IfOk result (λ calls. calls.items ≡ closes moment live.items) }
+// The span with this id, if it is live.
+fn span_of(live: &[Live], id: Id) -> Option<&Live>
+    ensures { option_map (λ one. one.now) result ≡ span_of live.now id }
 {
-    let mut calls = Vec::new(alloc);
+    live.iter().find(|one| {
+        let one: &Live = one;
+        one.id == id
+    })
+}
+
+// This id if its span is live.
+fn if_live(id: Option<Id>, live: &[Live]) -> Option<Id>
+    ensures { result ≡ if_live id live.now }
+{
+    let id = id?;
+    let one = span_of(live, id)?;
+    Some(one.id)
+}
+
+// The fields of an entry that aren't known of the span with this id.
+fn late_in(alloc: Global, id: Id, listed: &Listed, live: &[Live]) -> Result<Fields, AllocError>
+    ensures { IfOk result (λ late. late ≡ late_in id listed.now live.now) }
+{
+    match span_of(live, id) {
+        Some(one) => unknown_in(alloc, listed.fields.as_slice(), one),
+        None => Ok(Fields::new(alloc)),
+    }
+}
+
+fn unknown_in(alloc: Global, fields: &[Field], one: &Live) -> Result<Fields, AllocError>
+    ensures { IfOk result (λ unknown. unknown ≡ unknown_in one.now fields.now) }
+{
+    let mut unknown = Vec::new(alloc);
+    for field in fields {
+        push_unknown(&mut unknown, field, one)?;
+    }
+    Ok(Fields::from(unknown))
+}
+
+fn push_unknown(unknown: &mut Vec<Field>, field: &Field, one: &Live) -> Result<(), AllocError>
+    ensures { OnOk result (unknown.new.items ≡ unknown.old.items ++ if_unknown one.now field.now) }
+{
+    if is_known(one, field) {
+        return Ok(());
+    }
+    Ok(unknown.push(field.clone()?)?)
+}
+
+fn is_known(one: &Live, field: &Field) -> bool
+    ensures { result ≡ is_known one.now field.now }
+{
+    one.first.fields.as_slice().contains(field) || one.late.as_slice().contains(field)
+}
+
+// The fields of a span that were recorded late.
+fn late_of(alloc: Global, id: Id, live: &[Live]) -> Result<Fields, AllocError>
+    ensures { IfOk result (λ late. late ≡ late_of id live.now) }
+{
+    match span_of(live, id) {
+        Some(one) => one.late.clone(),
+        None => Ok(Fields::new(alloc)),
+    }
+}
+
+// These spans, of which the one with this id has these fields at its end.
+fn with_late_all(
+    alloc: Global,
+    id: Id,
+    late: &Fields,
+    live: Vec<Live>,
+) -> Result<Vec<Live>, AllocError>
+    ensures { IfOk result (λ all. all.items ≡ map (with_late id late.now) live.items) }
+{
+    let mut all = Vec::new(alloc);
     for one in live {
-        push_close(&mut calls, &moment, &one)?;
+        all.push(with_late(id, late, one)?)?;
     }
-    Ok(calls)
+    Ok(all)
 }
 
-fn push_close(calls: &mut Vec<Call>, moment: &Moment, one: &Live) -> Result<(), AllocError>
-    ensures { OnOk result (calls.new.items ≡ calls.old.items ++ close_at moment.now one.now ∷ []) }
+fn with_late(id: Id, late: &Fields, one: Live) -> Result<Live, AllocError>
+    ensures { IfOk result (λ made. made ≡ with_late id late.now one) }
 {
-    Ok(calls.push(close_call(*moment, one.id, one.above))?)
+    let mut one = one;
+    if one.id == id {
+        one.late.append(late.clone()?)?;
+    }
+    Ok(one)
+}
+
+// Lets go of a span.
+fn forget(_one: Live) {}
+
+// The place of the oldest span that no `new` reported.
+fn oldest_untold(live: &[Live]) -> Option<usize>
+    ensures { result ≡ position is_untold live.now }
+{
+    live.iter().position(|one| {
+        let one: &Live = one;
+        is_untold(one)
+    })
+}
+
+fn is_untold(one: &Live) -> bool
+    ensures { result ≡ is_untold one.now }
+{
+    !one.is_told
+}
+
+// How many spans were reported by no `new`.
+fn untold_count(live: &[Live]) -> usize
+    ensures { result ≡ untold_from 0 live.now }
+{
+    let mut count = 0;
+    let mut rest = live;
+    while let [one, others @ ..] = rest {
+        count = with_untold(one, count);
+        rest = others;
+    }
+    count
+}
+
+fn with_untold(one: &Live, count: usize) -> usize
+    ensures { result ≡ with_untold one.now count }
+{
+    if one.is_told {
+        count
+    } else {
+        count.saturating_add(1)
+    }
 }

@@ -1,7 +1,9 @@
-//! Texts of Go's tests: names, and lines that only frame.
+//! Texts of Go's tests: names, lines that only frame, and how a package ended.
 
-ghost use Rattle.std.specs.Prelude.{◌≡◌};
-ghost use Rattle.tracing_tree_go_test.specs.GoTest.{ends_line, ends_word, frames, is_end_frame, is_frame, is_package_frame, is_step_frame, up_to_space, without_line_end, without_spaces};
+ghost use Rattle.std.specs.Prelude.{◌≡◌, option_map};
+ghost use Rattle.tracing_tree_go_test.specs.Texts.{after_path, after_tab, coverage_in, coverage_of, ends_line, ends_word, frames, is_cached, is_end_frame, is_frame, is_frame_line, is_name_frame, is_package_frame, is_step_frame, is_summary, is_test_frame, own_name, percent, up_to_space, without_line_end, without_spaces};
+
+use tracing_tree_sources::marks::after_mark;
 
 // Whether nothing or this byte begins what is left.
 pub(super) fn ends_word(byte: u8, rest: &[u8]) -> bool
@@ -23,6 +25,22 @@ pub(super) fn up_to_space(text: &str) -> &str
     }
 }
 
+// The name of a test as it is shown in the span of this outer test.
+pub(super) fn own_name<'t>(outer: &str, test: &'t str) -> &'t str
+    ensures { result.now ≡ own_name outer.now test.now }
+{
+    if outer.is_empty() {
+        return test;
+    }
+    let Some(rest) = after_mark(test, outer) else {
+        return test;
+    };
+    match after_mark(rest, "/") {
+        Some(own) => own,
+        None => test,
+    }
+}
+
 pub(super) fn ends_line(bytes: &[u8]) -> bool
     ensures { result ≡ ends_line bytes.now }
 {
@@ -38,18 +56,31 @@ pub(super) fn without_line_end(text: &str) -> &str
     }
 }
 
+// Whether a string is a whole line that only frames what the test of this name, or a package, prints.
+pub(super) fn is_frame_line(test: &str, text: &str) -> bool
+    ensures { result ≡ is_frame_line test.now text.now }
+{
+    ends_line(text.as_bytes()) && is_frame(test, without_line_end(text))
+}
+
 // Whether a line only frames what the test of this name, or a package, prints.
-pub(super) fn is_frame(test: &[u8], line: &[u8]) -> bool
+pub(super) fn is_frame(test: &str, line: &str) -> bool
     ensures { result ≡ is_frame test.now line.now }
 {
     if test.is_empty() {
-        return is_package_frame(line);
+        return is_summary(line);
     }
-    let line = without_spaces(line);
-    is_step_frame(test, line) || is_end_frame(test, line)
+    is_test_frame(test.as_bytes(), without_spaces(line.as_bytes()))
 }
 
-// Whether a line tells that the test goes on or waits.
+// Whether a line only frames what the test of this name prints.
+fn is_test_frame(test: &[u8], line: &[u8]) -> bool
+    ensures { result ≡ is_test_frame test.now line.now }
+{
+    is_step_frame(test, line) || is_end_frame(test, line) || is_name_frame(test, line)
+}
+
+// Whether a line tells that the test goes on or waits, or what belongs to it.
 fn is_step_frame(test: &[u8], line: &[u8]) -> bool
     ensures { result ≡ is_step_frame test.now line.now }
 {
@@ -57,6 +88,8 @@ fn is_step_frame(test: &[u8], line: &[u8]) -> bool
         || frames(line, "=== PAUSE ", test)
         || frames(line, "=== CONT  ", test)
         || frames(line, "=== NAME  ", test)
+        || frames(line, "=== ATTR  ", test)
+        || frames(line, "=== ARTIFACTS ", test)
 }
 
 // Whether a line tells how the test ended.
@@ -67,6 +100,13 @@ fn is_end_frame(test: &[u8], line: &[u8]) -> bool
         || frames(line, "--- FAIL: ", test)
         || frames(line, "--- SKIP: ", test)
         || frames(line, "--- BENCH: ", test)
+}
+
+// Whether a line is a benchmark's name by itself.
+fn is_name_frame(test: &[u8], line: &[u8]) -> bool
+    ensures { result ≡ is_name_frame test.now line.now }
+{
+    test.starts_with("Benchmark".as_bytes()) && line == test
 }
 
 // What stands from the first byte on that is no space.
@@ -99,4 +139,64 @@ pub(super) fn is_package_frame(line: &[u8]) -> bool
         || line.starts_with("ok  \t".as_bytes())
         || line.starts_with("FAIL\t".as_bytes())
         || line.starts_with("?   \t".as_bytes())
+}
+
+// Whether a line of a package only frames, or says how it was covered.
+fn is_summary(line: &str) -> bool
+    ensures { result ≡ is_summary line.now }
+{
+    is_package_frame(line.as_bytes()) || coverage_in(line).is_some()
+}
+
+// What comes after the first tab.
+fn after_tab(text: &str) -> &str
+    ensures { result.now ≡ after_tab text.now }
+{
+    match text.split_once('\t') {
+        Some((_, rest)) => rest,
+        None => "",
+    }
+}
+
+// What comes after a package's status and path.
+fn after_path(line: &str) -> &str
+    ensures { result.now ≡ after_path line.now }
+{
+    after_tab(after_tab(line))
+}
+
+// Whether the result of a package is one of an earlier run.
+pub(super) fn is_cached(line: &str) -> bool
+    ensures { result ≡ is_cached line.now }
+{
+    after_path(line).starts_with("(cached)")
+}
+
+// The percentage in a line that says it by itself, or behind a package's time.
+#[tactic(auto, unfolding(crate::specs::Texts::coverage_in))]
+pub(super) fn coverage_in(line: &str) -> Option<&str>
+    ensures { option_map (λ s. s.now) result ≡ coverage_in line.now }
+{
+    match coverage_of(line) {
+        Some(word) => Some(word),
+        None => coverage_of(after_tab(after_path(line))),
+    }
+}
+
+fn coverage_of(text: &str) -> Option<&str>
+    ensures { option_map (λ s. s.now) result ≡ coverage_of text.now }
+{
+    percent(after_mark(text, "coverage: ")?)
+}
+
+// The word before the first space, if it is a percentage.
+fn percent(text: &str) -> Option<&str>
+    ensures { option_map (λ s. s.now) result ≡ percent text.now }
+{
+    let word = up_to_space(text);
+    if word.as_bytes().ends_with("%".as_bytes()) {
+        Some(word)
+    } else {
+        None
+    }
 }

@@ -1,13 +1,12 @@
 //! Lines of a reader.
 
-ghost use Rattle.std.specs.Prelude.{◌≡◌, ◌==◌, is_some, position};
-ghost use Rattle.std.specs.Io.Buffered.{reader_buffer};
+ghost use Rattle.std.specs.Prelude.{◌≡◌, ◌==◌, position};
 ghost use Rattle.tracing_tree_lines.specs.Lines.Spelled.{is_skipped};
 ghost use Rattle.tracing_tree_lines.specs.Lines.Reads.{BeginsWithLines, ReadsEnded, ReadsPart, ReadsNext};
 
 use super::LineCause;
 use memchr::{memchr, memrchr};
-use std::io::{BufRead, BufReader, ErrorKind, Read};
+use std::io::{BufRead, ErrorKind};
 use tracing_tree_output::TRIES;
 
 /// The bytes that are asked of a reader at a time. The programs' writers hold back as many.
@@ -23,13 +22,6 @@ enum Part {
     Inside,
     // Nowhere: the read was interrupted.
     Interrupted,
-}
-
-/// Whether the reader's buffer holds the next line with its line end, so that the line is read without reading input.
-pub fn holds_line<R: Read>(reader: &BufReader<R>) -> bool
-    ensures { result ≡ is_some (position (λ byte. byte == 10) (reader_buffer reader.now)) }
-{
-    line_end(reader.buffer()).is_some()
 }
 
 /// Reads the next line, without its line end, in place of what `line` held. Returns whether there is one: what stands after

@@ -2,7 +2,7 @@
 
 ghost use Rattle.std.specs.Prelude.{◌≡◌, IfOk, option_map};
 ghost use Rattle.json.specs.Value.{items_view, value_view};
-ghost use Rattle.tracing_tree_tracing.specs.TracingLine.{bare_thread, fields_within, is_current, is_message, is_timed_close, items_listed, kind_in, kind_of, kind_of_message, label_in, line_fields, lists_same, listed_of, may_be, names_span, object_at, path_in, span_in, spans_in, thread_in, thread_label};
+ghost use Rattle.tracing_tree_tracing.specs.TracingLine.{bare_thread, fields_within, is_current, is_message, is_timed_close, items_listed, kind_in, kind_of, kind_of_message, label_in, line_fields, lists_same, listed_of, may_be, names_span, object_at, other_parent, parent_in, path_in, span_in, spans_in, thread_in, thread_label};
 
 use json::Value;
 use std::alloc::{AllocError, Global};
@@ -174,6 +174,29 @@ pub(super) fn path_in(
         }
     }
     Ok(path)
+}
+
+// The span that an event names as its parent: the current span, if it isn't the last that is listed.
+pub(super) fn parent_in(
+    alloc: Global,
+    kind: Kind,
+    value: &Value<'_>,
+) -> Result<Option<Listed>, AllocError>
+    ensures { IfOk result (λ parent. parent ≡ parent_in kind (value_view value.now)) }
+{
+    match kind {
+        Kind::Event => other_parent(alloc, value),
+        Kind::New | Kind::Enter | Kind::Exit | Kind::Close => Ok(None),
+    }
+}
+
+fn other_parent(alloc: Global, value: &Value<'_>) -> Result<Option<Listed>, AllocError>
+    ensures { IfOk result (λ parent. parent ≡ other_parent (value_view value.now)) }
+{
+    if array_at(value, "spans").is_none() || is_current(alloc, value)? {
+        return Ok(None);
+    }
+    span_in(alloc, value)
 }
 
 // What a line tells, of which these are the event's fields.

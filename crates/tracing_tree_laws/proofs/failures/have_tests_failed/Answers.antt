@@ -1,11 +1,10 @@
 use Rattle.std.proofs.Common.{rules}
-use Rattle.std.specs.Io.Buffered.{reader_remaining}
 use Rattle.tracing_tree_layer.specs.Layer.Layers.{seen}
 use Rattle.tracing_tree_laws.proofs.TestRuns.{failed_after_run}
 use Rattle.tracing_tree_laws.proofs.failures.have_tests_failed.Goals as goal
 
 pub returns-in-None : goal.returns-in-None
 returns-in-None g c =
-    failed_after_run (reader_remaining g.R.Read.remaining c.args.lines.now) c.args.next c.args.moment _ _ c.draw_source-run.result
+    failed_after_run (g.L.LineInput.remaining c.args.lines.now) c.args.next c.args.moment _ _ c.draw_source-run.result
     (seen g.FT.FormatTime g.W.Output c.args.layered.now) (seen g.FT.FormatTime g.W.Output c.draw_source-run.new.layered) c.in-Ok.ensures c.in-None.is
     c.draw_source-run.ensures.run.changed _ (search rules)

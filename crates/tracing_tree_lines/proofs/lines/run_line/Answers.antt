@@ -1,5 +1,4 @@
 use Rattle.std.proofs.Common.{refl}
-use Rattle.std.specs.Io.Buffered.{reader_remaining}
 use Rattle.std.proofs.lemmas.Result.{err_from_is_err_and}
 use Rattle.tracing_tree_layer.specs.Layer.Layers.{seen}
 use Rattle.tracing_tree_lines.specs.Lines.Reads.{TakesLine}
@@ -9,7 +8,7 @@ use Rattle.tracing_tree_lines.proofs.lines.run_line.Goals as goal
 pub returns-in_err-read_next : goal.returns-in_err-read_next
 returns-in_err-read_next g c =
     let p = err_from_is_err_and c.from_residual.result c.from_residual.ensures.1 in
-    let remaining = reader_remaining g.R.Read.remaining in
+    let remaining = g.L.LineInput.remaining in
     rw (p.1, p.2) (record {
       shown = c.read_next.new.layered;
       flushed = c.in_err-read_next.ensures.shown;
@@ -29,7 +28,7 @@ returns-then-not-branch g c = record {
 
 pub returns : goal.returns
 returns g c =
-    let remaining = reader_remaining g.R.Read.remaining in
+    let remaining = g.L.LineInput.remaining in
     let read : TakesLine (remaining c.args.lines.now) (remaining c.read_next.new.lines) c.read_next.new.line.items =
     rw c.if-not-branch.false at c.in_ok-read_next.ensures.read in
     let first : TakesLine (remaining c.args.lines.now) (remaining c.read_next.new.lines) c.as_slice-2.result.now = rw c.as_slice-2.ensures.value read in

@@ -9,18 +9,18 @@ returns-clause-ran g c =
     let remaining = g.R.Read.remaining in
     let opened = c.in-Ok.opened in
     let setup = c.into_parts-config.ensures in
-    let writer : c.into_writer.result ≡ c.run_calls-accepted.new.layered.layer.writer = c.into_writer.ensures ∙ ap (λ l. l.writer) c.into_parts-registry.ensures.layer in
-    concludes g.W.Output clock (remaining c.args.reader) (reader_remaining remaining opened.0) opened.1 c.run_calls-accepted.result.0 c.run_calls-accepted.result.1
-    c.args.writer c.into_writer.result c.new-layered.result c.run_calls-accepted.new.layered c.in-Ok.ensures.opened
+    let writer : c.into_writer.result ≡ c.draw_lines-accepted.new.layered.layer.writer = c.into_writer.ensures ∙ ap (λ l. l.writer) c.into_parts-registry.ensures.layer in
+    concludes g.W.Output clock (remaining c.args.reader) (reader_remaining remaining opened.0) opened.1 c.draw_lines-accepted.result.0 c.draw_lines-accepted.result.1
+    c.args.writer c.into_writer.result c.new-layered.result c.draw_lines-accepted.new.layered c.in-Ok.ensures.opened
     (rw (c.new-layered.ensures, c.with_timer-layer.ensures, c.with_config.ensures, setup.settings, setup.timer) refl)
     (sym writer)
-    c.run_calls-accepted.ensures.ran
+    c.draw_lines-accepted.ensures.ran
 
 pub returns-clause-counted : goal.returns-clause-counted
 returns-clause-counted g c =
     let setup = c.into_parts-config.ensures in
-    let writer : c.into_writer.result ≡ c.run_calls-accepted.new.layered.layer.writer = c.into_writer.ensures ∙ ap (λ l. l.writer) c.into_parts-registry.ensures.layer in
-    let runs = rw (c.new-layered.ensures, c.with_timer-layer.ensures, c.with_config.ensures) at c.run_calls-accepted.ensures in
+    let writer : c.into_writer.result ≡ c.draw_lines-accepted.new.layered.layer.writer = c.into_writer.ensures ∙ ap (λ l. l.writer) c.into_parts-registry.ensures.layer in
+    let runs = rw (c.new-layered.ensures, c.with_timer-layer.ensures, c.with_config.ensures) at c.draw_lines-accepted.ensures in
     rw writer runs.counted
 
 pub returns-in-Err-clause-counted : goal.returns-in-Err-clause-counted

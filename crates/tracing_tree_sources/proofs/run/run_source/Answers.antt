@@ -1,5 +1,4 @@
 use Rattle.std.proofs.Common.{◌≡◌, ◌+◌, ℕ, List, refl, subst, arith, true, false, [], ◌∷◌, take, Some, IfSome, IfOk, Ok}
-use Rattle.std.specs.Io.Buffered.{reader_remaining}
 use Rattle.std.specs.Prelude.{MatchOption}
 use Rattle.tracing_tree_lines.specs.declared.lines.LineCause.TheVariants.{Read}
 use Rattle.tracing_tree_lines.specs.Lines.Spelled.{input_lines}
@@ -15,7 +14,7 @@ use Rattle.tracing_tree_sources.proofs.run.run_source.Goals as goal
 pub loop-number-init : goal.loop-number-init
 loop-number-init g c = record {
   room = omega arith;
-  so_far = starts g.C.Calls.answers g.C.Calls.flushes g.S.Source.takes g.S.Source.lacks (reader_remaining g.R.Read.remaining c.args.lines.now) c.args.source.now
+  so_far = starts g.C.Calls.answers g.C.Calls.flushes g.S.Source.takes g.S.Source.lacks (g.L.LineInput.remaining c.args.lines.now) c.args.source.now
       (g.N.Notes.noted c.args.notes.now) c.args.receiver.now;
 }
 
@@ -25,18 +24,18 @@ returns-in-Ok-End-clause-run g c =
     let flushes = g.C.Calls.flushes in
     let takes = g.S.Source.takes in
     let lacks = g.S.Source.lacks in
-    let known = reader_remaining g.R.Read.remaining c.args.lines.now in
-    let middle = reader_remaining g.R.Read.remaining c.loop-number.lines in
-    let left = reader_remaining g.R.Read.remaining c.run_next.new.lines in
+    let known = g.L.LineInput.remaining c.args.lines.now in
+    let middle = g.L.LineInput.remaining c.loop-number.lines in
+    let left = g.L.LineInput.remaining c.run_next.new.lines in
     let line = c.run_next.new.line.items in
     let noted = g.N.Notes.noted c.args.notes.now in
     let notes = g.N.Notes.noted c.loop-number.notes in
     let shown = flushed answers flushes takes lacks known middle c.args.source.now c.loop-number.source c.loop-number.number c.loop-number.unknown noted notes
-    c.args.receiver.now c.loop-number.receiver c.show_before_read.new.receiver c.loop-number.invariant.so_far c.show_before_read.ensures.flushed in
+    c.args.receiver.now c.loop-number.receiver c.flush_before_wait.new.receiver c.loop-number.invariant.so_far c.flush_before_wait.ensures.flushed in
     let is : c.run_next.result ≡ Ok End = cc in
     let next = rw is at c.run_next.ensures.next in
     finishes answers flushes takes lacks g.S.Source.ends g.S.Source.ended known middle left line c.args.source.now c.loop-number.source c.run_next.new.source c.loop-number.number c.loop-number.unknown noted notes
-    c.args.receiver.now c.show_before_read.new.receiver c.run_next.new.receiver shown next
+    c.args.receiver.now c.flush_before_wait.new.receiver c.run_next.new.receiver shown next
 
 pub returns-in-Ok-End-clause-noted : goal.returns-in-Ok-End-clause-noted
 returns-in-Ok-End-clause-noted g c =
@@ -44,18 +43,18 @@ returns-in-Ok-End-clause-noted g c =
     let flushes = g.C.Calls.flushes in
     let takes = g.S.Source.takes in
     let lacks = g.S.Source.lacks in
-    let known = reader_remaining g.R.Read.remaining c.args.lines.now in
-    let middle = reader_remaining g.R.Read.remaining c.loop-number.lines in
-    let left = reader_remaining g.R.Read.remaining c.run_next.new.lines in
+    let known = g.L.LineInput.remaining c.args.lines.now in
+    let middle = g.L.LineInput.remaining c.loop-number.lines in
+    let left = g.L.LineInput.remaining c.run_next.new.lines in
     let line = c.run_next.new.line.items in
     let noted = g.N.Notes.noted c.args.notes.now in
     let notes = g.N.Notes.noted c.loop-number.notes in
     let shown = flushed answers flushes takes lacks known middle c.args.source.now c.loop-number.source c.loop-number.number c.loop-number.unknown noted notes
-    c.args.receiver.now c.loop-number.receiver c.show_before_read.new.receiver c.loop-number.invariant.so_far c.show_before_read.ensures.flushed in
+    c.args.receiver.now c.loop-number.receiver c.flush_before_wait.new.receiver c.loop-number.invariant.so_far c.flush_before_wait.ensures.flushed in
     let is : c.run_next.result ≡ Ok End = cc in
     let next = rw is at c.run_next.ensures.next in
     noted_whole answers flushes takes lacks g.S.Source.ends g.S.Source.ended known middle left line c.args.source.now c.loop-number.source c.run_next.new.source c.loop-number.number c.loop-number.unknown noted notes
-    c.args.receiver.now c.show_before_read.new.receiver c.run_next.new.receiver shown next
+    c.args.receiver.now c.flush_before_wait.new.receiver c.run_next.new.receiver shown next
 
 pub returns-in-Err-clause-run : goal.returns-in-Err-clause-run
 returns-in-Err-clause-run g c =
@@ -63,16 +62,16 @@ returns-in-Err-clause-run g c =
     let flushes = g.C.Calls.flushes in
     let takes = g.S.Source.takes in
     let lacks = g.S.Source.lacks in
-    let known = reader_remaining g.R.Read.remaining c.args.lines.now in
-    let middle = reader_remaining g.R.Read.remaining c.loop-number.lines in
-    let left = reader_remaining g.R.Read.remaining c.run_next.new.lines in
+    let known = g.L.LineInput.remaining c.args.lines.now in
+    let middle = g.L.LineInput.remaining c.loop-number.lines in
+    let left = g.L.LineInput.remaining c.run_next.new.lines in
     let line = c.run_next.new.line.items in
     let noted = g.N.Notes.noted c.args.notes.now in
     let notes = g.N.Notes.noted c.loop-number.notes in
     let shown = flushed answers flushes takes lacks known middle c.args.source.now c.loop-number.source c.loop-number.number c.loop-number.unknown noted notes
-    c.args.receiver.now c.loop-number.receiver c.show_before_read.new.receiver c.loop-number.invariant.so_far c.show_before_read.ensures.flushed in
+    c.args.receiver.now c.loop-number.receiver c.flush_before_wait.new.receiver c.loop-number.invariant.so_far c.flush_before_wait.ensures.flushed in
     stops answers flushes takes lacks g.S.Source.ends g.S.Source.ended known middle left line c.args.source.now c.loop-number.source c.run_next.new.source c.loop-number.number c.loop-number.unknown noted notes c.in-Err.cause c.in-Err.ensures.cause
-    c.args.receiver.now c.show_before_read.new.receiver c.run_next.new.receiver shown c.in-Err.ensures.next
+    c.args.receiver.now c.flush_before_wait.new.receiver c.run_next.new.receiver shown c.in-Err.ensures.next
 
 pub returns-in-Err-clause-noted : goal.returns-in-Err-clause-noted
 returns-in-Err-clause-noted g c =
@@ -80,16 +79,16 @@ returns-in-Err-clause-noted g c =
     let flushes = g.C.Calls.flushes in
     let takes = g.S.Source.takes in
     let lacks = g.S.Source.lacks in
-    let known = reader_remaining g.R.Read.remaining c.args.lines.now in
-    let middle = reader_remaining g.R.Read.remaining c.loop-number.lines in
-    let left = reader_remaining g.R.Read.remaining c.run_next.new.lines in
+    let known = g.L.LineInput.remaining c.args.lines.now in
+    let middle = g.L.LineInput.remaining c.loop-number.lines in
+    let left = g.L.LineInput.remaining c.run_next.new.lines in
     let line = c.run_next.new.line.items in
     let noted = g.N.Notes.noted c.args.notes.now in
     let notes = g.N.Notes.noted c.loop-number.notes in
     let shown = flushed answers flushes takes lacks known middle c.args.source.now c.loop-number.source c.loop-number.number c.loop-number.unknown noted notes
-    c.args.receiver.now c.loop-number.receiver c.show_before_read.new.receiver c.loop-number.invariant.so_far c.show_before_read.ensures.flushed in
+    c.args.receiver.now c.loop-number.receiver c.flush_before_wait.new.receiver c.loop-number.invariant.so_far c.flush_before_wait.ensures.flushed in
     noted_outside answers flushes takes lacks known middle c.args.source.now c.loop-number.source c.loop-number.number c.loop-number.unknown noted notes
-    c.args.receiver.now c.show_before_read.new.receiver shown c.in-Err.cause c.in-Err.ensures.cause
+    c.args.receiver.now c.flush_before_wait.new.receiver shown c.in-Err.cause c.in-Err.ensures.cause
 
 pub returns-in-Err-skip-clause-run : goal.returns-in-Err-skip-clause-run
 returns-in-Err-skip-clause-run g c =
@@ -97,19 +96,19 @@ returns-in-Err-skip-clause-run g c =
     let flushes = g.C.Calls.flushes in
     let takes = g.S.Source.takes in
     let lacks = g.S.Source.lacks in
-    let known = reader_remaining g.R.Read.remaining c.args.lines.now in
-    let middle = reader_remaining g.R.Read.remaining c.loop-number.lines in
-    let left = reader_remaining g.R.Read.remaining c.run_next.new.lines in
+    let known = g.L.LineInput.remaining c.args.lines.now in
+    let middle = g.L.LineInput.remaining c.loop-number.lines in
+    let left = g.L.LineInput.remaining c.run_next.new.lines in
     let line = c.run_next.new.line.items in
     let noted = g.N.Notes.noted c.args.notes.now in
     let notes = g.N.Notes.noted c.loop-number.notes in
     let shown = flushed answers flushes takes lacks known middle c.args.source.now c.loop-number.source c.loop-number.number c.loop-number.unknown noted notes
-    c.args.receiver.now c.loop-number.receiver c.show_before_read.new.receiver c.loop-number.invariant.so_far c.show_before_read.ensures.flushed in
+    c.args.receiver.now c.loop-number.receiver c.flush_before_wait.new.receiver c.loop-number.invariant.so_far c.flush_before_wait.ensures.flushed in
     let is : c.run_next.result ≡ Ok Unknown = cc in
     let next = rw is at c.run_next.ensures.next in
     let of_notes = is_of_notes c.lack_of-lack.result c.skip.result c.in-Err-skip.cause c.skip.ensures.ended c.in-Err-skip.is in
     stops_noted answers flushes takes lacks g.S.Source.ends g.S.Source.ended known middle left line c.args.source.now c.loop-number.source c.run_next.new.source c.loop-number.number c.loop-number.unknown noted notes c.in-Err-skip.cause of_notes
-    c.args.receiver.now c.show_before_read.new.receiver c.run_next.new.receiver shown next
+    c.args.receiver.now c.flush_before_wait.new.receiver c.run_next.new.receiver shown next
 
 pub returns-in-Err-skip-clause-noted : goal.returns-in-Err-skip-clause-noted
 returns-in-Err-skip-clause-noted g c =
@@ -117,14 +116,14 @@ returns-in-Err-skip-clause-noted g c =
     let flushes = g.C.Calls.flushes in
     let takes = g.S.Source.takes in
     let lacks = g.S.Source.lacks in
-    let known = reader_remaining g.R.Read.remaining c.args.lines.now in
-    let middle = reader_remaining g.R.Read.remaining c.loop-number.lines in
-    let left = reader_remaining g.R.Read.remaining c.run_next.new.lines in
+    let known = g.L.LineInput.remaining c.args.lines.now in
+    let middle = g.L.LineInput.remaining c.loop-number.lines in
+    let left = g.L.LineInput.remaining c.run_next.new.lines in
     let line = c.run_next.new.line.items in
     let noted = g.N.Notes.noted c.args.notes.now in
     let notes = g.N.Notes.noted c.loop-number.notes in
     let shown = flushed answers flushes takes lacks known middle c.args.source.now c.loop-number.source c.loop-number.number c.loop-number.unknown noted notes
-    c.args.receiver.now c.loop-number.receiver c.show_before_read.new.receiver c.loop-number.invariant.so_far c.show_before_read.ensures.flushed in
+    c.args.receiver.now c.loop-number.receiver c.flush_before_wait.new.receiver c.loop-number.invariant.so_far c.flush_before_wait.ensures.flushed in
     let is : c.run_next.result ≡ Ok Unknown = cc in
     let next = rw is at c.run_next.ensures.next in
     let of_notes = is_of_notes c.lack_of-lack.result c.skip.result c.in-Err-skip.cause c.skip.ensures.ended c.in-Err-skip.is in
@@ -135,7 +134,7 @@ returns-in-Err-skip-clause-noted g c =
     noted_by_number c.lack_of-lack.result notes left_notes c.loop-number.number _ _ c.skip.ensures.noted (omega arith)
     (note_last c.loop-number.number (lack_of lacks line) c.lack_of-lack.result c.skip.result c.in-Err-skip.cause c.skip.ensures.ended c.in-Err-skip.is lack) in
     noted_last answers flushes takes lacks known middle left line c.args.source.now c.loop-number.source c.run_next.new.source c.loop-number.number c.loop-number.unknown noted notes left_notes
-    c.args.receiver.now c.show_before_read.new.receiver c.run_next.new.receiver shown next c.in-Err-skip.cause of_notes note
+    c.args.receiver.now c.flush_before_wait.new.receiver c.run_next.new.receiver shown next c.in-Err-skip.cause of_notes note
 
 pub loop-number-preserved : goal.loop-number-preserved
 loop-number-preserved g c =
@@ -143,14 +142,14 @@ loop-number-preserved g c =
     let flushes = g.C.Calls.flushes in
     let takes = g.S.Source.takes in
     let lacks = g.S.Source.lacks in
-    let known = reader_remaining g.R.Read.remaining c.args.lines.now in
-    let middle = reader_remaining g.R.Read.remaining c.loop-number.lines in
-    let left = reader_remaining g.R.Read.remaining c.run_next.new.lines in
+    let known = g.L.LineInput.remaining c.args.lines.now in
+    let middle = g.L.LineInput.remaining c.loop-number.lines in
+    let left = g.L.LineInput.remaining c.run_next.new.lines in
     let line = c.run_next.new.line.items in
     let noted = g.N.Notes.noted c.args.notes.now in
     let notes = g.N.Notes.noted c.loop-number.notes in
     let shown = flushed answers flushes takes lacks known middle c.args.source.now c.loop-number.source c.loop-number.number c.loop-number.unknown noted notes
-    c.args.receiver.now c.loop-number.receiver c.show_before_read.new.receiver c.loop-number.invariant.so_far c.show_before_read.ensures.flushed in
+    c.args.receiver.now c.loop-number.receiver c.flush_before_wait.new.receiver c.loop-number.invariant.so_far c.flush_before_wait.ensures.flushed in
     elim c.match-run_next-2.branch [
       | in-Ok-Known w ↦
           let is : c.run_next.result ≡ Ok Known = cc in
@@ -158,7 +157,7 @@ loop-number-preserved g c =
           record {
             room = omega (arith, w.unknown-is, c.loop-number.invariant.room);
             so_far = rw (w.unknown-is, w.notes-is) (more answers flushes takes lacks known middle left line c.args.source.now c.loop-number.source c.run_next.new.source c.loop-number.number c.loop-number.unknown c.loop-number.unknown true (omega arith) noted notes notes (adds_none notes)
-                c.args.receiver.now c.show_before_read.new.receiver c.run_next.new.receiver shown next);
+                c.args.receiver.now c.flush_before_wait.new.receiver c.run_next.new.receiver shown next);
           }
       | in-Ok-Unknown+in_default w ↦
           let is : c.run_next.result ≡ Ok Unknown = cc in
@@ -172,7 +171,7 @@ loop-number-preserved g c =
           record {
             room = omega (arith, w.unknown-is, c.loop-number.invariant.room);
             so_far = rw (w.unknown-is, w.notes-is) (more answers flushes takes lacks known middle left line c.args.source.now c.loop-number.source c.run_next.new.source c.loop-number.number c.loop-number.unknown (c.loop-number.unknown + 1) false refl noted notes left_notes note
-                c.args.receiver.now c.show_before_read.new.receiver c.run_next.new.receiver shown next);
+                c.args.receiver.now c.flush_before_wait.new.receiver c.run_next.new.receiver shown next);
           }
     ]
 
@@ -182,8 +181,8 @@ returns-clause-run g c =
     let flushes = g.C.Calls.flushes in
     let takes = g.S.Source.takes in
     let lacks = g.S.Source.lacks in
-    let known = reader_remaining g.R.Read.remaining c.args.lines.now in
-    let middle = reader_remaining g.R.Read.remaining c.loop-number.lines in
+    let known = g.L.LineInput.remaining c.args.lines.now in
+    let middle = g.L.LineInput.remaining c.loop-number.lines in
     let noted = g.N.Notes.noted c.args.notes.now in
     let notes = g.N.Notes.noted c.loop-number.notes in
     let now = c.loop-number.receiver in
@@ -201,8 +200,8 @@ returns-clause-noted g c =
     let flushes = g.C.Calls.flushes in
     let takes = g.S.Source.takes in
     let lacks = g.S.Source.lacks in
-    let known = reader_remaining g.R.Read.remaining c.args.lines.now in
-    let middle = reader_remaining g.R.Read.remaining c.loop-number.lines in
+    let known = g.L.LineInput.remaining c.args.lines.now in
+    let middle = g.L.LineInput.remaining c.loop-number.lines in
     let noted = g.N.Notes.noted c.args.notes.now in
     let notes = g.N.Notes.noted c.loop-number.notes in
     let now = c.loop-number.receiver in

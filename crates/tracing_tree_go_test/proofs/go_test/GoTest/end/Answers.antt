@@ -1,7 +1,7 @@
-use Rattle.std.proofs.Common.{◌≡◌, ℕ, List, Option, false, option_map, subst}
+use Rattle.std.proofs.Common.{◌≡◌, false, option_map, subst}
 use Rattle.std.specs.Prelude.{OnOk}
 use Rattle.tracing_tree_sources.specs.Marks.{is_empty}
-use Rattle.tracing_tree_go_test.specs.GoTest.{GoState, Held, counted, held, holds, test_ended}
+use Rattle.tracing_tree_go_test.specs.GoTest.{GoState, Held, held, holds, test_ended}
 use Rattle.tracing_tree_go_test.proofs.go_test.GoTest.end.Goals as goal
 
 pub returns : goal.returns
@@ -10,7 +10,5 @@ returns c =
     let test = c.args.test.now in
     let empty : is_empty test ≡ false = cc in
     let owner : GoState → Type 0 = λ s. holds c.in_ok-owner.owner c.take_owner.new.self ≡ held path test s in
-    let done : Held → Type 0 = λ h. OnOk c.end_test.result (c.end_test.new.self ≡ test_ended c.args.ending test (option_map (λ e. e.now) c.elapsed_in-elapsed.result) h) in
-    let after : Held = held path test (counted c.args.ending c.args.self.now) in
-    let timed : Option (List ℕ) → Type 0 = λ e. OnOk c.end_test.result (c.end_test.new.self ≡ test_ended c.args.ending test e after) in
-    rw empty (subst timed c.elapsed_in-elapsed.ensures (subst done (subst owner c.count.ensures c.in_ok-owner.ensures) c.end_test.ensures))
+    let done : Held → Type 0 = λ h. OnOk c.end_test.result (c.end_test.new.self ≡ test_ended c.args.ending test (option_map (λ e. e.now) c.args.elapsed) h) in
+    rw empty (subst done (subst owner c.in_ok-count.ensures c.in_ok-owner.ensures) c.end_test.ensures)

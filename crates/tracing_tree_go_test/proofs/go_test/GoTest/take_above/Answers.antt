@@ -2,6 +2,7 @@ use Rattle.std.proofs.Common.{◌≡◌, true, false, not, bytes_eq, ap, sym, �
 use Rattle.std.specs.Prelude.{IfOk, ◌||◌}
 use Rattle.tracing_tree_sources.specs.Marks.{is_empty}
 use Rattle.tracing_tree_go_test.specs.GoTest.{GoState, Held, above_held, held, holds, left_one}
+use Rattle.tracing_tree_go_test.specs.declared.go_test.tally.Ending.TheVariants.{Unfinished}
 use Rattle.tracing_tree_go_test.proofs.go_test.GoTest.take_above.Goals as goal
 
 pub returns : goal.returns
@@ -12,7 +13,7 @@ returns c =
     let first : Held = held path test c.args.self.now in
     let same : (is_empty test || not (bytes_eq c.in_ok-owner.owner.test test)) ≡ false = search rules in
     let named : (is_empty test || not (bytes_eq first.one.test test)) ≡ false = ap (λ (h : Held). is_empty test || not (bytes_eq h.one.test test)) (sym c.in_ok-owner.ensures) ∙ same in
-    let left : c.leave_one.new.self ≡ left_one first.one first.state = c.in_ok-leave_one.ensures ∙ ap (λ (h : Held). left_one h.one h.state) c.in_ok-owner.ensures in
+    let left : c.leave_one.new.self ≡ left_one Unfinished first.one first.state = c.in_ok-leave_one.ensures ∙ ap (λ (h : Held). left_one Unfinished h.one h.state) c.in_ok-owner.ensures in
     let again : GoState → Type 0 = λ s. IfOk c.take_owner-2.result (λ one. holds one c.take_owner-2.new.self ≡ held path test s) in
     rw named (subst again left c.take_owner-2.ensures)
 

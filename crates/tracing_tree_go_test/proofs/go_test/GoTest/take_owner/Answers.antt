@@ -18,7 +18,7 @@ returns c =
     c.in_ok-put_package.ensures ∙ ap (λ rest. with_package path rest left) rest in
     let root_span : c.span_in.result ≡ span_in (without name tests) [] = c.span_in.ensures ∙ (λ i. span_in (rest i) (root i)) in
     let one : c.place.new.self ≡ placed (span_in (without name tests) []) (without name tests) (running_as path name tests) =
-    c.place.ensures ∙ (λ i. placed (root_span i) (rest i) (c.in_ok-one.ensures.one i)) in
+    c.in_ok-place.ensures ∙ (λ i. placed (root_span i) (rest i) (c.in_ok-one.ensures.one i)) in
     let at : Tests → List ℕ → GoState → Held = λ tests name s.
     let others : Tests = without name tests in
     holds (placed (span_in others []) others (running_as path name tests)) (with_package path others s) in

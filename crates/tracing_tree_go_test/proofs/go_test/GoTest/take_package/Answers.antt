@@ -13,5 +13,5 @@ returns-clause-tests c =
 pub returns-clause-rest : goal.returns-clause-rest
 returns-clause-rest c =
     let inside = c.self.inside in
-    let at : List (List ℕ × Tests) → GoState = λ packages. record { next = inside.next; moment = inside.moment; packages = packages; tally = inside.tally; building = inside.building; has_failed = inside.has_failed; calls = inside.calls.items } in
+    let at : List (List ℕ × Tests) → GoState = λ packages. record { next = inside.next; moment = inside.moment; packages = packages; builds = inside.builds; tally = inside.tally; failing = inside.failing; building = inside.building; last = inside.last; calls = inside.calls.items } in
     ap at (c.take-tests.ensures.rest ∙ ap (λ path. without path inside.packages) c.as_bytes.ensures.value) ∙ ap (without_package c.args.path.now) c.self.view_is

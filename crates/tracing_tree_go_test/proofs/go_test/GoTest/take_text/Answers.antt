@@ -1,8 +1,9 @@
 use Rattle.std.proofs.Common.{◌≡◌, List, ℕ, Some, None, option_map, codes, sym, ap, ◌∙◌, subst}
 use Rattle.std.specs.Prelude.{OnOk}
 use Rattle.tracing_tree_sources.specs.Marks.{after_mark}
-use Rattle.tracing_tree_go_test.specs.GoTest.{GoState, package_ended, up_to_space}
-use Rattle.tracing_tree_go_test.specs.declared.go_test.Ending.TheVariants.{Failed}
+use Rattle.tracing_tree_go_test.specs.GoTest.{GoState, package_ended}
+use Rattle.tracing_tree_go_test.specs.Texts.{up_to_space}
+use Rattle.tracing_tree_go_test.specs.declared.go_test.tally.Ending.TheVariants.{Failed}
 use Rattle.tracing_tree_go_test.proofs.go_test.GoTest.take_text.Goals as goal
 
 pub returns-in-Some-after_mark : goal.returns-in-Some-after_mark

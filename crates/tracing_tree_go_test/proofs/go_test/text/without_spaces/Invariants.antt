@@ -1,5 +1,5 @@
 use Rattle.std.proofs.Common.{◌≡◌, length}
-use Rattle.tracing_tree_go_test.specs.GoTest.{without_spaces}
+use Rattle.tracing_tree_go_test.specs.Texts.{without_spaces}
 use Rattle.tracing_tree_go_test.proofs.go_test.text.without_spaces.Given as goal
 
 abbrev pub invariant-loop-rest : goal.invariant-loop-rest

@@ -6,6 +6,7 @@ use Rattle.tracing_tree_tracing.proofs.tracing.Tracing.reach.Given as goal
 -- the others are left to be come to
 abbrev pub invariant-loop-listed : goal.invariant-loop-listed
 invariant-loop-listed l = record {
-  same : reached l.fn.thread l.fn.path.items None l.fn.self ≡ reached l.fn.thread (into_iter_items l.listed-iterator) l.at l.self;
+  depth : l.depth ≡ length l.fn.path.items;
+  same : reached l.depth l.fn.thread l.fn.path.items None l.fn.self ≡ reached l.depth l.fn.thread (into_iter_items l.listed-iterator) l.at l.self;
   len : into_iter_len l.listed-iterator ≡ length (into_iter_items l.listed-iterator);
 }

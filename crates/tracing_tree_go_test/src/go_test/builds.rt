@@ -1,0 +1,187 @@
+//! What builds print: it is told once it is known whether the build fails.
+
+ghost use Rattle.std.specs.Prelude.{◌≡◌, ◌++◌, ◌∷◌, [], IfOk, OnOk};
+ghost use Rattle.tracing_tree_go_test.specs.Names.{named};
+ghost use Rattle.tracing_tree_go_test.specs.GoTest.{build_of, build_printed, build_said, build_told, builds_said, builds_told, holds, more_built, texts_told, told_of_build, with_build, without_build, without_heading};
+
+use super::GoTest;
+use super::running::Running;
+use super::text::without_line_end;
+use crate::names::{Named, key};
+use std::alloc::{AllocError, Global};
+use std::marker::Model;
+use tracing_tree_lines::lines::is_skipped;
+use tracing_tree_text::style::Level;
+use tracing_tree_text::text::Text;
+
+// Strings, in the order in which they came.
+#[derive(Drop)]
+pub(super) struct Texts {
+    texts: Vec<Text>,
+}
+
+impl Model for Texts {
+    ghost use Rattle.std.specs.Prelude.{List, ℕ};
+
+    ghost Value = { List (List ℕ) };
+
+    ghost view = { λ t. t.texts.items };
+}
+
+impl Texts {
+    fn new(alloc: Global) -> Texts
+        ensures { result ≡ [] }
+    {
+        Texts {
+            texts: Vec::new(alloc),
+        }
+    }
+
+    fn push(&mut self, text: Text) -> Result<(), AllocError>
+        ensures { OnOk result (self.new ≡ self.old ++ text ∷ []) }
+    {
+        Ok(self.texts.push(text)?)
+    }
+
+    fn as_slice(&self) -> &[Text]
+        ensures { result.now ≡ self.now }
+    {
+        self.texts.as_slice()
+    }
+}
+
+// What the build of a package has printed that isn't told yet.
+#[derive(Drop)]
+pub(super) struct Build {
+    path: Text,
+    texts: Texts,
+}
+
+impl Build {
+    fn new(alloc: Global, path: &str) -> Result<Build, AllocError>
+        ensures { IfOk result (λ build. build ≡ record { path = path.now; texts = [] }) }
+    {
+        Ok(Build {
+            path: Text::from_str(alloc, path)?,
+            texts: Texts::new(alloc),
+        })
+    }
+
+    // Adds a text.
+    fn push(&mut self, alloc: Global, text: &str) -> Result<(), AllocError>
+        ensures { OnOk result (self.new ≡ more_built text.now self.old) }
+    {
+        self.texts.push(Text::from_str(alloc, text)?)
+    }
+}
+
+impl GoTest {
+    // A build prints.
+    pub(super) fn print_build(&mut self, path: &str, text: &str) -> Result<(), AllocError>
+        ensures { OnOk result (self.new ≡ build_printed path.now text.now self.old) }
+    {
+        let mut build = self.take_build(path)?;
+        build.push(self.alloc, text)?;
+        self.put_build(path, build)
+    }
+
+    // Takes out what a build has printed.
+    fn take_build(&mut self, path: &str) -> Result<Build, AllocError>
+        ensures build { IfOk result (λ build. build ≡ build_of path.now self.old) }
+        ensures rest { OnOk result (self.new ≡ without_build path.now self.old) }
+    {
+        match self.builds.take(path.as_bytes()) {
+            Some(build) => Ok(build),
+            None => Build::new(self.alloc, path),
+        }
+    }
+
+    // Puts back what a build has printed.
+    fn put_build(&mut self, path: &str, build: Build) -> Result<(), AllocError>
+        ensures { OnOk result (self.new ≡ with_build path.now build self.old) }
+    {
+        let path = key(self.alloc, path)?;
+        self.builds.put(path, build)
+    }
+
+    // Tells what the build of a package printed, in its package.
+    pub(super) fn tell_build(&mut self, level: Level, path: &str) -> Result<(), AllocError>
+        ensures { OnOk result (self.new ≡ build_told level path.now self.old) }
+    {
+        match self.take_known_build(path) {
+            Some(build) => self.tell_texts(level, &build),
+            None => Ok(()),
+        }
+    }
+
+    // Takes out what a build has printed, if it has.
+    fn take_known_build(&mut self, path: &str) -> Option<Build>
+        ensures build { result ≡ named path.now self.old.builds }
+        ensures rest { self.new ≡ without_build path.now self.old }
+    {
+        self.builds.take(path.as_bytes())
+    }
+
+    // Tells what each of these builds printed.
+    pub(super) fn tell_builds(&mut self, builds: Named<Build>) -> Result<(), AllocError>
+        ensures { OnOk result (self.new ≡ builds_told builds self.old) }
+    {
+        let mut builds = builds;
+        while let Some((_, build)) = builds.take_first() {
+            self.tell_texts(Level::Warn, &build)?;
+        }
+        Ok(())
+    }
+
+    // Tells what a build printed in its package.
+    fn tell_texts(&mut self, level: Level, build: &Build) -> Result<(), AllocError>
+        ensures { OnOk result (self.new ≡ texts_told level build.now self.old) }
+    {
+        let mut owner = self.take_owner(build.path.as_str(), "")?;
+        self.say_texts(level, &mut owner, build.texts.as_slice())?;
+        self.keep(owner)
+    }
+
+    fn say_texts(
+        &mut self,
+        level: Level,
+        owner: &mut Running,
+        texts: &[Text],
+    ) -> Result<(), AllocError>
+        ensures { OnOk result (holds owner.new self.new
+            ≡ builds_said level texts.now (holds owner.old self.old)) }
+    {
+        let mut rest = texts;
+        while let [text, later @ ..] = rest {
+            self.say_text(level, owner, text.as_str())?;
+            rest = later;
+        }
+        Ok(())
+    }
+
+    // Tells a text of a build, unless nothing is left of it without its heading.
+    fn say_text(&mut self, level: Level, owner: &mut Running, text: &str) -> Result<(), AllocError>
+        ensures { OnOk result (holds owner.new self.new
+            ≡ build_said level text.now (holds owner.old self.old)) }
+    {
+        let line = without_line_end(without_heading(text));
+        if is_skipped(line.as_bytes()) {
+            return Ok(());
+        }
+        self.open(owner)?;
+        self.push_event(level, line, owner.span)
+    }
+}
+
+// A text without its first line, if that names the package.
+fn without_heading(text: &str) -> &str
+    ensures { result.now ≡ without_heading text.now }
+{
+    if !text.as_bytes().starts_with("# ".as_bytes()) {
+        return text;
+    }
+    match text.split_once('\n') {
+        Some((_, rest)) => rest,
+        None => "",
+    }
+}

@@ -1,0 +1,79 @@
+//! Inputs of lines, which may have to be waited for.
+
+ghost use Rattle.std.specs.Prelude.{◌≡◌, ◌==◌, is_some, position};
+ghost use Rattle.tracing_tree_lines.specs.Lines.Inputs.{DropsHeld, HoldsFront, MayWait};
+ghost use Rattle.tracing_tree_lines.specs.Lines.Reads.{ReadsNext};
+
+use super::LineCause;
+use super::read::{line_end, read_line};
+use std::io::{BufRead, BufReader, Read};
+use tracing_tree_layer::calls::Calls;
+
+/// A buffered input of lines. The next line may have to be waited for, as in a pipe.
+///
+/// A run is generic over its input, so it can read by these methods only. [`LineInput::read_line`]
+/// requires that the receiver of the calls was flushed: whoever follows a live input sees what
+/// each line drew before the next line is waited for.
+pub trait LineInput {
+    ghost use Rattle.std.specs.Prelude.{◌≡◌, List, ℕ, Option};
+    ghost use Rattle.tracing_tree_lines.specs.Lines.Inputs.{DropsHeld, HoldsFront, MayWait};
+    ghost use Rattle.tracing_tree_lines.specs.Lines.Reads.{ReadsNext};
+
+    /// The bytes that are left, if they are known.
+    ghost remaining: { Self → Option (List ℕ) };
+
+    /// The first of them, which are in the buffer.
+    ghost held: { Self → List ℕ };
+
+    /// Returns the bytes in the buffer, which are read without a wait.
+    fn held(&self) -> &[u8]
+        ensures held { result.now ≡ held self.now }
+        ensures front { HoldsFront (held self.now) (remaining self.now) };
+
+    /// Removes the first `count` bytes from the buffer. They must be there.
+    fn consume(&mut self, count: usize)
+        ensures { DropsHeld count (held self.old) (remaining self.old) (remaining self.new) };
+
+    /// Reads the next line without its line end, in place of what `line` held. Returns whether there
+    /// was one: what follows the last line end is a line if it isn't empty. The read may wait, unless
+    /// the buffer holds the line, so the receiver must have been flushed.
+    ///
+    /// # Errors
+    ///
+    /// `Read` or `Memory`.
+    fn read_line<C: Calls>(&mut self, line: &mut Vec<u8>, receiver: &C) -> Result<bool, LineCause>
+        requires { MayWait C.flushes (held self.old) receiver.now }
+        ensures { ReadsNext (remaining self.old) (remaining self.new) line.new.items result };
+}
+
+/// Bytes of a reader, which are read in blocks.
+impl<R: Read> LineInput for BufReader<R> {
+    ghost use Rattle.std.specs.Io.Buffered.{reader_buffer, reader_remaining};
+
+    ghost remaining = { reader_remaining R.remaining };
+
+    ghost held = { reader_buffer };
+
+    fn held(&self) -> &[u8] {
+        self.buffer()
+    }
+
+    fn consume(&mut self, count: usize) {
+        BufRead::consume(self, count);
+    }
+
+    fn read_line<C: Calls>(
+        &mut self,
+        line: &mut Vec<u8>,
+        _receiver: &C,
+    ) -> Result<bool, LineCause> {
+        read_line(self, line)
+    }
+}
+
+/// Whether the buffer holds the next line with its line end, so that it is read without a wait.
+pub fn holds_line<L: LineInput>(lines: &L) -> bool
+    ensures { result ≡ is_some (position (λ byte. byte == 10) (L.held lines.now)) }
+{
+    line_end(lines.held()).is_some()
+}

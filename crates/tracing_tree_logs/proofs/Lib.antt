@@ -1,0 +1,4 @@
+mod GroupLists
+mod Inner
+mod Numbers
+mod Worked

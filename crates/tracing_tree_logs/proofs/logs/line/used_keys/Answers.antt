@@ -1,0 +1,8 @@
+use Rattle.std.proofs.Common.{◌++◌}
+use Rattle.tracing_tree_logs.specs.LogLine.{listed}
+use Rattle.tracing_tree_logs.proofs.logs.line.used_keys.Goals as goal
+
+pub returns : goal.returns
+returns c = λ i.
+    listed (c.level_key.ensures i) ++ listed (c.time_key.ensures i) ++ listed (c.first_key.ensures i)
+    ++ listed (c.first_key-2.ensures i)

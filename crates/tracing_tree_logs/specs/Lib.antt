@@ -1,0 +1,6 @@
+pub mod Groups
+pub mod JsonText
+pub mod LogFields
+pub mod LogTime
+pub mod LogLine
+pub mod Logs

@@ -1,0 +1,181 @@
+-- What an object of a service's log says.
+use Rattle.std.specs.Prelude.{ℕ, ◌==◌, nat_lt, Bool, false, if◌then◌else◌, List, [], ◌∷◌, ◌++◌, length, Option, Some, None, is_some, unwrap_or, option_and_then, codes, bytes_eq}
+use Rattle.std.specs.List.{list_any, position_or_len, before_first}
+use Rattle.std.specs.Str.{str_eq_ignore_ascii_case}
+use Rattle.json.specs.Json.{Json, null, boolean, number, string, array, object, no_members}
+use Rattle.json.specs.Find.{as_object, get}
+use Rattle.tracing_tree_context.specs.declared.context.Moment.{Moment}
+use Rattle.tracing_tree_text.specs.declared.field.Field.{Field}
+use Rattle.tracing_tree_text.specs.declared.style.Level.{Level}
+use Rattle.tracing_tree_text.specs.declared.style.Level.TheVariants.{Trace, Debug, Info, Warn, Error}
+use Rattle.tracing_tree_sources.specs.Marks.{is_empty}
+use Rattle.tracing_tree_sources.specs.Told.{message_field}
+use Rattle.tracing_tree_logs.specs.LogFields.{members_fields}
+use Rattle.tracing_tree_logs.specs.LogTime.{is_time, moment_of_word}
+
+-- ---- keys
+
+abbrev pub level_keys : List (List ℕ)
+level_keys =
+    codes "level" ∷ codes "severity" ∷ codes "lvl" ∷ codes "log.level" ∷ codes "PRIORITY" ∷ []
+
+abbrev pub time_keys : List (List ℕ)
+time_keys =
+    codes "time" ∷ codes "ts" ∷ codes "timestamp" ∷ codes "@timestamp"
+    ∷ codes "__REALTIME_TIMESTAMP" ∷ []
+
+abbrev pub message_keys : List (List ℕ)
+message_keys = codes "msg" ∷ codes "message" ∷ codes "event" ∷ codes "MESSAGE" ∷ []
+
+abbrev pub trace_keys : List (List ℕ)
+trace_keys = codes "trace_id" ∷ codes "traceId" ∷ codes "trace.id" ∷ []
+
+-- a trace counts before a request
+abbrev pub group_keys : List (List ℕ)
+group_keys =
+    codes "trace_id" ∷ codes "traceId" ∷ codes "trace.id" ∷ codes "request_id" ∷ codes "requestId"
+    ∷ codes "req_id" ∷ codes "correlation_id" ∷ []
+
+-- ---- words
+
+-- a word: a string that isn't empty, or a number as it is written
+abbrev pub word_of : Json → Option (List ℕ)
+word_of null = None
+word_of (boolean _) = None
+word_of (number text) = Some text
+word_of (string text) = if is_empty text then None else Some text
+word_of (array _) = None
+word_of (object _) = None
+
+abbrev pub word_at : List ℕ → Json → Option (List ℕ)
+word_at key value = option_and_then word_of (get key value)
+
+-- the first of these keys at which a word is
+abbrev pub first_key : List (List ℕ) → Json → Option (List ℕ)
+first_key [] value = None
+first_key (key ∷ others) value =
+    if is_some (word_at key value) then Some key else first_key others value
+
+abbrev pub first_word : List (List ℕ) → Json → Option (List ℕ)
+first_word keys value = option_and_then (λ key. word_at key value) (first_key keys value)
+
+-- ---- levels
+
+abbrev pub is_plus : ℕ → Bool
+is_plus byte = byte == 43
+
+-- a level without what Go's slog adds to it: `INFO+2`
+abbrev pub bare_level : List ℕ → List ℕ
+bare_level word =
+    if nat_lt (position_or_len is_plus word) (length word) then before_first is_plus word else word
+
+-- two words are the same but for the case of their letters
+unfoldable pub same_word : List ℕ → List ℕ → Bool
+same_word word other = str_eq_ignore_ascii_case word other
+
+-- a word is one of these, in any case
+abbrev pub is_one_of : List (List ℕ) → List ℕ → Bool
+is_one_of names word = list_any (same_word word) names
+
+-- the levels' names, with the numbers 10 to 60 of pino and bunyan, and 0 to 7 of syslog
+abbrev pub trace_names : List (List ℕ)
+trace_names = codes "trace" ∷ codes "debug-4" ∷ codes "10" ∷ []
+
+abbrev pub debug_names : List (List ℕ)
+debug_names = codes "debug" ∷ codes "20" ∷ codes "7" ∷ []
+
+abbrev pub info_names : List (List ℕ)
+info_names =
+    codes "info" ∷ codes "information" ∷ codes "informational" ∷ codes "notice" ∷ codes "default"
+    ∷ codes "30" ∷ codes "6" ∷ codes "5" ∷ []
+
+abbrev pub warn_names : List (List ℕ)
+warn_names = codes "warn" ∷ codes "warning" ∷ codes "40" ∷ codes "4" ∷ []
+
+abbrev pub error_names : List (List ℕ)
+error_names =
+    codes "error" ∷ codes "err" ∷ codes "fatal" ∷ codes "panic" ∷ codes "dpanic" ∷ codes "critical"
+    ∷ codes "crit" ∷ codes "alert" ∷ codes "emerg" ∷ codes "emergency" ∷ codes "severe"
+    ∷ codes "50" ∷ codes "60" ∷ codes "3" ∷ codes "2" ∷ codes "1" ∷ codes "0" ∷ []
+
+abbrev pub low_level_of_name : List ℕ → Option Level
+low_level_of_name name =
+    if is_one_of debug_names name then Some Debug
+    else if is_one_of trace_names name then Some Trace
+    else None
+
+-- the level of this name
+abbrev pub level_of_name : List ℕ → Option Level
+level_of_name name =
+    if is_one_of info_names name then Some Info
+    else if is_one_of error_names name then Some Error
+    else if is_one_of warn_names name then Some Warn
+    else low_level_of_name name
+
+abbrev pub level_named : List ℕ → Option Level
+level_named word = level_of_name (bare_level word)
+
+abbrev pub level_at : List ℕ → Json → Option Level
+level_at key value = option_and_then level_named (word_at key value)
+
+-- the key at which a line names its level
+abbrev pub level_key : Json → Option (List ℕ)
+level_key value = if_level (first_key level_keys value) where
+  if_level : Option (List ℕ) → Option (List ℕ)
+  if_level (Some key) = if is_some (level_at key value) then Some key else None
+  if_level None = None
+
+-- the level of a line; INFO if it names none
+abbrev pub level_in : Json → Level
+level_in value = unwrap_or (option_and_then (λ key. level_at key value) (level_key value)) Info
+
+-- ---- time
+
+-- the moment of a line; that of the line before if it tells none
+abbrev pub moment_in : Json → Moment → Moment
+moment_in value before = moment_of_word (first_word time_keys value) before
+
+abbrev pub is_time_at : List ℕ → Json → Bool
+is_time_at key value = if_time (word_at key value) where
+  if_time : Option (List ℕ) → Bool
+  if_time (Some word) = is_time word
+  if_time None = false
+
+-- the key at which a line tells its time
+abbrev pub time_key : Json → Option (List ℕ)
+time_key value = if_key (first_key time_keys value) where
+  if_key : Option (List ℕ) → Option (List ℕ)
+  if_key (Some key) = if is_time_at key value then Some key else None
+  if_key None = None
+
+-- ---- groups
+
+-- the span of a group is a `trace` or a `request`
+abbrev pub group_name : List ℕ → List ℕ
+group_name key = if list_any (bytes_eq key) trace_keys then codes "trace" else codes "request"
+
+-- what identifies a group: its name and its id
+abbrev pub group_key : List ℕ → List ℕ → List ℕ
+group_key name id = name ++ codes " " ++ id
+
+-- ---- fields
+
+abbrev pub listed : Option (List ℕ) → List (List ℕ)
+listed (Some key) = key ∷ []
+listed None = []
+
+-- the keys that are no fields: those of the level, the time, the message and the group
+abbrev pub used_keys : Json → List (List ℕ)
+used_keys value =
+    listed (level_key value) ++ listed (time_key value)
+    ++ listed (first_key message_keys value) ++ listed (first_key group_keys value)
+
+abbrev pub message_fields : Option (List ℕ) → List Field
+message_fields (Some text) = message_field text ∷ []
+message_fields None = []
+
+-- the fields of a line's event: its message, and what else it has
+abbrev pub event_fields : Json → List Field
+event_fields value =
+    message_fields (first_word message_keys value)
+    ++ members_fields (used_keys value) (unwrap_or (as_object value) no_members)

@@ -1,0 +1,117 @@
+-- JSON logs of services: what each line says.
+use Rattle.std.specs.Prelude.{ℕ, if◌then◌else◌, List, [], ◌∷◌, ◌++◌, Option, Some, None, is_some, codes}
+use Rattle.json.specs.Find.{as_object}
+use Rattle.json.specs.Json.{Json}
+use Rattle.tracing_tree_spans.specs.Registry.Ids.{id_of}
+use Rattle.tracing_tree_context.specs.declared.context.Id.{Id}
+use Rattle.tracing_tree_context.specs.declared.context.Moment.{Moment}
+use Rattle.tracing_tree_text.specs.declared.field.Field.{Field}
+use Rattle.tracing_tree_layer.specs.declared.call.Call.{Call}
+use Rattle.tracing_tree_sources.specs.Source.{Step}
+use Rattle.tracing_tree_sources.specs.declared.notes.Lack.{Lack}
+use Rattle.tracing_tree_sources.specs.declared.notes.Lack.TheVariants.{Object}
+use Rattle.tracing_tree_sources.specs.Counts.{one_more}
+use Rattle.tracing_tree_sources.specs.Told.{close_call, event_call, shown, span_call}
+use Rattle.tracing_tree_sources.specs.Traces.{plain_event}
+use Rattle.tracing_tree_logs.specs.Groups.{span_of, with_span}
+use Rattle.tracing_tree_logs.specs.LogLine.{event_fields, first_key, group_key, group_keys, group_name, level_in, moment_in, word_at}
+
+-- What is known of the groups: the id of the next span, the moment of the last line, the span of
+-- each group, that of the last line's group, and the calls that weren't passed on yet.
+pub record LogsState : Type 0 where
+  pub next : ℕ
+  pub moment : Moment
+  pub groups : List (List ℕ × Id)
+  pub at : Option Id
+  pub calls : List Call
+
+-- no group is known yet
+abbrev pub no_group : ℕ → Moment → LogsState
+no_group next moment = record {
+  next = next;
+  moment = moment;
+  groups = [];
+  at = None;
+  calls = [];
+}
+
+abbrev pub told : Call → LogsState → LogsState
+told call s = record s { calls = s.calls ++ call ∷ [] }
+
+-- ---- groups
+
+-- a line is in this span, or at the root
+abbrev pub arrived : Option Id → LogsState → LogsState
+arrived at s = record s { at = at }
+
+abbrev pub id_field : List ℕ → Field
+id_field id = record { name = codes "id"; value = shown id }
+
+-- the span of a new group opens, and nothing closes: no line says that a group ends
+abbrev pub opened : List ℕ → List ℕ → LogsState → LogsState
+opened name id s = record (told (span_call s.moment name (id_field id ∷ []) None) s) {
+  next = one_more s.next;
+  groups = with_span (group_key name id) (id_of s.next) s.groups;
+  at = Some (id_of s.next);
+}
+
+abbrev pub at_or_opened : Option Id → List ℕ → List ℕ → LogsState → LogsState
+at_or_opened (Some span) name id s = arrived (Some span) s
+at_or_opened None name id s = opened name id s
+
+-- a line comes to the span of this group
+abbrev pub entered : List ℕ → List ℕ → LogsState → LogsState
+entered name id s = at_or_opened (span_of (group_key name id) s.groups) name id s
+
+abbrev pub entered_if : List ℕ → Option (List ℕ) → LogsState → LogsState
+entered_if name (Some id) s = entered name id s
+entered_if name None s = arrived None s
+
+-- a line is in the span of its group, whose id is at this key, and at the root if it has none
+abbrev pub located : Option (List ℕ) → Json → LogsState → LogsState
+located (Some key) value s = entered_if (group_name key) (word_at key value) s
+located None value s = arrived None s
+
+-- ---- lines
+
+abbrev pub event_told : Json → LogsState → LogsState
+event_told value s = told (event_call s.moment (level_in value) (event_fields value) s.at) s
+
+-- a line happens at its own time
+abbrev pub placed : Json → LogsState → LogsState
+placed value s = record s { moment = moment_in value s.moment }
+
+-- an object is an event at its own time in the span of its group
+abbrev pub object_told : Json → LogsState → LogsState
+object_told value s =
+    event_told value (located (first_key group_keys value) value (placed value s))
+
+-- a line that isn't an object is an event where the last object was
+abbrev pub plain_told : List ℕ → LogsState → LogsState
+plain_told line s = told (plain_event s.moment line s.at) s
+
+abbrev pub line_told : List ℕ → Option Json → LogsState → LogsState
+line_told line None s = plain_told line s
+line_told line (Some value) s =
+    if is_some (as_object value) then object_told value s else plain_told line s
+
+abbrev pub handed_out : LogsState → Step LogsState
+handed_out s = record { calls = s.calls; source = record s { calls = [] } }
+
+-- what a line says: each is known
+abbrev pub logs_takes : LogsState → List ℕ → Option Json → Option (Step LogsState)
+logs_takes s line value = Some (handed_out (line_told line value s))
+
+abbrev pub logs_lacks : Option Json → Lack
+logs_lacks value = Object
+
+-- The group of the last line closes at the end, and no other: its row would be drawn again.
+abbrev pub close_of : Moment → Option Id → List Call
+close_of moment (Some span) = close_call moment span None ∷ []
+close_of moment None = []
+
+abbrev pub logs_ends : LogsState → List Call
+logs_ends s = close_of s.moment s.at
+
+abbrev pub logs_ended : LogsState → LogsState
+logs_ended s = s

@@ -1,0 +1,243 @@
+//! Lines of a service's log, each a JSON object.
+
+ghost use Rattle.std.specs.Prelude.{◌≡◌, [], IfOk, OnOk, option_map};
+ghost use Rattle.json.specs.Value.{value_view};
+ghost use Rattle.tracing_tree_logs.specs.Logs.{arrived, close_of, entered, entered_if, event_told, id_field, line_told, located, no_group, object_told, opened, placed, plain_told};
+ghost use Rattle.tracing_tree_logs.specs.LogLine.{group_key};
+
+mod fields;
+mod level;
+mod line;
+mod text;
+mod time;
+mod used;
+
+use crate::groups::Groups;
+use json::Value;
+use line::{
+    GROUP_KEYS, event_fields, first_key, group_key, group_name, level_in, moment_in, word_at,
+};
+use std::alloc::{AllocError, Global};
+use std::marker::Model;
+use std::mem;
+use tracing_tree_context::Id;
+use tracing_tree_layer::call::Call;
+use tracing_tree_sources::notes::Lack;
+use tracing_tree_sources::source::Source;
+use tracing_tree_sources::told::{close_call, event_call, shown, span_call};
+use tracing_tree_sources::traces::plain_event;
+use tracing_tree_sources::values::is_object;
+use tracing_tree_text::field::{Field, Fields};
+use tracing_tree_text::text::Text;
+use tracing_tree_time::Moment;
+
+/// The groups of a log: its traces and its requests.
+///
+/// A line that is an object is an event in the span of its group, or at the root if it has none.
+/// Any other line is an event where the last object was.
+#[derive(Drop)]
+pub struct Logs {
+    alloc: Global,
+    // The id that the next span gets.
+    next: u64,
+    // That of the last line.
+    moment: Moment,
+    groups: Groups,
+    // The span of the last object's group.
+    at: Option<Id>,
+    calls: Vec<Call>,
+}
+
+impl Model for Logs {
+    ghost use Rattle.tracing_tree_logs.specs.Logs.{LogsState};
+
+    ghost Value = { LogsState };
+
+    ghost view = { λ l. record {
+      next = l.next;
+      moment = l.moment;
+      groups = l.groups;
+      at = l.at;
+      calls = l.calls.items;
+    } };
+}
+
+impl Logs {
+    /// Creates a source that knows no group. Its first span gets the id `next`, and calls are made
+    /// at `moment` until a line says when it happened.
+    pub fn new(alloc: Global, next: u64, moment: Moment) -> Logs
+        ensures { result ≡ no_group next moment }
+    {
+        Logs {
+            alloc,
+            next,
+            moment,
+            groups: Groups::new(alloc),
+            at: None,
+            calls: Vec::new(alloc),
+        }
+    }
+
+    // Hands out the calls.
+    fn told(&mut self) -> Vec<Call>
+        ensures told { result.items ≡ self.old.calls }
+        ensures rest { self.new ≡ record self.old { calls = [] } }
+    {
+        mem::replace(&mut self.calls, Vec::new(self.alloc))
+    }
+
+    // Takes a line that is this value, if it is JSON.
+    fn take_line(&mut self, line: &str, value: Option<&Value<'_>>) -> Result<(), AllocError>
+        ensures { OnOk result (self.new
+            ≡ line_told line.now (option_map (λ v. value_view v.now) value.entry) self.old) }
+    {
+        match value {
+            Some(value) if is_object(value) => self.take_object(value),
+            _ => self.take_plain(line),
+        }
+    }
+
+    fn take_object(&mut self, value: &Value<'_>) -> Result<(), AllocError>
+        ensures { OnOk result (self.new ≡ object_told (value_view value.now) self.old) }
+    {
+        self.place(value);
+        self.locate(first_key(&GROUP_KEYS, value), value)?;
+        self.push_event(value)
+    }
+
+    // Goes on to the moment of a line.
+    fn place(&mut self, value: &Value<'_>)
+        ensures { self.new ≡ placed (value_view value.now) self.old }
+    {
+        self.moment = moment_in(value, &self.moment);
+    }
+
+    // Comes to this span, or to the root.
+    fn arrive(&mut self, at: Option<Id>)
+        ensures { self.new ≡ arrived at self.old }
+    {
+        self.at = at;
+    }
+
+    // Comes to the span of a line's group, whose id is at this key, or to the root.
+    fn locate(&mut self, key: Option<&str>, value: &Value<'_>) -> Result<(), AllocError>
+        ensures { OnOk result (self.new
+            ≡ located (option_map (λ k. k.now) key.entry) (value_view value.now) self.old) }
+    {
+        match key {
+            Some(key) => self.enter_if(group_name(key), word_at(value, key)),
+            None => {
+                self.arrive(None);
+                Ok(())
+            }
+        }
+    }
+
+    fn enter_if(&mut self, name: &str, id: Option<&str>) -> Result<(), AllocError>
+        ensures { OnOk result (self.new
+            ≡ entered_if name.now (option_map (λ i. i.now) id.entry) self.old) }
+    {
+        match id {
+            Some(id) => self.enter(name, id),
+            None => {
+                self.arrive(None);
+                Ok(())
+            }
+        }
+    }
+
+    // Comes to the span of a group, which opens unless it is open.
+    fn enter(&mut self, name: &str, id: &str) -> Result<(), AllocError>
+        ensures { OnOk result (self.new ≡ entered name.now id.now self.old) }
+    {
+        let key = group_key(self.alloc, name, id)?;
+        match self.groups.span_of(key.as_slice()) {
+            Some(span) => {
+                self.arrive(Some(span));
+                Ok(())
+            }
+            None => self.open(key, name, id),
+        }
+    }
+
+    // Opens the span of a group.
+    fn open(&mut self, key: Vec<u8>, name: &str, id: &str) -> Result<(), AllocError>
+        requires { key.items ≡ group_key name.now id.now }
+        ensures { OnOk result (self.new ≡ opened name.now id.now self.old) }
+    {
+        let fields = Fields::one(self.alloc, id_field(self.alloc, id)?);
+        let call = span_call(self.alloc, self.moment, name, fields, None)?;
+        self.calls.push(call)?;
+        let span = Id(self.next);
+        self.groups.put(key, span)?;
+        self.next = self.next.saturating_add(1);
+        self.at = Some(span);
+        Ok(())
+    }
+
+    fn push_event(&mut self, value: &Value<'_>) -> Result<(), AllocError>
+        ensures { OnOk result (self.new ≡ event_told (value_view value.now) self.old) }
+    {
+        let fields = event_fields(self.alloc, value)?;
+        let call = event_call(self.alloc, self.moment, level_in(value), fields, self.at)?;
+        Ok(self.calls.push(call)?)
+    }
+
+    // Takes a line that isn't an object.
+    fn take_plain(&mut self, line: &str) -> Result<(), AllocError>
+        ensures { OnOk result (self.new ≡ plain_told line.now self.old) }
+    {
+        let call = plain_event(self.alloc, self.moment, line, self.at)?;
+        Ok(self.calls.push(call)?)
+    }
+}
+
+fn id_field(alloc: Global, id: &str) -> Result<Field, AllocError>
+    ensures { IfOk result (λ field. field ≡ id_field id.now) }
+{
+    Ok(Field {
+        name: Text::from_str(alloc, "id")?,
+        value: shown(alloc, id)?,
+    })
+}
+
+impl Source for Logs {
+    ghost use Rattle.tracing_tree_logs.specs.Logs.{logs_ended, logs_ends, logs_lacks, logs_takes};
+
+    ghost takes = { logs_takes };
+
+    ghost ends = { logs_ends };
+
+    ghost ended = { logs_ended };
+
+    ghost lacks = { logs_lacks };
+
+    fn take(
+        &mut self,
+        _alloc: Global,
+        line: &str,
+        value: Option<&Value<'_>>,
+    ) -> Result<Option<Vec<Call>>, AllocError> {
+        self.take_line(line, value)?;
+        Ok(Some(self.told()))
+    }
+
+    fn lack(_value: Option<&Value<'_>>) -> Lack {
+        Lack::Object
+    }
+
+    fn end(&mut self, alloc: Global) -> Result<Vec<Call>, AllocError> {
+        close_of(alloc, self.moment, self.at)
+    }
+}
+
+// The close of the last line's group.
+fn close_of(alloc: Global, moment: Moment, at: Option<Id>) -> Result<Vec<Call>, AllocError>
+    ensures { IfOk result (λ calls. calls.items ≡ close_of moment at) }
+{
+    let mut calls = Vec::new(alloc);
+    if let Some(span) = at {
+        calls.push(close_call(moment, span, None))?;
+    }
+    Ok(calls)
+}

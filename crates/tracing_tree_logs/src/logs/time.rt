@@ -1,0 +1,162 @@
+//! When an object of a service's log happened.
+
+ghost use Rattle.std.specs.Prelude.{◌≡◌, ◌≤◌, Some, is_some, option_map, pos};
+ghost use Rattle.std.specs.Str.{all_ascii_digits};
+ghost use Rattle.tracing_tree_sources.specs.Moments.{moment_at, moment_of};
+ghost use Rattle.tracing_tree_logs.specs.LogTime.{after_three, billionths, decimal_of, digit_in, is_digits, is_time, moment_of_number, moment_of_word, nanoseconds, nanoseconds_of, thousandths, whole_of};
+
+use jiff::Timestamp;
+use tracing_tree_sources::moments::moment_after;
+use tracing_tree_time::Moment;
+
+// The moment that a word tells; that of the line before if it tells none.
+pub(super) fn moment_of_word(word: Option<&str>, before: &Moment) -> Moment
+    ensures { result ≡ moment_of_word (option_map (λ w. w.now) word.entry) before.now }
+{
+    let Some(word) = word else {
+        return *before;
+    };
+    match moment_of_number(word) {
+        Some(moment) => moment,
+        None => moment_after(Some(word), before),
+    }
+}
+
+// Whether a word tells a moment.
+pub(super) fn is_time(word: &str) -> bool
+    ensures { result ≡ is_time word.now }
+{
+    nanoseconds_of(word).is_some() || is_instant(word)
+}
+
+// Whether a text is an instant as RFC 3339 writes it.
+fn is_instant(text: &str) -> bool
+    ensures { result ≡ is_some (moment_of text.now) }
+{
+    text.parse::<Timestamp>().is_ok()
+}
+
+// The moment that a number tells.
+fn moment_of_number(text: &str) -> Option<Moment>
+    ensures { result ≡ moment_of_number text.now }
+{
+    moment_at(nanoseconds_of(text)?)
+}
+
+// The moment this many nanoseconds after 1970.
+fn moment_at(nanosecond: u64) -> Option<Moment>
+    ensures { result ≡ Some (moment_at (pos nanosecond)) }
+{
+    match Timestamp::from_nanosecond(i128::from(nanosecond)) {
+        Ok(wall) => Some(Moment {
+            mono: nanosecond,
+            wall,
+        }),
+        Err(_) => None,
+    }
+}
+
+// The nanoseconds since 1970 of a number, without a sign or an exponent.
+fn nanoseconds_of(text: &str) -> Option<u64>
+    ensures { result ≡ nanoseconds_of text.now }
+{
+    match text.split_once('.') {
+        Some((before, after)) => decimal_of(before, after),
+        None => nanoseconds(whole_of(text)?, 0),
+    }
+}
+
+// The same of a number with a point, by what is before the point and after it.
+fn decimal_of(before: &str, after: &str) -> Option<u64>
+    ensures { result ≡ decimal_of before.now after.now }
+{
+    if !is_digits(after) {
+        return None;
+    }
+    nanoseconds(whole_of(before)?, billionths(after.as_bytes()))
+}
+
+// The nanoseconds of a number and this many billionths, if a u64 holds them: the number's size says
+// whether it counts seconds, milliseconds, microseconds or nanoseconds.
+fn nanoseconds(whole: u64, part: u64) -> Option<u64>
+    ensures { result ≡ nanoseconds whole part }
+{
+    if whole < 100_000_000_000 {
+        whole.checked_mul(1_000_000_000)?.checked_add(part)
+    } else if whole < 100_000_000_000_000 {
+        whole.checked_mul(1_000_000)?.checked_add(part / 1000)
+    } else if whole < 100_000_000_000_000_000 {
+        whole.checked_mul(1000)?.checked_add(part / 1_000_000)
+    } else {
+        Some(whole)
+    }
+}
+
+// The number that digits write, if a u64 holds it.
+fn whole_of(text: &str) -> Option<u64>
+    ensures { result ≡ whole_of text.now }
+{
+    if !is_digits(text) {
+        return None;
+    }
+    text.parse().ok()
+}
+
+// The billionths that the digits after a point write.
+fn billionths(digits: &[u8]) -> u64
+    ensures { result ≡ billionths digits.now }
+{
+    let more = after_three(digits);
+    thousandths(digits) * 1_000_000 + thousandths(more) * 1000 + thousandths(after_three(more))
+}
+
+// The thousandths that the first three digits after a point write.
+fn thousandths(digits: &[u8]) -> u64
+    ensures value { result ≡ thousandths digits.now }
+    ensures small { result ≤ 30_000 }
+{
+    match digits {
+        [] => 0,
+        [a] => digit_in(*a) * 100,
+        [a, b] => digit_in(*a) * 100 + digit_in(*b) * 10,
+        [a, b, c, ..] => digit_in(*a) * 100 + digit_in(*b) * 10 + digit_in(*c),
+    }
+}
+
+// The digits after the first three.
+fn after_three(digits: &[u8]) -> &[u8]
+    ensures { result.now ≡ after_three digits.now }
+{
+    match digits {
+        [_, _, _, rest @ ..] => rest,
+        _ => &[],
+    }
+}
+
+// What a digit counts.
+fn digit_in(byte: u8) -> u64
+    ensures value { result ≡ digit_in byte }
+    ensures small { result ≤ 255 }
+{
+    u64::from(byte.saturating_sub(b'0'))
+}
+
+// Whether a text is one digit or more, and nothing else.
+fn is_digits(text: &str) -> bool
+    ensures { result ≡ is_digits text.now }
+{
+    !text.is_empty() && all_digits(text.as_bytes())
+}
+
+fn all_digits(bytes: &[u8]) -> bool
+    ensures { result ≡ all_ascii_digits bytes.now }
+{
+    let mut rest = bytes;
+    while let [byte, others @ ..] = rest {
+        if !byte.is_ascii_digit() {
+            return false;
+        }
+        rest = others;
+    }
+    true
+}

@@ -1,0 +1,217 @@
+//! A source of lines with prefixes.
+
+ghost use Rattle.std.specs.Prelude.{◌≡◌, ◌<◌, IfOk, map, option_map};
+ghost use Rattle.json.specs.Value.{value_view};
+ghost use Rattle.tracing_tree_prefix.specs.Prefix.{at_mark, mark_char, may_begin, parts_of, prefix_field, split, trimmed, with_prefix, without_bracket};
+
+use json::{Scratch, Value};
+use std::alloc::{AllocError, Global};
+use std::marker::Model;
+use tracing_tree_layer::call::Call;
+use tracing_tree_sources::marks::after_mark;
+use tracing_tree_sources::notes::Lack;
+use tracing_tree_sources::source::Source;
+use tracing_tree_sources::told::shown;
+use tracing_tree_sources::values::value_of;
+use tracing_tree_text::field::{Field, Fields};
+use tracing_tree_text::text::Text;
+
+/// What a prefix ends at: the first such character of the line.
+#[derive(Clone, Copy, Debug, PartialEq, Eq)]
+pub enum Mark {
+    /// `|`, as `docker compose logs` writes it.
+    Bar,
+
+    /// `]`, as `kubectl logs --prefix` writes it.
+    Bracket,
+
+    /// The blank after a time, as `kubectl logs --timestamps` writes it: the line begins with a digit.
+    Time,
+}
+
+impl Mark {
+    /// Returns the character.
+    pub fn as_char(self) -> char
+        ensures char { result ≡ mark_char self }
+        ensures ascii { result < 128 }
+    {
+        match self {
+            Mark::Bar => '|',
+            Mark::Bracket => ']',
+            Mark::Time => ' ',
+        }
+    }
+
+    /// Returns the prefix of a line, and what comes after it, both without blanks at the mark. A prefix
+    /// in brackets is returned without them. None if the line has no such prefix.
+    pub fn split<'a>(self, line: &'a str) -> Option<(&'a str, &'a str)>
+        ensures { option_map (λ parts. (parts.0.now, parts.1.now)) result ≡ split self line.now }
+    {
+        if !self.may_begin(line) {
+            return None;
+        }
+        match at_mark(line, self.as_char()) {
+            Some((prefix, rest)) => Some((self.trimmed(prefix), rest.trim_start())),
+            None => None,
+        }
+    }
+
+    // A prefix without the blanks at its end, or without the bracket at its front.
+    fn trimmed<'a>(self, prefix: &'a str) -> &'a str
+        ensures { result.now ≡ trimmed self prefix.now }
+    {
+        match self {
+            Mark::Bracket => without_bracket(prefix),
+            Mark::Bar | Mark::Time => prefix.trim_end(),
+        }
+    }
+
+    // Whether a prefix may begin as this line does.
+    fn may_begin(self, line: &str) -> bool
+        ensures { result ≡ may_begin self line.now }
+    {
+        match (self, line.as_bytes()) {
+            (Mark::Bar | Mark::Bracket, _) => true,
+            (Mark::Time, [first, ..]) => matches!(*first, b'0'..=b'9'),
+            (Mark::Time, []) => false,
+        }
+    }
+}
+
+/// A source whose lines may begin with a prefix.
+///
+/// A line that isn't JSON and has the mark is taken without its prefix, which comes last among the
+/// fields of the line's events. Every other line is taken as it is.
+#[derive(Drop)]
+pub struct Prefixed<S> {
+    source: S,
+    mark: Option<Mark>,
+}
+
+impl<S> Model for Prefixed<S> {
+    ghost use Rattle.tracing_tree_prefix.specs.Prefix.{Marked};
+
+    ghost Value = { Marked S };
+
+    ghost view = { λ p. record { source = p.source; mark = p.mark } };
+}
+
+impl<S> Prefixed<S> {
+    /// Lines of this source, with prefixes that end at this mark, if there are prefixes.
+    pub fn new(source: S, mark: Option<Mark>) -> Prefixed<S>
+        ensures { result ≡ record { source = source; mark = mark } }
+    {
+        Prefixed { source, mark }
+    }
+
+    /// Returns the source.
+    pub fn into_source(self) -> S
+        ensures { result ≡ self.source }
+    {
+        self.source
+    }
+}
+
+impl<S: Source> Source for Prefixed<S> {
+    ghost use Rattle.tracing_tree_prefix.specs.Prefix.{prefixed_ended, prefixed_ends, prefixed_takes};
+
+    ghost takes = { prefixed_takes S.takes };
+
+    ghost ends = { prefixed_ends S.ends };
+
+    ghost ended = { prefixed_ended S.ended };
+
+    ghost lacks = { S.lacks };
+
+    fn take(
+        &mut self,
+        alloc: Global,
+        line: &str,
+        value: Option<&Value<'_>>,
+    ) -> Result<Option<Vec<Call>>, AllocError> {
+        let Some((prefix, rest)) = parts_of(self.mark, line, value) else {
+            return self.source.take(alloc, line, value);
+        };
+        let mut scratch = Scratch::new(alloc);
+        let value = value_of(alloc, rest, &mut scratch)?;
+        match self.source.take(alloc, rest, value.as_ref())? {
+            Some(calls) => Ok(Some(with_prefixes(alloc, prefix, calls)?)),
+            None => Ok(None),
+        }
+    }
+
+    fn lack(value: Option<&Value<'_>>) -> Lack {
+        S::lack(value)
+    }
+
+    fn end(&mut self, alloc: Global) -> Result<Vec<Call>, AllocError> {
+        self.source.end(alloc)
+    }
+}
+
+// A line at its first mark: what comes before it and after it.
+fn at_mark(line: &str, mark: char) -> Option<(&str, &str)>
+    requires { mark < 128 }
+    ensures { option_map (λ parts. (parts.0.now, parts.1.now)) result ≡ at_mark mark line.now }
+{
+    line.split_once(mark)
+}
+
+fn without_bracket(prefix: &str) -> &str
+    ensures { result.now ≡ without_bracket prefix.now }
+{
+    match after_mark(prefix, "[") {
+        Some(rest) => rest,
+        None => prefix,
+    }
+}
+
+// The prefix of a line, and what comes after it. None if the line is JSON, or has no prefix.
+fn parts_of<'a>(
+    mark: Option<Mark>,
+    line: &'a str,
+    value: Option<&Value<'_>>,
+) -> Option<(&'a str, &'a str)>
+    ensures { option_map (λ parts. (parts.0.now, parts.1.now)) result
+        ≡ parts_of mark line.now (option_map (λ v. value_view v.now) value.entry) }
+{
+    match (mark, value) {
+        (Some(mark), None) => mark.split(line),
+        _ => None,
+    }
+}
+
+// These calls, with a prefix in each event.
+fn with_prefixes(alloc: Global, prefix: &str, calls: Vec<Call>) -> Result<Vec<Call>, AllocError>
+    ensures { IfOk result (λ made. made.items ≡ map (with_prefix prefix.now) calls.items) }
+{
+    let mut made = Vec::new(alloc);
+    for call in calls {
+        made.push(with_prefix(alloc, prefix, call)?)?;
+    }
+    Ok(made)
+}
+
+// A call, with a prefix last among its fields if it is an event.
+fn with_prefix(alloc: Global, prefix: &str, call: Call) -> Result<Call, AllocError>
+    ensures { IfOk result (λ made. made ≡ with_prefix prefix.now call) }
+{
+    match call {
+        Call::Event(event, context) => {
+            let mut event = event;
+            event.fields.append(prefix_field(alloc, prefix)?)?;
+            Ok(Call::Event(event, context))
+        }
+        other => Ok(other),
+    }
+}
+
+fn prefix_field(alloc: Global, prefix: &str) -> Result<Fields, AllocError>
+    ensures { IfOk result (λ fields. fields ≡ prefix_field prefix.now) }
+{
+    let field = Field {
+        name: Text::from_str(alloc, "prefix")?,
+        value: shown(alloc, prefix)?,
+    };
+    Ok(Fields::one(alloc, field))
+}

@@ -1,0 +1,59 @@
+-- Plain lines, and the first line of a panic or of a stack trace.
+use Rattle.std.specs.Prelude.{ℕ, ◌-◌, ◌==◌, ◌&&◌, ◌||◌, nat_le, Bool, false, if◌then◌else◌, List, [], ◌∷◌, length, take, Option, Some, None, codes}
+use Rattle.std.specs.List.{ends_with}
+use Rattle.tracing_tree_context.specs.declared.context.Id.{Id}
+use Rattle.tracing_tree_context.specs.declared.context.Moment.{Moment}
+use Rattle.tracing_tree_text.specs.declared.style.Level.{Level}
+use Rattle.tracing_tree_text.specs.declared.style.Level.TheVariants.{Error, Info}
+use Rattle.tracing_tree_layer.specs.declared.call.Call.{Call}
+use Rattle.tracing_tree_sources.specs.Marks.{after_mark, begins}
+use Rattle.tracing_tree_sources.specs.Told.{event_call, message_field}
+
+abbrev pub is_digit : ℕ → Bool
+is_digit byte = nat_le 48 byte && nat_le byte 57
+
+-- what comes after the decimal digits at the front
+abbrev pub after_digits : List ℕ → List ℕ
+after_digits [] = []
+after_digits (byte ∷ others) = if is_digit byte then after_digits others else byte ∷ others
+
+-- a text holds this mark somewhere
+abbrev pub holds_mark : List ℕ → List ℕ → Bool
+holds_mark mark [] = false
+holds_mark mark (byte ∷ others) = begins mark (byte ∷ others) || holds_mark mark others
+
+abbrev pub holds_after : List ℕ → Option (List ℕ) → Bool
+holds_after mark (Some rest) = holds_mark mark rest
+holds_after mark None = false
+
+-- Rust: thread 'main' panicked at src/main.rs:2:5:
+abbrev pub begins_rust_panic : List ℕ → Bool
+begins_rust_panic line = holds_after (codes " panicked at") (after_mark (codes "thread '") line)
+
+abbrev pub lists_goroutine : Option (List ℕ) → Bool
+lists_goroutine (Some rest) = begins (codes " [") (after_digits rest)
+lists_goroutine None = false
+
+-- Go: goroutine 1 [running]:
+abbrev pub begins_goroutine : List ℕ → Bool
+begins_goroutine line = lists_goroutine (after_mark (codes "goroutine ") line)
+
+-- a line with which Rust, Go, Python or Java begin a panic or a stack trace
+abbrev pub begins_trace : List ℕ → Bool
+begins_trace line =
+    begins_rust_panic line || begins_goroutine line || begins (codes "panic: ") line
+    || begins (codes "fatal error: ") line || begins (codes "Traceback (most recent call last):") line
+    || begins (codes "Exception in thread \"") line
+
+-- a line without the carriage return at its end
+abbrev pub without_return : List ℕ → List ℕ
+without_return line =
+    if ends_with (λ a b. a == b) line (codes "\r") then take (length line - 1) line else line
+
+abbrev pub plain_level : List ℕ → Level
+plain_level line = if begins_trace line then Error else Info
+
+-- the event of a line that is no JSON object, in the span above
+abbrev pub plain_event : Moment → List ℕ → Option Id → Call
+plain_event moment line above =
+    event_call moment (plain_level line) (message_field (without_return line) ∷ []) above

@@ -1,0 +1,132 @@
+//! Plain lines, and the first line of a panic or of a stack trace.
+
+ghost use Rattle.std.specs.Prelude.{◌≡◌, IfOk};
+ghost use Rattle.tracing_tree_sources.specs.Marks.{begins};
+ghost use Rattle.tracing_tree_sources.specs.Traces.{after_digits, begins_goroutine, begins_rust_panic, begins_trace, holds_mark, is_digit, plain_event, plain_level, without_return};
+
+use crate::marks::after_mark;
+use crate::told::{event_call, message_field};
+use std::alloc::{AllocError, Global};
+use tracing_tree_context::Id;
+use tracing_tree_layer::call::Call;
+use tracing_tree_text::field::Fields;
+use tracing_tree_text::style::Level;
+use tracing_tree_time::Moment;
+
+/// Returns the event of a line that is no JSON object, in the span above.
+///
+/// Its level is `Error` if the line begins a panic or a stack trace ([`begins_trace`]), otherwise
+/// `Info`. The message is the line without the carriage return at its end.
+///
+/// # Errors
+///
+/// `AllocError` if an allocation fails.
+pub fn plain_event(
+    alloc: Global,
+    moment: Moment,
+    line: &str,
+    above: Option<Id>,
+) -> Result<Call, AllocError>
+    ensures { IfOk result (λ call. call ≡ plain_event moment line.now above) }
+{
+    let message = message_field(alloc, without_return(line))?;
+    event_call(
+        alloc,
+        moment,
+        plain_level(line),
+        Fields::one(alloc, message),
+        above,
+    )
+}
+
+fn plain_level(line: &str) -> Level
+    ensures { result ≡ plain_level line.now }
+{
+    if begins_trace(line) {
+        Level::Error
+    } else {
+        Level::Info
+    }
+}
+
+// A line without the carriage return at its end.
+fn without_return(line: &str) -> &str
+    ensures { result.now ≡ without_return line.now }
+{
+    match line.strip_suffix("\r") {
+        Some(text) => text,
+        None => line,
+    }
+}
+
+/// Returns whether Rust, Go, Python or Java begin a panic or a stack trace with this line.
+pub fn begins_trace(line: &str) -> bool
+    ensures { result ≡ begins_trace line.now }
+{
+    begins_rust_panic(line)
+        || begins_goroutine(line)
+        || begins("panic: ", line)
+        || begins("fatal error: ", line)
+        || begins("Traceback (most recent call last):", line)
+        || begins("Exception in thread \"", line)
+}
+
+fn begins(mark: &str, line: &str) -> bool
+    ensures { result ≡ begins mark.now line.now }
+{
+    after_mark(line, mark).is_some()
+}
+
+// Rust: thread 'main' panicked at src/main.rs:2:5:
+fn begins_rust_panic(line: &str) -> bool
+    ensures { result ≡ begins_rust_panic line.now }
+{
+    match after_mark(line, "thread '") {
+        Some(rest) => holds_mark(" panicked at".as_bytes(), rest.as_bytes()),
+        None => false,
+    }
+}
+
+// Go: goroutine 1 [running]:
+fn begins_goroutine(line: &str) -> bool
+    ensures { result ≡ begins_goroutine line.now }
+{
+    match after_mark(line, "goroutine ") {
+        Some(rest) => after_digits(rest.as_bytes()).starts_with(" [".as_bytes()),
+        None => false,
+    }
+}
+
+// What comes after the decimal digits at the front.
+fn after_digits(text: &[u8]) -> &[u8]
+    ensures { result.now ≡ after_digits text.now }
+{
+    let mut rest = text;
+    while let [byte, others @ ..] = rest {
+        if !is_digit(*byte) {
+            break;
+        }
+        rest = others;
+    }
+    rest
+}
+
+fn is_digit(byte: u8) -> bool
+    ensures { result ≡ is_digit byte }
+{
+    matches!(byte, b'0'..=b'9')
+}
+
+// Whether a text holds this mark somewhere.
+fn holds_mark(mark: &[u8], text: &[u8]) -> bool
+    ensures { result ≡ holds_mark mark.now text.now }
+{
+    let mut rest = text;
+    while let [_, others @ ..] = rest {
+        if rest.starts_with(mark) {
+            return true;
+        }
+        rest = others;
+    }
+    false
+}

@@ -1,0 +1,284 @@
+//! What is shown of each format: a drawing, a page or lines of JSON.
+
+use crate::input::{Detected, Head, is_gzip, whole_characters};
+use crate::options::{Options, name_of};
+use crate::output::Flush;
+use crate::page::{write_input, write_trace};
+use crate::report::{
+    Origin, Status, out_of_memory, refuse_format, refuse_gzip, refuse_lines, refuse_option, report,
+};
+use crate::tree::{clock, draw_calls, draw_input, draw_trace, some_moment};
+use std::alloc::AllocError;
+use std::io;
+use std::io::{BufReader, Read, Write};
+use tracing_tree::lines::BLOCK;
+use tracing_tree::time::Clock;
+use tracing_tree_go_test::{Failed, GoTest};
+use tracing_tree_logs::Logs;
+use tracing_tree_prefix::{Mark, Prefixed};
+use tracing_tree_sources::{AtLeast, Format, Lack, Plain, Source};
+use tracing_tree_tracing::Tracing;
+
+// Shows an input.
+pub fn draw<R: AllocGlobal + Eprint + Print, I: Read + Drop>(
+    rt: &R,
+    origin: Origin<'_>,
+    input: I,
+    options: &Options<'_>,
+) -> Status {
+    let alloc = rt.alloc();
+    let Ok(mut lines) = BufReader::with_capacity(alloc, BLOCK, input) else {
+        return out_of_memory(rt, origin);
+    };
+    let drawn = match Head::read(alloc, &mut lines, options.from) {
+        Ok(head) => draw_head(rt, origin, &head, lines, options),
+        Err(AllocError) => Err(AllocError),
+    };
+    match drawn {
+        Ok(status) => status,
+        Err(AllocError) => out_of_memory(rt, origin),
+    }
+}
+
+// Shows the input, from which `head` has been read.
+fn draw_head<R: AllocGlobal + Eprint + Print, I: Read + Drop>(
+    rt: &R,
+    origin: Origin<'_>,
+    head: &Head,
+    lines: BufReader<I>,
+    options: &Options<'_>,
+) -> Result<Status, AllocError> {
+    match head.detected {
+        Detected::Format(format) => match refusal(rt, origin, format, options) {
+            Some(status) => Ok(status),
+            None => draw_format(rt, origin, format, head, lines, options),
+        },
+        Detected::Nothing if head.is_blank() => draw_nothing(rt, origin, options),
+        Detected::Nothing => pass_on(rt, origin, head, lines),
+        Detected::Gzip => Ok(refuse_gzip(rt, origin)),
+        Detected::Fault(fault) => {
+            let _ = io::writer(rt).write_all(head.whole());
+            Ok(report(rt, origin, &Some(fault), Flush::Done))
+        }
+    }
+}
+
+// Shows an input without a line: nothing, or a page without rows.
+fn draw_nothing<R: AllocGlobal + Eprint + Print>(
+    rt: &R,
+    origin: Origin<'_>,
+    options: &Options<'_>,
+) -> Result<Status, AllocError> {
+    let mut source = Plain::new(some_moment());
+    match options.form {
+        None => Ok(Status::Success),
+        Some(form) => write_input(rt, origin, "".as_bytes(), &mut source, form, options),
+    }
+}
+
+// Reports an option that is given and has no meaning here.
+fn refusal(
+    rt: &impl Eprint,
+    origin: Origin<'_>,
+    format: Format,
+    options: &Options<'_>,
+) -> Option<Status> {
+    if let Some(option) = options.without_meaning(format) {
+        return Some(refuse_option(rt, origin, option, name_of(format)));
+    }
+    if options.form.is_none() {
+        return None;
+    }
+    if let Some(option) = options.without_drawing() {
+        return Some(refuse_option(rt, origin, option, "--html and --json"));
+    }
+    match format {
+        Format::Lines => Some(refuse_lines(rt, origin)),
+        Format::GoTest | Format::Tracing | Format::Chrome | Format::Logs => None,
+    }
+}
+
+// Shows the input, whose format is known.
+fn draw_format<R: AllocGlobal + Eprint + Print, I: Read + Drop>(
+    rt: &R,
+    origin: Origin<'_>,
+    format: Format,
+    head: &Head,
+    lines: BufReader<I>,
+    options: &Options<'_>,
+) -> Result<Status, AllocError> {
+    match format {
+        Format::GoTest => draw_tests(rt, origin, head.whole().chain(lines), head.mark, options),
+        Format::Tracing => draw_tracing(rt, origin, head.whole().chain(lines), head.mark, options),
+        Format::Logs => draw_logs(rt, origin, head.whole().chain(lines), head.mark, options),
+        Format::Lines => {
+            let before = draw_preamble(rt, origin, head, options)?;
+            Ok(before.worse(draw_calls(rt, origin, head, lines, options)?))
+        }
+        Format::Chrome => {
+            let before = draw_preamble(rt, origin, head, options)?;
+            Ok(before.worse(draw_elements(rt, origin, head, lines, options)?))
+        }
+    }
+}
+
+// Prints the input unchanged, and reports that no line determines its format.
+fn pass_on<R: AllocGlobal + Eprint + Print, I: Read + Drop>(
+    rt: &R,
+    origin: Origin<'_>,
+    head: &Head,
+    lines: BufReader<I>,
+) -> Result<Status, AllocError> {
+    let mut lines = lines;
+    let mut writer = io::writer(rt);
+    let _ = writer.write_all(head.whole());
+    let _ = writer.flush();
+    let status = refuse_format(rt, origin);
+    let mut block = vec![in rt.alloc(); 0; BLOCK]?;
+    for _ in 0..u64::MAX {
+        match lines.read(block.as_mut_slice()) {
+            Ok(0) => break,
+            Ok(count) => {
+                if writer.write_all(&block.as_slice()[..count]).is_err() {
+                    break;
+                }
+            }
+            Err(error) if error.kind() == io::ErrorKind::Interrupted => {}
+            Err(_) => break,
+        }
+    }
+    let _ = writer.flush();
+    Ok(status)
+}
+
+// Draws the lines before those of the format: each is an event at the root. A page has them in its
+// data.
+fn draw_preamble<R: AllocGlobal + Eprint + Print>(
+    rt: &R,
+    origin: Origin<'_>,
+    head: &Head,
+    options: &Options<'_>,
+) -> Result<Status, AllocError> {
+    if head.preamble().is_empty() || options.form.is_some() {
+        return Ok(Status::Success);
+    }
+    let mut source = AtLeast::new(Plain::new(some_moment()), options.min_level());
+    draw_input(
+        rt,
+        origin,
+        head.preamble(),
+        &mut source,
+        Clock::None,
+        options,
+    )
+}
+
+// Shows the lines of Go's tests. The status is 1 also if one failed.
+fn draw_tests<R: AllocGlobal + Eprint + Print, I: Read + Drop>(
+    rt: &R,
+    origin: Origin<'_>,
+    input: I,
+    mark: Option<Mark>,
+    options: &Options<'_>,
+) -> Result<Status, AllocError> {
+    if options.is_failed {
+        return draw_failed(rt, origin, input, mark, options);
+    }
+    let tests = GoTest::new(rt.alloc(), 1, some_moment())?;
+    let mut source = AtLeast::new(Prefixed::new(tests, mark), options.min_level());
+    let status = draw_lines(rt, origin, input, &mut source, options)?;
+    Ok(with_tests(status, source.into_source().into_source().has_failed()))
+}
+
+// Shows what failed of Go's tests.
+fn draw_failed<R: AllocGlobal + Eprint + Print, I: Read + Drop>(
+    rt: &R,
+    origin: Origin<'_>,
+    input: I,
+    mark: Option<Mark>,
+    options: &Options<'_>,
+) -> Result<Status, AllocError> {
+    let failed = Failed::new(rt.alloc(), 1, some_moment())?;
+    let mut source = AtLeast::new(Prefixed::new(failed, mark), options.min_level());
+    let status = draw_lines(rt, origin, input, &mut source, options)?;
+    Ok(with_tests(status, source.into_source().into_source().has_failed()))
+}
+
+// The status of a run of tests, of which one may have failed.
+fn with_tests(status: Status, has_failed: bool) -> Status {
+    if has_failed {
+        status.worse(Status::Failure)
+    } else {
+        status
+    }
+}
+
+// Shows the lines of Rust's tracing.
+fn draw_tracing<R: AllocGlobal + Eprint + Print, I: Read + Drop>(
+    rt: &R,
+    origin: Origin<'_>,
+    input: I,
+    mark: Option<Mark>,
+    options: &Options<'_>,
+) -> Result<Status, AllocError> {
+    let tracing = Tracing::new(rt.alloc(), 1, some_moment());
+    let mut source = AtLeast::new(Prefixed::new(tracing, mark), options.min_level());
+    draw_lines(rt, origin, input, &mut source, options)
+}
+
+// Shows the lines of a service's JSON logs.
+fn draw_logs<R: AllocGlobal + Eprint + Print, I: Read + Drop>(
+    rt: &R,
+    origin: Origin<'_>,
+    input: I,
+    mark: Option<Mark>,
+    options: &Options<'_>,
+) -> Result<Status, AllocError> {
+    let logs = Logs::new(rt.alloc(), 1, some_moment());
+    let mut source = AtLeast::new(Prefixed::new(logs, mark), options.min_level());
+    draw_lines(rt, origin, input, &mut source, options)
+}
+
+// Shows the lines of a source.
+fn draw_lines<R: AllocGlobal + Eprint + Print, I: Read + Drop, S: Source>(
+    rt: &R,
+    origin: Origin<'_>,
+    input: I,
+    source: &mut S,
+    options: &Options<'_>,
+) -> Result<Status, AllocError> {
+    match options.form {
+        None => draw_input(rt, origin, input, source, clock(options.is_timed), options),
+        Some(form) => write_input(rt, origin, input, source, form, options),
+    }
+}
+
+// Shows a trace, which is read whole first.
+fn draw_elements<R: AllocGlobal + Eprint + Print, I: Read + Drop>(
+    rt: &R,
+    origin: Origin<'_>,
+    head: &Head,
+    lines: BufReader<I>,
+    options: &Options<'_>,
+) -> Result<Status, AllocError> {
+    let mut input = head.body().chain(lines);
+    let mut bytes = Vec::new(rt.alloc());
+    if let Err(error) = input.read_to_end(&mut bytes) {
+        if error.kind() == io::ErrorKind::OutOfMemory {
+            return Err(AllocError);
+        }
+        let _ = eprintln!(rt; "{origin}the input can't be read");
+        return Ok(Status::Failure);
+    }
+    if is_gzip(bytes.as_slice()) {
+        return Ok(refuse_gzip(rt, origin));
+    }
+    let Some(text) = whole_characters(bytes.as_slice()) else {
+        let _ = eprintln!(rt; "{origin}{}", Lack::Utf8);
+        return Ok(Status::Failure);
+    };
+    match options.form {
+        None => draw_trace(rt, origin, text, options),
+        Some(form) => write_trace(rt, origin, head, text, form, options),
+    }
+}

@@ -1,0 +1,411 @@
+//! The command line.
+
+use clap::error::ErrorKind;
+use clap::parser::ValueSource;
+use clap::{Arg, ArgAction, ArgMatches, Command, Error, value_parser};
+use jiff::SignedDuration;
+use std::alloc::{AllocError, Global};
+use tracing_tree::format::Config;
+use tracing_tree::style::Level;
+use tracing_tree_chrome::Cut;
+use tracing_tree_page::LineForm;
+use tracing_tree_sources::Format;
+
+// What `--help` says of the first line.
+const DETECTION: &str =
+    "Without --from, the first line that determines a format decides, and the lines before it are drawn as plain events: a JSON object with a text at \"Action\" is of go-test; a line that begins with [, or with { and is no whole JSON value, or an object with an array at \"traceEvents\", is of chrome; an object with only settings, or with a call at \"call\", is of lines; an object with TRACE, DEBUG, INFO, WARN or ERROR at \"level\" and anything at \"fields\" or \"target\" is of tracing; an object with a level at \"level\", \"severity\", \"lvl\", \"log.level\" or \"PRIORITY\", and a message at \"msg\", \"message\", \"event\" or \"MESSAGE\", is of logs. If none of 1,000 lines or 1 MiB does, the input is printed unchanged, and the status is 2.";
+
+// The options and arguments of the command line.
+#[derive(Drop)]
+pub struct Options<'a> {
+    pub style: Style,
+
+    // Events below it aren't shown. Without it, each is.
+    min_level: Option<Level>,
+
+    // Whether only what failed of Go's tests is shown.
+    pub is_failed: bool,
+
+    // Which spans of a trace aren't drawn.
+    pub cut: Cut,
+
+    // Whether events show when they happened.
+    pub is_timed: bool,
+
+    // Without it, a tree is drawn.
+    pub form: Option<LineForm>,
+
+    // The title of a page. Without it, the name of the file.
+    pub title: Option<&'a str>,
+
+    // Without it, the first line decides.
+    pub from: Option<Format>,
+
+    pub is_strict: bool,
+
+    // Rows are cut at this many columns, unless it is 0. Without it, no row is cut.
+    pub width: Option<usize>,
+
+    // The inputs, one drawn after another; - is standard input.
+    pub files: Vec<&'a str>,
+
+    // The options that not every format has, as far as they are given.
+    given: Vec<&'a str>,
+}
+
+// How a tree is drawn.
+#[derive(Clone, Copy)]
+pub struct Style {
+    is_coloured: bool,
+    amount: usize,
+    has_lines: bool,
+    has_threads: bool,
+    is_retraced: bool,
+}
+
+// The options that not every format has.
+const OPTIONS: [&str; 10] = [
+    "amount",
+    "color",
+    "depth",
+    "failed",
+    "level",
+    "min",
+    "no-lines",
+    "no-retrace",
+    "threads",
+    "times",
+];
+
+impl<'a> Options<'a> {
+    // The settings of the drawing.
+    pub fn config(&self) -> Config {
+        let style = self.style;
+        Config::default()
+            .with_ansi(style.is_coloured)
+            .with_indent_lines(style.has_lines)
+            .with_indent_amount(style.amount)
+            .with_bracketed_fields(false)
+            .with_thread_names(style.has_threads)
+            .with_span_retrace(style.is_retraced)
+            .with_close_retrace(style.is_retraced)
+            .with_deferred_spans(self.min_level.is_some())
+    }
+
+    // Events below this level aren't shown.
+    pub fn min_level(&self) -> Level {
+        self.min_level.unwrap_or(Level::Trace)
+    }
+
+    // An option that is given and has no meaning without a drawing.
+    pub fn without_drawing(&self) -> Option<&'a str> {
+        self.given
+            .iter()
+            .copied()
+            .find(|option| is_option_of_drawing(option))
+    }
+
+    // An option that is given and has no meaning for this format.
+    pub fn without_meaning(&self, format: Format) -> Option<&'a str> {
+        self.given
+            .iter()
+            .copied()
+            .find(|option| !is_option_of(format, option))
+    }
+}
+
+// Whether a format has this option.
+fn is_option_of(format: Format, option: &str) -> bool {
+    match option {
+        "failed" => format == Format::GoTest,
+        "min" | "depth" => format == Format::Chrome,
+        "level" => matches!(format, Format::GoTest | Format::Tracing | Format::Logs),
+        "threads" => format == Format::Tracing,
+        _ => format != Format::Lines,
+    }
+}
+
+// Whether only a drawing has this option.
+fn is_option_of_drawing(option: &str) -> bool {
+    matches!(
+        option,
+        "amount" | "color" | "no-lines" | "no-retrace" | "threads" | "times"
+    )
+}
+
+// What standard output is, for the options that aren't given.
+#[derive(Clone, Copy)]
+pub struct Terminal {
+    pub is_coloured: bool,
+    pub width: Option<usize>,
+}
+
+// Reads the command line, the program's name first.
+pub fn parse<'a>(
+    alloc: Global,
+    args: &'a [String],
+    terminal: Terminal,
+) -> Result<Options<'a>, Error> {
+    let matches = command(alloc)?.try_get_matches_from(args)?;
+    let files = files(alloc, &matches)?;
+    Ok(Options {
+        style: style_of(&matches, terminal.is_coloured),
+        min_level: matches.get_str("level").map(level_of),
+        is_failed: matches.get_flag("failed"),
+        cut: Cut {
+            least: shortest(alloc, matches.get_str("min"))?,
+            depth: matches.get_one::<usize>("depth"),
+        },
+        is_timed: matches.get_flag("times"),
+        form: form(alloc, &matches, files.len())?,
+        title: matches.get_str("title"),
+        from: format(matches.get_str("from")),
+        is_strict: matches.get_flag("strict"),
+        width: matches.get_one::<usize>("width").or(terminal.width),
+        files,
+        given: given(alloc, &matches)?,
+    })
+}
+
+fn style_of(matches: &ArgMatches<'_>, is_coloured: bool) -> Style {
+    let is_coloured = match matches.get_str("color") {
+        Some("always") => true,
+        Some("never") => false,
+        _ => is_coloured,
+    };
+    Style {
+        is_coloured,
+        amount: matches.get_one::<usize>("amount").unwrap_or(2),
+        has_lines: !matches.get_flag("no-lines"),
+        has_threads: matches.get_flag("threads"),
+        is_retraced: !matches.get_flag("no-retrace"),
+    }
+}
+
+// The files, or standard input without any.
+fn files<'a>(alloc: Global, matches: &ArgMatches<'a>) -> Result<Vec<&'a str>, AllocError> {
+    let mut files = Vec::new(alloc);
+    match matches.get_strs("file") {
+        Some(names) => {
+            for name in names {
+                files.push(*name)?;
+            }
+        }
+        None => files.push("-")?,
+    }
+    Ok(files)
+}
+
+// The options that not every format has, as far as they are given.
+fn given<'a>(alloc: Global, matches: &ArgMatches<'a>) -> Result<Vec<&'a str>, AllocError> {
+    let mut given = Vec::new(alloc);
+    for option in OPTIONS {
+        if matches.value_source(option) == Some(ValueSource::CommandLine) {
+            given.push(option)?;
+        }
+    }
+    Ok(given)
+}
+
+fn command<'a>(alloc: Global) -> Result<Command<'a>, AllocError> {
+    Command::new(alloc, "ttree")
+        .version("0.1.0")
+        .about("Draws another tool's output as a tree")
+        .after_help(DETECTION)
+        .arg(from_option(alloc))?
+        .arg(color_option(alloc))?
+        .arg(amount_option(alloc))?
+        .arg(level_option(alloc))?
+        .arg(failed_option(alloc))?
+        .arg(min_option(alloc))?
+        .arg(depth_option(alloc))?
+        .arg(flag(
+            alloc,
+            "html",
+            "Writes a page of HTML that shows the tree in a browser, in place of the drawing",
+        ))?
+        .arg(title_option(alloc))?
+        .arg(flag(
+            alloc,
+            "json",
+            "Writes a line of JSON for each new span, event and close, in place of the drawing",
+        ))?
+        .arg(flag(alloc, "no-lines", "Indents without lines"))?
+        .arg(flag(
+            alloc,
+            "no-retrace",
+            "Shows no path again where the drawing comes back from another branch",
+        ))?
+        .arg(flag(alloc, "threads", "Shows the thread of each row, of tracing"))?
+        .arg(flag(
+            alloc,
+            "times",
+            "Shows when each event happened, and how long after its span opened",
+        ))?
+        .arg(flag(alloc, "strict", "Ends at the first line that can't be read"))?
+        .arg(width_option(alloc))?
+        .arg(
+            Arg::new(alloc, "file")
+                .value_name("FILE")
+                .num_args(0..)
+                .help("The inputs, one drawn after another; standard input without any, and for -"),
+        )
+}
+
+fn from_option<'a>(alloc: Global) -> Arg<'a> {
+    Arg::new(alloc, "from")
+        .long("from")
+        .value_name("TOOL")
+        .help(
+            "Whose output is read: go-test of `go test -json`, tracing of the JSON format of Rust's tracing-subscriber, chrome of Chrome's trace event format, logs of services' JSON logs, lines of settings and calls",
+        )
+        .value_parser(&["lines", "go-test", "tracing", "chrome", "logs"][..])
+}
+
+fn color_option<'a>(alloc: Global) -> Arg<'a> {
+    Arg::new(alloc, "color")
+        .long("color")
+        .value_name("WHEN")
+        .help(
+            "Whether the tree is coloured; auto colours it on a terminal, unless NO_COLOR is set or TERM is dumb",
+        )
+        .value_parser(&["auto", "always", "never"][..])
+        .default_value("auto")
+}
+
+fn amount_option<'a>(alloc: Global) -> Arg<'a> {
+    Arg::new(alloc, "amount")
+        .long("amount")
+        .value_name("N")
+        .help("The columns a level of the drawing")
+        .value_parser(value_parser!(usize))
+        .default_value("2")
+}
+
+fn level_option<'a>(alloc: Global) -> Arg<'a> {
+    Arg::new(alloc, "level")
+        .long("level")
+        .value_name("LEVEL")
+        .help("Draws only events of this level and above, and spans only where one happens in them")
+        .value_parser(&["trace", "debug", "info", "warn", "error"][..])
+}
+
+fn failed_option<'a>(alloc: Global) -> Arg<'a> {
+    flag(
+        alloc,
+        "failed",
+        "Leaves out the tests that passed or were skipped, and packages without a failure; go-test alone",
+    )
+}
+
+fn min_option<'a>(alloc: Global) -> Arg<'a> {
+    Arg::new(alloc, "min").long("min").value_name("TIME").help(
+        "Leaves out the spans of a trace that took less than this, such as 5ms or 1.5s",
+    )
+}
+
+fn depth_option<'a>(alloc: Global) -> Arg<'a> {
+    Arg::new(alloc, "depth")
+        .long("depth")
+        .value_name("N")
+        .help("Leaves out the spans of a trace below N levels")
+        .value_parser(value_parser!(usize))
+}
+
+fn width_option<'a>(alloc: Global) -> Arg<'a> {
+    Arg::new(alloc, "width")
+        .long("width")
+        .value_name("N")
+        .help(
+            "Cuts rows at N columns, and none if N is 0; without it, rows are cut at COLUMNS on a terminal, if it is set",
+        )
+        .value_parser(value_parser!(usize))
+}
+
+fn title_option<'a>(alloc: Global) -> Arg<'a> {
+    Arg::new(alloc, "title")
+        .long("title")
+        .value_name("TITLE")
+        .help("The title of the page; without it, the name of the file")
+}
+
+// What is written in place of a drawing, if anything is.
+fn form(alloc: Global, matches: &ArgMatches<'_>, files: usize) -> Result<Option<LineForm>, Error> {
+    match (matches.get_flag("html"), matches.get_flag("json")) {
+        (true, true) => Err(conflict(alloc, "the argument '--html' cannot be used with '--json'")?),
+        (true, false) if files > 1 => Err(conflict(
+            alloc,
+            "the argument '--html' cannot be used with several files",
+        )?),
+        (true, false) => Ok(Some(LineForm::Arrays)),
+        (false, true) => Ok(Some(LineForm::Objects)),
+        (false, false) => Ok(None),
+    }
+}
+
+fn conflict(alloc: Global, message: &str) -> Result<Error, AllocError> {
+    command(alloc)?.error(ErrorKind::ArgumentConflict, message)
+}
+
+// The nanoseconds of a length of time; none without a word.
+fn shortest(alloc: Global, word: Option<&str>) -> Result<u64, Error> {
+    let Some(word) = word else {
+        return Ok(0);
+    };
+    match nanoseconds(word) {
+        Some(nanoseconds) => Ok(nanoseconds),
+        None => Err(no_time(alloc)?),
+    }
+}
+
+fn nanoseconds(word: &str) -> Option<u64> {
+    let length: SignedDuration = word.parse().ok()?;
+    u64::try_from(length.as_nanos()).ok()
+}
+
+fn no_time(alloc: Global) -> Result<Error, AllocError> {
+    command(alloc)?.error(
+        ErrorKind::ValueValidation,
+        "invalid value for '--min <TIME>': expected a length of time, such as 5ms or 1.5s",
+    )
+}
+
+// The name of a format, as --from takes it.
+pub fn name_of(format: Format) -> &'static str {
+    match format {
+        Format::Lines => "lines",
+        Format::GoTest => "go-test",
+        Format::Tracing => "tracing",
+        Format::Chrome => "chrome",
+        Format::Logs => "logs",
+    }
+}
+
+// The format of this name.
+fn format(name: Option<&str>) -> Option<Format> {
+    match name? {
+        "lines" => Some(Format::Lines),
+        "chrome" => Some(Format::Chrome),
+        "logs" => Some(Format::Logs),
+        "tracing" => Some(Format::Tracing),
+        _ => Some(Format::GoTest),
+    }
+}
+
+// The level of this name.
+fn level_of(name: &str) -> Level {
+    match name {
+        "error" => Level::Error,
+        "warn" => Level::Warn,
+        "info" => Level::Info,
+        "debug" => Level::Debug,
+        _ => Level::Trace,
+    }
+}
+
+fn flag<'a>(alloc: Global, name: &'a str, help: &'a str) -> Arg<'a> {
+    Arg::new(alloc, name)
+        .long(name)
+        .help(help)
+        .action(ArgAction::SetTrue)
+}

@@ -1,0 +1,89 @@
+#!/usr/bin/env python3
+"""Runs the commands of the manual and compares what they print: manual.py TTREE TREE READ [--write]
+
+A block that is marked `console` in docs/manual has commands, each after `$ `, and after each what it
+prints, standard error too. They run in the repository, by names: the arguments are the programs
+`ttree`, `tracing_tree` and `tracing_tree_read`. Links of these pages to files must have their file.
+--write puts what is printed into the pages, for a person to read and to commit. The last line is
+'manual: N of M runs ended as they must'."""
+
+import os
+import pathlib
+import re
+import subprocess
+import sys
+import tempfile
+
+TOP = pathlib.Path(__file__).resolve().parent.parent
+NAMES = ("ttree", "tracing_tree", "tracing_tree_read")
+BLOCK = re.compile(r"(?ms)^```console\n(.*?)^```$")
+LINK = re.compile(r"\]\(([^)#:]+)[^):]*\)")
+SECONDS = 300
+
+
+def steps_of(block):
+    """Returns a block's commands, each with what it must print."""
+    parts = re.split(r"(?m)^\$ (.*)\n", block)
+    return list(zip(parts[1::2], parts[2::2]))
+
+
+def printed(command, folder):
+    """Returns what a command prints. It runs in a folder with the examples, and may write files there."""
+    path = f"{folder}/bin:{os.environ['PATH']}"
+    how = {"cwd": f"{folder}/top", "env": {**os.environ, "PATH": path}, "stdin": subprocess.DEVNULL}
+    done = subprocess.run(["sh", "-c", f"{{ {command}\n}} 2>&1"], stdout=subprocess.PIPE, timeout=SECONDS, **how)
+    return done.stdout.decode(errors="replace")
+
+
+def lay_out(folder, programs):
+    """Makes a folder with the programs by their names, and one with the examples."""
+    os.makedirs(f"{folder}/bin")
+    os.makedirs(f"{folder}/top")
+    os.symlink(f"{TOP}/examples", f"{folder}/top/examples")
+    for name, program in zip(NAMES, programs):
+        os.symlink(os.path.abspath(program), f"{folder}/bin/{name}")
+
+
+def run_page(path, folder, is_written):
+    """Runs a page's commands and follows its links. Returns how many ended as they must, and how many there are."""
+    text, passed, runs = path.read_text(encoding="utf-8"), 0, 0
+
+    def run_block(block):
+        nonlocal passed, runs
+        made = ""
+        for command, wanted in steps_of(block[1]):
+            found, runs = printed(command, folder), runs + 1
+            made += f"$ {command}\n{found}"
+            if found == wanted:
+                passed += 1
+            elif not is_written:
+                print(f"manual: {path.relative_to(TOP)}: {command}: FAILED:\nwanted:\n{wanted}printed:\n{found}")
+        return f"```console\n{made}```"
+
+    filled = BLOCK.sub(run_block, text)
+    if is_written:
+        path.write_text(filled, encoding="utf-8")
+    for link in LINK.findall(text):
+        runs += 1
+        if (path.parent / link).exists():
+            passed += 1
+        else:
+            print(f"manual: {path.relative_to(TOP)}: {link}: FAILED: there is no such file")
+    return passed, runs
+
+
+def main():
+    is_written = "--write" in sys.argv[1:]
+    programs = [it for it in sys.argv[1:] if it != "--write"]
+    passed, runs = 0, 0
+    with tempfile.TemporaryDirectory(prefix="manual-") as folder:
+        lay_out(folder, programs)
+        for path in sorted((TOP / "docs" / "manual").glob("*.md")):
+            found = run_page(path, folder, is_written)
+            passed, runs = passed + found[0], runs + found[1]
+    print(f"manual: {passed} of {runs} runs ended as they must")
+    return 0 if passed == runs and runs else 1
+
+
+if __name__ == "__main__":
+    sys.exit(main())

@@ -1,0 +1,108 @@
+// Selection, details, and the link to a span or an event.
+
+function select(node, shouldScroll = true) {
+  selected = node;
+  if (node !== NONE) {
+    if (shouldScroll) {
+      if (!isRow(node)) reveal(node);
+      scrollToRow(rowOf(node));
+    }
+    clearTimeout(select.timer);
+    select.timer = setTimeout(() => history.replaceState(null, "", fragmentOf(node)), 150);
+  }
+  if (!find("details").hidden) paintDetails();
+  isStale = true;
+  wantPaint();
+}
+
+const fragmentOf = (node) => isSpan(node) ? `#span-${run.id[node]}` : `#call-${run.opened[node]}`;
+
+function goToFragment() {
+  const [, kind, number] = location.hash.match(/^#(span|call)-(\d+)$/) || [];
+  for (let node = 0; kind && node < run.size; node++) {
+    if (isSpan(node) !== (kind === "span") || Number(number) !== (isSpan(node) ? run.id : run.opened)[node]) continue;
+    if (node !== selected) select(node), showDetails(true);
+    break;
+  }
+}
+
+function showDetails(isShown) {
+  find("details").hidden = !isShown || selected === NONE;
+  paintDetails();
+  paintAxis();
+  isStale = true;
+  wantPaint();
+  if (isRow(selected)) scrollToRow(rowOf(selected));
+}
+
+function paintDetails() {
+  const panel = find("details"), node = selected;
+  panel.replaceChildren();
+  if (node === NONE) return;
+  const call = callAt(run.at[node]), span = isSpan(node), fields = fieldsOf(node, 1000), head = make("div", "details-head");
+  const close = make("button", "icon", "×");
+  close.title = "Close (d)", close.ariaLabel = "Close details";
+  close.addEventListener("click", () => showDetails(false));
+  head.append(make("span", `kind ${span && run.worst[node] < WARN ? "" : LEVELS[run.worst[node]].toLowerCase()}`, span ? "Span" : LEVELS[run.level[node]]), copyButton(), close);
+  panel.append(head);
+  const message = span ? call[8] || "(no name)" : fields.filter(([name]) => name === "message").map(([, value]) => value).join("\n");
+  if (message) panel.append(make("pre", "text", whole100k(message)));
+  const path = make("nav", "crumbs");
+  for (const above of spansAround(node, 12)) {
+    const step = make("button", "crumb", inRow(nameOf(above)).slice(0, 80) || "(no name)");
+    step.addEventListener("click", () => select(above));
+    path.append(step);
+  }
+  if (path.firstChild) panel.append(path);
+  const parent = run.parent[node], facts = [];
+  if (span && hasTimes()) facts.push(["Time", `${lengthText(lengthOf(node))}${isUnfinished(node) ? " so far" : ""}`], ["Own time", `${lengthText(run.own[node])}`]);
+  if (hasTimes()) facts.push([span ? "Begins at" : "Happens at", `+${lengthText(from(node) - run.least)}`]);
+  if (hasTimes() && !span && parent !== NONE) facts.push(["In its span", `+${lengthText(from(node) - from(parent))}`]);
+  if (wallText(call)) facts.push(["Clock", wallText(call)]);
+  if (span) facts.push(["Events below", `${run.events[node].toLocaleString("en")}${run.errors[node] ? `, ${counted(run.errors[node], "error")}` : ""}`]);
+  if (call[5] && threadNames.length > 1) facts.push(["Thread", call[5]]);
+  if (call[span ? 9 : 8]) facts.push(["Target", call[span ? 9 : 8]]);
+  const shownFields = fields.filter(([name]) => name !== "message" || span);
+  panel.append(table("Fields", shownFields), table("", facts));
+}
+
+const whole100k = (text) => shown(text.slice(0, 1e5)) + (text.length > 1e5 ? `\n… ${counted(text.length - 1e5, "more character")}` : "");
+
+function copyButton() {
+  const button = make("button", "link", "Copy link");
+  button.addEventListener("click", async () => {
+    const fragment = fragmentOf(selected);
+    try {
+      await navigator.clipboard.writeText(location.href.replace(/#.*|$/, fragment));
+      notify("Link copied");
+    } catch {
+      notify(fragment);
+    }
+  });
+  return button;
+}
+
+function table(title, pairs) {
+  const list = make("dl", title ? "facts fields-list" : "facts");
+  for (const [name, value] of pairs) list.append(make("dt", "", inRow(name)), make("dd", "", whole100k(value)));
+  list.hidden = !pairs.length;
+  return list;
+}
+
+function notify(text) {
+  const box = find("notice");
+  box.textContent = text;
+  box.classList.add("is-shown");
+  clearTimeout(notify.timer);
+  notify.timer = setTimeout(() => box.classList.remove("is-shown"), 2200);
+}
+
+function goToError(step) {
+  const places = run.errorPlaces, here = selected === NONE ? -1 : run.place[selected];
+  const kept = (place) => run.kept[run.order[place]];
+  const ahead = step > 0 ? places.find((it) => it > here && kept(it)) ?? places.find(kept) : places.findLast((it) => it < here && kept(it)) ?? places.findLast(kept);
+  if (ahead === undefined) return notify(places.length ? "The filters hide every error" : "No errors");
+  select(run.order[ahead]);
+  notify(`Error ${places.indexOf(ahead) + 1} of ${places.length}`);
+}
+

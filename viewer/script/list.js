@@ -1,0 +1,168 @@
+// The list: only the visible rows have elements.
+
+const scroller = find("scroller"), sizer = find("sizer"), rowsBox = find("rows"), nothing = find("nothing");
+const pool = [];
+let rowHeight = 24, offset = 0, lastTop = 0, isPaintWanted = false, isStale = false;
+
+const wholeHeight = () => shownRows * rowHeight;
+const boxHeight = () => Math.min(wholeHeight(), TALLEST);
+const reach = (height) => Math.max(1, height - scroller.clientHeight);
+
+function layOut() {
+  sizer.style.height = `${boxHeight()}px`;
+  scrollToPixel(clamp(scroller.scrollTop + offset, 0, reach(wholeHeight())));
+  isStale = true;
+}
+
+// All rows together may be taller than a browser allows. Then the position in the box is proportional
+// to the one in the rows, and `offset` is the difference. Small scroll steps leave it unchanged.
+function scrollToPixel(pixel) {
+  const top = wholeHeight() <= TALLEST ? pixel : pixel / reach(wholeHeight()) * reach(TALLEST);
+  scroller.scrollTop = top;
+  lastTop = scroller.scrollTop;
+  offset = wholeHeight() <= TALLEST ? 0 : Math.round(pixel - lastTop);
+  wantPaint();
+}
+
+function followScroll() {
+  const top = scroller.scrollTop, leap = Math.abs(top - lastTop) > 4 * scroller.clientHeight;
+  const isAtEdge = top <= 0 || top >= reach(boxHeight()) - 1;
+  if (wholeHeight() > TALLEST && (leap || isAtEdge)) offset = Math.round(top / reach(TALLEST) * reach(wholeHeight()) - top);
+  lastTop = top;
+  wantPaint();
+}
+
+function scrollToRow(row) {
+  const top = row * rowHeight, pixel = scroller.scrollTop + offset, height = scroller.clientHeight;
+  if (top < pixel || top + rowHeight > pixel + height) scrollToPixel(clamp(top - height / 3, 0, reach(wholeHeight())));
+  isStale = true;
+  wantPaint();
+}
+
+function wantPaint() {
+  if (!isPaintWanted) requestAnimationFrame(paint);
+  isPaintWanted = true;
+}
+
+function makeRow() {
+  const element = make("div", "row");
+  element.setAttribute("role", "treeitem");
+  const parts = { tree: make("div", "tree"), count: make("div", "count"), self: make("div", "self"), time: make("div", "time"), lane: make("div", "lane"), track: make("div", "track"), bar: make("div", "bar") };
+  parts.lane.append(parts.track);
+  parts.track.append(parts.bar);
+  element.append(parts.tree, parts.count, parts.self, parts.time, parts.lane);
+  return { element, parts, row: NONE };
+}
+
+function paint() {
+  isPaintWanted = false;
+  const pixel = clamp(scroller.scrollTop + offset, 0, Math.max(0, wholeHeight() - 1)), height = scroller.clientHeight;
+  const first = Math.max(0, Math.floor(pixel / rowHeight) - 8), last = Math.min(shownRows, Math.ceil((pixel + height) / rowHeight) + 8);
+  const wanted = Math.ceil(height / rowHeight) + 20;
+  while (pool.length < wanted) {
+    const one = makeRow();
+    pool.push(one);
+    rowsBox.append(one.element);
+    isStale = true;
+  }
+  fitIndent(first, last);
+  const used = new Set();
+  for (let row = first; row < last; row++) {
+    const one = pool[row % pool.length];
+    used.add(one);
+    if (isStale || one.row !== row) paintRow(one, row);
+    one.element.style.transform = `translateY(${row * rowHeight - offset}px)`;
+  }
+  for (const one of pool) {
+    if (used.has(one)) continue;
+    one.element.hidden = true;
+    one.row = NONE;
+  }
+  isStale = false;
+  paintPath(Math.floor(pixel / rowHeight));
+  const active = isRow(selected) ? pool[rowOf(selected) % pool.length] : null;
+  active && active.row === rowOf(selected) ? scroller.setAttribute("aria-activedescendant", active.element.id) : scroller.removeAttribute("aria-activedescendant");
+}
+
+// If the visible rows are too deep for the width, their indentation counts from a deeper level and is
+// narrower.
+function fitIndent(first, last) {
+  let least = Infinity, most = 0;
+  for (let row = first; row < last; row++) {
+    const depth = run.depth[run.rows[row]];
+    least = Math.min(least, depth), most = Math.max(most, depth);
+  }
+  const width = scroller.clientWidth / 5, usual = parseFloat(getComputedStyle(document.body).getPropertyValue("--indent"));
+  const base = most * usual <= width ? 0 : Math.min(least, most - 4), indent = clamp(Math.floor(width / (most - base)), 3, usual);
+  if (base !== rowsBox.base || indent !== rowsBox.indent) isStale = true;
+  Object.assign(rowsBox, { base, indent });
+  rowsBox.style.setProperty("--indent", `${indent}px`);
+  rowsBox.classList.toggle("is-tight", indent < 10);
+}
+
+function paintRow(one, row) {
+  const { element, parts } = one, node = run.rows[row], span = isSpan(node), worst = run.worst[node];
+  const canFold = span && run.firstChild[node] !== NONE;
+  one.row = row;
+  element.hidden = false;
+  element.id = `row-${row % pool.length}`;
+  element.className = `row ${span ? "span" : "event"} ${LEVELS[worst].toLowerCase()}${run.direct[node] === ERROR ? " direct" : ""}${node === selected ? " selected" : ""}${search.nodes.has(node) ? " match" : ""}`;
+  element.setAttribute("aria-level", run.depth[node] + 1);
+  element.setAttribute("aria-posinset", run.ordinal[node]);
+  element.setAttribute("aria-setsize", run.ordinal[run.parent[node] === NONE ? run.lastRoot : run.lastChild[run.parent[node]]]);
+  element.setAttribute("aria-selected", node === selected);
+  canFold ? element.setAttribute("aria-expanded", isOpen(node)) : element.removeAttribute("aria-expanded");
+  parts.tree.style.setProperty("--depth", clamp(run.depth[node] - rowsBox.base, 0, 100));
+  parts.tree.replaceChildren(...treeParts(node, span, canFold, worst));
+  parts.count.textContent = span && run.events[node] ? run.events[node].toLocaleString("en") : "";
+  parts.self.textContent = span && hasTimes() && run.own[node] < lengthOf(node) ? lengthText(run.own[node]) : "";
+  parts.time.textContent = !hasTimes() ? "" : span ? lengthText(lengthOf(node)) : `+${lengthText(from(node) - (run.parent[node] === NONE ? run.least : from(run.parent[node])))}`;
+  paintBar(parts.bar, node, span);
+}
+
+function treeParts(node, span, canFold, worst) {
+  const parts = [make("span", canFold ? "fold" : "fold none")];
+  if (rowsBox.base > 0 && run.depth[node] === rowsBox.base) parts.push(make("span", "deep", `${run.depth[node]}`));
+  if (span) {
+    const name = make("span", "name");
+    mark(name, inRow(nameOf(node)) || "(no name)");
+    const state = make("span", "state");
+    if (worst >= WARN) state.role = "img", state.ariaLabel = worst === ERROR ? "errors" : "warnings";
+    parts.push(state, name);
+  } else parts.push(make("span", "level", LEVELS[run.level[node]]));
+  const text = make("span", "fields");
+  for (const [at, [name, value]] of fieldsOf(node, 40).entries()) {
+    if (text.textContent.length > LONGEST) break;
+    if (at) text.append("  ");
+    if (name === "message" && (!span || at === 0)) mark(text.appendChild(make("span", "message")), inRow(value));
+    else {
+      const field = text.appendChild(make("span", "field"));
+      mark(field.appendChild(make("span", "key")), `${inRow(name)}=`);
+      mark(field.appendChild(make("span", "value")), inRow(value));
+    }
+  }
+  parts.push(text);
+  if (span && isUnfinished(node)) parts.push(make("span", "tag", run.isWhole ? "unfinished" : "open"));
+  if (threadNames.length > 1 && (run.parent[node] === NONE || run.thread[node] !== run.thread[run.parent[node]])) parts.push(make("span", "tag thread", threadText(run.thread[node])));
+  return parts;
+}
+
+const threadText = (thread) => inRow(threadNames[thread].replace(/^\d*$/, (it) => it ? `thread ${it}` : "no thread"));
+
+function mark(element, text) {
+  const query = search.query.toLowerCase(), lower = text.toLowerCase();
+  let done = 0;
+  for (let at = query ? lower.indexOf(query) : -1; at >= 0; at = lower.indexOf(query, done)) {
+    element.append(text.slice(done, at), make("mark", "", text.slice(at, at + query.length)));
+    done = at + query.length;
+  }
+  element.append(text.slice(done));
+}
+
+function paintPath(row) {
+  const node = shownRows ? run.rows[clamp(row, 0, shownRows - 1)] : NONE;
+  const path = node === NONE ? [] : spansAround(node, 6);
+  find("path").textContent = path.length ? path.map((it) => inRow(nameOf(it)).slice(0, 60)).join(" › ") : "Span";
+  find("path").classList.toggle("is-path", path.length > 0);
+}
+

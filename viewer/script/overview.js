@@ -1,0 +1,68 @@
+// The overview.
+
+function paintOverview() {
+  const [, , , warnings, errors] = run.levels, events = run.levels.reduce((sum, it) => sum + it), verdict = find("verdict");
+  document.title = errors ? `✗ ${shown(run.title)}` : shown(run.title) || "ttree";
+  find("title").textContent = inRow(run.title) || "ttree";
+  document.body.classList.toggle("is-untimed", !hasTimes());
+  verdict.className = errors ? "bad" : run.isRead ? "good" : "";
+  verdict.textContent = errors ? counted(errors, "error") : run.isRead ? "No errors" : "Reading";
+  if (hasTimes()) verdict.append(make("small", "", ` in ${lengthText(run.most - run.least)}${run.isRead ? "" : " so far"}`));
+  const counts = [[run.spans, "span", "spans"], [events, "event", "events"]];
+  if (warnings) counts.push([warnings, "warning", "warnings", "warn"]);
+  if (threadNames.length > 1) counts.push([threadNames.length, "thread", "threads"]);
+  if (run.unfinished && run.isRead) counts.push([run.unfinished, "not closed", "not closed", "warn"]);
+  if (run.damaged) counts.push([run.damaged, "damaged line", "damaged lines", "warn"]);
+  find("counts").replaceChildren(...counts.map(([count, one, many, kind]) => {
+    const box = make("div", kind);
+    box.append(make("dd", "", count.toLocaleString("en")), make("dt", "", count === 1 ? one : many));
+    return box;
+  }));
+  if (run.isRead && !run.isWhole) find("counts").append(make("p", "cut", "The page ends early: this is what came before."));
+  find("next-error").hidden = !errors;
+  find("failed").hidden = run.isRead && !errors;
+  find("next-error").textContent = counted(errors, "error");
+  const groups = errorGroups();
+  listNodes("errors", [...groups.values()].slice(0, 4), ({ where, text, count }) => {
+    const parts = [make("span", "what", where), make("span", "detail", text)];
+    return count > 1 ? [...parts, make("span", "times", `× ${count}`)] : parts;
+  });
+  const slow = hasTimes() ? slowest(4) : [];
+  listNodes("slowest", slow.map((node) => ({ node })), ({ node }) => {
+    const share = make("span", "share"), fields = fieldsOf(node, 3).map(([name, value]) => inRow(name === "message" ? value : `${name}=${value}`));
+    share.appendChild(make("span")).style.width = `${clamp(run.own[node] / run.own[slow[0]] * 100, 2, 100)}%`;
+    return [make("span", "length", lengthText(run.own[node])), share, make("span", "what", inRow(nameOf(node))), make("span", "detail", fields.join(" ").slice(0, 80))];
+  });
+}
+
+// Equal errors in spans of one name are listed once, at the first of them.
+function errorGroups() {
+  const groups = new Map();
+  for (const place of run.errorPlaces.slice(0, 2000)) {
+    const node = run.order[place], above = run.parent[node], where = above === NONE ? "" : inRow(nameOf(above)), text = inRow(messageOf(node)), key = `${where}\n${text}`;
+    groups.has(key) ? groups.get(key).count++ : groups.set(key, { node, where, text, count: 1 });
+  }
+  return groups;
+}
+
+function slowest(count) {
+  const top = [];
+  for (let node = 0; node < run.size; node++) {
+    if (!isSpan(node) || top.length === count && run.own[node] <= run.own[top[count - 1]]) continue;
+    top.push(node);
+    top.sort((one, other) => run.own[other] - run.own[one]);
+    top.length = Math.min(top.length, count);
+  }
+  return top.filter((it) => run.own[it] > 0);
+}
+
+function listNodes(id, ones, partsOf) {
+  find(`${id}-box`).hidden = !ones.length;
+  find(id).replaceChildren(...ones.map((one) => {
+    const item = make("li"), button = item.appendChild(make("button"));
+    button.append(...partsOf(one));
+    button.addEventListener("click", () => (select(one.node), showDetails(true), scroller.focus()));
+    return item;
+  }));
+}
+
