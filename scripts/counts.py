@@ -9,7 +9,7 @@ machine, and change if the code or the toolchain does: then --write writes them 
 
 usage: counts.py BENCH CLI TTREE SERVICE COUNTER [--write]
 """
-import collections, json, os, re, subprocess, sys
+import collections, json, os, re, subprocess, sys, tempfile
 
 FIGURES = os.path.join(os.path.dirname(os.path.abspath(__file__)), "counts.txt")
 PROGRAMS = ("bench", "cli", "ttree", "service")
@@ -92,9 +92,13 @@ def works():
 
 def counted(programs, counter, work):
     """How often a work asks for memory, for how many bytes, and how many it holds at most."""
-    # The program's name is one of the strings that it keeps.
-    run = subprocess.run([work.program, *work.words], executable=programs[work.program], input=work.given, env={"LD_PRELOAD": counter},
-                         stdout=subprocess.PIPE, stderr=subprocess.PIPE, timeout=120, check=False)
+    # The input is a file: how much a read of a pipe returns differs from run to run, and a line that
+    # two reads return is copied. The program's name is one of the strings that it keeps.
+    with tempfile.TemporaryFile() as given:
+        given.write(work.given)
+        given.seek(0)
+        run = subprocess.run([work.program, *work.words], executable=programs[work.program], stdin=given, env={"LD_PRELOAD": counter},
+                             stdout=subprocess.PIPE, stderr=subprocess.PIPE, timeout=120, check=False)
     told = re.fullmatch(rb"(\d+) (\d+) (\d+)\n", run.stderr)
     done = re.search(work.ending + rb"\n$", run.stdout)
     if run.returncode or not told or not done or told[1] == b"0":

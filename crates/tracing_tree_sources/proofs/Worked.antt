@@ -3,9 +3,10 @@ use Rattle.std.proofs.Common.{◌≡◌, true, false, None, Some, [], ◌∷◌,
 use Rattle.std.specs.Prelude.{negsuc}
 use Rattle.json.specs.Json.{array, boolean, string, object, no_items, member, no_members}
 use Rattle.tracing_tree_sources.specs.First.{begins_list, begins_object, detected, format_by, format_of, format_of_line, holding, without_mark}
+use Rattle.tracing_tree_sources.specs.Markers.{format_marked}
 use Rattle.tracing_tree_sources.specs.Marks.{after_mark}
 use Rattle.tracing_tree_sources.specs.declared.first.Detection.TheVariants.{Full, Held}
-use Rattle.tracing_tree_sources.specs.declared.first.Format.TheVariants.{Chrome, GoTest, Lines, Logs, Tracing}
+use Rattle.tracing_tree_sources.specs.declared.first.Format.TheVariants.{Chrome, GoTest, Junit, Lines, Logs, Otlp, Tap, Tracing}
 use Rattle.tracing_tree_context.specs.declared.context.Moment.{Moment}
 use Rattle.tracing_tree_text.specs.declared.style.Level.TheVariants.{Trace, Debug, Info, Warn, Error}
 use Rattle.tracing_tree_spans.specs.Registry.Ids.{id_of}
@@ -154,3 +155,35 @@ a_word_in_brackets_begins_no_list = refl
 
 pub a_list_of_objects_begins : begins_list (codes " [ {\"ph\":") ≡ true
 a_list_of_objects_begins = refl
+
+-- ---- lines that only one format has
+
+pub a_plan_is_of_tap : format_marked (codes "1..5") ≡ Some Tap
+a_plan_is_of_tap = refl
+
+pub a_result_is_of_tap : format_marked (codes "not ok 2 - adds") ≡ Some Tap
+a_result_is_of_tap = refl
+
+pub a_result_may_have_no_number : format_marked (codes "ok - loads") ≡ Some Tap
+a_result_may_have_no_number = refl
+
+pub a_package_of_go_is_not_of_tap : format_marked (codes "ok  \texample.com/p\t0.1s") ≡ None
+a_package_of_go_is_not_of_tap = refl
+
+pub a_range_of_other_numbers_is_no_plan : format_marked (codes "2..5") ≡ None
+a_range_of_other_numbers_is_no_plan = refl
+
+pub a_version_is_of_tap : format_marked (codes "TAP version 14") ≡ Some Tap
+a_version_is_of_tap = refl
+
+pub a_root_of_suites_is_of_junit : format_marked (codes "<testsuites name=\"x\">") ≡ Some Junit
+a_root_of_suites_is_of_junit = refl
+
+pub so_is_one_after_a_declaration : format_marked (codes "<?xml version=\"1.0\"?><testsuite>") ≡ Some Junit
+so_is_one_after_a_declaration = refl
+
+pub a_declaration_alone_determines_nothing : format_marked (codes "<?xml version=\"1.0\"?>") ≡ None
+a_declaration_alone_determines_nothing = refl
+
+pub spans_of_resources_are_of_otlp : format_marked (codes "{ \"resourceSpans\": [") ≡ Some Otlp
+spans_of_resources_are_of_otlp = refl

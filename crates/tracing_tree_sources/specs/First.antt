@@ -7,13 +7,14 @@ use Rattle.json.specs.Find.{as_object, get}
 use Rattle.tracing_tree_sources.specs.Blanks.{after_blanks, first_byte}
 use Rattle.tracing_tree_sources.specs.Counts.{one_more}
 use Rattle.tracing_tree_sources.specs.Levels.{level_in}
+use Rattle.tracing_tree_sources.specs.Markers.{format_marked}
 use Rattle.tracing_tree_sources.specs.Marks.{after_mark}
 use Rattle.tracing_tree_sources.specs.Values.{array_at, text_at}
 use Rattle.tracing_tree_sources.specs.declared.first.Detector.{Detector}
 use Rattle.tracing_tree_sources.specs.declared.first.Detection.{Detection}
 use Rattle.tracing_tree_sources.specs.declared.first.Detection.TheVariants.{Determined, Held, Full}
 use Rattle.tracing_tree_sources.specs.declared.first.Format.{Format}
-use Rattle.tracing_tree_sources.specs.declared.first.Format.TheVariants.{Lines, GoTest, Tracing, Chrome, Logs}
+use Rattle.tracing_tree_sources.specs.declared.first.Format.TheVariants.{Lines, GoTest, Tracing, Chrome, Logs, Otlp}
 
 -- one of the five levels, and anything at one of two other keys
 abbrev pub is_of_tracing : Json → Bool
@@ -72,10 +73,17 @@ spells_call value = among (text_at (codes "call") value) where
   among None = false
   among (Some word) = list_any (bytes_eq word) call_words
 
+-- an array at one of OTLP's keys
+abbrev pub is_of_otlp : Json → Bool
+is_of_otlp value =
+    is_some (array_at (codes "resourceSpans") value) || is_some (array_at (codes "resourceLogs") value)
+    || is_some (array_at (codes "resourceMetrics") value)
+
 abbrev pub format_of_value : Json → Option Format
 format_of_value value =
     if is_some (text_at (codes "Action") value) then Some GoTest
     else if is_some (array_at (codes "traceEvents") value) then Some Chrome
+    else if is_of_otlp value then Some Otlp
     else if spells_settings value || spells_call value then Some Lines
     else if is_of_tracing value then Some Tracing
     else if is_log value then Some Logs
@@ -128,11 +136,17 @@ object_begins (byte ∷ rest) = if byte == 123 then may_be_key (first_byte rest)
 abbrev pub begins_object : List ℕ → Bool
 begins_object line = object_begins (after_blanks line)
 
+abbrev pub format_of_json : List ℕ → Option Format
+format_of_json line = format_by (begins_object line) (if is_utf8 line then document line else None)
+
+abbrev pub or_format : Option Format → Option Format → Option Format
+or_format (Some format) other = Some format
+or_format None other = other
+
 -- the format that a line determines, if it determines one
 abbrev pub format_of_line : List ℕ → Option Format
 format_of_line line =
-    if begins_list line then Some Chrome
-    else format_by (begins_object line) (if is_utf8 line then document line else None)
+    if begins_list line then Some Chrome else or_format (format_marked line) (format_of_json line)
 
 -- a line without the byte order mark at its front
 abbrev pub without_mark : List ℕ → List ℕ

@@ -7,6 +7,7 @@ pub mod Source
 pub mod Told
 pub mod Fields
 pub mod Moments
+pub mod Markers
 pub mod First
 pub mod Levels
 pub mod Tallies

@@ -3,11 +3,12 @@
 ghost use Rattle.std.specs.Prelude.{◌≡◌, IfOk, option_map};
 ghost use Rattle.json.specs.Json.{document};
 ghost use Rattle.json.specs.Value.{members_view, value_view};
-ghost use Rattle.tracing_tree_sources.specs.First.{are_settings, begins_list, begins_object, detects, ends_object, format_by, format_of, format_of_line, format_of_value, has_key_of_level, has_key_of_message, has_settings, holding, is_empty_object, is_full, is_log, is_of_tracing, is_setting, spells_call, spells_settings, without_mark};
+ghost use Rattle.tracing_tree_sources.specs.First.{are_settings, begins_list, begins_object, detects, ends_object, format_by, format_of, format_of_json, format_of_line, format_of_value, has_key_of_level, has_key_of_message, has_settings, holding, is_empty_object, is_full, is_log, is_of_otlp, is_of_tracing, is_setting, spells_call, spells_settings, without_mark};
 
 use crate::blanks::{after_blanks, first_byte};
 use crate::fields::is_among;
 use crate::level::level_in;
+use crate::markers::format_marked;
 use crate::values::{array_at, text_at, value_of};
 use json::{Scratch, Value};
 use simdutf8::basic::from_utf8;
@@ -57,6 +58,15 @@ pub enum Format {
 
     /// JSON logs of services.
     Logs,
+
+    /// OpenTelemetry's OTLP as JSON.
+    Otlp,
+
+    /// JUnit XML.
+    Junit,
+
+    /// The Test Anything Protocol.
+    Tap,
 }
 
 /// What is known of a format after a line.
@@ -130,10 +140,11 @@ pub fn without_mark(line: &[u8]) -> &[u8]
 
 /// Returns the format that a line determines, if it determines one.
 ///
-/// A line that begins with `[` after its blanks is Chrome's if nothing more, `{` or `]` follows, and so
-/// is one that begins with `{`, followed by `"` or nothing more, and isn't a whole JSON value. An object
-/// with a string at `Action` is Go's. Another with an array at `traceEvents` is Chrome's. Another that
-/// has a key, and only keys of settings, or that names a call at `call`, is a line of settings and
+/// A line that begins with `[` after its blanks is Chrome's if nothing more, `{` or `]` follows. A line
+/// that only OTLP, JUnit XML or TAP has is theirs ([`markers`](crate::markers)). A line that begins with
+/// `{`, followed by `"` or nothing more, and isn't a whole JSON value is Chrome's. An object with a
+/// string at `Action` is Go's. Another with an array at `traceEvents` is Chrome's. Another with an array
+/// at `resourceSpans`, `resourceLogs` or `resourceMetrics` is OTLP's. Another that has a key, and only keys of settings, or that names a call at `call`, is a line of settings and
 /// calls. Another with one of the five levels at `level`, and anything at `fields` or `target`, is
 /// tracing's. Another with a key of levels (`level`, `severity`, `lvl`, `log.level`, `PRIORITY`) and a
 /// key of messages (`msg`, `message`, `event`, `MESSAGE`) is a log. Every other line determines nothing.
@@ -147,6 +158,15 @@ pub fn format_of_line(alloc: Global, line: &[u8]) -> Result<Option<Format>, Allo
     if begins_list(line) {
         return Ok(Some(Format::Chrome));
     }
+    match format_marked(line) {
+        Some(format) => Ok(Some(format)),
+        None => format_of_json(alloc, line),
+    }
+}
+
+fn format_of_json(alloc: Global, line: &[u8]) -> Result<Option<Format>, AllocError>
+    ensures { IfOk result (λ format. format ≡ format_of_json line.now) }
+{
     let is_object = begins_object(line);
     match from_utf8(line) {
         Ok(text) => format_of_text(alloc, is_object, text),
@@ -236,6 +256,8 @@ fn format_of_value(value: &Value<'_>) -> Option<Format>
         Some(Format::GoTest)
     } else if array_at(value, "traceEvents").is_some() {
         Some(Format::Chrome)
+    } else if is_of_otlp(value) {
+        Some(Format::Otlp)
     } else if spells_settings(value) || spells_call(value) {
         Some(Format::Lines)
     } else if is_of_tracing(value) {
@@ -245,6 +267,15 @@ fn format_of_value(value: &Value<'_>) -> Option<Format>
     } else {
         None
     }
+}
+
+// Whether a value has an array at one of OTLP's keys.
+fn is_of_otlp(value: &Value<'_>) -> bool
+    ensures { result ≡ is_of_otlp (value_view value.now) }
+{
+    array_at(value, "resourceSpans").is_some()
+        || array_at(value, "resourceLogs").is_some()
+        || array_at(value, "resourceMetrics").is_some()
 }
 
 // Whether an object has a key, and each of its keys is a setting's.

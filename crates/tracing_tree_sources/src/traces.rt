@@ -98,7 +98,7 @@ fn begins_goroutine(line: &str) -> bool
 }
 
 // What comes after the decimal digits at the front.
-fn after_digits(text: &[u8]) -> &[u8]
+pub(crate) fn after_digits(text: &[u8]) -> &[u8]
     ensures { result.now ≡ after_digits text.now }
 {
     let mut rest = text;
@@ -111,7 +111,7 @@ fn after_digits(text: &[u8]) -> &[u8]
     rest
 }
 
-fn is_digit(byte: u8) -> bool
+pub(crate) fn is_digit(byte: u8) -> bool
     ensures { result ≡ is_digit byte }
 {
     matches!(byte, b'0'..=b'9')

@@ -94,7 +94,13 @@ fn refusal(
     }
     match format {
         Format::Lines => Some(refuse_lines(rt, origin)),
-        Format::GoTest | Format::Tracing | Format::Chrome | Format::Logs => None,
+        Format::GoTest
+        | Format::Tracing
+        | Format::Chrome
+        | Format::Logs
+        | Format::Otlp
+        | Format::Junit
+        | Format::Tap => None,
     }
 }
 
@@ -111,6 +117,9 @@ fn draw_format<R: AllocGlobal + Eprint + Print, I: Read + Drop>(
         Format::GoTest => draw_tests(rt, origin, head.whole().chain(lines), head.mark, options),
         Format::Tracing => draw_tracing(rt, origin, head.whole().chain(lines), head.mark, options),
         Format::Logs => draw_logs(rt, origin, head.whole().chain(lines), head.mark, options),
+        Format::Otlp => pass_on(rt, origin, head, lines),
+        Format::Junit => pass_on(rt, origin, head, lines),
+        Format::Tap => pass_on(rt, origin, head, lines),
         Format::Lines => {
             let before = draw_preamble(rt, origin, head, options)?;
             Ok(before.worse(draw_calls(rt, origin, head, lines, options)?))

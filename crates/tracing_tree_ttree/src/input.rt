@@ -124,11 +124,11 @@ impl Head {
     fn begin(&mut self, format: Format, place: usize, number: u64) {
         match format {
             Format::Lines if self.start < place => {}
-            Format::Lines | Format::Chrome => {
+            Format::Lines | Format::Chrome | Format::Otlp => {
                 self.start = place;
                 self.lines_before = number.saturating_sub(1);
             }
-            Format::GoTest | Format::Tracing | Format::Logs => {
+            Format::GoTest | Format::Tracing | Format::Logs | Format::Junit | Format::Tap => {
                 self.start = 0;
                 self.lines_before = 0;
             }
@@ -205,9 +205,14 @@ fn format_after(alloc: Global, mark: Mark, line: &str) -> Result<Option<Format>,
         return Ok(None);
     };
     match format_of_line(alloc, rest.as_bytes())? {
-        Some(Format::Chrome | Format::Lines) | None => Ok(None),
-        found => Ok(found),
+        Some(format) if has_prefixes(format) => Ok(Some(format)),
+        _ => Ok(None),
     }
+}
+
+// Whether the lines of a format may have prefixes.
+fn has_prefixes(format: Format) -> bool {
+    matches!(format, Format::GoTest | Format::Tracing | Format::Logs)
 }
 
 fn without_line_end(line: &[u8]) -> &[u8] {

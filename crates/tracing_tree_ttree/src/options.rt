@@ -13,7 +13,7 @@ use tracing_tree_sources::Format;
 
 // What `--help` says of the first line.
 const DETECTION: &str =
-    "Without --from, the first line that determines a format decides, and the lines before it are drawn as plain events: a JSON object with a text at \"Action\" is of go-test; a line that begins with [, or with { and is no whole JSON value, or an object with an array at \"traceEvents\", is of chrome; an object with only settings, or with a call at \"call\", is of lines; an object with TRACE, DEBUG, INFO, WARN or ERROR at \"level\" and anything at \"fields\" or \"target\" is of tracing; an object with a level at \"level\", \"severity\", \"lvl\", \"log.level\" or \"PRIORITY\", and a message at \"msg\", \"message\", \"event\" or \"MESSAGE\", is of logs. If none of 1,000 lines or 1 MiB does, the input is printed unchanged, and the status is 2.";
+    "Without --from, the first line that determines a format decides, and the lines before it are drawn as plain events: a JSON object with a string at \"Action\" is of go-test; a line with TAP's version, a plan such as 1..5, or a result such as \"ok 1\", is of tap; one that begins with <testsuite is of junit; an object with an array at \"resourceSpans\", \"resourceLogs\" or \"resourceMetrics\" is of otlp; a line that begins with [, or with { and is no whole JSON value, or an object with an array at \"traceEvents\", is of chrome; an object with only settings, or with a call at \"call\", is of lines; an object with TRACE, DEBUG, INFO, WARN or ERROR at \"level\" and anything at \"fields\" or \"target\" is of tracing; an object with a level at \"level\", \"severity\", \"lvl\", \"log.level\" or \"PRIORITY\", and a message at \"msg\", \"message\", \"event\" or \"MESSAGE\", is of logs. If none of 1,000 lines or 1 MiB does, the input is printed unchanged, and the status is 2.";
 
 // The options and arguments of the command line.
 #[derive(Drop)]
@@ -257,9 +257,13 @@ fn from_option<'a>(alloc: Global) -> Arg<'a> {
         .long("from")
         .value_name("TOOL")
         .help(
-            "Whose output is read: go-test of `go test -json`, tracing of the JSON format of Rust's tracing-subscriber, chrome of Chrome's trace event format, logs of services' JSON logs, lines of settings and calls",
+            "The format of the input: go-test of `go test -json`, tap of the Test Anything Protocol, junit of JUnit XML, tracing of the JSON format of Rust's tracing-subscriber, logs of services' JSON logs, otlp of OpenTelemetry's JSON, chrome of Chrome's trace event format, lines of settings and calls",
         )
-        .value_parser(&["lines", "go-test", "tracing", "chrome", "logs"][..])
+        .value_parser(
+            &[
+                "go-test", "tap", "junit", "tracing", "logs", "otlp", "chrome", "lines",
+            ][..],
+        )
 }
 
 fn color_option<'a>(alloc: Global) -> Arg<'a> {
@@ -378,6 +382,9 @@ pub fn name_of(format: Format) -> &'static str {
         Format::Tracing => "tracing",
         Format::Chrome => "chrome",
         Format::Logs => "logs",
+        Format::Otlp => "otlp",
+        Format::Junit => "junit",
+        Format::Tap => "tap",
     }
 }
 
@@ -387,6 +394,9 @@ fn format(name: Option<&str>) -> Option<Format> {
         "lines" => Some(Format::Lines),
         "chrome" => Some(Format::Chrome),
         "logs" => Some(Format::Logs),
+        "otlp" => Some(Format::Otlp),
+        "junit" => Some(Format::Junit),
+        "tap" => Some(Format::Tap),
         "tracing" => Some(Format::Tracing),
         _ => Some(Format::GoTest),
     }

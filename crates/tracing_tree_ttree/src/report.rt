@@ -12,7 +12,7 @@ use tracing_tree_sources::{Lack, Notes, SourceRun};
 
 // What `ttree` says if no line determines the format.
 const FORMATS: &str =
-    "no line determines the format; expected the output of go test -json, the JSON of Rust's tracing-subscriber, a Chrome trace, JSON logs, or settings and calls; --from names the format";
+    "no line determines the format; expected the output of go test -json, TAP, JUnit XML, the JSON of Rust's tracing-subscriber, JSON logs, OTLP as JSON, a Chrome trace, or settings and calls; --from names the format";
 
 // How many skipped lines are reported one by one.
 const NOTED: u64 = 10;

@@ -1,0 +1,83 @@
+-- Lines that only one format has: of TAP, of JUnit XML, and of OTLP.
+use Rattle.std.specs.Prelude.{ℕ, ◌==◌, ◌&&◌, ◌||◌, Bool, true, false, if◌then◌else◌, List, [], ◌∷◌, Option, Some, None, codes}
+use Rattle.tracing_tree_sources.specs.Blanks.{after_blanks}
+use Rattle.tracing_tree_sources.specs.Marks.{after_mark, begins}
+use Rattle.tracing_tree_sources.specs.Traces.{after_digits, is_digit}
+use Rattle.tracing_tree_sources.specs.declared.first.Format.{Format}
+use Rattle.tracing_tree_sources.specs.declared.first.Format.TheVariants.{Otlp, Junit, Tap}
+
+-- a mark was there, and this holds of what follows it
+abbrev pub follows : (List ℕ → Bool) → Option (List ℕ) → Bool
+follows holds (Some rest) = holds rest
+follows holds None = false
+
+-- ---- TAP
+
+abbrev pub begins_digit : List ℕ → Bool
+begins_digit [] = false
+begins_digit (byte ∷ rest) = is_digit byte
+
+-- a number ends at a space, at a carriage return, or with the line
+abbrev pub ends_number : List ℕ → Bool
+ends_number [] = true
+ends_number (byte ∷ rest) = (byte == 32) || (byte == 13)
+
+abbrev pub begins_number : List ℕ → Bool
+begins_number text = begins_digit text && ends_number (after_digits text)
+
+-- the number of a result, or its description
+abbrev pub is_numbered : List ℕ → Bool
+is_numbered text = begins_number text || begins (codes "- ") text
+
+-- TAP's version, a plan, a result, or the name of a subtest
+abbrev pub is_tap : List ℕ → Bool
+is_tap line =
+    follows begins_digit (after_mark (codes "TAP version ") line)
+    || follows begins_digit (after_mark (codes "KTAP version ") line)
+    || follows begins_number (after_mark (codes "1..") line)
+    || follows is_numbered (after_mark (codes "ok ") line)
+    || follows is_numbered (after_mark (codes "not ok ") line)
+    || begins (codes "# Subtest: ") line
+
+-- ---- JUnit XML
+
+-- what follows the first `?>`
+abbrev pub after_declaration : List ℕ → List ℕ
+after_declaration [] = []
+after_declaration (byte ∷ rest) =
+    past (after_mark (codes "?>") (byte ∷ rest)) (after_declaration rest) where
+      past : Option (List ℕ) → List ℕ → List ℕ
+      past (Some after) others = after
+      past None others = others
+
+abbrev pub begins_suite : List ℕ → Bool
+begins_suite text = begins (codes "<testsuite") (after_blanks text)
+
+abbrev pub declares_suite : List ℕ → Bool
+declares_suite text = begins (codes "<?xml") text && begins_suite (after_declaration text)
+
+-- a root of suites of tests, with or without the XML declaration on the same line
+abbrev pub is_junit : List ℕ → Bool
+is_junit line = begins_suite line || declares_suite (after_blanks line)
+
+-- ---- OTLP
+
+abbrev pub begins_otlp_key : List ℕ → Bool
+begins_otlp_key text =
+    begins (codes "\"resourceSpans\"") text || begins (codes "\"resourceLogs\"") text
+    || begins (codes "\"resourceMetrics\"") text
+
+abbrev pub has_otlp_key : List ℕ → Bool
+has_otlp_key text = begins_otlp_key (after_blanks text)
+
+-- an object whose first key is one of OTLP's
+abbrev pub is_otlp : List ℕ → Bool
+is_otlp text = follows has_otlp_key (after_mark (codes "{") (after_blanks text))
+
+-- the format that has such a line
+abbrev pub format_marked : List ℕ → Option Format
+format_marked line =
+    if is_otlp line then Some Otlp
+    else if is_junit line then Some Junit
+    else if is_tap line then Some Tap
+    else None

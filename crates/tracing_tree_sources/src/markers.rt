@@ -1,0 +1,133 @@
+//! Lines that only one format has: of TAP, of JUnit XML, and of OTLP.
+
+ghost use Rattle.std.specs.Prelude.{◌≡◌, option_map};
+ghost use Rattle.tracing_tree_sources.specs.Marks.{after_mark};
+ghost use Rattle.tracing_tree_sources.specs.Markers.{after_declaration, begins_digit, begins_number, begins_otlp_key, begins_suite, declares_suite, ends_number, format_marked, has_otlp_key, is_junit, is_numbered, is_otlp, is_tap};
+
+use crate::blanks::after_blanks;
+use crate::first::Format;
+use crate::traces::{after_digits, is_digit};
+
+/// Returns the format that has this line, if only one format has such lines.
+///
+/// OTLP's are objects whose first key is `resourceSpans`, `resourceLogs` or `resourceMetrics`. JUnit
+/// XML's begin with `<testsuite`, also after an XML declaration. TAP's have its version, a plan
+/// (`1..5`), a result (`ok 1`, `not ok - name`) or the name of a subtest (`# Subtest: name`).
+pub(crate) fn format_marked(line: &[u8]) -> Option<Format>
+    ensures { result ≡ format_marked line.now }
+{
+    if is_otlp(line) {
+        Some(Format::Otlp)
+    } else if is_junit(line) {
+        Some(Format::Junit)
+    } else if is_tap(line) {
+        Some(Format::Tap)
+    } else {
+        None
+    }
+}
+
+/// Returns whether an object begins here whose first key is one of OTLP's.
+pub fn is_otlp(text: &[u8]) -> bool
+    ensures { result ≡ is_otlp text.now }
+{
+    match after_bytes(after_blanks(text), "{".as_bytes()) {
+        Some(rest) => has_otlp_key(rest),
+        None => false,
+    }
+}
+
+fn has_otlp_key(text: &[u8]) -> bool
+    ensures { result ≡ has_otlp_key text.now }
+{
+    begins_otlp_key(after_blanks(text))
+}
+
+fn begins_otlp_key(text: &[u8]) -> bool
+    ensures { result ≡ begins_otlp_key text.now }
+{
+    text.starts_with("\"resourceSpans\"".as_bytes())
+        || text.starts_with("\"resourceLogs\"".as_bytes())
+        || text.starts_with("\"resourceMetrics\"".as_bytes())
+}
+
+fn is_junit(line: &[u8]) -> bool
+    ensures { result ≡ is_junit line.now }
+{
+    begins_suite(line) || declares_suite(after_blanks(line))
+}
+
+fn begins_suite(text: &[u8]) -> bool
+    ensures { result ≡ begins_suite text.now }
+{
+    after_blanks(text).starts_with("<testsuite".as_bytes())
+}
+
+fn declares_suite(text: &[u8]) -> bool
+    ensures { result ≡ declares_suite text.now }
+{
+    text.starts_with("<?xml".as_bytes()) && begins_suite(after_declaration(text))
+}
+
+// What follows the first `?>`.
+fn after_declaration(text: &[u8]) -> &[u8]
+    ensures { result.now ≡ after_declaration text.now }
+{
+    let mut rest = text;
+    while let [_, others @ ..] = rest {
+        if let Some(after) = after_bytes(rest, "?>".as_bytes()) {
+            return after;
+        }
+        rest = others;
+    }
+    rest
+}
+
+fn is_tap(line: &[u8]) -> bool
+    ensures { result ≡ is_tap line.now }
+{
+    after_bytes(line, "TAP version ".as_bytes()).is_some_and(begins_digit)
+        || after_bytes(line, "KTAP version ".as_bytes()).is_some_and(begins_digit)
+        || after_bytes(line, "1..".as_bytes()).is_some_and(begins_number)
+        || after_bytes(line, "ok ".as_bytes()).is_some_and(is_numbered)
+        || after_bytes(line, "not ok ".as_bytes()).is_some_and(is_numbered)
+        || line.starts_with("# Subtest: ".as_bytes())
+}
+
+// Whether a result's number or its description begins.
+fn is_numbered(text: &[u8]) -> bool
+    ensures { result ≡ is_numbered text.now }
+{
+    begins_number(text) || text.starts_with("- ".as_bytes())
+}
+
+fn begins_number(text: &[u8]) -> bool
+    ensures { result ≡ begins_number text.now }
+{
+    begins_digit(text) && ends_number(after_digits(text))
+}
+
+fn begins_digit(text: &[u8]) -> bool
+    ensures { result ≡ begins_digit text.now }
+{
+    match text {
+        [byte, ..] => is_digit(*byte),
+        [] => false,
+    }
+}
+
+fn ends_number(text: &[u8]) -> bool
+    ensures { result ≡ ends_number text.now }
+{
+    match text {
+        [byte, ..] => *byte == b' ' || *byte == b'\r',
+        [] => true,
+    }
+}
+
+// What follows this mark at the front, if it is there.
+fn after_bytes<'a>(text: &'a [u8], mark: &[u8]) -> Option<&'a [u8]>
+    ensures { option_map (λ s. s.now) result ≡ after_mark mark.now text.now }
+{
+    text.strip_prefix(mark)
+}
