@@ -1,4 +1,5 @@
 pub mod Difference
+pub mod Flushed
 pub mod Layer
 pub mod Layered
 pub mod Laws

@@ -8,6 +8,7 @@
 pub mod call;
 pub mod calls;
 pub mod difference;
+pub mod flushed;
 pub mod layer;
 pub mod layered;
 pub mod told;
@@ -15,5 +16,6 @@ pub mod told;
 pub use call::{Call, Reply};
 pub use calls::Calls;
 pub use difference::DifferenceIter;
+pub use flushed::Flushed;
 pub use layer::HierarchicalLayer;
 pub use layered::Layered;

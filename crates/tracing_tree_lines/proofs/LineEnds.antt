@@ -13,6 +13,7 @@ use Rattle.std.proofs.lemmas.List.Splits.{slice_split_at, slice_split_none, leng
 use Rattle.std.proofs.KnownBytes.{Consumes-nil, Consumes-trans}
 use Rattle.tracing_tree_drawing.specs.Format.Picture.{parts_of}
 use Rattle.tracing_tree_lines.specs.Lines.Spelled.{input_lines, without_empty_last}
+use Rattle.tracing_tree_lines.specs.Lines.Inputs.{DropsHeld, HoldsFront}
 use Rattle.tracing_tree_lines.specs.Lines.Reads.{HasNoLineEnd, TakesPart, TakesNothing, TakesLine, TakesEnded, TakesRest, ReadsNext}
 
 -- a line end
@@ -176,3 +177,11 @@ held_line held inner i found =
       within = e.clean;
       taken = subst (Consumes (prepend_known held inner) (prepend_known (drop (i + 1) held) inner)) e.through (held_taken held (i + 1) inner);
     })
+
+-- a line that the buffer holds was taken out of it
+pub takes_held : (known left : Option (List ℕ)) (held line : List ℕ) (end : ℕ) → HoldsFront held known → position is_end held ≡ Some end → DropsHeld (end + 1) held known left →
+    line ≡ take end held → TakesLine known left line
+takes_held known left held line end front found drops is =
+    let e = ends_at held end found in
+    let rest : left ≡ prepend_known (drop (end + 1) held) front.unread = drops (omega (arith, e.inside)) front.unread front.front in
+    rw (front.front, rest, is) (held_line held front.unread end found)

@@ -24,7 +24,7 @@ ghost use Rattle.tracing_tree_lines.specs.declared.lines.Judged.TheVariants.{End
 ghost use Rattle.tracing_tree_lines.specs.Lines.Steps.{EndsLines, JudgesLine, ShowsAndJudges};
 
 use call::make_call;
-pub use input::{LineInput, holds_line};
+pub use input::{LineInput, read_held};
 use json::{Invalid, Scratch};
 use read::{line_end, whole_lines};
 pub use read::{BLOCK, is_skipped, read_line};
@@ -35,6 +35,7 @@ use std::fmt;
 use std::io::{BufReader, Read};
 use thiserror::Error;
 use tracing_tree_context::Refusal;
+use tracing_tree_layer::flushed::Flushed;
 use tracing_tree_layer::layer::HierarchicalLayer;
 use tracing_tree_layer::layered::Layered;
 use tracing_tree_output::Output;
@@ -403,8 +404,8 @@ fn read_next<L: LineInput, W: Output, FT: FormatTime>(
     ensures shown { Changes (seen FT.FormatTime W.Output) Flushes layered.old layered.new }
     ensures read { ReadsNext (L.remaining lines.old) (L.remaining lines.new) line.new.items result }
 {
-    layered.flush();
-    lines.read_line(line, layered)
+    let flushed = Flushed::new(layered);
+    lines.read_line(line, &flushed)
 }
 
 // What becomes of a line with this text: it is skipped, or the call that it spells is made.

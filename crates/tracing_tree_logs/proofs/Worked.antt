@@ -6,7 +6,7 @@ use Rattle.tracing_tree_spans.specs.Registry.Ids.{id_of}
 use Rattle.tracing_tree_text.specs.declared.field.Field.{Field}
 use Rattle.tracing_tree_text.specs.declared.style.Level.TheVariants.{Debug, Error, Info, Warn}
 use Rattle.tracing_tree_sources.specs.Told.{close_call, event_call, message_field, shown, span_call}
-use Rattle.tracing_tree_logs.specs.JsonText.{json_text}
+use Rattle.tracing_tree_sources.specs.JsonText.{json_text}
 use Rattle.tracing_tree_logs.specs.LogFields.{value_fields}
 use Rattle.tracing_tree_logs.specs.LogLine.{event_fields, level_in, level_named, same_word, used_keys}
 use Rattle.tracing_tree_logs.specs.LogTime.{nanoseconds_of}

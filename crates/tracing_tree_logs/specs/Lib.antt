@@ -1,5 +1,4 @@
 pub mod Groups
-pub mod JsonText
 pub mod LogFields
 pub mod LogTime
 pub mod LogLine

@@ -4,7 +4,7 @@ use Rattle.std.specs.List.{list_any}
 use Rattle.json.specs.Json.{Json, null, boolean, number, string, array, object, Members, no_members, member}
 use Rattle.tracing_tree_text.specs.declared.field.Field.{Field}
 use Rattle.tracing_tree_sources.specs.Told.{shown}
-use Rattle.tracing_tree_logs.specs.JsonText.{json_text}
+use Rattle.tracing_tree_sources.specs.JsonText.{json_text}
 
 -- a field with this value, as it is drawn
 abbrev pub field_of : List ℕ → List ℕ → List Field

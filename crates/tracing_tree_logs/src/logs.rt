@@ -8,7 +8,6 @@ ghost use Rattle.tracing_tree_logs.specs.LogLine.{group_key};
 mod fields;
 mod level;
 mod line;
-mod text;
 mod time;
 mod used;
 

@@ -4,16 +4,17 @@ use Rattle.std.specs.List.{list_any}
 use Rattle.json.specs.Json.{Json, null, boolean, number, string, array, object, Members, no_members, member}
 use Rattle.json.specs.Find.{as_object}
 use Rattle.tracing_tree_text.specs.declared.field.Field.{Field}
+use Rattle.tracing_tree_sources.specs.JsonText.{json_text}
 use Rattle.tracing_tree_sources.specs.Told.{shown}
 
--- a value as it is drawn
+-- a value as it is drawn: an array and an object as compact JSON
 abbrev pub text_of : Json → List ℕ
 text_of null = codes "null"
 text_of (boolean b) = if b then codes "true" else codes "false"
 text_of (number text) = text
 text_of (string text) = shown text
-text_of (array _) = codes "[..]"
-text_of (object _) = codes "{..}"
+text_of (array items) = shown (json_text (array items))
+text_of (object members) = shown (json_text (object members))
 
 -- a member as a field, unless it has one of these keys
 abbrev pub member_fields : List (List ℕ) → List ℕ → Json → List Field

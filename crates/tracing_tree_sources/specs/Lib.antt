@@ -5,6 +5,7 @@ pub mod Marks
 pub mod Noted
 pub mod Source
 pub mod Told
+pub mod JsonText
 pub mod Fields
 pub mod Moments
 pub mod Markers

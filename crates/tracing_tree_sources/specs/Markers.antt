@@ -29,14 +29,20 @@ begins_number text = begins_digit text && ends_number (after_digits text)
 abbrev pub is_numbered : List ℕ → Bool
 is_numbered text = begins_number text || begins (codes "- ") text
 
+abbrev pub is_version : List ℕ → List ℕ → Bool
+is_version mark line = follows begins_digit (after_mark mark line)
+
+abbrev pub is_plan : List ℕ → Bool
+is_plan line = follows begins_number (after_mark (codes "1..") line)
+
+abbrev pub is_result : List ℕ → List ℕ → Bool
+is_result mark line = follows is_numbered (after_mark mark line)
+
 -- TAP's version, a plan, a result, or the name of a subtest
 abbrev pub is_tap : List ℕ → Bool
 is_tap line =
-    follows begins_digit (after_mark (codes "TAP version ") line)
-    || follows begins_digit (after_mark (codes "KTAP version ") line)
-    || follows begins_number (after_mark (codes "1..") line)
-    || follows is_numbered (after_mark (codes "ok ") line)
-    || follows is_numbered (after_mark (codes "not ok ") line)
+    is_version (codes "TAP version ") line || is_version (codes "KTAP version ") line || is_plan line
+    || is_result (codes "ok ") line || is_result (codes "not ok ") line
     || begins (codes "# Subtest: ") line
 
 -- ---- JUnit XML

@@ -5,6 +5,7 @@ ghost use Rattle.std.specs.List.{list_any};
 ghost use Rattle.json.specs.Value.{members_view, value_view};
 ghost use Rattle.tracing_tree_sources.specs.Fields.{event_fields, fields_besides, member_fields, members_fields, text_of};
 
+use crate::json_text::json_text;
 use crate::told::shown;
 use json::Value;
 use std::alloc::{AllocError, Global};
@@ -88,7 +89,6 @@ fn text_of(alloc: Global, value: &Value<'_>) -> Result<Text, AllocError>
         Value::Bool(true) => Text::from_str(alloc, "true"),
         Value::Bool(false) => Text::from_str(alloc, "false"),
         Value::Null => Text::from_str(alloc, "null"),
-        Value::Array(_) => Text::from_str(alloc, "[..]"),
-        Value::Object(_) => Text::from_str(alloc, "{..}"),
+        Value::Array(_) | Value::Object(_) => shown(alloc, json_text(alloc, value)?.as_str()),
     }
 }

@@ -10,6 +10,7 @@ pub mod blanks;
 pub mod calls_at_least;
 pub mod fields;
 pub mod first;
+pub mod json_text;
 pub mod level;
 pub mod markers;
 pub mod marks;

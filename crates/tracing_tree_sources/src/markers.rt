@@ -2,7 +2,7 @@
 
 ghost use Rattle.std.specs.Prelude.{◌≡◌, option_map};
 ghost use Rattle.tracing_tree_sources.specs.Marks.{after_mark};
-ghost use Rattle.tracing_tree_sources.specs.Markers.{after_declaration, begins_digit, begins_number, begins_otlp_key, begins_suite, declares_suite, ends_number, format_marked, has_otlp_key, is_junit, is_numbered, is_otlp, is_tap};
+ghost use Rattle.tracing_tree_sources.specs.Markers.{after_declaration, begins_digit, begins_number, begins_otlp_key, begins_suite, declares_suite, ends_number, format_marked, has_otlp_key, is_junit, is_numbered, is_otlp, is_plan, is_result, is_tap, is_version};
 
 use crate::blanks::after_blanks;
 use crate::first::Format;
@@ -86,12 +86,39 @@ fn after_declaration(text: &[u8]) -> &[u8]
 fn is_tap(line: &[u8]) -> bool
     ensures { result ≡ is_tap line.now }
 {
-    after_bytes(line, "TAP version ".as_bytes()).is_some_and(begins_digit)
-        || after_bytes(line, "KTAP version ".as_bytes()).is_some_and(begins_digit)
-        || after_bytes(line, "1..".as_bytes()).is_some_and(begins_number)
-        || after_bytes(line, "ok ".as_bytes()).is_some_and(is_numbered)
-        || after_bytes(line, "not ok ".as_bytes()).is_some_and(is_numbered)
+    is_version("TAP version ", line)
+        || is_version("KTAP version ", line)
+        || is_plan(line)
+        || is_result("ok ", line)
+        || is_result("not ok ", line)
         || line.starts_with("# Subtest: ".as_bytes())
+}
+
+fn is_version(mark: &str, line: &[u8]) -> bool
+    ensures { result ≡ is_version mark.now line.now }
+{
+    match after_bytes(line, mark.as_bytes()) {
+        Some(rest) => begins_digit(rest),
+        None => false,
+    }
+}
+
+fn is_plan(line: &[u8]) -> bool
+    ensures { result ≡ is_plan line.now }
+{
+    match after_bytes(line, "1..".as_bytes()) {
+        Some(rest) => begins_number(rest),
+        None => false,
+    }
+}
+
+fn is_result(mark: &str, line: &[u8]) -> bool
+    ensures { result ≡ is_result mark.now line.now }
+{
+    match after_bytes(line, mark.as_bytes()) {
+        Some(rest) => is_numbered(rest),
+        None => false,
+    }
 }
 
 // Whether a result's number or its description begins.
@@ -129,5 +156,8 @@ fn ends_number(text: &[u8]) -> bool
 fn after_bytes<'a>(text: &'a [u8], mark: &[u8]) -> Option<&'a [u8]>
     ensures { option_map (λ s. s.now) result ≡ after_mark mark.now text.now }
 {
-    text.strip_prefix(mark)
+    match text.strip_prefix(mark) {
+        Some(rest) => Some(rest),
+        None => None,
+    }
 }

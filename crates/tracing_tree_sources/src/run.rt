@@ -1,13 +1,13 @@
 //! The run of a source over an input.
 
-ghost use Rattle.std.specs.Prelude.{◌≡◌, [], true, Err, IfErr, IfOk, IfSome, OnOk, MatchResult, option_map};
+ghost use Rattle.std.specs.Prelude.{◌≡◌, [], List, ℕ, Option, true, Err, IfErr, IfOk, IfSome, OnOk, MatchResult, option_map};
 ghost use Rattle.json.specs.Json.{document};
 ghost use Rattle.json.specs.Value.{value_view};
 ghost use Rattle.tracing_tree_layer.specs.Layer.Layers.{seen, Changes};
 ghost use Rattle.tracing_tree_layer.specs.Layered.Answered.{IsAnswered};
 ghost use Rattle.tracing_tree_sources.specs.Source.{Accepts, HearsLine, HearsNext, Makes, MakesAll, MakesEach, RunsSource, MayEnd, Tells, is_quiet, lack_of, noted_lines, notes_of};
 ghost use Rattle.tracing_tree_sources.specs.Noted.{AddsNotes, note_if};
-ghost use Rattle.tracing_tree_lines.specs.Lines.Inputs.{MayWait};
+ghost use Rattle.tracing_tree_lines.specs.Lines.Reads.{ReadsNext, is_from_outside};
 ghost use Rattle.tracing_tree_lines.specs.Lines.Spelled.{input_lines};
 
 use crate::notes::{Lack, Notes};
@@ -19,8 +19,9 @@ use std::alloc::{AllocError, Global};
 use tracing_tree_context::Refusal;
 use tracing_tree_layer::call::Call;
 use tracing_tree_layer::calls::Calls;
+use tracing_tree_layer::flushed::Flushed;
 use tracing_tree_layer::layered::Layered;
-use tracing_tree_lines::lines::{LineCause, LineFault, LineInput, holds_line, is_skipped};
+use tracing_tree_lines::lines::{LineCause, LineFault, LineInput, is_skipped, read_held};
 use tracing_tree_output::Output;
 use tracing_tree_time::FormatTime;
 
@@ -60,8 +61,8 @@ pub fn run_source<S: Source, L: LineInput, C: Calls, N: Notes>(
     let mut scratch = Scratch::new(alloc);
     let mut unknown = 0;
     for number in 1..u64::MAX {
-        flush_before_wait(lines, receiver);
-        match run_next(alloc, source, lines, &mut line, &mut scratch, receiver) {
+        let read = read_next(lines, &mut line, receiver);
+        match run_read(alloc, source, read, line.as_slice(), &mut scratch, receiver) {
             Ok(Judged::End) => {
                 return SourceRun {
                     unknown,
@@ -169,24 +170,41 @@ enum Judged {
     Unknown,
 }
 
-// Reads one line, and makes the calls that it tells, or those that the end brings.
-#[tactic(auto, using(crate::proofs::Ended::ends_outside))]
-fn run_next<S: Source, L: LineInput, C: Calls>(
-    alloc: Global,
-    source: &mut S,
+// Reads the next line. The receiver is flushed before the read if it may wait.
+fn read_next<L: LineInput, C: Calls>(
     lines: &mut L,
     line: &mut Vec<u8>,
+    receiver: &mut C,
+) -> Result<bool, LineCause>
+    ensures flushed { Accepts C.answers C.flushes [] receiver.old receiver.new }
+    ensures read { ReadsNext (L.remaining lines.old) (L.remaining lines.new) line.new.items result }
+    ensures outside { IfErr result (λ cause. is_from_outside cause ≡ true) }
+{
+    if !read_held(lines, line)? {
+        let flushed = Flushed::new(receiver);
+        return lines.read_line(line, &flushed);
+    }
+    Ok(true)
+}
+
+// Makes the calls that the line means that was read, or those of the input's end.
+#[tactic(auto, using(crate::proofs::Ended::ends_outside))]
+fn run_read<S: Source, C: Calls>(
+    alloc: Global,
+    source: &mut S,
+    read: Result<bool, LineCause>,
+    line: &[u8],
     scratch: &mut Scratch,
     receiver: &mut C,
 ) -> Result<Judged, LineCause>
-    requires shown { MayWait C.flushes (L.held lines.old) receiver.old }
-    ensures next { HearsNext (Accepts C.answers C.flushes) C.answers S.takes S.ends S.ended
-        (L.remaining lines.old) (L.remaining lines.new)
-        line.new.items source.old source.new result receiver.old receiver.new }
+    requires outside { IfErr read (λ cause. is_from_outside cause ≡ true) }
+    ensures next { (known left : Option (List ℕ)) → ReadsNext known left line.now read
+        → HearsNext (Accepts C.answers C.flushes) C.answers S.takes S.ends S.ended
+        known left line.now source.old source.new result receiver.old receiver.new }
     ensures cause { IfErr result (λ cause. MayEnd cause 0) }
 {
-    match lines.read_line(line, receiver) {
-        Ok(true) => match run_line(alloc, source, line.as_slice(), scratch, receiver) {
+    match read {
+        Ok(true) => match run_line(alloc, source, line, scratch, receiver) {
             Ok(true) => Ok(Judged::Known),
             Ok(false) => Ok(Judged::Unknown),
             Err(cause) => Err(cause),
@@ -196,16 +214,6 @@ fn run_next<S: Source, L: LineInput, C: Calls>(
             Err(cause) => Err(cause),
         },
         Err(cause) => Err(cause),
-    }
-}
-
-// Flushes the receiver, unless the buffer holds the next line, since the read may wait.
-fn flush_before_wait<L: LineInput, C: Calls>(lines: &L, receiver: &mut C)
-    ensures flushed { Accepts C.answers C.flushes [] receiver.old receiver.new }
-    ensures shown { MayWait C.flushes (L.held lines.now) receiver.new }
-{
-    if !holds_line(lines) {
-        receiver.flush();
     }
 }
 

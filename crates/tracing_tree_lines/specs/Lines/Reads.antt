@@ -66,6 +66,12 @@ ReadsNext known left line (Ok true) = TakesLine known left line
 ReadsNext known left line (Ok false) = HasNoLine known
 ReadsNext known left line (Err cause) = is_from_outside cause ≡ true
 
+-- what reading a line took if the buffer held it: the first line, or nothing
+abbrev pub ReadsHeld : Option (List ℕ) → Option (List ℕ) → List ℕ → Result Bool LineCause → Type 0
+ReadsHeld known left line (Ok true) = TakesLine known left line
+ReadsHeld known left line (Ok false) = left ≡ known
+ReadsHeld known left line (Err cause) = (cause ≡ Memory) × (left ≡ known)
+
 -- a line was taken with its line end
 pub record TakesEnded (known left : Option (List ℕ)) (line : List ℕ) : Type 0 where
   pub within : HasNoLineEnd line

@@ -1,22 +1,22 @@
 //! Inputs of lines, which may have to be waited for.
 
-ghost use Rattle.std.specs.Prelude.{◌≡◌, ◌==◌, is_some, position};
-ghost use Rattle.tracing_tree_lines.specs.Lines.Inputs.{DropsHeld, HoldsFront, MayWait};
-ghost use Rattle.tracing_tree_lines.specs.Lines.Reads.{ReadsNext};
+ghost use Rattle.std.specs.Prelude.{◌≡◌};
+ghost use Rattle.tracing_tree_lines.specs.Lines.Reads.{ReadsHeld};
 
 use super::LineCause;
 use super::read::{line_end, read_line};
 use std::io::{BufRead, BufReader, Read};
 use tracing_tree_layer::calls::Calls;
+use tracing_tree_layer::flushed::Flushed;
 
 /// A buffered input of lines. The next line may have to be waited for, as in a pipe.
 ///
-/// A run is generic over its input, so it can read by these methods only. [`LineInput::read_line`]
-/// requires that the receiver of the calls was flushed: whoever follows a live input sees what
-/// each line drew before the next line is waited for.
+/// A run is generic over its input, so it can read by these methods only. [`LineInput::read_line`],
+/// the only one that may wait, takes a receiver that was flushed: whoever follows a live input sees
+/// what each line drew before the next line is waited for.
 pub trait LineInput {
     ghost use Rattle.std.specs.Prelude.{◌≡◌, List, ℕ, Option};
-    ghost use Rattle.tracing_tree_lines.specs.Lines.Inputs.{DropsHeld, HoldsFront, MayWait};
+    ghost use Rattle.tracing_tree_lines.specs.Lines.Inputs.{DropsHeld, HoldsFront};
     ghost use Rattle.tracing_tree_lines.specs.Lines.Reads.{ReadsNext};
 
     /// The bytes that are left, if they are known.
@@ -35,14 +35,17 @@ pub trait LineInput {
         ensures { DropsHeld count (held self.old) (remaining self.old) (remaining self.new) };
 
     /// Reads the next line without its line end, in place of what `line` held. Returns whether there
-    /// was one: what follows the last line end is a line if it isn't empty. The read may wait, unless
-    /// the buffer holds the line, so the receiver must have been flushed.
+    /// was one: what follows the last line end is a line if it isn't empty. The read may wait, so the
+    /// receiver was flushed.
     ///
     /// # Errors
     ///
     /// `Read` or `Memory`.
-    fn read_line<C: Calls>(&mut self, line: &mut Vec<u8>, receiver: &C) -> Result<bool, LineCause>
-        requires { MayWait C.flushes (held self.old) receiver.now }
+    fn read_line<C: Calls>(
+        &mut self,
+        line: &mut Vec<u8>,
+        receiver: &Flushed<'_, C>,
+    ) -> Result<bool, LineCause>
         ensures { ReadsNext (remaining self.old) (remaining self.new) line.new.items result };
 }
 
@@ -65,15 +68,26 @@ impl<R: Read> LineInput for BufReader<R> {
     fn read_line<C: Calls>(
         &mut self,
         line: &mut Vec<u8>,
-        _receiver: &C,
+        _receiver: &Flushed<'_, C>,
     ) -> Result<bool, LineCause> {
         read_line(self, line)
     }
 }
 
-/// Whether the buffer holds the next line with its line end, so that it is read without a wait.
-pub fn holds_line<L: LineInput>(lines: &L) -> bool
-    ensures { result ≡ is_some (position (λ byte. byte == 10) (L.held lines.now)) }
+/// Reads the next line without its line end, in place of what `line` held, if the buffer holds it
+/// with its line end. Returns whether it does. It never waits.
+///
+/// # Errors
+///
+/// `Memory` if an allocation fails. The line is still in the buffer then.
+pub fn read_held<L: LineInput>(lines: &mut L, line: &mut Vec<u8>) -> Result<bool, LineCause>
+    ensures { ReadsHeld (L.remaining lines.old) (L.remaining lines.new) line.new.items result }
 {
-    line_end(lines.held()).is_some()
+    let Some(end) = line_end(lines.held()) else {
+        return Ok(false);
+    };
+    line.clear();
+    line.extend_from_slice(&lines.held()[..end])?;
+    lines.consume(end + 1);
+    Ok(true)
 }

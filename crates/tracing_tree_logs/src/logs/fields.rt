@@ -3,13 +3,13 @@
 ghost use Rattle.std.specs.Prelude.{◌≡◌, ◌++◌, IfOk, OnOk, string_bytes};
 ghost use Rattle.json.specs.Value.{members_view, value_view};
 ghost use Rattle.tracing_tree_sources.specs.Told.{shown};
-ghost use Rattle.tracing_tree_logs.specs.JsonText.{json_text};
+ghost use Rattle.tracing_tree_sources.specs.JsonText.{json_text};
 ghost use Rattle.tracing_tree_logs.specs.LogFields.{empty_fields, field_of, inner_fields, inner_name, member_fields, members_fields, value_fields};
 
-use super::text::json_text;
 use super::used::UsedKeys;
 use json::Value;
 use std::alloc::{AllocError, Global};
+use tracing_tree_sources::json_text::json_text;
 use tracing_tree_sources::told::shown;
 use tracing_tree_text::field::Field;
 use tracing_tree_text::text::Text;

@@ -1,6 +1,6 @@
 use Rattle.std.proofs.Common.{◌≡◌, ◌++◌, IsUtf8, string_bytes}
-use Rattle.tracing_tree_logs.specs.JsonText.{quoted_chars}
-use Rattle.tracing_tree_logs.proofs.logs.text.push_quoted_chars.Given as goal
+use Rattle.tracing_tree_sources.specs.JsonText.{quoted_chars}
+use Rattle.tracing_tree_sources.proofs.json_text.push_quoted_chars.Given as goal
 
 -- what is written so far, and then the rest between quotes, are all
 abbrev pub invariant-loop-c : goal.invariant-loop-c

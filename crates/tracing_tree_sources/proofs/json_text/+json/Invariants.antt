@@ -1,7 +1,7 @@
 use Rattle.std.proofs.Common.{◌≡◌, ◌++◌, true, drop, string_bytes}
 use Rattle.json.specs.Value.{items_view, members_view}
-use Rattle.tracing_tree_logs.specs.JsonText.{items_text, members_text}
-use Rattle.tracing_tree_logs.proofs.logs.text.+json.Given as goal
+use Rattle.tracing_tree_sources.specs.JsonText.{items_text, members_text}
+use Rattle.tracing_tree_sources.proofs.json_text.+json.Given as goal
 
 -- what is written, and then what is left to write, are all
 abbrev pub invariant-push_items-loop-item : goal.invariant-push_items-loop-item

@@ -1,14 +1,18 @@
-//! A JSON value as it is drawn in a field.
+//! JSON values as they are drawn in fields.
 
 ghost use Rattle.std.specs.Prelude.{◌≡◌, ◌++◌, true, IfOk, OnOk, codes, string_bytes};
 ghost use Rattle.json.specs.Value.{items_view, members_view, value_view};
-ghost use Rattle.tracing_tree_logs.specs.JsonText.{items_text, json_text, members_text, quoted, quoted_char, quoted_chars, separator};
+ghost use Rattle.tracing_tree_sources.specs.JsonText.{items_text, json_text, members_text, quoted, quoted_char, quoted_chars, separator};
 
 use json::Value;
 use std::alloc::{AllocError, Global};
 
-// A value as compact JSON.
-pub(super) fn json_text(alloc: Global, value: &Value<'_>) -> Result<String, AllocError>
+/// Returns a value as compact JSON.
+///
+/// # Errors
+///
+/// `AllocError` if an allocation fails.
+pub fn json_text(alloc: Global, value: &Value<'_>) -> Result<String, AllocError>
     ensures { IfOk result (λ text. string_bytes text ≡ json_text (value_view value.now)) }
 {
     let mut out = String::new(alloc);

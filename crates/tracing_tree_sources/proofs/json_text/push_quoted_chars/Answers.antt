@@ -1,8 +1,8 @@
 use Rattle.std.proofs.Common.{rules, ◌∙◌, ◌++◌, sym, ap, append_assoc, append-nil, flat_map, string_bytes}
 use Rattle.std.proofs.lemmas.Str.{IsUtf8-past_char, chars_past_char}
 use Rattle.std.proofs.StrCases.{chars_of_empty}
-use Rattle.tracing_tree_logs.specs.JsonText.{quoted_char, quoted_chars}
-use Rattle.tracing_tree_logs.proofs.logs.text.push_quoted_chars.Goals as goal
+use Rattle.tracing_tree_sources.specs.JsonText.{quoted_char, quoted_chars}
+use Rattle.tracing_tree_sources.proofs.json_text.push_quoted_chars.Goals as goal
 
 pub loop-c-init : goal.loop-c-init
 loop-c-init c = search rules
