@@ -939,7 +939,7 @@ ttree: 1 line skipped' 1
 passes_on() {
     run "$2"
     cp "$2" "$room/want"
-    count "on $1" want "ttree: no line determines the format; expected the output of go test -json, the JSON of Rust's tracing-subscriber, a Chrome trace, JSON logs, or settings and calls; --from names the format" 2
+    count "on $1" want "ttree: no line determines the format; expected the output of go test -json, TAP, JUnit XML, the JSON of Rust's tracing-subscriber, JSON logs, OTLP as JSON, a Chrome trace, or settings and calls; --from names the format" 2
 }
 
 # Counts the run on this input, whose tree comes on standard input.
@@ -1062,6 +1062,7 @@ run_tracing
 run_logs
 run_detection
 run_spans_of_traces
+run_tracks_of_traces
 run_threads_of_traces
 run_cut_traces
 run_odd_traces

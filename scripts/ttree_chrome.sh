@@ -83,7 +83,60 @@ END
     trace_of 'on long times' << 'END'
 [{"ph":"X","ts":0,"dur":61234567.8919,"name":"a\u001b[31m","args":{"b\u0007":[1],"c":{}}},{"ph":"E","ts":1,"name":"none"}]
 --
-┐a\u{1b}[31m time=61.234s, b\u{7}=[..], c={..}
+┐a\u{1b}[31m time=61.234s, b\u{7}=[1], c={}
+┘
+END
+}
+
+# Asynchronous tracks: by process, category, scope and id, before the threads.
+run_tracks_of_traces() {
+    trace_of 'on asynchronous tracks' << 'END'
+[{"ph":"B","ts":0,"pid":1,"tid":1,"name":"main"},
+ {"ph":"b","ts":1,"pid":1,"tid":1,"cat":"net","id":"0x1","name":"get","args":{"url":"/a"}},
+ {"ph":"b","ts":2,"pid":1,"tid":2,"cat":"net","id":"0x2","name":"get","args":{"url":"/b"}},
+ {"ph":"b","ts":3,"pid":1,"tid":1,"cat":"net","id":"0x1","name":"dns"},
+ {"ph":"n","ts":4,"pid":1,"tid":1,"cat":"net","id":"0x1","name":"found"},
+ {"ph":"e","ts":5,"pid":1,"tid":9,"cat":"net","id":"0x1","name":"dns","args":{"hit":true}},
+ {"ph":"b","ts":5,"pid":1,"cat":"disk","id":"0x1","name":"read"},
+ {"ph":"e","ts":6,"pid":1,"cat":"net","id":"0x2","name":"get"},
+ {"ph":"e","ts":9,"pid":1,"cat":"net","id":"0x1","name":"get"},
+ {"ph":"E","ts":8,"pid":1,"tid":1}]
+--
+┐process pid=1
+└─┐get time=8.000μs, id=0x1, url=/a
+  └─┐dns time=2.000μs, id=0x1, hit=true
+    ├─ INFO found
+  ┌─┘
+┌─┘
+└─┐get time=4.000μs, id=0x2, url=/b
+┌─┘
+└─┐read id=0x1
+┌─┘
+└─┐thread tid=1
+  └─┐main time=8.000μs
+  ┌─┘
+┌─┘
+┘
+END
+    trace_of 'on asynchronous elements of older traces and with other ids' -- 1 'ttree: element 8: "ts" must be a number of microseconds, skipped
+ttree: 1 element skipped' << 'END'
+[{"ph":"S","ts":1,"pid":1,"cat":"c","id":7,"name":"old"},{"ph":"T","ts":2,"pid":1,"cat":"c","id":7,"name":"step"},
+ {"ph":"b","ts":3,"pid":1,"cat":"c","id2":{"local":"7"},"name":"inner"},{"ph":"b","ts":4,"pid":1,"cat":"c","scope":"s","id":"7","name":"scoped"},
+ {"ph":"b","ts":5,"pid":2,"cat":"c","id":7,"name":"other"},{"ph":"F","ts":6,"pid":1,"cat":"c","id":7,"name":"old"},
+ {"ph":"e","ts":7,"pid":1,"cat":"c","id":"none"},{"ph":"b","pid":1,"cat":"c","id":7}]
+--
+┐process pid=1
+└─┐old id=7
+  ├─ INFO step
+  └─┐inner time=3.000μs, id=7
+  ┌─┘
+┌─┘
+└─┐scoped id=7
+┌─┘
+┘
+┐process pid=2
+└─┐other id=7
+┌─┘
 ┘
 END
 }

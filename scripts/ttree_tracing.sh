@@ -306,7 +306,7 @@ run_tracing_lines() {
 {"level":"TRACE","fields":{"message":"a\u001b[31m","text":"b c","n":-1.50,"yes":true,"no":false,"none":null,"some":[1],"more":{"x":1}},"target":"t"}
 {"timestamp":"never","level":"WARN","code":7,"target":"t","filename":"a.rs","line_number":3,"threadName":"main"}
 --
-TRACE a\u{1b}[31m, text=b c, n=-1.50, yes=true, no=false, none=null, some=[..], more={..}
+TRACE a\u{1b}[31m, text=b c, n=-1.50, yes=true, no=false, none=null, some=[1], more={"x":1}
 WARN code=7
 END_OF_LINES
     lines_of 'on lines of tracing that are cut off or lack a level' 1 'ttree: line 2: "level" must be one of TRACE, DEBUG, INFO, WARN, ERROR, skipped

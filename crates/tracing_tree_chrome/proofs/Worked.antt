@@ -7,7 +7,8 @@ use Rattle.json.specs.Json.{null, number, string, object, member, no_members}
 use Rattle.tracing_tree_chrome.specs.Element.{element_of, nanoseconds_of}
 use Rattle.tracing_tree_chrome.specs.Text.{is_cut, mended}
 use Rattle.tracing_tree_sources.specs.declared.notes.Lack.TheVariants.{Phase, Process, Thread, Start, Duration}
-use Rattle.tracing_tree_chrome.specs.declared.element.Element.TheVariants.{Span, Begin, End, Instant, ProcessName, ThreadName, Other}
+use Rattle.tracing_tree_chrome.specs.declared.element.Element.TheVariants.{Span, Begin, End, Instant, Async, ProcessName, ThreadName, Other}
+use Rattle.tracing_tree_chrome.specs.declared.element.Track.TheVariants.{Begin as TrackBegins, End as TrackEnds}
 
 -- ---- times
 
@@ -49,7 +50,7 @@ pub a_span_of_clang : element_of (object (
     (member (codes "name") (string (codes "Source"))
     (member (codes "args") (object (member (codes "detail") (string (codes "include/sys/cdefs.h")) no_members))
     no_members)))))))) ≡ Ok (Span (record {
-      lane = record { process = Some (pos 26611); thread = Some (pos 26611) };
+      lane = record { process = Some (pos 26611); thread = Some (pos 26611); track = None };
       start = 57411000;
       name = codes "Source";
       fields = (record { name = codes "detail"; value = codes "include/sys/cdefs.h" }) ∷ [];
@@ -62,7 +63,7 @@ pub a_begin_of_uftrace : element_of (object (
     (member (codes "ph") (string (codes "B"))
     (member (codes "pid") (number (codes "20609"))
     (member (codes "name") (string (codes "main")) no_members))))) ≡ Ok (Begin (record {
-      lane = record { process = Some (pos 20609); thread = None };
+      lane = record { process = Some (pos 20609); thread = None; track = None };
       start = 1350024132832;
       name = codes "main";
       fields = [];
@@ -74,7 +75,7 @@ pub an_end_of_uftrace : element_of (object (
     (member (codes "ph") (string (codes "E"))
     (member (codes "pid") (number (codes "20609"))
     (member (codes "name") (string (codes "main")) no_members))))) ≡ Ok (End (record {
-      lane = record { process = Some (pos 20609); thread = None };
+      lane = record { process = Some (pos 20609); thread = None; track = None };
       start = 1350024137588;
       name = codes "main";
       fields = [];
@@ -85,7 +86,7 @@ pub an_instant_of_no_lane : element_of (object (
     member (codes "ph") (string (codes "i"))
     (member (codes "ts") (number (codes "7"))
     (member (codes "tid") null no_members)))) ≡ Ok (Instant (record {
-      lane = record { process = None; thread = None };
+      lane = record { process = None; thread = None; track = None };
       start = 7000;
       name = [];
       fields = [];
@@ -98,7 +99,7 @@ pub a_process_by_its_name : element_of (object (
     (member (codes "pid") (number (codes "-1"))
     (member (codes "name") (string (codes "process_name"))
     (member (codes "args") (object (member (codes "name") (string (codes "clang")) no_members))
-    no_members)))))) ≡ Ok (ProcessName (record { process = Some (negsuc 0); thread = None }) (codes "clang"))
+    no_members)))))) ≡ Ok (ProcessName (record { process = Some (negsuc 0); thread = None; track = None }) (codes "clang"))
 a_process_by_its_name = refl
 
 pub a_thread_by_its_name : element_of (object (
@@ -106,7 +107,7 @@ pub a_thread_by_its_name : element_of (object (
     (member (codes "tid") (number (codes "2"))
     (member (codes "name") (string (codes "thread_name"))
     (member (codes "args") (object (member (codes "name") (string (codes "worker")) no_members))
-    no_members))))) ≡ Ok (ThreadName (record { process = None; thread = Some (pos 2) }) (codes "worker"))
+    no_members))))) ≡ Ok (ThreadName (record { process = None; thread = Some (pos 2); track = None }) (codes "worker"))
 a_thread_by_its_name = refl
 
 pub other_metadata : element_of (object (
@@ -119,6 +120,33 @@ pub an_unknown_phase : element_of (object (
     member (codes "ph") (string (codes "C"))
     (member (codes "tid") (string (codes "one")) no_members))) ≡ Ok Other
 an_unknown_phase = refl
+
+pub an_async_begin_of_node : element_of (object (
+    member (codes "pid") (number (codes "19428"))
+    (member (codes "tid") (number (codes "19428"))
+    (member (codes "ts") (number (codes "7"))
+    (member (codes "ph") (string (codes "b"))
+    (member (codes "cat") (string (codes "node"))
+    (member (codes "name") (string (codes "PROMISE"))
+    (member (codes "id") (string (codes "0x3")) no_members)))))))) ≡ Ok (Async TrackBegins (record {
+      lane = record { process = Some (pos 19428); thread = Some (pos 19428); track = None };
+      start = 7000;
+      name = codes "PROMISE";
+      fields = (record { name = codes "id"; value = codes "0x3" }) ∷ [];
+    }) (codes "node\0\00x3"))
+unfolding chars encode
+an_async_begin_of_node = refl
+
+pub an_older_end_has_an_id_of_its_process : element_of (object (
+    member (codes "ts") (number (codes "9"))
+    (member (codes "ph") (string (codes "F"))
+    (member (codes "id2") (object (member (codes "local") (number (codes "3")) no_members)) no_members)))) ≡ Ok (Async TrackEnds (record {
+      lane = record { process = None; thread = None; track = None };
+      start = 9000;
+      name = [];
+      fields = [];
+    }) (codes "\0\03"))
+an_older_end_has_an_id_of_its_process = refl
 
 -- ---- what is lacking
 
@@ -151,7 +179,7 @@ pub no_end_after_the_last_nanosecond : element_of (object (
     member (codes "ph") (string (codes "X"))
     (member (codes "ts") (number (codes "18446744073709551"))
     (member (codes "dur") (number (codes "18446744073709551")) no_members)))) ≡ Ok (Span (record {
-      lane = record { process = None; thread = None };
+      lane = record { process = None; thread = None; track = None };
       start = 18446744073709551000;
       name = [];
       fields = [];

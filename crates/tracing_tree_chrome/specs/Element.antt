@@ -1,5 +1,5 @@
 -- What one element of a trace in Chrome's trace event format says.
-use Rattle.std.specs.Prelude.{ℕ, ◌+◌, ◌-◌, ◌*◌, ◌^◌, ◌==◌, ◌&&◌, ◌||◌, min, nat_lt, ℤ, pos, negsuc, Bool, not, if◌then◌else◌, List, [], ◌∷◌, length, Option, Some, None, unwrap_or, option_and_then, Result, Ok, Err, codes, bytes_eq}
+use Rattle.std.specs.Prelude.{ℕ, ◌+◌, ◌-◌, ◌*◌, ◌^◌, ◌==◌, ◌++◌, ◌&&◌, ◌||◌, min, nat_lt, ℤ, pos, negsuc, Bool, not, if◌then◌else◌, List, [], ◌∷◌, length, Option, Some, None, unwrap_or, option_and_then, Result, Ok, Err, codes, bytes_eq}
 use Rattle.std.specs.List.{position_or_len, before_first, after_first}
 use Rattle.std.specs.Str.{all_ascii_digits}
 use Rattle.std.specs.Str.Parse.{digits_value, signed_digits_value, without_leading_sign}
@@ -9,14 +9,17 @@ use Rattle.tracing_tree_text.specs.declared.field.Field.{Field}
 use Rattle.tracing_tree_sources.specs.Marks.{is_empty}
 use Rattle.tracing_tree_sources.specs.Values.{text_at}
 use Rattle.tracing_tree_sources.specs.Fields.{event_fields}
+use Rattle.tracing_tree_sources.specs.Told.{shown}
 use Rattle.tracing_tree_sources.specs.declared.notes.Lack.{Lack}
 use Rattle.tracing_tree_sources.specs.declared.notes.Lack.TheVariants.{Phase as NoPhase, Process as NoProcess, Thread as NoThread, Start as NoStart, Duration as NoDuration}
 use Rattle.tracing_tree_chrome.specs.declared.element.Lane.{Lane}
 use Rattle.tracing_tree_chrome.specs.declared.element.Entry.{Entry}
 use Rattle.tracing_tree_chrome.specs.declared.element.Element.{Element}
-use Rattle.tracing_tree_chrome.specs.declared.element.Element.TheVariants.{Span, Begin, End, Instant, ProcessName, ThreadName, Other}
+use Rattle.tracing_tree_chrome.specs.declared.element.Element.TheVariants.{Span, Begin, End, Instant, Async, ProcessName, ThreadName, Other}
 use Rattle.tracing_tree_chrome.specs.declared.element.Phase.{Phase}
 use Rattle.tracing_tree_chrome.specs.declared.element.Phase.TheVariants.{Complete, Begin as Begins, End as Ends, Instant as Happens}
+use Rattle.tracing_tree_chrome.specs.declared.element.Track.{Track}
+use Rattle.tracing_tree_chrome.specs.declared.element.Track.TheVariants.{Begin as TrackBegins, End as TrackEnds, Instant as TrackHappens}
 use Rattle.tracing_tree_chrome.specs.declared.element.Naming.{Naming}
 use Rattle.tracing_tree_chrome.specs.declared.element.Naming.TheVariants.{Process as OfProcess, Thread as OfThread}
 
@@ -107,7 +110,7 @@ integer_at key lack value = if_any (get key value) where
 abbrev pub lane_of : Result (Option ℤ) Lack → Result (Option ℤ) Lack → Result Lane Lack
 lane_of (Err lack) thread = Err lack
 lane_of (Ok process) (Err lack) = Err lack
-lane_of (Ok process) (Ok thread) = Ok (record { process = process; thread = thread })
+lane_of (Ok process) (Ok thread) = Ok (record { process = process; thread = thread; track = None })
 
 -- the process and the thread of an element
 abbrev pub lane_in : Json → Result Lane Lack
@@ -169,6 +172,64 @@ timed_of phase (Ok entry) value = phased phase entry value
 abbrev pub timed_in : Phase → Json → Result Element Lack
 timed_in phase value = timed_of phase (entry_in value) value
 
+-- ---- asynchronous tracks
+
+-- what an element of this phase says about its asynchronous track, if it has one
+abbrev pub async_of : List ℕ → Option Track
+async_of text =
+    if bytes_eq text (codes "b") || bytes_eq text (codes "S") then Some TrackBegins
+    else if bytes_eq text (codes "e") || bytes_eq text (codes "F") then Some TrackEnds
+    else if bytes_eq text (codes "n") || bytes_eq text (codes "T") || bytes_eq text (codes "p")
+    then Some TrackHappens
+    else None
+
+-- a string or a number as it is written, empty for any other value
+abbrev pub text_of : Option Json → List ℕ
+text_of None = []
+text_of (Some null) = []
+text_of (Some (boolean _)) = []
+text_of (Some (number text)) = text
+text_of (Some (string text)) = text
+text_of (Some (array _)) = []
+text_of (Some (object _)) = []
+
+abbrev pub local_or : Option Json → Option Json → List ℕ
+local_or (Some local) other = text_of (Some local)
+local_or None other = text_of other
+
+abbrev pub id_or : Option Json → Option Json → List ℕ
+id_or (Some id) other = local_or (get (codes "local") id) (get (codes "global") id)
+id_or None other = text_of other
+
+-- the id of an element's asynchronous track, empty if it has none
+abbrev pub id_in : Json → List ℕ
+id_in value = id_or (get (codes "id2") value) (get (codes "id") value)
+
+-- the key of an element's asynchronous track: its category, its scope and its id
+abbrev pub track_in : Json → List ℕ
+track_in value =
+    ((((text_of (get (codes "cat") value)) ++ 0 ∷ []) ++ text_of (get (codes "scope") value))
+    ++ 0 ∷ []) ++ id_in value
+
+abbrev pub id_field : List ℕ → Field
+id_field id = record { name = codes "id"; value = shown id }
+
+-- the span of an asynchronous track shows the track's id
+abbrev pub with_id : Track → Entry → Json → Entry
+with_id TrackBegins entry value = record entry { fields = id_field (id_in value) ∷ entry.fields }
+with_id TrackEnds entry value = entry
+with_id TrackHappens entry value = entry
+
+abbrev pub async_told : Track → Result Entry Lack → Json → Result Element Lack
+async_told track (Err lack) value = Err lack
+async_told track (Ok entry) value = Ok (Async track (with_id track entry value) (track_in value))
+
+-- an element of an asynchronous track
+abbrev pub async_in : Track → Json → Result Element Lack
+async_in track value = async_told track (entry_in value) value
+
+-- ---- names
+
 -- what an element names
 abbrev pub naming_of : List ℕ → Option Naming
 naming_of name =
@@ -197,14 +258,18 @@ given_name value = option_and_then (text_at (codes "name")) (get (codes "args") 
 abbrev pub named_in : Json → Result Element Lack
 named_in value = named_of (naming_of (name_in value)) (given_name value) (lane_in value)
 
-abbrev pub timed_if : Option Phase → Json → Result Element Lack
-timed_if None value = Ok Other
-timed_if (Some phase) value = timed_in phase value
+abbrev pub async_if : Option Track → Json → Result Element Lack
+async_if None value = Ok Other
+async_if (Some track) value = async_in track value
+
+abbrev pub timed_if : Option Phase → Option Track → Json → Result Element Lack
+timed_if None track value = async_if track value
+timed_if (Some phase) track value = timed_in phase value
 
 abbrev pub told_as : Option (List ℕ) → Json → Result Element Lack
 told_as None value = Err NoPhase
 told_as (Some phase) value =
-    if bytes_eq phase (codes "M") then named_in value else timed_if (phase_of phase) value
+    if bytes_eq phase (codes "M") then named_in value else timed_if (phase_of phase) (async_of phase) value
 
 -- what an element says, or what it lacks
 abbrev pub element_of : Json → Result Element Lack

@@ -1,12 +1,15 @@
 -- What the elements of a trace say together.
-use Rattle.std.specs.Prelude.{ℕ, ◌+◌, ◌-◌, ◌^◌, max, ℤ, Bool, false, ◌&&◌, List, [], ◌∷◌, ◌++◌, take, drop, slice_get, Option, Some, None, if◌then◌else◌}
+use Rattle.std.specs.Prelude.{ℕ, ◌+◌, ◌-◌, ◌^◌, ◌==◌, max, ℤ, Bool, false, ◌&&◌, List, [], ◌∷◌, ◌++◌, take, drop, slice_get, Option, Some, None, if◌then◌else◌}
 use Rattle.std.specs.Option.{option_cmp, option_eq}
 use Rattle.std.specs.Ordering.{int_cmp, int_eq, nat_cmp, ordering_then}
 use Rattle.std.specs.declared.cmp.Ordering.{Ordering}
 use Rattle.tracing_tree_sources.specs.Counts.{one_more}
 use Rattle.tracing_tree_chrome.specs.declared.element.Element.{Element}
-use Rattle.tracing_tree_chrome.specs.declared.element.Element.TheVariants.{Span, Begin, End, Instant, ProcessName, ThreadName, Other}
+use Rattle.tracing_tree_chrome.specs.declared.element.Element.TheVariants.{Span, Begin, End, Instant, Async, ProcessName, ThreadName, Other}
+use Rattle.tracing_tree_chrome.specs.Tracks.{track_number, with_track}
 use Rattle.tracing_tree_chrome.specs.declared.element.Entry.{Entry}
+use Rattle.tracing_tree_chrome.specs.declared.element.Track.{Track}
+use Rattle.tracing_tree_chrome.specs.declared.element.Track.TheVariants.{Begin as TrackBegins, End as TrackEnds, Instant as TrackHappens}
 use Rattle.tracing_tree_chrome.specs.declared.element.Lane.{Lane}
 use Rattle.tracing_tree_chrome.specs.declared.gather.Item.{Item}
 use Rattle.tracing_tree_chrome.specs.declared.gather.Later.{Later}
@@ -16,16 +19,17 @@ use Rattle.tracing_tree_chrome.specs.declared.gather.Shape.{Shape}
 use Rattle.tracing_tree_chrome.specs.declared.gather.Shape.TheVariants.{Event, Whole, Unended}
 
 -- What elements said: what is drawn, the spans that began and haven't ended with the newest last, how
--- processes and threads are called, and how many elements there were.
+-- processes and threads are called, the asynchronous tracks, and how many elements there were.
 pub record GatheredState : Type 0 where
   pub items : List Item
   pub begun : List Item
   pub processes : List Name
   pub threads : List Name
+  pub tracks : List (List ℕ × ℕ)
   pub count : ℕ
 
 abbrev pub nothing_gathered : GatheredState
-nothing_gathered = record { items = []; begun = []; processes = []; threads = []; count = 0 }
+nothing_gathered = record { items = []; begun = []; processes = []; threads = []; tracks = []; count = 0 }
 
 -- the last time that there is
 abbrev pub last_time : ℕ
@@ -54,10 +58,12 @@ same_number one other = option_eq int_eq one other
 
 -- the lane of a process, in which items stand that tell no thread
 abbrev pub process_of : Lane → Lane
-process_of lane = record lane { thread = None }
+process_of lane = record lane { thread = None; track = None }
 
 abbrev pub same_lane : Lane → Lane → Bool
-same_lane one other = same_number one.process other.process && same_number one.thread other.thread
+same_lane one other =
+    same_number one.process other.process && same_number one.thread other.thread
+    && option_eq (λ a b. a == b) one.track other.track
 
 -- one place further, or here
 abbrev pub further_or : Option ℕ → Bool → Option ℕ
@@ -102,11 +108,30 @@ gathered_as (Begin entry) index s =
     record s { begun = s.begun ++ item_of entry last_time Unended index ∷ [] }
 gathered_as (End entry) index s = ended entry index s
 gathered_as (Instant entry) index s = drawn (item_of entry entry.start Event index) s
+gathered_as (Async track entry key) index s = tracked track entry key index s
 gathered_as (ProcessName lane text) index s =
     record s { processes = s.processes ++ named (process_of lane) text ∷ [] }
 gathered_as (ThreadName lane text) index s =
     record s { threads = s.threads ++ named lane text ∷ [] }
 gathered_as Other index s = s
+
+-- the entry of an element in the asynchronous track with this number
+abbrev pub on_track : ℕ → Entry → Entry
+on_track number entry = record entry {
+  lane = record { process = entry.lane.process; thread = None; track = Some number };
+}
+
+abbrev pub tracked_as : Track → Entry → ℕ → GatheredState → GatheredState
+tracked_as TrackBegins entry index s =
+    record s { begun = s.begun ++ item_of entry last_time Unended index ∷ [] }
+tracked_as TrackEnds entry index s = ended entry index s
+tracked_as TrackHappens entry index s = drawn (item_of entry entry.start Event index) s
+
+-- what an element of the asynchronous track with this key says
+abbrev pub tracked : Track → Entry → List ℕ → ℕ → GatheredState → GatheredState
+tracked track entry key index s =
+    tracked_as track (on_track (track_number key s.tracks) entry) index
+    (record s { tracks = with_track key s.tracks })
 
 -- what one element says more
 abbrev pub gathered_one : Element → GatheredState → GatheredState
@@ -118,9 +143,11 @@ all_items s = s.items ++ s.begun
 
 abbrev pub lane_cmp : Lane → Lane → Ordering
 lane_cmp a b =
-    ordering_then (option_cmp int_cmp a.process b.process) (option_cmp int_cmp a.thread b.thread)
+    ordering_then
+    (ordering_then (option_cmp int_cmp a.process b.process) (option_cmp int_cmp a.thread b.thread))
+    (option_cmp nat_cmp a.track b.track)
 
--- by process and thread, by the start, the longer first, and then as they came
+-- by process, thread and track, by the start, the longer first, and then as they came
 abbrev pub item_cmp : Item → Item → Ordering
 item_cmp a b =
     ordering_then

@@ -1,5 +1,6 @@
 pub mod Text
 pub mod Element
+pub mod Tracks
 pub mod Gather
 pub mod Length
 pub mod Later

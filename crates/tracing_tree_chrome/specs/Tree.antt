@@ -296,7 +296,7 @@ abbrev pub shown_lane : Item → TreeState → Lane
 shown_lane item s =
     if is_lane item.lane s.lane || item.later.in_thread then item.lane
     else if is_in_process item.lane s.lane || item.later.in_process then process_of item.lane
-    else record { process = None; thread = None }
+    else record { process = None; thread = None; track = None }
 
 -- a span that is too short counts as left out in the innermost
 abbrev pub passed_over : Item → TreeState → TreeState

@@ -3,21 +3,24 @@
 ghost use Rattle.std.specs.Prelude.{◌≡◌, IfOk, option_map};
 ghost use Rattle.std.specs.Str.{all_ascii_digits};
 ghost use Rattle.json.specs.Value.{value_view};
-ghost use Rattle.tracing_tree_chrome.specs.Element.{decimal_of, digit_in, element_of, entry_in, fields_in, given_name, integer_at, integer_in, integer_of, is_digits, lane_in, name_in, named_as, named_in, naming_of, nanoseconds, nanoseconds_of, phase_of, phased, span_of, thousandths, time_at, timed_in, whole_of};
+ghost use Rattle.tracing_tree_chrome.specs.Element.{async_in, async_of, decimal_of, digit_in, element_of, entry_in, fields_in, given_name, id_in, id_of, integer_at, integer_in, integer_of, is_digits, lane_in, name_in, named_as, named_in, naming_of, nanoseconds, nanoseconds_of, phase_of, phased, span_of, thousandths, text_of, time_at, timed_in, track_in, whole_of, with_id};
 
 use json::Value;
 use std::alloc::{AllocError, Global};
 use tracing_tree_sources::fields::event_fields;
 use tracing_tree_sources::notes::Lack;
+use tracing_tree_sources::told::shown;
 use tracing_tree_sources::values::text_at;
-use tracing_tree_text::field::Fields;
+use tracing_tree_text::field::{Field, Fields};
 use tracing_tree_text::text::Text;
 
-// The process and the thread of an element, as far as it tells them.
+// The process and the thread of an element, as far as it tells them, or its process and the number of
+// its asynchronous track.
 #[derive(Clone, Copy, PartialEq, Eq, PartialOrd, Ord)]
 pub(crate) struct Lane {
     pub(crate) process: Option<i128>,
     pub(crate) thread: Option<i128>,
+    pub(crate) track: Option<u64>,
 }
 
 // What most elements say.
@@ -40,6 +43,8 @@ pub(crate) enum Element {
     // The span of the lane that began last ends.
     End(Entry),
     Instant(Entry),
+    // What an element of an asynchronous track says, by the track's key.
+    Async(Track, Entry, Text),
     ProcessName(Lane, Text),
     ThreadName(Lane, Text),
     // It draws nothing.
@@ -50,6 +55,14 @@ pub(crate) enum Element {
 #[derive(Clone, Copy)]
 enum Phase {
     Complete,
+    Begin,
+    End,
+    Instant,
+}
+
+// What an element says about its asynchronous track.
+#[derive(Clone, Copy)]
+pub(crate) enum Track {
     Begin,
     End,
     Instant,
@@ -77,7 +90,103 @@ pub(crate) fn element_of(
     }
     match phase_of(phase) {
         Some(phase) => timed_in(alloc, phase, value),
-        None => Ok(Ok(Element::Other)),
+        None => match async_of(phase) {
+            Some(track) => async_in(alloc, track, value),
+            None => Ok(Ok(Element::Other)),
+        },
+    }
+}
+
+// What an element of this phase says about its asynchronous track, if it has one. `S`, `T`, `p` and `F`
+// are the phases of older traces.
+fn async_of(text: &str) -> Option<Track>
+    ensures { result ≡ async_of text.now }
+{
+    if text == "b" || text == "S" {
+        Some(Track::Begin)
+    } else if text == "e" || text == "F" {
+        Some(Track::End)
+    } else if text == "n" || text == "T" || text == "p" {
+        Some(Track::Instant)
+    } else {
+        None
+    }
+}
+
+// An element of an asynchronous track.
+fn async_in(
+    alloc: Global,
+    track: Track,
+    value: &Value<'_>,
+) -> Result<Result<Element, Lack>, AllocError>
+    ensures { IfOk result (λ element. element ≡ async_in track (value_view value.now)) }
+{
+    match entry_in(alloc, value)? {
+        Ok(entry) => {
+            let entry = with_id(alloc, track, entry, value)?;
+            Ok(Ok(Element::Async(track, entry, track_in(alloc, value)?)))
+        }
+        Err(lack) => Ok(Err(lack)),
+    }
+}
+
+// The span of an asynchronous track shows the track's id.
+fn with_id(
+    alloc: Global,
+    track: Track,
+    entry: Entry,
+    value: &Value<'_>,
+) -> Result<Entry, AllocError>
+    ensures { IfOk result (λ one. one ≡ with_id track entry (value_view value.now)) }
+{
+    let Track::Begin = track else {
+        return Ok(entry);
+    };
+    let id = Field {
+        name: Text::from_str(alloc, "id")?,
+        value: shown(alloc, id_in(value))?,
+    };
+    let mut entry = entry;
+    let mut fields = Fields::one(alloc, id);
+    fields.append(entry.fields)?;
+    entry.fields = fields;
+    Ok(entry)
+}
+
+// The key of an element's asynchronous track: its category, its scope and its id.
+fn track_in(alloc: Global, value: &Value<'_>) -> Result<Text, AllocError>
+    ensures { IfOk result (λ key. key ≡ track_in (value_view value.now)) }
+{
+    let mut key = String::new(alloc);
+    key.push_str(text_of(value.get("cat")))?;
+    key.push('\0')?;
+    key.push_str(text_of(value.get("scope")))?;
+    key.push('\0')?;
+    key.push_str(id_in(value))?;
+    Ok(Text::from(key))
+}
+
+// The id of an element's asynchronous track, empty if it has none.
+fn id_in<'v>(value: &'v Value<'_>) -> &'v str
+    ensures { result.now ≡ id_in (value_view value.now) }
+{
+    match value.get("id2") {
+        Some(id) => match id.get("local") {
+            Some(local) => text_of(Some(local)),
+            None => text_of(id.get("global")),
+        },
+        None => text_of(value.get("id")),
+    }
+}
+
+// A string or a number as it is written, empty for any other value.
+fn text_of<'v>(value: Option<&'v Value<'_>>) -> &'v str
+    ensures { result.now ≡ text_of (option_map (λ v. value_view v.now) value.entry) }
+{
+    match value {
+        Some(Value::String(text)) => text,
+        Some(Value::Number(text)) => text,
+        _ => "",
     }
 }
 
@@ -222,7 +331,11 @@ fn lane_in(value: &Value<'_>) -> Result<Lane, Lack>
 {
     let process = integer_at(value, "pid", Lack::Process)?;
     let thread = integer_at(value, "tid", Lack::Thread)?;
-    Ok(Lane { process, thread })
+    Ok(Lane {
+        process,
+        thread,
+        track: None,
+    })
 }
 
 // The whole number at a key, none where the key is absent or its value is null.

@@ -1,9 +1,10 @@
 //! What the elements of a trace say together.
 
 ghost use Rattle.std.specs.Prelude.{◌≡◌, ◌∷◌, ◌++◌, [], ◌<◌, length, IfOk, IfSome, OnOk, IsPermutation, IsSorted};
-ghost use Rattle.tracing_tree_chrome.specs.Gather.{ended, gathered_one, item_cmp, item_of, last_in, none_later, nothing_gathered, process_of, same_lane, whole};
+ghost use Rattle.tracing_tree_chrome.specs.Gather.{ended, gathered_one, item_cmp, item_of, last_in, none_later, nothing_gathered, on_track, process_of, same_lane, tracked, tracked_as, whole};
 
-use crate::element::{Element, Entry, Lane};
+use crate::element::{Element, Entry, Lane, Track};
+use crate::tracks::Tracks;
 use std::alloc::{AllocError, Global};
 use std::cmp::Reverse;
 use std::marker::Model;
@@ -65,6 +66,7 @@ pub(crate) struct Gathered {
     pub(crate) begun: Vec<Item>,
     pub(crate) processes: Vec<Name>,
     pub(crate) threads: Vec<Name>,
+    pub(crate) tracks: Tracks,
     // How many elements there were.
     pub(crate) count: u64,
 }
@@ -79,6 +81,7 @@ impl Model for Gathered {
       begun = g.begun.items;
       processes = g.processes.items;
       threads = g.threads.items;
+      tracks = g.tracks;
       count = g.count;
     } };
 }
@@ -92,6 +95,7 @@ impl Gathered {
             begun: Vec::new(alloc),
             processes: Vec::new(alloc),
             threads: Vec::new(alloc),
+            tracks: Tracks::new(alloc),
             count: 0,
         }
     }
@@ -117,12 +121,47 @@ impl Gathered {
                 let start = entry.start;
                 Ok(self.items.push(item_of(entry, start, Shape::Event, index))?)
             }
+            Element::Async(track, entry, key) => {
+                self.take_tracked(track, entry, key.as_str(), index)
+            }
             Element::ProcessName(lane, text) => {
                 let lane = process_of(lane);
                 Ok(self.processes.push(Name { lane, text })?)
             }
             Element::ThreadName(lane, text) => Ok(self.threads.push(Name { lane, text })?),
             Element::Other => Ok(()),
+        }
+    }
+
+    // Takes an element of the asynchronous track with this key.
+    fn take_tracked(
+        &mut self,
+        track: Track,
+        entry: Entry,
+        key: &str,
+        index: u64,
+    ) -> Result<(), AllocError>
+        ensures { OnOk result (self.new ≡ tracked track entry key.now index self.old) }
+    {
+        let number = self.tracks.take(key)?;
+        self.take_on_track(track, on_track(entry, number), index)
+    }
+
+    fn take_on_track(&mut self, track: Track, entry: Entry, index: u64) -> Result<(), AllocError>
+        ensures { OnOk result (self.new ≡ tracked_as track entry index self.old) }
+    {
+        match track {
+            Track::Begin => {
+                Ok(
+                    self.begun
+                        .push(item_of(entry, u64::MAX, Shape::Unended, index))?,
+                )
+            }
+            Track::End => self.end(entry, index),
+            Track::Instant => {
+                let start = entry.start;
+                Ok(self.items.push(item_of(entry, start, Shape::Event, index))?)
+            }
         }
     }
 
@@ -140,7 +179,7 @@ impl Gathered {
     }
 }
 
-// All that is drawn, in its order: by process and thread, by the start, the longer first, and then as it came. A span without an end
+// All that is drawn, in its order: by process, thread and track, by the start, the longer first, and then as it came. A span without an end
 // is drawn, too.
 pub(crate) fn in_order(items: Vec<Item>, begun: Vec<Item>) -> Result<Vec<Item>, AllocError>
     ensures same { IfOk result (λ ordered. IsPermutation (items.items ++ begun.items) ordered.items) }
@@ -220,7 +259,19 @@ fn last_in(begun: &[Item], lane: Lane) -> Option<usize>
 pub(crate) fn same_lane(one: Lane, other: Lane) -> bool
     ensures { result ≡ same_lane one other }
 {
-    one.process == other.process && one.thread == other.thread
+    one.process == other.process && one.thread == other.thread && one.track == other.track
+}
+
+// The entry of an element in the asynchronous track with this number.
+fn on_track(entry: Entry, number: u64) -> Entry
+    ensures { result ≡ on_track number entry }
+{
+    let lane = Lane {
+        process: entry.lane.process,
+        thread: None,
+        track: Some(number),
+    };
+    Entry { lane, ..entry }
 }
 
 // The lane of a process, in which items stand that tell no thread.
@@ -230,6 +281,7 @@ pub(crate) fn process_of(lane: Lane) -> Lane
     Lane {
         process: lane.process,
         thread: None,
+        track: None,
     }
 }
 

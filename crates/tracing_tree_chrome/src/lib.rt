@@ -10,6 +10,7 @@ mod later;
 mod length;
 mod text;
 pub mod trace;
+mod tracks;
 mod tree;
 
 pub use trace::{Cut, TraceCalls, run_trace, trace_calls};

@@ -176,6 +176,7 @@ fn calls_of(
         begun,
         processes,
         threads,
+        tracks: _,
         count: _,
     } = gathered;
     let ordered = in_order(items, begun)?;

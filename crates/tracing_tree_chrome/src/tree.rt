@@ -175,6 +175,7 @@ impl Tree {
             Lane {
                 process: None,
                 thread: None,
+                track: None,
             }
         }
     }
