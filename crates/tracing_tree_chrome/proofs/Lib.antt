@@ -5,3 +5,4 @@ mod LastInLane
 pub mod Hearing
 pub mod Noting
 mod Worked
+mod TrackLists

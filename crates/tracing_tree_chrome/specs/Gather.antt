@@ -102,19 +102,6 @@ ended last index s = ended_at (last_in s.begun last.lane) last index s
 abbrev pub named : Lane → List ℕ → Name
 named lane text = record { lane = lane; text = text }
 
-abbrev pub gathered_as : Element → ℕ → GatheredState → GatheredState
-gathered_as (Span entry end) index s = drawn (item_of entry end Whole index) s
-gathered_as (Begin entry) index s =
-    record s { begun = s.begun ++ item_of entry last_time Unended index ∷ [] }
-gathered_as (End entry) index s = ended entry index s
-gathered_as (Instant entry) index s = drawn (item_of entry entry.start Event index) s
-gathered_as (Async track entry key) index s = tracked track entry key index s
-gathered_as (ProcessName lane text) index s =
-    record s { processes = s.processes ++ named (process_of lane) text ∷ [] }
-gathered_as (ThreadName lane text) index s =
-    record s { threads = s.threads ++ named lane text ∷ [] }
-gathered_as Other index s = s
-
 -- the entry of an element in the asynchronous track with this number
 abbrev pub on_track : ℕ → Entry → Entry
 on_track number entry = record entry {
@@ -133,6 +120,19 @@ tracked track entry key index s =
     tracked_as track (on_track (track_number key s.tracks) entry) index
     (record s { tracks = with_track key s.tracks })
 
+abbrev pub gathered_as : Element → ℕ → GatheredState → GatheredState
+gathered_as (Span entry end) index s = drawn (item_of entry end Whole index) s
+gathered_as (Begin entry) index s =
+    record s { begun = s.begun ++ item_of entry last_time Unended index ∷ [] }
+gathered_as (End entry) index s = ended entry index s
+gathered_as (Instant entry) index s = drawn (item_of entry entry.start Event index) s
+gathered_as (Async track entry key) index s = tracked track entry key index s
+gathered_as (ProcessName lane text) index s =
+    record s { processes = s.processes ++ named (process_of lane) text ∷ [] }
+gathered_as (ThreadName lane text) index s =
+    record s { threads = s.threads ++ named lane text ∷ [] }
+gathered_as Other index s = s
+
 -- what one element says more
 abbrev pub gathered_one : Element → GatheredState → GatheredState
 gathered_one element s = gathered_as element s.count (record s { count = one_more s.count })
@@ -143,9 +143,8 @@ all_items s = s.items ++ s.begun
 
 abbrev pub lane_cmp : Lane → Lane → Ordering
 lane_cmp a b =
-    ordering_then
-    (ordering_then (option_cmp int_cmp a.process b.process) (option_cmp int_cmp a.thread b.thread))
-    (option_cmp nat_cmp a.track b.track)
+    ordering_then (option_cmp int_cmp a.process b.process)
+    (ordering_then (option_cmp int_cmp a.thread b.thread) (option_cmp nat_cmp a.track b.track))
 
 -- by process, thread and track, by the start, the longer first, and then as they came
 abbrev pub item_cmp : Item → Item → Ordering

@@ -3,7 +3,7 @@
 ghost use Rattle.std.specs.Prelude.{◌≡◌, IfOk, option_map};
 ghost use Rattle.std.specs.Str.{all_ascii_digits};
 ghost use Rattle.json.specs.Value.{value_view};
-ghost use Rattle.tracing_tree_chrome.specs.Element.{async_in, async_of, decimal_of, digit_in, element_of, entry_in, fields_in, given_name, id_in, id_of, integer_at, integer_in, integer_of, is_digits, lane_in, name_in, named_as, named_in, naming_of, nanoseconds, nanoseconds_of, phase_of, phased, span_of, thousandths, text_of, time_at, timed_in, track_in, whole_of, with_id};
+ghost use Rattle.tracing_tree_chrome.specs.Element.{async_in, async_of, decimal_of, digit_in, element_of, entry_in, fields_in, given_name, id_in, integer_at, integer_in, integer_of, is_digits, lane_in, name_in, named_as, named_in, naming_of, nanoseconds, nanoseconds_of, phase_of, phased, span_of, thousandths, text_of, time_at, timed_in, track_in, whole_of, with_id};
 
 use json::Value;
 use std::alloc::{AllocError, Global};

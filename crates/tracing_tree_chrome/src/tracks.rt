@@ -43,7 +43,7 @@ impl Tracks {
             return Ok(number);
         }
         let number = self.count();
-        self.put(key.as_bytes(), number)?;
+        self.put(key.as_bytes().to_vec(self.alloc)?, number)?;
         Ok(number)
     }
 
@@ -59,12 +59,10 @@ impl Tracks {
         self.entries.len() as u64
     }
 
-    fn put(&mut self, key: &[u8], number: u64) -> Result<(), AllocError>
-        ensures { OnOk result (self.new ≡ track_added key.now number self.old) }
+    fn put(&mut self, key: Vec<u8>, number: u64) -> Result<(), AllocError>
+        ensures { OnOk result (self.new ≡ track_added key.items number self.old) }
     {
-        let mut bytes = Vec::new(self.alloc);
-        bytes.extend_from_slice(key)?;
-        self.entries.insert(bytes, number)?;
+        self.entries.insert(key, number)?;
         Ok(())
     }
 }
