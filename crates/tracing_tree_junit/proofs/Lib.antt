@@ -1,0 +1,3 @@
+mod Innermost
+mod Steps
+mod Turns
