@@ -1,3 +1,2 @@
-mod Innermost
 mod Steps
 mod Turns

@@ -10,9 +10,8 @@ use Rattle.tracing_tree_text.specs.declared.style.Level.TheVariants.{Info, Warn,
 use Rattle.tracing_tree_layer.specs.declared.call.Call.{Call}
 use Rattle.tracing_tree_sources.specs.Counts.{one_more}
 use Rattle.tracing_tree_sources.specs.Told.{close_call, event_call, message_field, record_call, shown, span_call}
-use Rattle.tracing_tree_xml.specs.Decoded.{decoded}
+use Rattle.tracing_tree_xml.specs.Decoded.{cdata_decoded, text_decoded}
 use Rattle.tracing_tree_xml.specs.Token.{XmlToken, start_tag, attribute, tag_end, empty_tag_end, end_tag, characters, cdata, skipped}
-use Rattle.tracing_tree_xml.specs.declared.cut.Until.TheVariants.{Content, Verbatim}
 use Rattle.tracing_tree_junit.specs.Case.{case_of, event_fields, is_bare, level_of, outcome_of, span_fields, time_fields, with_failure, with_printed, with_property, with_skip}
 use Rattle.tracing_tree_junit.specs.Element.{attribute_in, element_named, role_of}
 use Rattle.tracing_tree_junit.specs.Junit.{JunitState}
@@ -270,10 +269,10 @@ added_to_body text s = record s { part = record s.part { body = s.part.body ++ t
 
 -- text counts in a part
 abbrev pub text_added : List ℕ → JunitState → JunitState
-text_added run s = if s.in_part then added_to_body (decoded Content run) s else s
+text_added run s = if s.in_part then added_to_body (text_decoded run) s else s
 
 abbrev pub cdata_added : List ℕ → JunitState → JunitState
-cdata_added part s = if s.in_part then added_to_body (decoded Verbatim part) s else s
+cdata_added part s = if s.in_part then added_to_body (cdata_decoded part) s else s
 
 -- ---- elements
 

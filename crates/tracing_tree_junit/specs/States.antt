@@ -1,7 +1,6 @@
 -- What is known of a document as far as it is read.
 use Rattle.std.specs.Prelude.{ℕ, Bool, List, [], ◌∷◌, ◌++◌, Option}
-use Rattle.tracing_tree_xml.specs.Decoded.{decoded}
-use Rattle.tracing_tree_xml.specs.declared.cut.Until.TheVariants.{Value}
+use Rattle.tracing_tree_xml.specs.Decoded.{attribute_decoded}
 use Rattle.tracing_tree_context.specs.declared.context.Id.{Id}
 use Rattle.tracing_tree_context.specs.declared.context.Moment.{Moment}
 use Rattle.tracing_tree_text.specs.declared.field.Field.{Field}
@@ -34,5 +33,5 @@ pub record PartState : Type 0 where
 
 abbrev pub with_attribute : List ℕ → List ℕ → TagState → TagState
 with_attribute name value tag = record tag {
-  attributes = tag.attributes ++ (record { name = name; value = decoded Value value }) ∷ [];
+  attributes = tag.attributes ++ (record { name = name; value = attribute_decoded value }) ∷ [];
 }

@@ -1,8 +1,7 @@
 //! The start tag that is read, and a part of a case or of a suite.
 
 ghost use Rattle.std.specs.Prelude.{◌≡◌, ◌++◌, [], IfOk, OnOk};
-ghost use Rattle.tracing_tree_xml.specs.Decoded.{decoded};
-ghost use Rattle.tracing_tree_xml.specs.declared.cut.Until.TheVariants as Until;
+ghost use Rattle.tracing_tree_xml.specs.Decoded.{cdata_decoded, text_decoded};
 ghost use Rattle.tracing_tree_junit.specs.Element.{attribute_in};
 ghost use Rattle.tracing_tree_junit.specs.States.{with_attribute};
 
@@ -113,14 +112,14 @@ impl Part {
 
     pub(crate) fn add_text(&mut self, run: &str) -> Result<(), AllocError>
         ensures { OnOk result (self.new
-            ≡ record self.old { body = self.old.body ++ decoded Until.Content run.now }) }
+            ≡ record self.old { body = self.old.body ++ text_decoded run.now }) }
     {
         push_text(&mut self.body, run)
     }
 
     pub(crate) fn add_cdata(&mut self, part: &str) -> Result<(), AllocError>
         ensures { OnOk result (self.new
-            ≡ record self.old { body = self.old.body ++ decoded Until.Verbatim part.now }) }
+            ≡ record self.old { body = self.old.body ++ cdata_decoded part.now }) }
     {
         push_cdata(&mut self.body, part)
     }

@@ -1,3 +1,4 @@
 mod Marked
 mod Pieces
 mod Turns
+mod Worked

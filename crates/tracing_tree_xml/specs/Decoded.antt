@@ -3,7 +3,7 @@ use Rattle.std.specs.Prelude.{ℕ, zero, suc, ◌+◌, ◌-◌, ◌*◌, ◌==�
 use Rattle.std.specs.Char.{encode_utf8}
 use Rattle.tracing_tree_xml.specs.Cut.{after_mark, after_piece, piece}
 use Rattle.tracing_tree_xml.specs.declared.cut.Until.{Until}
-use Rattle.tracing_tree_xml.specs.declared.cut.Until.TheVariants.{Reference, Value}
+use Rattle.tracing_tree_xml.specs.declared.cut.Until.TheVariants.{Reference, Verbatim, Content, Value}
 
 -- what a digit counts; 16 if it is none
 abbrev pub digit_of : ℕ → ℕ
@@ -108,3 +108,13 @@ decoded_within (suc turns) until text =
 -- What a string stands for. Each turn reads a byte or more.
 abbrev pub decoded : Until → List ℕ → List ℕ
 decoded until text = decoded_within (length text) until text
+
+-- a run of text, the value of an attribute, and a part of a CDATA section
+abbrev pub text_decoded : List ℕ → List ℕ
+text_decoded run = decoded Content run
+
+abbrev pub attribute_decoded : List ℕ → List ℕ
+attribute_decoded value = decoded Value value
+
+abbrev pub cdata_decoded : List ℕ → List ℕ
+cdata_decoded part = decoded Verbatim part

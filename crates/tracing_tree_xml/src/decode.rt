@@ -1,7 +1,7 @@
 //! Strings of a document decoded.
 
 ghost use Rattle.std.specs.Prelude.{◌≡◌, ◌++◌, ◌<◌, ◌≤◌, IfOk, OnOk, string_bytes};
-ghost use Rattle.tracing_tree_xml.specs.Decoded.{char_of, decoded, digit_of, entity, line_end, number_of, numbered, reference, special};
+ghost use Rattle.tracing_tree_xml.specs.Decoded.{attribute_decoded, cdata_decoded, char_of, decoded, digit_of, entity, line_end, number_of, numbered, reference, special, text_decoded};
 
 use crate::cut::{Until, after_mark, cut};
 use std::alloc::AllocError;
@@ -16,7 +16,7 @@ use std::alloc::AllocError;
 /// `AllocError` if an allocation fails.
 pub fn push_text(out: &mut String, run: &str) -> Result<(), AllocError>
     ensures { OnOk result
-        (string_bytes out.new ≡ string_bytes out.old ++ decoded Until.Content run.now) }
+        (string_bytes out.new ≡ string_bytes out.old ++ text_decoded run.now) }
 {
     push_decoded(out, Until::Content, run)
 }
@@ -28,7 +28,7 @@ pub fn push_text(out: &mut String, run: &str) -> Result<(), AllocError>
 /// `AllocError` if an allocation fails.
 pub fn push_attribute(out: &mut String, value: &str) -> Result<(), AllocError>
     ensures { OnOk result
-        (string_bytes out.new ≡ string_bytes out.old ++ decoded Until.Value value.now) }
+        (string_bytes out.new ≡ string_bytes out.old ++ attribute_decoded value.now) }
 {
     push_decoded(out, Until::Value, value)
 }
@@ -40,7 +40,7 @@ pub fn push_attribute(out: &mut String, value: &str) -> Result<(), AllocError>
 /// `AllocError` if an allocation fails.
 pub fn push_cdata(out: &mut String, part: &str) -> Result<(), AllocError>
     ensures { OnOk result
-        (string_bytes out.new ≡ string_bytes out.old ++ decoded Until.Verbatim part.now) }
+        (string_bytes out.new ≡ string_bytes out.old ++ cdata_decoded part.now) }
 {
     push_decoded(out, Until::Verbatim, part)
 }
