@@ -1,2 +1,3 @@
 mod Steps
 mod Turns
+mod Worked

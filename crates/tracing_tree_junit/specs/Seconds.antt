@@ -1,5 +1,5 @@
 -- How long a case or a suite took.
-use Rattle.std.specs.Prelude.{ℕ, ◌+◌, ◌-◌, ◌*◌, ◌^◌, ◌==◌, ◌&&◌, nat_lt, nat_le, Bool, true, false, if◌then◌else◌, List, [], ◌∷◌, length, Option, Some, None, option_and_then, codes}
+use Rattle.std.specs.Prelude.{ℕ, zero, suc, ◌+◌, ◌-◌, ◌*◌, ◌/◌, ◌^◌, min, ◌==◌, ◌&&◌, nat_lt, nat_le, Bool, true, false, if◌then◌else◌, List, [], ◌∷◌, length, Option, Some, None, option_map, option_and_then, codes}
 use Rattle.std.specs.List.{position_or_len, before_first, after_first}
 use Rattle.std.specs.Str.{all_ascii_digits}
 use Rattle.tracing_tree_sources.specs.Marks.{after_mark}
@@ -65,11 +65,36 @@ is_point byte = byte == 46
 abbrev pub has_point : List ℕ → Bool
 has_point text = nat_lt (position_or_len is_point text) (length text)
 
-abbrev pub unsigned_of : List ℕ → Option ℕ
-unsigned_of text =
+abbrev pub plain : List ℕ → Option ℕ
+plain text =
     if length text == 0 then None
     else if has_point text then decimal (before_first is_point text) (after_first is_point text)
     else decimal text []
+
+-- a number over this power of ten
+abbrev pub over_ten : ℕ → ℕ → ℕ
+over_ten zero number = number
+over_ten (suc power) number = over_ten power (number / 10)
+
+abbrev pub scaled_by : List ℕ → Option (List ℕ) → Option ℕ
+scaled_by number (Some digits) =
+    option_and_then (λ n. option_map (λ power. over_ten (min power 20) n) (whole_of digits)) (plain number)
+scaled_by number None = None
+
+-- the nanoseconds of a number over a power of ten, as `6.2e-05`
+abbrev pub scaled : List ℕ → List ℕ → Option ℕ
+scaled number power = scaled_by number (after_mark (codes "-") power)
+
+abbrev pub is_power : ℕ → Bool
+is_power byte = byte == 101
+
+abbrev pub has_power : List ℕ → Bool
+has_power text = nat_lt (position_or_len is_power text) (length text)
+
+abbrev pub unsigned_of : List ℕ → Option ℕ
+unsigned_of text =
+    if has_power text then scaled (before_first is_power text) (after_first is_power text)
+    else plain text
 
 abbrev pub zero_or : List ℕ → Option (List ℕ) → Option ℕ
 zero_or text (Some rest) = Some 0

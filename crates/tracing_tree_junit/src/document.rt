@@ -4,9 +4,8 @@ ghost use Rattle.std.specs.Prelude.{◌≡◌, ◌==◌, not, IfOk, length};
 ghost use Rattle.tracing_tree_junit.specs.Document.{document_calls, document_state, is_cut, read_within};
 ghost use Rattle.tracing_tree_xml.specs.Xml.{at_start as document_start};
 
-pub use crate::reading::Tally;
-
 use crate::reading::Junit;
+pub use crate::reading::Tally;
 use std::alloc::{AllocError, Global};
 use tracing_tree_layer::call::Call;
 use tracing_tree_time::Moment;

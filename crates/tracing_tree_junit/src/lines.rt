@@ -93,8 +93,10 @@ fn is_separator(line: &str) -> bool
     ensures { result ≡ is_separator line.now }
 {
     line == "--------------------------------- Captured Log ---------------------------------"
-        || line == "--------------------------------- Captured Out ---------------------------------"
-        || line == "--------------------------------- Captured Err ---------------------------------"
+        || line
+            == "--------------------------------- Captured Out ---------------------------------"
+        || line
+            == "--------------------------------- Captured Err ---------------------------------"
 }
 
 // What a failure is drawn as: the first line of its message, or the name of its element.

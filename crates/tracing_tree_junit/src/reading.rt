@@ -301,11 +301,13 @@ impl Junit {
         let nanoseconds = nanoseconds_of(self.tag.value("time"));
         let above = self.innermost_span();
         let span = self.open(name.as_str(), Fields::new(self.alloc), above)?;
-        Ok(self.suites.push(Suite {
-            name,
-            nanoseconds,
-            span,
-        })?)
+        Ok(
+            self.suites.push(Suite {
+                name,
+                nanoseconds,
+                span,
+            })?,
+        )
     }
 
     fn end_suite(&mut self) -> Result<(), AllocError>
@@ -586,13 +588,7 @@ fn push_rows(
 {
     for row in rows {
         let message = message_field(alloc, row.text.as_str())?;
-        calls.push(event_call(
-            alloc,
-            moment,
-            row.level,
-            Fields::one(alloc, message),
-            at,
-        )?)?;
+        calls.push(event_call(alloc, moment, row.level, Fields::one(alloc, message), at)?)?;
     }
     Ok(())
 }

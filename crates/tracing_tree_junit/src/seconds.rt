@@ -1,11 +1,11 @@
 //! How long a case or a suite took.
 
 ghost use Rattle.std.specs.Prelude.{◌≡◌, ◌≤◌};
-ghost use Rattle.tracing_tree_junit.specs.Seconds.{after_three, all_digits, billionths, decimal, digit_in, nanoseconds_of, thousandths, unsigned_of, whole_from, whole_of};
+ghost use Rattle.tracing_tree_junit.specs.Seconds.{after_three, all_digits, billionths, decimal, digit_in, nanoseconds_of, over_ten, plain, scaled, thousandths, unsigned_of, whole_from, whole_of};
 
 use tracing_tree_sources::marks::after_mark;
 
-// The nanoseconds of a number of seconds, as `0.25` or `1,234.5`. A number below zero counts as zero.
+// The nanoseconds of a number of seconds, as `0.25`, `1,234.5` or `6.2e-05`. A number below zero counts as zero.
 pub(crate) fn nanoseconds_of(text: &str) -> Option<u64>
     ensures { result ≡ nanoseconds_of text.now }
 {
@@ -17,6 +17,34 @@ pub(crate) fn nanoseconds_of(text: &str) -> Option<u64>
 
 fn unsigned_of(text: &str) -> Option<u64>
     ensures { result ≡ unsigned_of text.now }
+{
+    match text.split_once('e') {
+        Some((number, power)) => scaled(number, power),
+        None => plain(text),
+    }
+}
+
+// The nanoseconds of a number over a power of ten, as `6.2e-05`.
+fn scaled(number: &str, power: &str) -> Option<u64>
+    ensures { result ≡ scaled number.now power.now }
+{
+    let digits = after_mark(power, "-")?;
+    Some(over_ten(plain(number)?, whole_of(digits.as_bytes())?.min(20)))
+}
+
+// A number over this power of ten.
+fn over_ten(number: u64, power: u64) -> u64
+    ensures { result ≡ over_ten power number }
+{
+    let mut rest = number;
+    for _turn in 0..power {
+        rest /= 10;
+    }
+    rest
+}
+
+fn plain(text: &str) -> Option<u64>
+    ensures { result ≡ plain text.now }
 {
     if text.is_empty() {
         return None;

@@ -25,11 +25,12 @@ ends_small Content b e = grind (arith, nat_tests)
 ends_small Value b e = grind (arith, nat_tests)
 
 pub piece_ends : (until : Until) (bs : List ℕ) → IsCharBoundary bs (position_or_len (ends_at until) bs)
-piece_ends until bs =
-    (prefix_len-le-length (λ b. not (ends_at until b)) bs,
-    λ lt high. absurd (apart (ends_small until (get_or bs (position_or_len (ends_at until) bs) 0) (passes_at_first (ends_at until) bs 0 lt)) high)) where
-      apart : {b : ℕ} → b < 128 → 128 ≤ b → ⊥
-      apart small high = omega arith
+piece_ends until bs = (
+  prefix_len-le-length (λ b. not (ends_at until b)) bs,
+  λ lt high. absurd (apart (ends_small until (get_or bs (position_or_len (ends_at until) bs) 0) (passes_at_first (ends_at until) bs 0 lt)) high),
+) where
+  apart : {b : ℕ} → b < 128 → 128 ≤ b → ⊥
+  apart small high = omega arith
 
 blank_small : (b : ℕ) → not (is_blank b) ≡ false → b < 128
 blank_small b e = grind (arith, nat_tests)

@@ -1,6 +1,6 @@
 use Rattle.std.proofs.Common.{rules, arith, ◌≡◌, ◌∙◌, ◌++◌, ◌+◌, ◌-◌, suc, length, ap, sym, true, false, option_map}
 use Rattle.std.specs.Prelude.{◌==◌}
-use Rattle.tracing_tree_junit.specs.Lines.{after_line, kept_after, line_of, line_rows, rows_within}
+use Rattle.tracing_tree_junit.specs.Lines.{kept_after, line_of, line_rows, rows_within}
 use Rattle.tracing_tree_junit.proofs.Turns.{nothing_left, turned}
 use Rattle.tracing_tree_junit.proofs.lines.push_lines.Goals as goal
 
