@@ -124,6 +124,7 @@ fn is_option_of(format: Format, option: &str) -> bool {
             Format::GoTest | Format::Tracing | Format::Logs | Format::Junit
         ),
         "threads" => format == Format::Tracing,
+        "times" => !matches!(format, Format::Lines | Format::Junit),
         _ => format != Format::Lines,
     }
 }
