@@ -19,6 +19,7 @@ room=$(mktemp -d)
 trap 'rm -rf "$room"' EXIT
 . "$top/scripts/ttree_tracing.sh"
 . "$top/scripts/ttree_logs.sh"
+. "$top/scripts/ttree_junit.sh"
 . "$top/scripts/ttree_chrome.sh"
 runs=0
 right=0
@@ -1060,6 +1061,7 @@ run_terminal
 run_faults
 run_tracing
 run_logs
+run_junit
 run_detection
 run_spans_of_traces
 run_tracks_of_traces

@@ -1,6 +1,7 @@
 //! What is shown of each format: a drawing, a page or lines of JSON.
 
 use crate::input::{Detected, Head, is_gzip, whole_characters};
+use crate::junit::draw_junit;
 use crate::options::{Options, name_of};
 use crate::output::Flush;
 use crate::page::{write_input, write_trace};
@@ -118,7 +119,10 @@ fn draw_format<R: AllocGlobal + Eprint + Print, I: Read + Drop>(
         Format::Tracing => draw_tracing(rt, origin, head.whole().chain(lines), head.mark, options),
         Format::Logs => draw_logs(rt, origin, head.whole().chain(lines), head.mark, options),
         Format::Otlp => pass_on(rt, origin, head, lines),
-        Format::Junit => pass_on(rt, origin, head, lines),
+        Format::Junit => {
+            let before = draw_preamble(rt, origin, head, options)?;
+            Ok(before.worse(draw_junit(rt, origin, head, lines, options)?))
+        }
         Format::Tap => pass_on(rt, origin, head, lines),
         Format::Lines => {
             let before = draw_preamble(rt, origin, head, options)?;

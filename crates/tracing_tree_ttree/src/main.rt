@@ -3,6 +3,7 @@
 
 mod draw;
 mod input;
+mod junit;
 mod options;
 mod output;
 mod page;

@@ -119,8 +119,12 @@ fn is_option_of(format: Format, option: &str) -> bool {
     match option {
         "failed" => format == Format::GoTest,
         "min" | "depth" => format == Format::Chrome,
-        "level" => matches!(format, Format::GoTest | Format::Tracing | Format::Logs),
+        "level" => matches!(
+            format,
+            Format::GoTest | Format::Tracing | Format::Logs | Format::Junit
+        ),
         "threads" => format == Format::Tracing,
+        "times" => !matches!(format, Format::Lines | Format::Junit),
         _ => format != Format::Lines,
     }
 }

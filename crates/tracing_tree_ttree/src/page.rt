@@ -51,11 +51,31 @@ pub fn write_trace<R: AllocGlobal + Eprint + Print>(
     form: LineForm,
     options: &Options<'_>,
 ) -> Result<Status, AllocError> {
+    let mut reporter = Reporter::new(rt, origin, Unit::Element, options.is_strict);
+    let read = trace_calls(
+        rt.alloc(),
+        1,
+        some_moment(),
+        options.cut,
+        text,
+        &mut reporter,
+    );
+    write_read(rt, origin, head, read, form, &reporter, options)
+}
+
+// Writes what was read of a whole document, and the lines before it first.
+pub fn write_read<R: AllocGlobal + Eprint + Print>(
+    rt: &R,
+    origin: Origin<'_>,
+    head: &Head,
+    read: TraceCalls,
+    form: LineForm,
+    reporter: &Reporter<'_, R>,
+    options: &Options<'_>,
+) -> Result<Status, AllocError> {
     let alloc = rt.alloc();
     let writer = Wrap::new(output(alloc, io::writer(rt), None)?);
     let mut steps = StepWriter::new(alloc, form, writer);
-    let mut reporter = Reporter::new(rt, origin, Unit::Element, options.is_strict);
-    let read = trace_calls(alloc, 1, some_moment(), options.cut, text, &mut reporter);
     let begun = match steps.begin(before_data(form), title(origin, options)) {
         Ok(()) => write_preamble(rt, origin, head, &mut steps, options)?,
         Err(refusal) => Some(LineCause::Refused(refusal)),
@@ -64,7 +84,7 @@ pub fn write_trace<R: AllocGlobal + Eprint + Print>(
         None => write_calls(read, &mut steps),
         Some(cause) => ended(read.unknown, cause),
     };
-    Ok(finish(run, steps, form, &reporter))
+    Ok(finish(run, steps, form, reporter))
 }
 
 // Writes the lines before a trace: each is an event at the root. Returns what ended that early.

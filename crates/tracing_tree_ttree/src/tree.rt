@@ -114,7 +114,7 @@ fn trace_clock(is_timed: bool) -> Clock<'static> {
     Clock::Uptime(uptime)
 }
 
-fn layered<W: Write + Drop>(
+pub fn layered<W: Write + Drop>(
     alloc: Global,
     config: Config,
     clock: Clock<'static>,

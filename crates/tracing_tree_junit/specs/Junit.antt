@@ -1,0 +1,26 @@
+-- What is known of a document as far as it is read.
+use Rattle.std.specs.Prelude.{ℕ, Bool, List, Option}
+use Rattle.tracing_tree_context.specs.declared.context.Moment.{Moment}
+use Rattle.tracing_tree_layer.specs.declared.call.Call.{Call}
+use Rattle.tracing_tree_junit.specs.States.{CaseState, PartState, TagState}
+use Rattle.tracing_tree_junit.specs.declared.element.Element.{Element}
+use Rattle.tracing_tree_junit.specs.declared.reading.Class.{Class}
+use Rattle.tracing_tree_junit.specs.declared.reading.Suite.{Suite}
+use Rattle.tracing_tree_junit.specs.declared.reading.Tally.{Tally}
+
+-- The id of the next span, the moment of all calls, the elements that are open, the tag that is read,
+-- the suites that are open, the span of a class, the case and the part that are read, how many cases
+-- ended how, and the calls. What is innermost comes last.
+pub record JunitState : Type 0 where
+  pub next : ℕ
+  pub moment : Moment
+  pub elements : List Element
+  pub tag : TagState
+  pub suites : List Suite
+  pub class : Option Class
+  pub in_case : Bool
+  pub case : CaseState
+  pub in_part : Bool
+  pub part : PartState
+  pub tally : Tally
+  pub calls : List Call

@@ -1,0 +1,9 @@
+pub mod Case
+pub mod Document
+pub mod Element
+pub mod Junit
+pub mod Length
+pub mod Lines
+pub mod Reading
+pub mod Seconds
+pub mod States

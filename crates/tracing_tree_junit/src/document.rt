@@ -1,0 +1,79 @@
+//! The calls of a document.
+
+ghost use Rattle.std.specs.Prelude.{◌≡◌, ◌==◌, not, IfOk, length};
+ghost use Rattle.tracing_tree_junit.specs.Document.{document_calls, document_state, is_cut, read_within};
+ghost use Rattle.tracing_tree_xml.specs.Xml.{at_start as document_start};
+
+use crate::reading::Junit;
+pub use crate::reading::Tally;
+use std::alloc::{AllocError, Global};
+use tracing_tree_layer::call::Call;
+use tracing_tree_time::Moment;
+use tracing_tree_xml::Reader;
+
+/// What a document says.
+#[derive(Drop)]
+pub struct JunitCalls {
+    /// The calls that draw it.
+    pub calls: Vec<Call>,
+
+    /// How many cases ended how.
+    pub tally: Tally,
+
+    /// Whether the document ends early. What it was in then isn't drawn.
+    pub is_cut: bool,
+}
+
+impl JunitCalls {
+    /// Returns whether a case failed.
+    pub fn has_failed(&self) -> bool
+        ensures { result ≡ not (self.now.tally.failed == 0) }
+    {
+        self.tally.failed != 0
+    }
+}
+
+/// Returns the calls of a document.
+///
+/// Each suite is a span, and so are consecutive cases of a class. A case is an event, or a span if
+/// there is more to show than how it ended. The first span gets the id `next`, and all calls are made
+/// at `moment`. A document that ends early has the calls of the cases that ended, and its spans close.
+///
+/// # Errors
+///
+/// `AllocError` if an allocation fails.
+pub fn junit_calls(
+    alloc: Global,
+    next: u64,
+    moment: Moment,
+    text: &str,
+) -> Result<JunitCalls, AllocError>
+    ensures calls { IfOk result (λ made. made.calls.items ≡ document_calls next moment text.now) }
+    ensures tally { IfOk result (λ made. made.tally ≡ (document_state next moment text.now).tally) }
+    ensures is_cut { IfOk result (λ made. made.is_cut ≡ is_cut next moment text.now) }
+{
+    let mut junit = Junit::new(alloc, next, moment)?;
+    let is_cut = read(&mut junit, text)?;
+    junit.finish()?;
+    Ok(JunitCalls {
+        tally: junit.tally(),
+        calls: junit.into_calls(),
+        is_cut,
+    })
+}
+
+// Reads a document, and returns whether it ends early. Each token has a byte or more.
+fn read(junit: &mut Junit, text: &str) -> Result<bool, AllocError>
+    ensures { IfOk result (λ is_cut. read_within (length text.now) (document_start text.now) junit.old
+        ≡ record { state = junit.new; is_cut = is_cut }) }
+{
+    let mut reader = Reader::new(text);
+    for _token in 0..text.len() {
+        match reader.next() {
+            Ok(Some(token)) => junit.take(&token)?,
+            Ok(None) => return Ok(junit.is_open()),
+            Err(_) => return Ok(true),
+        }
+    }
+    Ok(junit.is_open())
+}

@@ -1,0 +1,74 @@
+//! The elements of JUnit XML, and their attributes.
+
+ghost use Rattle.std.specs.Prelude.{◌≡◌};
+ghost use Rattle.tracing_tree_junit.specs.Element.{attribute_in, element_named, is_off, role_of};
+
+use tracing_tree_text::field::Field;
+
+// What an element is.
+#[derive(Clone, Copy, Debug, PartialEq, Eq)]
+pub(crate) enum Element {
+    Suite,
+    Case,
+
+    // A failure or an error.
+    Failure,
+
+    // A failure of a run that was repeated.
+    Rerun,
+    Skipped,
+
+    // What a case or a suite printed.
+    Output,
+    Property,
+    Other,
+}
+
+pub(crate) fn element_named(name: &str) -> Element
+    ensures { result ≡ element_named name.now }
+{
+    match name {
+        "testsuite" => Element::Suite,
+        "testcase" => Element::Case,
+        "failure" | "error" => Element::Failure,
+        "flakyFailure" | "flakyError" | "rerunFailure" | "rerunError" => Element::Rerun,
+        "skipped" => Element::Skipped,
+        "system-out" | "system-err" => Element::Output,
+        "property" => Element::Property,
+        _ => Element::Other,
+    }
+}
+
+// What an element is by where it is. Nothing is in a part of a case but its text, and no case or
+// suite is in a case.
+pub(crate) fn role_of(element: Element, in_case: bool, in_part: bool) -> Element
+    ensures { result ≡ role_of element in_case in_part }
+{
+    if in_part {
+        return Element::Other;
+    }
+    match element {
+        Element::Suite | Element::Case if in_case => Element::Other,
+        Element::Failure | Element::Rerun | Element::Skipped if !in_case => Element::Other,
+        _ => element,
+    }
+}
+
+// The value of the first attribute of this name; empty if there is none.
+pub(crate) fn attribute_in<'a>(name: &str, attributes: &'a [Field]) -> &'a str
+    ensures { result.now ≡ attribute_in name.now attributes.now }
+{
+    for attribute in attributes {
+        if attribute.name.as_str() == name {
+            return attribute.value.as_str();
+        }
+    }
+    ""
+}
+
+// Whether a case of this status wasn't run.
+pub(crate) fn is_off(status: &str) -> bool
+    ensures { result ≡ is_off status.now }
+{
+    status == "disabled" || status == "notrun" || status == "skipped"
+}

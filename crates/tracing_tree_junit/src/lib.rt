@@ -1,0 +1,16 @@
+//! JUnit XML, drawn as a tree.
+//!
+//! [`junit_calls`] returns the calls of a document: a span for each suite, and an event or a span for
+//! each case.
+#![tactic(auto)]
+
+mod case;
+pub mod document;
+mod element;
+mod length;
+mod lines;
+mod reading;
+mod seconds;
+mod tag;
+
+pub use document::{JunitCalls, Tally, junit_calls};

@@ -1,0 +1,4 @@
+mod Marked
+mod Pieces
+mod Turns
+mod Worked

@@ -1,0 +1,5 @@
+pub mod Cut
+pub mod Decoded
+pub mod Reading
+pub mod Token
+pub mod Xml

@@ -1,0 +1,199 @@
+# The runs of ttree on JUnit XML, for scripts/ttree.sh. The trees are made by hand of what docs/FORMATS.md says.
+
+# The run of this name on a document and the tree that it makes: both come on standard input, with a line `--` between. The status
+# and the message follow.
+junit_of() {
+    cat > "$room/both"
+    sed '/^--$/,$d' "$room/both" > "$room/junit"
+    sed '1,/^--$/d' "$room/both" > "$room/want"
+    run --from junit "$room/junit"
+    count "$1" want "${3-}" "${2-0}"
+}
+
+# The drawing of a sample is the tree beside it.
+junit_sample() {
+    cp "$top/scripts/junit/$1.tree" "$room/want"
+    run "$top/examples/$1"
+    count "on $1" want '' 1
+}
+
+run_junit_samples() {
+    junit_sample junit-pytest.xml
+    junit_sample junit-node.xml
+    junit_sample junit-ctest.xml
+    junit_sample junit-gotestsum.xml
+}
+
+# What other runners write.
+run_junit_runners() {
+    junit_of 'on a report of Surefire' 1 << 'END_OF_RUN'
+<testsuite name="com.example.CartTest" time="1,234.5" tests="9">
+  <properties>
+    <property name="java.version" value="17"/>
+  </properties>
+  <testcase name="adds" classname="com.example.CartTest" time="0.01"/>
+  <testcase name="flaky" classname="com.example.CartTest" time="0.2">
+    <flakyFailure message="expected: &lt;1&gt;" type="a.B">
+      <stackTrace><![CDATA[a.B: expected: <1>
+	at C.d(C.java:12)
+]]></stackTrace>
+      <system-out><![CDATA[first try]]></system-out>
+    </flakyFailure>
+  </testcase>
+  <testcase name="fails" classname="com.example.CartTest" time="0.002">
+    <failure message="boom &gt; bang" type="a.B"><![CDATA[a.B: boom > bang]]></failure>
+    <rerunFailure message="boom again"><stackTrace><![CDATA[a.B: again]]></stackTrace></rerunFailure>
+    <system-out><![CDATA[a ]]]]><![CDATA[> b]]></system-out>
+  </testcase>
+  <testcase name="npe" classname="com.example.CartTest" time="0"><error type="a.C">a.C</error></testcase>
+  <testcase name="skipped" classname="com.example.CartTest" time="0.0"><skipped message="later"/></testcase>
+</testsuite>
+--
+┐com.example.CartTest java.version=17
+├─ INFO pass adds, time=10.000ms
+└─┐flaky 
+  ├─ WARN expected: <1>
+  ├─ INFO a.B: expected: <1>
+  ├─ INFO 	at C.d(C.java:12)
+  ├─ INFO first try
+  ├─ INFO pass, time=200.000ms
+┌─┘
+└─┐fails 
+  ├─ ERROR boom > bang
+  ├─ INFO a.B: boom > bang
+  ├─ WARN boom again
+  ├─ INFO a.B: again
+  ├─ INFO a ]]> b
+  ├─ ERROR fail, time=2.000ms
+┌─┘
+└─┐npe 
+  ├─ ERROR error
+  ├─ INFO a.C
+  ├─ ERROR fail, time=0.000μs
+┌─┘
+├─ WARN skip skipped, reason=later, time=0.000μs
+├─ INFO end, time=1234.500s
+┘
+ERROR passed=2, failed=2, skipped=1
+END_OF_RUN
+    junit_of 'on reports of bats and Meson' 1 << 'END_OF_RUN'
+<?xml version='1.0' encoding='utf8'?>
+<testsuites time="0.134">
+<testsuite name="cart.bats" time="0.134">
+    <testcase classname="cart.bats" name="addition" time="0.012" />
+    <testcase classname="cart.bats" name="fails" time="0.022">
+        <failure type="failure">(in test file cart.bats, line 6)
+  `[ 1 -eq 2 ]&#39; failed</failure>
+    </testcase>
+    <testcase classname="cart.bats" name="skips" time="0.001">
+        <skipped>not today</skipped>
+    </testcase>
+</testsuite>
+<testsuite name="proj.tap" time="0.01"><testcase name="one" classname="proj.tap" /><testcase name="two" classname="other"><skipped /></testcase><system-out>ok 1
+ok 2 # SKIP</system-out></testsuite></testsuites>
+--
+┐cart.bats 
+├─ INFO pass addition, time=12.000ms
+└─┐fails 
+  ├─ ERROR failure
+  ├─ INFO (in test file cart.bats, line 6)
+  ├─ INFO   `[ 1 -eq 2 ]' failed
+  ├─ ERROR fail, time=22.000ms
+┌─┘
+├─ WARN skip skips, reason=not today, time=1.000ms
+├─ INFO end, time=134.000ms
+┘
+┐proj.tap 
+├─ INFO pass one
+└─┐other 
+  ├─ WARN skip two
+┌─┘
+├─ INFO ok 1
+├─ INFO ok 2 # SKIP
+├─ INFO end, time=10.000ms
+┘
+ERROR passed=2, failed=1, skipped=1
+END_OF_RUN
+}
+
+# XML that is hard to read, or isn't well-formed.
+run_junit_xml() {
+    junit_of 'on entities' 0 << 'END_OF_RUN'
+<?xml version="1.0"?>
+<!DOCTYPE lolz [
+ <!-- don't > ] -->
+ <!ENTITY lol "lol">
+ <!ENTITY lol2 "&lol;&lol;]>">
+ <!ENTITY x SYSTEM 'file:///etc/passwd'>
+]>
+<testsuite name="&lol2;&x;&#27;[31m&#0;&#xD800;&nope;&#x1F600;&;&amp" time="x"><testcase name='a"b' classname = ''
+ time="-3"><system-out>x&#27;[2Jy&lt;
+</system-out></testcase></testsuite>
+--
+┐&lol2;&x;\u{1b}[31m\u{0}&#xD800;&nope;😀&;&amp 
+└─┐a"b 
+  ├─ INFO x\u{1b}[2Jy<
+  ├─ INFO pass, time=0.000μs
+┌─┘
+┘
+INFO passed=1, failed=0, skipped=0
+END_OF_RUN
+    junit_of 'on elements at odd places' 0 << 'END_OF_RUN'
+</x><failure/><a b c="d" e=f / ><testcase name="x"><testcase name="y"/><testsuite name="z"/><skipped message="why"/><failure message="z"/></testcase></a>
+<testcase name=">" time=""><skipped><failure message="inner"/></skipped></testcase>
+--
+┐x 
+├─ ERROR z
+├─ WARN skip, reason=why
+┘
+WARN skip >
+INFO passed=0, failed=0, skipped=2
+END_OF_RUN
+}
+
+# Documents that end early.
+run_junit_cut() {
+    junit_of 'on a document that ends in a tag' 1 'ttree: the document ends early' << 'END_OF_RUN'
+<testsuites><testsuite name="a" time="1"><testcase name="x"/><testcase name="y"><failure message="z"/></testcase><testcase name="w"><system-out>b</system-out><fail
+--
+┐a 
+├─ INFO pass x
+└─┐y 
+  ├─ ERROR z
+  ├─ ERROR fail
+┌─┘
+┘
+ERROR passed=1, failed=1, skipped=0
+END_OF_RUN
+    junit_of 'on a document without its end tags' 1 'ttree: the document ends early' << 'END_OF_RUN'
+<testsuite name="a"><testcase name="x"/>
+--
+┐a 
+├─ INFO pass x
+┘
+INFO passed=1, failed=0, skipped=0
+END_OF_RUN
+}
+
+# Long documents, and deep ones.
+run_junit_long() {
+    { printf '<testsuite name="a"><testcase name="x"'; for at in $(seq 100000); do printf ' a%d="b"' "$at"; done; printf '/></testsuite>\n'; } > "$room/long"
+    printf '┐a \n├─ INFO pass x\n┘\nINFO passed=1, failed=0, skipped=0\n' > "$room/want"
+    run --from junit "$room/long"
+    count 'on an element with 100,000 attributes' want '' 0
+    { printf '<a>%.0s' $(seq 10000); printf '<testsuite name="a"><testcase name="x"/></testsuite>'; printf '</a>%.0s' $(seq 10000); } > "$room/deep"
+    run --from junit "$room/deep"
+    count 'on 10,000 elements in one another' want '' 0
+    { printf '<testsuite name="a"><testcase name="x"><system-out>\n'; head -c 300000 /dev/zero | tr '\0' '&'; printf '</system-out></testcase></testsuite>\n'; } > "$room/amps"
+    run --from junit "$room/amps"
+    [ "$(wc -c < "$room/out")" -gt 300000 ] && cp "$room/out" "$room/want"
+    count 'on 300,000 ampersands' want '' 0
+}
+
+run_junit() {
+    run_junit_samples
+    run_junit_runners
+    run_junit_xml
+    run_junit_cut
+    run_junit_long
+}
