@@ -1,4 +1,4 @@
-use Rattle.std.proofs.Common.{◌≡◌, false, if◌then◌else◌, length, take, drop, Option, Some, None, List, ℕ, sym, ap, ◌∙◌}
+use Rattle.std.proofs.Common.{◌≡◌, false, if◌then◌else◌, length, take, drop, Some, None, sym, ap, ◌∙◌}
 use Rattle.std.proofs.lemmas.Cmp.{nat_list_eq_equiv}
 use Rattle.tracing_tree_sources.specs.Marks.{begins}
 use Rattle.tracing_tree_sources.proofs.markers.after_bytes.Goals as goal

@@ -1,4 +1,4 @@
-use Rattle.std.proofs.Common.{◌∙◌, true, false, Ok, Err, ap, subst}
+use Rattle.std.proofs.Common.{◌∙◌, false, Ok, ap, subst}
 use Rattle.tracing_tree_lines.specs.Lines.Reads.{ReadsNext, TakesLine}
 use Rattle.tracing_tree_sources.proofs.Heard.{next_ends, next_outside, next_stops}
 use Rattle.tracing_tree_sources.proofs.run.run_read.Goals as goal
