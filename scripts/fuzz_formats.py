@@ -1,0 +1,106 @@
+#!/usr/bin/env python3
+"""Draws changed examples of other tools' output: fuzz_formats.py [--inputs N] [--seed S] TTREE
+
+Each input is a file of examples/ with a few random changes: bytes that are replaced, removed, repeated or
+inserted, lines that are swapped, an end that is cut off. `ttree` draws many in one run, each under the
+option --from of its example and by detection. A run ends as it must if its status is 0, 1 or 2, and if
+nothing that it writes has a control character but tabs and line ends. What a message on standard error
+quotes of an argument is ours. A run that doesn't leaves its inputs below bin/fuzz. The last line is
+'fuzz formats: N of M runs ended as they must'."""
+
+import argparse
+import pathlib
+import random
+import re
+import shutil
+import subprocess
+import sys
+import tempfile
+
+TOP = pathlib.Path(__file__).resolve().parent.parent
+# How many inputs a run draws.
+SHARE = 40
+SECONDS = 120
+CONTROL = re.compile("[\x00-\x08\x0b-\x1f\x7f-\x9f]")
+# Strings that formats give a meaning, or that a terminal would.
+STRANGE = (b"\x1b[31m", b"\x00", b"\xff", b"\xc2\x9b", b"{", b"}", b"[", b"]", b'"', b"<", b">", b"&#27;", b"&x;", b"\n", b"\r\n",
+           b"not ok ", b"ok 1", b"    ", b"# Subtest: ", b"  ---", b"  ...", b"1..0", b"<![CDATA[", b"]]>", b"<!--", b"\\u001b", b",", b"-1", b"1e9")
+FORMATS = {"go-": "go-test", "tap-": "tap", "junit-": "junit", "tracing": "tracing", "log-": "logs", "otlp-": "otlp",
+           "clang-": "chrome", "uftrace": "chrome", "node-": "chrome"}
+
+
+def format_of(name):
+    """Returns the format of an example, or None if ttree doesn't draw it."""
+    return next((found for front, found in FORMATS.items() if name.startswith(front)), None)
+
+
+def changed(text, chance):
+    """Returns these bytes with a few changes."""
+    made = bytearray(text)
+    for _ in range(chance.randint(1, 6)):
+        at = chance.randrange(len(made) + 1)
+        end = min(len(made), at + chance.choice((1, 2, 8, 64, 512)))
+        kind = chance.randrange(6)
+        if kind == 0:
+            made[at:end] = b""
+        elif kind == 1:
+            made[at:at] = chance.choice(STRANGE)
+        elif kind == 2:
+            made[at:end] = chance.choice(STRANGE)
+        elif kind == 3:
+            made[at:at] = made[at:end] * chance.randint(1, 9)
+        elif kind == 4:
+            lines = bytes(made).split(b"\n")
+            chance.shuffle(lines)
+            made = bytearray(b"\n".join(lines))
+        elif chance.random() < 0.3:
+            del made[at:]
+    return bytes(made)
+
+
+def fault_of(program, words, files):
+    """Draws these files in one run. Returns what is wrong, or None."""
+    try:
+        ran = subprocess.run([program, *words, *files], stdin=subprocess.DEVNULL, capture_output=True, timeout=SECONDS, check=False)
+    except subprocess.TimeoutExpired:
+        return f"it took more than {SECONDS} seconds"
+    if ran.returncode not in (0, 1, 2):
+        return f"status {ran.returncode}: {ran.stderr[-300:]!r}"
+    # An input of no known format is printed unchanged.
+    shown = (ran.stdout if words else b"") + ran.stderr
+    found = CONTROL.search(shown.decode(errors="replace"))
+    return f"a control character: {shown.decode(errors='replace')[max(0, found.start() - 80):found.end() + 20]!r}" if found else None
+
+
+def main():
+    asked = argparse.ArgumentParser(description=__doc__, formatter_class=argparse.RawDescriptionHelpFormatter)
+    asked.add_argument("--inputs", type=int, default=4000)
+    asked.add_argument("--seed", type=int, default=1)
+    asked.add_argument("program")
+    asked = asked.parse_args()
+    program = str(pathlib.Path(asked.program).resolve())
+    chance = random.Random(asked.seed)
+    examples = [(it.read_bytes(), format_of(it.name)) for it in sorted((TOP / "examples").iterdir()) if format_of(it.name)]
+    # A long example says nothing that its first lines don't.
+    examples = [(text[:20000], name) for text, name in examples]
+    passed = runs = 0
+    for number in range(0, asked.inputs, SHARE):
+        text, name = examples[number // SHARE % len(examples)]
+        with tempfile.TemporaryDirectory(prefix="fuzz-") as folder:
+            files = [f"{folder}/{it}" for it in range(SHARE)]
+            for file in files:
+                pathlib.Path(file).write_bytes(changed(text, chance))
+            for words in ([f"--from={name}", "--color=never"], []):
+                runs += 1
+                fault = fault_of(program, words, files)
+                passed += fault is None
+                if fault:
+                    kept = TOP / "bin" / "fuzz" / f"formats-{asked.seed}-{number}"
+                    shutil.copytree(folder, kept, dirs_exist_ok=True)
+                    print(f"program ttree {' '.join(words)} on {kept.relative_to(TOP)}: FAILED: {fault}", flush=True)
+    print(f"fuzz formats: {passed} of {runs} runs ended as they must")
+    return 0 if passed == runs else 1
+
+
+if __name__ == "__main__":
+    sys.exit(main())
