@@ -18,6 +18,7 @@ use tracing_tree_go_test::{Failed, GoTest};
 use tracing_tree_logs::Logs;
 use tracing_tree_prefix::{Mark, Prefixed};
 use tracing_tree_sources::{AtLeast, Format, Lack, Plain, Source};
+use tracing_tree_tap::Tap;
 use tracing_tree_tracing::Tracing;
 
 // Shows an input.
@@ -123,7 +124,7 @@ fn draw_format<R: AllocGlobal + Eprint + Print, I: Read + Drop>(
             let before = draw_preamble(rt, origin, head, options)?;
             Ok(before.worse(draw_junit(rt, origin, head, lines, options)?))
         }
-        Format::Tap => pass_on(rt, origin, head, lines),
+        Format::Tap => draw_tap(rt, origin, head.whole().chain(lines), head.mark, options),
         Format::Lines => {
             let before = draw_preamble(rt, origin, head, options)?;
             Ok(before.worse(draw_calls(rt, origin, head, lines, options)?))
@@ -250,6 +251,20 @@ fn draw_logs<R: AllocGlobal + Eprint + Print, I: Read + Drop>(
     let logs = Logs::new(rt.alloc(), 1, some_moment());
     let mut source = AtLeast::new(Prefixed::new(logs, mark), options.min_level());
     draw_lines(rt, origin, input, &mut source, options)
+}
+
+// Shows the lines of TAP. The status is 1 also if a test failed.
+fn draw_tap<R: AllocGlobal + Eprint + Print, I: Read + Drop>(
+    rt: &R,
+    origin: Origin<'_>,
+    input: I,
+    mark: Option<Mark>,
+    options: &Options<'_>,
+) -> Result<Status, AllocError> {
+    let tap = Tap::new(rt.alloc(), 1, some_moment())?;
+    let mut source = AtLeast::new(Prefixed::new(tap, mark), options.min_level());
+    let status = draw_lines(rt, origin, input, &mut source, options)?;
+    Ok(with_tests(status, source.into_source().into_source().has_failed()))
 }
 
 // Shows the lines of a source.

@@ -121,10 +121,10 @@ fn is_option_of(format: Format, option: &str) -> bool {
         "min" | "depth" => format == Format::Chrome,
         "level" => matches!(
             format,
-            Format::GoTest | Format::Tracing | Format::Logs | Format::Junit
+            Format::GoTest | Format::Tracing | Format::Logs | Format::Junit | Format::Tap
         ),
         "threads" => format == Format::Tracing,
-        "times" => !matches!(format, Format::Lines | Format::Junit),
+        "times" => !matches!(format, Format::Lines | Format::Junit | Format::Tap),
         _ => format != Format::Lines,
     }
 }

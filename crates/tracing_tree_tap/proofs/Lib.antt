@@ -1,0 +1,5 @@
+mod Fronts
+mod Marked
+mod Numbers
+mod Places
+mod Worked

@@ -1,0 +1,5 @@
+pub mod Strings
+pub mod Length
+pub mod Line
+pub mod Tally
+pub mod Tap

@@ -1,0 +1,359 @@
+//! Lines of TAP.
+
+ghost use Rattle.std.specs.Prelude.{◌≡◌, [], false, IfOk, OnOk, None, Some};
+ghost use Rattle.tracing_tree_tap.specs.Tap.{all_ended, begun, bailed_out, comment_taken, heading_ended, heading_taken, kind_taken, line_taken, next_taken, nothing_run, output_taken, part_of, part_taken, reporter_counts, summary_taken, tally_call, text_taken, unfinished_text};
+ghost use Rattle.tracing_tree_tap.specs.Tally.{has_failed};
+
+mod block;
+mod prove;
+mod results;
+mod rows;
+mod subtests;
+mod waiting;
+
+use crate::line::{Kind, comment_of, is_count, kind_of};
+use crate::strings::{
+    column_of, rest_after, unescaped, without_end, without_leading, without_margin,
+};
+use crate::tally::Tally;
+use json::Value;
+use prove::{Part, part_of};
+use results::Mark;
+use std::alloc::{AllocError, Global};
+use std::collections::VecDeque;
+use std::marker::Model;
+use std::mem;
+use subtests::{Heading, Subtest};
+use tracing_tree_layer::call::Call;
+use tracing_tree_sources::notes::Lack;
+use tracing_tree_sources::source::Source;
+use tracing_tree_sources::told::event_call;
+use tracing_tree_text::field::Fields;
+use tracing_tree_text::style::Level;
+use tracing_tree_text::text::Text;
+use tracing_tree_time::Moment;
+use waiting::Waiting;
+
+// Which lines are read.
+#[derive(Clone, Copy)]
+enum Mode {
+    // No line of TAP has come, or prove's summary is over: the next line may name a file.
+    Start,
+    // The lines of a script.
+    Script,
+    // The lines of a script in prove's output.
+    File,
+    // prove's summary, which isn't drawn.
+    Summary,
+    // `Bail out!` has ended everything.
+    Bailed,
+}
+
+/// The tests of TAP.
+///
+/// A result waits for the line after it, or for its block, and is then one event, or a span if its
+/// block has more than its time. A subtest is a span. The last event counts the results.
+#[derive(Drop)]
+pub struct Tap {
+    alloc: Global,
+    // The id that the next span gets.
+    next: u64,
+    moment: Moment,
+    mode: Mode,
+    // The innermost subtest that runs, or the script.
+    subtest: Subtest,
+    // Those around it, the nearest first.
+    outer: VecDeque<Subtest>,
+    // The name of a subtest that opens with the next line if that is deeper.
+    heading: Option<Heading>,
+    // The result that waits for its block.
+    waiting: Option<Waiting>,
+    tally: Tally,
+    calls: Vec<Call>,
+}
+
+impl Model for Tap {
+    ghost use Rattle.tracing_tree_tap.specs.Tap.{TapState};
+
+    ghost Value = { TapState };
+
+    ghost view = { λ t. record {
+      next = t.next;
+      moment = t.moment;
+      mode = t.mode;
+      subtest = t.subtest;
+      outer = t.outer.items;
+      heading = t.heading;
+      waiting = t.waiting;
+      tally = t.tally;
+      calls = t.calls.items;
+    } };
+}
+
+impl Tap {
+    /// Creates a source that has read nothing. Its first span gets the id `next`, and its calls are
+    /// made at `moment`: lines of TAP don't say when they were written.
+    ///
+    /// # Errors
+    ///
+    /// `AllocError` if an allocation fails.
+    pub fn new(alloc: Global, next: u64, moment: Moment) -> Result<Tap, AllocError>
+        ensures { IfOk result (λ source. source ≡ nothing_run next moment) }
+    {
+        Ok(Tap {
+            alloc,
+            next,
+            moment,
+            mode: Mode::Start,
+            subtest: Subtest::script(alloc)?,
+            outer: VecDeque::new(alloc),
+            heading: None,
+            waiting: None,
+            tally: Tally::new(),
+            calls: Vec::new(alloc),
+        })
+    }
+
+    /// Returns whether a test failed, or anything else that must not: a plan that isn't met, a missing
+    /// number, a subtest without a result, `Bail out!`, or a verdict of prove.
+    pub fn has_failed(&self) -> bool
+        ensures { result ≡ has_failed self.now.tally }
+    {
+        self.tally.has_failed()
+    }
+
+    /// Returns how many results came to which end.
+    pub fn tally(&self) -> Tally
+        ensures { result ≡ self.now.tally }
+    {
+        self.tally
+    }
+
+    // Hands out the calls.
+    fn told(&mut self) -> Vec<Call>
+        ensures told { result.items ≡ self.old.calls }
+        ensures rest { self.new ≡ record self.old { calls = [] } }
+    {
+        mem::replace(&mut self.calls, Vec::new(self.alloc))
+    }
+
+    #[tactic(auto, unfolding(crate::specs::Tap::line_taken))]
+    fn take_line(&mut self, line: &str) -> Result<(), AllocError>
+        ensures { OnOk result (self.new ≡ line_taken line.now self.old) }
+    {
+        let text = without_end("\r", line);
+        match self.mode {
+            Mode::Bailed => Ok(()),
+            Mode::Summary => {
+                self.take_summary(text);
+                Ok(())
+            }
+            Mode::Start | Mode::Script | Mode::File => self.take_text(text),
+        }
+    }
+
+    // Takes a line without its line end.
+    #[tactic(auto, unfolding(crate::specs::Tap::text_taken))]
+    fn take_text(&mut self, text: &str) -> Result<(), AllocError>
+        ensures { OnOk result (self.new ≡ text_taken text.now self.old) }
+    {
+        match mem::replace(&mut self.waiting, None) {
+            Some(waiting) => self.take_after(waiting, text),
+            None => self.take_next(text),
+        }
+    }
+
+    // Takes a line that belongs to no result before it.
+    #[tactic(auto, unfolding(crate::specs::Tap::next_taken))]
+    fn take_next(&mut self, text: &str) -> Result<(), AllocError>
+        ensures { OnOk result (self.new ≡ next_taken text.now self.old) }
+    {
+        let inner = without_leading(' ', text);
+        if inner.is_empty() {
+            return Ok(());
+        }
+        self.take_part(part_of(self.mode, text), text, inner)
+    }
+
+    #[tactic(auto, unfolding(crate::specs::Tap::part_taken))]
+    fn take_part(&mut self, part: Part, text: &str, inner: &str) -> Result<(), AllocError>
+        ensures { OnOk result (self.new ≡ part_taken part text.now inner.now self.old) }
+    {
+        match part {
+            Part::File => self.take_file(text),
+            Part::Verdict(level) => self.take_verdict(level, text),
+            Part::Summary => self.begin_summary(),
+            Part::Line => self.take_kind(kind_of(inner), column_of(text, inner), text, inner),
+        }
+    }
+
+    // Takes a line of this kind, `column` spaces from the front.
+    #[tactic(auto, unfolding(crate::specs::Tap::kind_taken))]
+    fn take_kind(
+        &mut self,
+        kind: Kind,
+        column: usize,
+        text: &str,
+        inner: &str,
+    ) -> Result<(), AllocError>
+        ensures { OnOk result (self.new ≡ kind_taken kind column text.now inner.now self.old) }
+    {
+        self.begin(kind);
+        self.come(column)?;
+        match kind {
+            Kind::Passing => self.take_result(Mark::passing(column), rest_after("ok", inner)),
+            Kind::Failing => self.take_result(Mark::failing(column), rest_after("not ok", inner)),
+            Kind::Plan => self.take_plan(column, inner),
+            Kind::BailOut => self.bail_out(inner),
+            Kind::Heading => self.take_heading(column, rest_after("# Subtest: ", inner)),
+            Kind::Comment => self.take_comment(comment_of(inner)),
+            Kind::Frame => Ok(()),
+            Kind::Output => self.take_output(text),
+        }
+    }
+
+    // A script begins with its first line of TAP.
+    #[tactic(auto, unfolding(crate::specs::Tap::begun))]
+    fn begin(&mut self, kind: Kind)
+        ensures { self.new ≡ begun kind self.old }
+    {
+        match (self.mode, kind) {
+            (Mode::Start, Kind::Comment | Kind::Output) => {}
+            (Mode::Start, _) => self.mode = Mode::Script,
+            _ => {}
+        }
+    }
+
+    #[tactic(auto, unfolding(crate::specs::Tap::heading_taken))]
+    fn take_heading(&mut self, column: usize, name: &str) -> Result<(), AllocError>
+        ensures { OnOk result (self.new ≡ heading_taken column name.now self.old) }
+    {
+        self.leave_deeper(column)?;
+        let name = unescaped(self.alloc, name)?;
+        if self.subtest.column < column {
+            return self.open_subtest(column, name);
+        }
+        self.heading = Some(Heading { column, name });
+        Ok(())
+    }
+
+    // A comment is an event, unless it is a count of the reporter's summary behind the plan.
+    #[tactic(auto, unfolding(crate::specs::Tap::comment_taken))]
+    fn take_comment(&mut self, comment: &str) -> Result<(), AllocError>
+        ensures { OnOk result (self.new ≡ comment_taken comment.now self.old) }
+    {
+        if self.is_counting() && is_count(comment) {
+            return Ok(());
+        }
+        let text = unescaped(self.alloc, comment)?;
+        self.push_line(Level::Info, text.as_str(), self.subtest.span)
+    }
+
+    // Whether a reporter's summary may come.
+    fn is_counting(&self) -> bool
+        ensures { result ≡ reporter_counts self.now }
+    {
+        self.outer.is_empty() && self.subtest.planned.is_some()
+    }
+
+    // What a test printed is an event.
+    #[tactic(auto, unfolding(crate::specs::Tap::output_taken))]
+    fn take_output(&mut self, text: &str) -> Result<(), AllocError>
+        ensures { OnOk result (self.new ≡ output_taken text.now self.old) }
+    {
+        let shown = without_margin(self.subtest.column, text);
+        self.push_line(Level::Info, shown, self.subtest.span)
+    }
+
+    // Everything ends.
+    #[tactic(auto, unfolding(crate::specs::Tap::bailed_out))]
+    fn bail_out(&mut self, text: &str) -> Result<(), AllocError>
+        ensures { OnOk result (self.new ≡ bailed_out text.now self.old) }
+    {
+        self.push_error(text, self.subtest.span)?;
+        self.heading = None;
+        self.leave_deeper(0)?;
+        self.subtest.planned = None;
+        self.mode = Mode::Bailed;
+        Ok(())
+    }
+
+    // Ends what still runs.
+    #[tactic(auto, unfolding(crate::specs::Tap::all_ended))]
+    fn end_all(&mut self) -> Result<(), AllocError>
+        ensures { OnOk result (self.new ≡ all_ended self.old) }
+    {
+        self.flush()?;
+        self.end_heading()?;
+        self.leave_deeper(0)?;
+        self.close_script()
+    }
+
+    // A test whose name was the last line has no result.
+    #[tactic(auto, unfolding(crate::specs::Tap::heading_ended))]
+    fn end_heading(&mut self) -> Result<(), AllocError>
+        ensures { OnOk result (self.new ≡ heading_ended self.old) }
+    {
+        match mem::replace(&mut self.heading, None) {
+            Some(heading) => {
+                let text = unfinished_text(self.alloc, heading.name.as_str())?;
+                self.push_error(text.as_str(), self.subtest.span)
+            }
+            None => Ok(()),
+        }
+    }
+
+    // The event that counts the results.
+    fn tally_call(&self, alloc: Global) -> Result<Call, AllocError>
+        ensures { IfOk result (λ call. call ≡ tally_call self.now) }
+    {
+        let fields = self.tally.fields(alloc)?;
+        let level = if self.has_failed() {
+            Level::Error
+        } else {
+            Level::Info
+        };
+        event_call(alloc, self.moment, level, Fields::from(fields), None)
+    }
+}
+
+fn unfinished_text(alloc: Global, name: &str) -> Result<Text, AllocError>
+    ensures { IfOk result (λ text. text ≡ unfinished_text name.now) }
+{
+    let mut text = String::from_str(alloc, "unfinished ")?;
+    text.push_str(name)?;
+    Ok(Text::from(text))
+}
+
+impl Source for Tap {
+    ghost use Rattle.tracing_tree_tap.specs.Tap.{tap_ended, tap_ends, tap_lacks, tap_takes};
+
+    ghost takes = { tap_takes };
+
+    ghost ends = { tap_ends };
+
+    ghost ended = { tap_ended };
+
+    ghost lacks = { tap_lacks };
+
+    fn take(
+        &mut self,
+        _alloc: Global,
+        line: &str,
+        _value: Option<&Value<'_>>,
+    ) -> Result<Option<Vec<Call>>, AllocError> {
+        self.take_line(line)?;
+        Ok(Some(self.told()))
+    }
+
+    fn lack(_value: Option<&Value<'_>>) -> Lack {
+        Lack::Object
+    }
+
+    fn end(&mut self, alloc: Global) -> Result<Vec<Call>, AllocError> {
+        self.end_all()?;
+        let mut calls = self.told();
+        calls.push(self.tally_call(alloc)?)?;
+        Ok(calls)
+    }
+}

@@ -1,0 +1,585 @@
+# The runs of ttree on TAP, for scripts/ttree.sh. The trees are made by hand of what docs/FORMATS.md says.
+
+# The run of this name on lines of TAP and the tree that they make, with this status: both come on standard input, with a line `--` between.
+tap_of() {
+    cat > "$room/both"
+    sed '/^--$/,$d' "$room/both" > "$room/tap"
+    sed '1,/^--$/d' "$room/both" > "$room/want"
+    run --from tap "${@:3}" "$room/tap"
+    count "$1" want '' "$2"
+}
+
+# The run of this name on a file of examples/, with rows of any width, and its tree.
+tap_sample() {
+    cat > "$room/want"
+    run --width 0 "$top/examples/$2"
+    count "$1" want '' 1
+}
+
+# What node, prove and a script of Perl wrote. The blank line in a block of node's isn't drawn: a run skips blank lines.
+run_tap_samples() {
+    tap_sample "on node's TAP" tap-node.tap << 'END_OF_TREE'
+INFO a plain line
+INFO to stderr
+INFO pass adds, time=3.366ms
+INFO pass prints, time=2.094ms
+INFO stock is low
+┐fails 
+├─ INFO location: 'shop.test.mjs:5:1'
+├─ INFO failureType: 'testCodeFailure'
+├─ INFO error: |-
+├─ INFO   Expected values to be strictly deep-equal:
+├─ INFO   + actual - expected
+├─ INFO     {
+├─ INFO       a: 1,
+├─ INFO       b: [
+├─ INFO         1,
+├─ INFO   +     2
+├─ INFO   -     3
+├─ INFO       ]
+├─ INFO     }
+├─ INFO code: 'ERR_ASSERTION'
+├─ INFO name: 'AssertionError'
+├─ INFO expected:
+├─ INFO   a: 1
+├─ INFO   b:
+├─ INFO     0: 1
+├─ INFO     1: 3
+├─ INFO actual:
+├─ INFO   a: 1
+├─ INFO   b:
+├─ INFO     0: 1
+├─ INFO     1: 2
+├─ INFO operator: 'deepStrictEqual'
+├─ INFO stack: |-
+├─ INFO   TestContext.<anonymous> (file:///shop/shop.test.mjs:5:30)
+├─ INFO   Test.runInAsyncScope (node:async_hooks:206:9)
+├─ INFO   Test.run (node:internal/test_runner/test:796:25)
+├─ INFO   Test.processPendingSubtests (node:internal/test_runner/test:526:18)
+├─ INFO   Test.postRun (node:internal/test_runner/test:889:19)
+├─ INFO   Test.run (node:internal/test_runner/test:835:12)
+├─ INFO   async Test.processPendingSubtests (node:internal/test_runner/test:526:7)
+├─ ERROR fail, time=6.291ms
+┘
+┐parent 
+└─┐child 1 
+  ├─ INFO pass grandchild, time=415.247μs
+  ├─ INFO pass, time=2.202ms
+┌─┘
+├─ INFO in child
+└─┐child 2 # odd \ name 
+  ├─ INFO location: 'shop.test.mjs:8:11'
+  ├─ INFO failureType: 'testCodeFailure'
+  ├─ INFO error: |-
+  ├─ INFO   boom
+  ├─ INFO   second line
+  ├─ INFO code: 'ERR_TEST_FAILURE'
+  ├─ INFO stack: |-
+  ├─ INFO   TestContext.<anonymous> (file:///shop/shop.test.mjs:8:55)
+  ├─ INFO   Test.runInAsyncScope (node:async_hooks:206:9)
+  ├─ INFO   Test.run (node:internal/test_runner/test:796:25)
+  ├─ INFO   Test.start (node:internal/test_runner/test:702:17)
+  ├─ INFO   TestContext.test (node:internal/test_runner/test:292:20)
+  ├─ INFO   TestContext.<anonymous> (file:///shop/shop.test.mjs:8:11)
+  ├─ INFO   async Test.run (node:internal/test_runner/test:797:9)
+  ├─ INFO   async Test.processPendingSubtests (node:internal/test_runner/test:526:7)
+  ├─ ERROR fail, time=316.717μs
+┌─┘
+├─ WARN skip child 3, reason=no disk, time=329.693μs
+├─ INFO location: 'shop.test.mjs:6:1'
+├─ INFO failureType: 'subtestsFailed'
+├─ INFO error: '1 subtest failed'
+├─ INFO code: 'ERR_TEST_FAILURE'
+├─ ERROR fail, time=8.380ms
+┘
+┐a suite 
+├─ INFO pass first, time=24.524ms
+├─ WARN todo later, time=383.739μs
+└─┐todo that fails 
+  ├─ INFO location: 'shop.test.mjs:15:3'
+  ├─ INFO failureType: 'testCodeFailure'
+  ├─ INFO error: 'x'
+  ├─ INFO code: 'ERR_TEST_FAILURE'
+  ├─ INFO stack: |-
+  ├─ INFO   TestContext.<anonymous> (file:///shop/shop.test.mjs:15:60)
+  ├─ INFO   Test.runInAsyncScope (node:async_hooks:206:9)
+  ├─ INFO   Test.run (node:internal/test_runner/test:796:25)
+  ├─ INFO   async Suite.processPendingSubtests (node:internal/test_runner/test:526:7)
+  ├─ WARN todo, reason=not yet, time=472.511μs
+┌─┘
+└─┐inner 
+  ├─ INFO pass deep, time=413.573μs
+  ├─ INFO type: 'suite'
+  ├─ INFO pass, time=1.360ms
+┌─┘
+├─ INFO type: 'suite'
+├─ INFO pass, time=35.557ms
+┘
+┐slow 
+├─ INFO location: 'shop.test.mjs:19:1'
+├─ INFO failureType: 'testTimeoutFailure'
+├─ INFO error: 'test timed out after 20ms'
+├─ INFO code: 'ERR_TEST_FAILURE'
+├─ ERROR fail, time=25.221ms
+┘
+┐no message 
+├─ INFO location: 'shop.test.mjs:20:1'
+├─ INFO failureType: 'testCodeFailure'
+├─ INFO error: 'undefined'
+├─ INFO code: 'ERR_TEST_FAILURE'
+├─ ERROR fail, time=4.802ms
+┘
+ERROR passed=8, failed=5, skipped=1, todo=2
+END_OF_TREE
+    tap_sample "on prove's output" tap-prove.tap << 'END_OF_TREE'
+┐t/basic.t 
+├─ INFO pass loads
+├─ ERROR fail adds
+├─ INFO a note
+└─┐outer 
+  ├─ INFO pass in outer
+  └─┐inner 
+    ├─ INFO pass 1
+    ├─ ERROR fail deep
+    ├─ ERROR fail
+  ┌─┘
+  ├─ WARN skip 3, reason=no network
+  ├─ ERROR fail
+┌─┘
+├─ WARN todo unfinished, reason=later
+├─ INFO   Failed (TODO) test 'unfinished'
+├─ INFO   at t/basic.t line 8.
+├─ INFO plain text from the script
+├─ INFO pass name with # hash and \ slash
+├─ ERROR Dubious, test returned 2 (wstat 512, 0x200)
+├─ ERROR Failed 2/5 subtests
+┘
+┐t/die.t 
+├─ INFO pass before
+├─ ERROR Dubious, test returned 255 (wstat 65280, 0xff00)
+├─ ERROR Failed 2/3 subtests
+├─ INFO Bailout called.  Further testing stopped:  database is down
+┘
+┐t/z_bail.t 
+├─ INFO pass fine
+└─┐with yaml 
+  ├─ INFO message: 'not equal'
+  ├─ INFO severity: fail
+  ├─ INFO got: 3
+  ├─ ERROR fail
+┌─┘
+├─ INFO comment
+├─ WARN skip 3, reason=no reason
+├─ ERROR Failed 2/4 subtests
+├─ INFO 	(less 1 skipped subtest: 1 okay)
+┘
+ERROR passed=6, failed=5, skipped=2, todo=1
+END_OF_TREE
+    tap_sample 'on the TAP of a script of Perl' tap-perl.tap << 'END_OF_TREE'
+INFO pass loads
+ERROR fail adds
+INFO   Failed test 'adds'
+INFO   at t/basic.t line 3.
+INFO          got: '4'
+INFO     expected: '5'
+INFO a warning line
+INFO a note
+┐outer 
+├─ INFO pass in outer
+└─┐inner 
+  ├─ INFO pass 1
+  ├─ ERROR fail deep
+  ├─ INFO   Failed test 'deep'
+  ├─ INFO   at t/basic.t line 6.
+  ├─ INFO     Structures begin differing at:
+  ├─ INFO          $got->[1]{a} = '2'
+  ├─ INFO     $expected->[1]{a} = '3'
+  ├─ INFO Looks like you failed 1 test of 2.
+  ├─ ERROR fail
+┌─┘
+├─ INFO   Failed test 'inner'
+├─ INFO   at t/basic.t line 6.
+├─ WARN skip 3, reason=no network
+├─ INFO Looks like you failed 1 test of 3.
+├─ ERROR fail
+┘
+INFO   Failed test 'outer'
+INFO   at t/basic.t line 7.
+WARN todo unfinished, reason=later
+INFO   Failed (TODO) test 'unfinished'
+INFO   at t/basic.t line 8.
+INFO plain text from the script
+INFO pass name with # hash and \ slash
+INFO Looks like you failed 2 tests of 5.
+ERROR passed=4, failed=4, skipped=1, todo=1
+END_OF_TREE
+}
+
+run_tap_results() {
+    tap_of 'on results of TAP' 1 << 'END_OF_LINES'
+TAP version 14
+pragma +strict
+1..10
+ok
+not ok
+ok - a
+not ok 4 - b
+ok 5 c # time=12.5ms
+ok 6 - d # SKIP
+not ok 7 e # skip: f
+not ok 8 - g # Todo h \# i
+ok 9 - \# j \\ \k # l
+ok 10 - m # SKIPPED n # o
+okay
+ok, then
+not okay
+1..x
+--
+INFO pass 1
+ERROR fail 2
+INFO pass a
+ERROR fail b
+INFO pass c, time=12.500ms
+WARN skip d
+WARN skip e, reason=f
+WARN todo g, reason=h # i
+INFO pass # j \ \k # l
+WARN skip m, reason=n # o
+INFO okay
+INFO ok, then
+INFO not okay
+INFO 1..x
+ERROR passed=4, failed=2, skipped=3, todo=1
+END_OF_LINES
+    tap_of 'on good results of TAP' 0 << 'END_OF_LINES'
+1..3
+ok 1
+not ok 2 # TODO
+not ok 3 # SKIP
+# tests 3
+# pass  1
+# duration_ms 5.5
+# tests 3 of 3
+--
+INFO pass 1
+WARN todo 2
+WARN skip 3
+INFO tests 3 of 3
+INFO passed=1, failed=0, skipped=1, todo=1
+END_OF_LINES
+    tap_of 'on TAP with --level warn' 0 --level warn << 'END_OF_LINES'
+ok 1 - a
+# Subtest: b
+    ok 1 - c
+    ok 2 - d # SKIP e
+ok 2 - b
+--
+┐b 
+├─ WARN skip d, reason=e
+┘
+END_OF_LINES
+}
+
+run_tap_failures() {
+    tap_of 'on a plan of TAP that isn'"'"'t met' 1 << 'END_OF_LINES'
+1..3
+ok 1 - a
+ok 2 - b
+--
+INFO pass a
+INFO pass b
+ERROR planned 3, ran 2
+ERROR passed=2, failed=0, skipped=0, todo=0
+END_OF_LINES
+    tap_of 'on missing numbers of TAP' 1 << 'END_OF_LINES'
+ok 2 - a
+ok 6 - b
+# Subtest: c
+    1..2
+    ok 1 - d
+ok 7 - c
+1..4
+--
+ERROR missing 1
+INFO pass a
+ERROR missing 3 to 5
+INFO pass b
+┐c 
+├─ INFO pass d
+├─ ERROR planned 2, ran 1
+├─ INFO pass
+┘
+ERROR planned 4, ran 3
+ERROR passed=4, failed=0, skipped=0, todo=0
+END_OF_LINES
+    tap_of 'on TAP that bails out' 1 << 'END_OF_LINES'
+1..9
+# Subtest: a
+    ok 1 - b
+Bail out!  database is down
+ok 1 - a
+not ok 2
+--
+┐a 
+├─ INFO pass b
+├─ ERROR Bail out!  database is down
+├─ ERROR unfinished
+┘
+ERROR passed=1, failed=0, skipped=0, todo=0
+END_OF_LINES
+    tap_of 'on truncated TAP' 1 << 'END_OF_LINES'
+# Subtest: a
+    # Subtest: b
+        ok 1 - c
+          ---
+          error: d
+--
+┐a 
+└─┐b 
+  └─┐c 
+    ├─ INFO error: d
+    ├─ INFO pass
+  ┌─┘
+  ├─ ERROR unfinished
+┌─┘
+├─ ERROR unfinished
+┘
+ERROR passed=1, failed=0, skipped=0, todo=0
+END_OF_LINES
+    tap_of 'on TAP that ends with the name of a test' 1 << 'END_OF_LINES'
+# Subtest: a
+--
+ERROR unfinished a
+ERROR passed=0, failed=0, skipped=0, todo=0
+END_OF_LINES
+    tap_of 'on TAP that skips everything' 0 << 'END_OF_LINES'
+1..0 # Skipped: no disk
+--
+WARN skip, reason=no disk
+INFO passed=0, failed=0, skipped=0, todo=0
+END_OF_LINES
+    printf '%s\n' 'INFO passed=0, failed=0, skipped=0, todo=0' > "$room/want"
+    run --from tap /dev/null
+    count 'on no TAP' want '' 0
+    tap_of 'on two scripts of TAP' 1 << 'END_OF_LINES'
+TAP version 13
+ok 1 - a
+1..1
+TAP version 13
+1..2
+ok 1 - b
+1..3
+ok 1 - c
+--
+INFO pass a
+INFO pass b
+ERROR planned 2, ran 1
+INFO pass c
+ERROR planned 3, ran 1
+ERROR passed=3, failed=0, skipped=0, todo=0
+END_OF_LINES
+}
+
+run_tap_subtests() {
+    tap_of 'on subtests of TAP in their own column' 0 << 'END_OF_LINES'
+1..2
+    # Subtest: a
+    ok 1 - b
+        # Subtest: c
+        ok 1 - d
+        1..1
+    ok 2 - c
+    1..2
+ok 1 - a
+    # Subtest: e
+    1..0 # SKIP f
+ok 2 # skip f
+--
+┐a 
+├─ INFO pass b
+└─┐c 
+  ├─ INFO pass d
+  ├─ INFO pass
+┌─┘
+├─ INFO pass
+┘
+┐e 
+├─ WARN skip, reason=f
+├─ WARN skip, reason=f
+┘
+INFO passed=4, failed=0, skipped=1, todo=0
+END_OF_LINES
+    tap_of 'on the TAP of the kernel' 1 << 'END_OF_LINES'
+KTAP version 1
+1..2
+    KTAP version 1
+    # Subtest: a
+    1..1
+    # b: note
+    ok 1 b
+ok 1 a
+  KTAP version 1
+  1..1
+    1..1
+    not ok 1 c
+  not ok 1 d
+not ok 2 e
+--
+┐a 
+├─ INFO b: note
+├─ INFO pass b
+├─ INFO pass
+┘
+┐subtest 
+└─┐subtest 
+  ├─ ERROR fail c
+  ├─ ERROR fail d
+┌─┘
+├─ ERROR fail e
+┘
+ERROR passed=2, failed=3, skipped=0, todo=0
+END_OF_LINES
+    tap_of 'on odd columns of TAP' 1 << 'END_OF_LINES'
+# Subtest: a
+        printed
+      deeper than a
+  less deep
+    ok 1 - b
+        ok 1 - c
+      ok 2 - d
+# Subtest: e
+printed
+ok 1 - e
+--
+┐a 
+├─ INFO     printed
+├─ INFO   deeper than a
+├─ INFO less deep
+├─ INFO pass b
+└─┐subtest 
+  ├─ INFO pass c
+  ├─ INFO pass d
+┌─┘
+├─ ERROR unfinished
+┘
+INFO printed
+INFO pass e
+ERROR passed=4, failed=0, skipped=0, todo=0
+END_OF_LINES
+}
+
+run_tap_blocks() {
+    tap_of 'on blocks of TAP' 1 << 'END_OF_LINES'
+  ---
+  a: 1
+  ...
+ok 1 - b
+  ---
+  duration_ms: 1502.5
+  ...
+not ok 2 - c
+  ---
+  duration_ms: soon
+    d:
+  ...
+ok 3 - e
+  ---
+  f: 1
+ok 4 - g
+--
+INFO   ---
+INFO   a: 1
+INFO   ...
+INFO pass b, time=1.502s
+┐c 
+├─ INFO duration_ms: soon
+├─ INFO   d:
+├─ ERROR fail
+┘
+┐e 
+├─ INFO f: 1
+├─ INFO pass
+┘
+INFO pass g
+ERROR passed=3, failed=1, skipped=0, todo=0
+END_OF_LINES
+    printf '1..1\r\nok 1 - a\r\n  ---\r\n  b: 1\r\n  ...\r\n' > "$room/tap"
+    printf '%s\n' '┐a ' '├─ INFO b: 1' '├─ INFO pass' '┘' 'INFO passed=1, failed=0, skipped=0, todo=0' > "$room/want"
+    run "$room/tap"
+    count 'on TAP with carriage returns' want '' 0
+}
+
+run_tap_prove() {
+    tap_of "on more of prove's output" 1 << 'END_OF_LINES'
+t/a.t .. ok
+t/b.t ... 
+# Subtest: c
+    ok 1 - d
+Dubious, test returned 255 (wstat 65280, 0xff00)
+No subtests run 
+t/e.t .. skipped: no disk
+t/f.t ... 
+loading ... 
+ok 1
+1..2
+ok
+All tests successful.
+Files=4, Tests=2,  1 wallclock secs
+Result: PASS
+t/g.t .. 
+ok 1 - h
+--
+┐t/a.t 
+├─ INFO ok
+┘
+┐t/b.t 
+└─┐c 
+  ├─ INFO pass d
+  ├─ ERROR unfinished
+┌─┘
+├─ ERROR Dubious, test returned 255 (wstat 65280, 0xff00)
+├─ ERROR No subtests run
+┘
+┐t/e.t 
+├─ WARN skipped: no disk
+┘
+┐t/f.t 
+┘
+┐loading 
+├─ INFO pass 1
+├─ INFO ok
+┘
+┐t/g.t 
+├─ INFO pass h
+┘
+ERROR passed=3, failed=0, skipped=0, todo=0
+END_OF_LINES
+}
+
+# Nothing from the input writes a control character.
+run_tap_hostile() {
+    printf 'ok 1 - a\033[31m\n# b\033c\nnot ok 2 - d\302\233 # TODO e\007\n  ---\n  f\033: 1\n  ...\n# Subtest: \033g\n    ok 1\nok 3 - \033g\n' > "$room/tap"
+    printf '%s\n' 'INFO pass a\u{1b}[31m' 'INFO b\u{1b}c' '┐d\u{9b} ' '├─ INFO f\u{1b}: 1' '├─ WARN todo, reason=e\u{7}' '┘' '┐\u{1b}g ' '├─ INFO pass 1' '├─ INFO pass' '┘' \
+        'INFO passed=3, failed=0, skipped=0, todo=1' > "$room/want"
+    run "$room/tap"
+    count 'on TAP with control characters' want '' 0
+    printf 'ok 1 - a\nok 2 - \377\nok 3 - c\n' > "$room/tap"
+    printf '%s\n' 'INFO pass a' 'ERROR missing 2' 'INFO pass c' 'ERROR passed=2, failed=0, skipped=0, todo=0' > "$room/want"
+    run "$room/tap"
+    count 'on TAP with a line that is not UTF-8' want "ttree: line 2: not UTF-8, skipped
+ttree: 1 line skipped" 1
+    python3 -c 'print("ok 1 - " + " #" * 200000 + "\n" + " " * 400000 + "ok 2\n# " + "\\" * 200001)' > "$room/tap"
+    run --width 0 "$room/tap"
+    cp "$room/out" "$room/want"
+    count 'on long lines of TAP' want '' 1
+}
+
+run_tap() {
+    run_tap_samples
+    run_tap_results
+    run_tap_failures
+    run_tap_subtests
+    run_tap_blocks
+    run_tap_prove
+    run_tap_hostile
+}
