@@ -20,6 +20,7 @@ trap 'rm -rf "$room"' EXIT
 . "$top/scripts/ttree_tracing.sh"
 . "$top/scripts/ttree_logs.sh"
 . "$top/scripts/ttree_junit.sh"
+. "$top/scripts/ttree_otlp.sh"
 . "$top/scripts/ttree_chrome.sh"
 runs=0
 right=0
@@ -1062,6 +1063,7 @@ run_faults
 run_tracing
 run_logs
 run_junit
+run_otlp
 run_detection
 run_spans_of_traces
 run_tracks_of_traces
