@@ -4,11 +4,11 @@ use crate::input::{Detected, Head, is_gzip, whole_characters};
 use crate::junit::draw_junit;
 use crate::options::{Options, name_of};
 use crate::output::Flush;
-use crate::page::{write_input, write_trace};
+use crate::page::{write_input, write_otlp, write_trace};
 use crate::report::{
     Origin, Status, out_of_memory, refuse_format, refuse_gzip, refuse_lines, refuse_option, report,
 };
-use crate::tree::{clock, draw_calls, draw_input, draw_trace, some_moment};
+use crate::tree::{clock, draw_calls, draw_input, draw_otlp, draw_trace, some_moment};
 use std::alloc::AllocError;
 use std::io;
 use std::io::{BufReader, Read, Write};
@@ -17,7 +17,7 @@ use tracing_tree::time::Clock;
 use tracing_tree_go_test::{Failed, GoTest};
 use tracing_tree_logs::Logs;
 use tracing_tree_prefix::{Mark, Prefixed};
-use tracing_tree_sources::{AtLeast, Format, Lack, Plain, Source};
+use tracing_tree_sources::{AtLeast, Format, Lack, Plain, Source, is_otlp};
 use tracing_tree_tap::Tap;
 use tracing_tree_tracing::Tracing;
 
@@ -119,19 +119,14 @@ fn draw_format<R: AllocGlobal + Eprint + Print, I: Read + Drop>(
         Format::GoTest => draw_tests(rt, origin, head.whole().chain(lines), head.mark, options),
         Format::Tracing => draw_tracing(rt, origin, head.whole().chain(lines), head.mark, options),
         Format::Logs => draw_logs(rt, origin, head.whole().chain(lines), head.mark, options),
-        Format::Otlp => pass_on(rt, origin, head, lines),
-        Format::Junit => {
-            let before = draw_preamble(rt, origin, head, options)?;
-            Ok(before.worse(draw_junit(rt, origin, head, lines, options)?))
-        }
         Format::Tap => draw_tap(rt, origin, head.whole().chain(lines), head.mark, options),
         Format::Lines => {
             let before = draw_preamble(rt, origin, head, options)?;
             Ok(before.worse(draw_calls(rt, origin, head, lines, options)?))
         }
-        Format::Chrome => {
+        Format::Chrome | Format::Otlp | Format::Junit => {
             let before = draw_preamble(rt, origin, head, options)?;
-            Ok(before.worse(draw_elements(rt, origin, head, lines, options)?))
+            Ok(before.worse(draw_document(rt, origin, format, head, lines, options)?))
         }
     }
 }
@@ -281,10 +276,11 @@ fn draw_lines<R: AllocGlobal + Eprint + Print, I: Read + Drop, S: Source>(
     }
 }
 
-// Shows a trace, which is read whole first.
-fn draw_elements<R: AllocGlobal + Eprint + Print, I: Read + Drop>(
+// Shows a document, which is read whole first.
+fn draw_document<R: AllocGlobal + Eprint + Print, I: Read + Drop>(
     rt: &R,
     origin: Origin<'_>,
+    format: Format,
     head: &Head,
     lines: BufReader<I>,
     options: &Options<'_>,
@@ -305,8 +301,19 @@ fn draw_elements<R: AllocGlobal + Eprint + Print, I: Read + Drop>(
         let _ = eprintln!(rt; "{origin}{}", Lack::Utf8);
         return Ok(Status::Failure);
     };
-    match options.form {
-        None => draw_trace(rt, origin, text, options),
-        Some(form) => write_trace(rt, origin, head, text, form, options),
+    match (format_of_document(format, text, options), options.form) {
+        (Format::Junit, _) => draw_junit(rt, origin, head, text, options),
+        (Format::Otlp, None) => draw_otlp(rt, origin, text, options),
+        (Format::Otlp, Some(form)) => write_otlp(rt, origin, head, text, form, options),
+        (_, None) => draw_trace(rt, origin, text, options),
+        (_, Some(form)) => write_trace(rt, origin, head, text, form, options),
+    }
+}
+
+// The format of a document. What looks like a trace line by line may be an object of OTLP.
+fn format_of_document(format: Format, text: &str, options: &Options<'_>) -> Format {
+    match format {
+        Format::Chrome if options.from.is_none() && is_otlp(text.as_bytes()) => Format::Otlp,
+        _ => format,
     }
 }

@@ -1,45 +1,28 @@
 //! A document of JUnit XML shown.
 
-use crate::input::{Head, is_gzip, whole_characters};
+use crate::input::Head;
 use crate::options::Options;
 use crate::output::output;
 use crate::page::write_read;
-use crate::report::{Origin, Reporter, Status, Unit, refuse_gzip, report_run};
+use crate::report::{Origin, Reporter, Status, Unit, report_run};
 use crate::tree::{layered, some_moment};
 use std::alloc::AllocError;
 use std::io;
-use std::io::{BufReader, Read};
 use tracing_tree::lines::{LineCause, LineFault};
 use tracing_tree::time::Clock;
 use tracing_tree_chrome::TraceCalls;
 use tracing_tree_junit::{JunitCalls, junit_calls};
 use tracing_tree_sources::run::make;
-use tracing_tree_sources::{CallsAtLeast, Lack, SourceRun};
+use tracing_tree_sources::{CallsAtLeast, SourceRun};
 
-// Shows a document, which is read whole first. The status is 1 also if a case failed.
-pub fn draw_junit<R: AllocGlobal + Eprint + Print, I: Read + Drop>(
+// Shows a document of JUnit XML. The status is 1 also if a case failed.
+pub fn draw_junit<R: AllocGlobal + Eprint + Print>(
     rt: &R,
     origin: Origin<'_>,
     head: &Head,
-    lines: BufReader<I>,
+    text: &str,
     options: &Options<'_>,
 ) -> Result<Status, AllocError> {
-    let mut input = head.body().chain(lines);
-    let mut bytes = Vec::new(rt.alloc());
-    if let Err(error) = input.read_to_end(&mut bytes) {
-        if error.kind() == io::ErrorKind::OutOfMemory {
-            return Err(AllocError);
-        }
-        let _ = eprintln!(rt; "{origin}the input can't be read");
-        return Ok(Status::Failure);
-    }
-    if is_gzip(bytes.as_slice()) {
-        return Ok(refuse_gzip(rt, origin));
-    }
-    let Some(text) = whole_characters(bytes.as_slice()) else {
-        let _ = eprintln!(rt; "{origin}{}", Lack::Utf8);
-        return Ok(Status::Failure);
-    };
     let junit = junit_calls(rt.alloc(), 1, some_moment(), text)?;
     let mut status = if junit.has_failed() {
         Status::Failure
