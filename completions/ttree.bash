@@ -9,7 +9,7 @@ _ttree() {
         before=${COMP_WORDS[COMP_CWORD - 2]}
     fi
     case $before in
-        --from) words='lines go-test tracing chrome logs' ;;
+        --from) words='go-test tap junit tracing logs otlp chrome lines' ;;
         --color) words='auto always never' ;;
         --level) words='trace debug info warn error' ;;
         --amount|--min|--depth|--title|--width) compopt +o default 2> /dev/null; return ;;

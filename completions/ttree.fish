@@ -1,5 +1,5 @@
 # The completion of ttree for fish. Written by scripts/completions.py.
-complete -c ttree -l from -x -a 'lines go-test tracing chrome logs' -d 'Whose output is read'
+complete -c ttree -l from -x -a 'go-test tap junit tracing logs otlp chrome lines' -d 'The format of the input'
 complete -c ttree -l color -x -a 'auto always never' -d 'Whether the tree is coloured'
 complete -c ttree -l amount -x -d 'The columns a level of the drawing'
 complete -c ttree -l level -x -a 'trace debug info warn error' -d 'Draws only events of this level and above'
