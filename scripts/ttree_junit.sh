@@ -112,7 +112,7 @@ ok 2 # SKIP</system-out></testsuite></testsuites>
 ├─ INFO ok 2 # SKIP
 ├─ INFO end, time=10.000ms
 ┘
-ERROR passed=2, failed=1, skipped=1
+ERROR passed=2, failed=1, skipped=2
 END_OF_RUN
 }
 

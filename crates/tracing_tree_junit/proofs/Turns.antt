@@ -1,5 +1,5 @@
 -- A turn over lines.
-use Rattle.std.proofs.Common.{◌≡◌, ℕ, zero, suc, true, false, List, [], ◌++◌, Option, length, append_assoc, append-nil}
+use Rattle.std.proofs.Common.{◌≡◌, ℕ, zero, suc, true, false, List, ◌++◌, Option, length, append_assoc, append-nil}
 use Rattle.std.specs.Prelude.{◌==◌}
 use Rattle.tracing_tree_junit.specs.Lines.{after_line, kept_after, line_of, line_rows, rows_within}
 use Rattle.tracing_tree_junit.specs.declared.lines.Row.{Row}

@@ -8,7 +8,7 @@ use Rattle.tracing_tree_junit.specs.Reading.{no_tag}
 use Rattle.tracing_tree_junit.specs.Seconds.{nanoseconds_of}
 use Rattle.tracing_tree_junit.specs.States.{PartState}
 use Rattle.tracing_tree_junit.specs.declared.case.Outcome.TheVariants.{Passed, Failed, Skipped as WasSkipped}
-use Rattle.tracing_tree_junit.specs.declared.element.Element.TheVariants.{Suite, Case, Failure, Rerun, Skipped, Output, Other}
+use Rattle.tracing_tree_junit.specs.declared.element.Element.TheVariants.{Failure, Output, Other}
 
 -- ---- times
 

@@ -9,7 +9,6 @@ use Rattle.tracing_tree_junit.specs.Length.{length_text}
 use Rattle.tracing_tree_junit.specs.Lines.{head_of, printed_rows, reason_of}
 use Rattle.tracing_tree_junit.specs.Seconds.{nanoseconds_of}
 use Rattle.tracing_tree_junit.specs.States.{CaseState, PartState, TagState}
-use Rattle.tracing_tree_junit.specs.declared.lines.Row.{Row}
 use Rattle.tracing_tree_junit.specs.declared.case.Outcome.{Outcome}
 use Rattle.tracing_tree_junit.specs.declared.case.Outcome.TheVariants.{Passed, Failed, Skipped}
 

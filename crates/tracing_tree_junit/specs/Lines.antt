@@ -2,7 +2,6 @@
 use Rattle.std.specs.Prelude.{ℕ, zero, suc, ◌==◌, ◌||◌, nat_lt, Bool, if◌then◌else◌, List, [], ◌∷◌, ◌++◌, length, Option, Some, None, is_some, not, codes, bytes_eq}
 use Rattle.std.specs.List.{position_or_len, before_first, after_first}
 use Rattle.std.specs.Str.{trim}
-use Rattle.tracing_tree_text.specs.declared.style.Level.{Level}
 use Rattle.tracing_tree_text.specs.declared.style.Level.TheVariants.{Info}
 use Rattle.tracing_tree_sources.specs.Blanks.{first_byte}
 use Rattle.tracing_tree_junit.specs.declared.lines.Row.{Row}

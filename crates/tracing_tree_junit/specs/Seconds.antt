@@ -1,7 +1,6 @@
 -- How long a case or a suite took.
 use Rattle.std.specs.Prelude.{ℕ, zero, suc, ◌+◌, ◌-◌, ◌*◌, ◌/◌, ◌^◌, min, ◌==◌, ◌&&◌, nat_lt, nat_le, Bool, true, false, if◌then◌else◌, List, [], ◌∷◌, length, Option, Some, None, option_map, option_and_then, codes}
 use Rattle.std.specs.List.{position_or_len, before_first, after_first}
-use Rattle.std.specs.Str.{all_ascii_digits}
 use Rattle.tracing_tree_sources.specs.Marks.{after_mark}
 
 abbrev pub is_digit : ℕ → Bool

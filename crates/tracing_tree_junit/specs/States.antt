@@ -1,11 +1,7 @@
 -- What is known of a document as far as it is read.
 use Rattle.std.specs.Prelude.{ℕ, Bool, List, [], ◌∷◌, ◌++◌, Option}
 use Rattle.tracing_tree_xml.specs.Decoded.{attribute_decoded}
-use Rattle.tracing_tree_context.specs.declared.context.Id.{Id}
-use Rattle.tracing_tree_context.specs.declared.context.Moment.{Moment}
 use Rattle.tracing_tree_text.specs.declared.field.Field.{Field}
-use Rattle.tracing_tree_layer.specs.declared.call.Call.{Call}
-use Rattle.tracing_tree_junit.specs.declared.element.Element.{Element}
 use Rattle.tracing_tree_junit.specs.declared.lines.Row.{Row}
 
 -- a case: its attributes, what its elements say, its properties, and its rows
