@@ -39,6 +39,7 @@ files() {
 644 docs/manual/pages.md share/doc/tracing_tree/docs/manual/pages.md
 644 docs/manual/read-back.md share/doc/tracing_tree/docs/manual/read-back.md
 644 docs/manual/rust-json.md share/doc/tracing_tree/docs/manual/rust-json.md
+644 docs/manual/tap.md share/doc/tracing_tree/docs/manual/tap.md
 644 docs/manual/ttree.md share/doc/tracing_tree/docs/manual/ttree.md
 644 docs/ARCHITECTURE.md share/doc/tracing_tree/docs/ARCHITECTURE.md
 644 docs/DECISIONS.md share/doc/tracing_tree/docs/DECISIONS.md

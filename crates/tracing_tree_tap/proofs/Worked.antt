@@ -6,14 +6,14 @@ use Rattle.std.specs.Str.{chars}
 use Rattle.tracing_tree_context.specs.declared.context.Moment.{Moment}
 use Rattle.tracing_tree_layer.specs.declared.call.Call.{Call}
 use Rattle.tracing_tree_spans.specs.Registry.Ids.{id_of}
-use Rattle.tracing_tree_text.specs.declared.style.Level.TheVariants.{Error, Info, Warn}
+use Rattle.tracing_tree_text.specs.declared.style.Level.TheVariants.{Error, Info}
 use Rattle.tracing_tree_sources.specs.Told.{close_call, event_call, message_field, span_call}
-use Rattle.tracing_tree_tap.specs.declared.line.Kind.TheVariants.{Passing, Failing, Plan, BailOut, Heading, Comment, Frame, Output}
+use Rattle.tracing_tree_tap.specs.declared.line.Kind.TheVariants.{Passing, Failing, Plan, Heading, Frame, Output}
 use Rattle.tracing_tree_tap.specs.Length.{length_text, milliseconds}
-use Rattle.tracing_tree_tap.specs.Line.{directive_of, is_count, is_file, kind_of, planned, plan_reason, verdict_level}
+use Rattle.tracing_tree_tap.specs.Line.{directive_of, is_count, is_file, kind_of, plan_reason, verdict_level}
 use Rattle.tracing_tree_tap.specs.Strings.{same_word, unescaped}
 use Rattle.tracing_tree_tap.specs.Tally.{has_failed}
-use Rattle.tracing_tree_tap.specs.Tap.{TapState, after_taken, all_ended, bailed_out, begun, block_taken, come, comment_taken, deepened, deeper_left, detail_taken, elapsed_text, end_fields, file_come, file_taken, finished, flushed, heading_ended, heading_taken, inside_taken, kind_taken, line_taken, name_in, next_taken, nothing_run, number_taken, output_taken, outside_taken, part_taken, plan_set, plan_taken, reason_in, result_in, result_taken, script_closed, skip_told, subtest_ended, subtest_opened, summary_begun, tap_ends, text_taken, verdict_taken, waiting_of}
+use Rattle.tracing_tree_tap.specs.Tap.{TapState, after_taken, all_ended, bailed_out, begun, block_taken, come, comment_taken, deepened, deeper_left, detail_taken, elapsed_text, end_fields, file_come, file_taken, finished, flushed, heading_ended, heading_taken, inside_taken, kind_taken, line_taken, name_in, next_taken, nothing_run, number_taken, output_taken, outside_taken, part_taken, plan_set, plan_taken, reason_in, result_in, result_taken, script_closed, skip_told, subtest_ended, subtest_opened, summary_begun, text_taken, verdict_taken, waiting_of}
 
 -- ---- lines
 

@@ -9,7 +9,7 @@ use Rattle.tracing_tree_tap.specs.declared.line.Kind.TheVariants.{Passing, Faili
 use Rattle.tracing_tree_tap.specs.declared.line.Directive.{Directive}
 use Rattle.tracing_tree_tap.specs.declared.line.Directive.TheVariants.{Absent, Skip, Todo, Time}
 use Rattle.tracing_tree_tap.specs.Length.{milliseconds}
-use Rattle.tracing_tree_tap.specs.Strings.{after_word, before_mark, dashless, first_word, has_space, is_digits, is_space, rest_after, same_word, whole_of, without_end, without_leading}
+use Rattle.tracing_tree_tap.specs.Strings.{after_word, before_mark, dashless, first_word, has_space, is_digits, is_space, rest_after, same_word, whole_of, without_leading}
 
 -- ---- kinds
 

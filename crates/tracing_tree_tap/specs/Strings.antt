@@ -1,5 +1,5 @@
 -- Parts of strings.
-use Rattle.std.specs.Prelude.{ℕ, ◌+◌, ◌-◌, ◌^◌, ◌==◌, ◌&&◌, ◌||◌, nat_lt, Bool, true, false, not, if◌then◌else◌, List, [], ◌∷◌, ◌++◌, length, take, Option, Some, None, unwrap_or, codes}
+use Rattle.std.specs.Prelude.{ℕ, ◌+◌, ◌-◌, ◌^◌, ◌==◌, ◌&&◌, ◌||◌, nat_lt, Bool, false, not, if◌then◌else◌, List, [], ◌∷◌, ◌++◌, length, take, Option, Some, None, unwrap_or, codes}
 use Rattle.std.specs.Char.{encode_utf8}
 use Rattle.std.specs.List.{ends_with, position_or_len, before_first, after_first}
 use Rattle.std.specs.Str.{all_ascii_digits, chars, str_eq_ignore_ascii_case}

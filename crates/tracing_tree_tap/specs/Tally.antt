@@ -1,5 +1,5 @@
 -- How results end, and how many came to which end.
-use Rattle.std.specs.Prelude.{ℕ, ◌+◌, ◌-◌, ◌^◌, ◌==◌, ◌||◌, pos, Bool, true, false, not, if◌then◌else◌, List, [], ◌∷◌, codes, min}
+use Rattle.std.specs.Prelude.{ℕ, ◌+◌, ◌==◌, ◌||◌, pos, Bool, true, false, not, if◌then◌else◌, List, [], ◌∷◌, codes}
 use Rattle.tracing_tree_text.specs.Field.{whole_field}
 use Rattle.tracing_tree_text.specs.declared.field.Field.{Field}
 use Rattle.tracing_tree_text.specs.declared.style.Level.{Level}
