@@ -1,6 +1,6 @@
 //! How results end, and how many came to which end.
 
-ghost use Rattle.std.specs.Prelude.{◌≡◌, ◌↔◌, ◌+◌, ◌<◌, ◌^◌, IsTrue, IfOk};
+ghost use Rattle.std.specs.Prelude.{◌≡◌, ◌+◌, ◌-◌, ◌<◌, ◌^◌, IfOk};
 ghost use Rattle.tracing_tree_tap.specs.Tally.{broken_tally, counted_tally, has_failed, level_of, no_counts, tally_fields, total_of, verdict_of, word_of};
 
 use crate::line::Directive;
@@ -47,7 +47,8 @@ impl Tally {
 
     // The tally with one result more.
     pub(crate) fn with(self, verdict: Verdict) -> Tally
-        ensures { result ≡ counted_tally verdict self }
+        ensures counted { result ≡ counted_tally verdict self }
+        ensures once { total_of self < 2 ^ 64 - 1 → total_of result ≡ total_of self + 1 }
     {
         match verdict {
             Verdict::Passed => Tally {
