@@ -21,6 +21,7 @@ trap 'rm -rf "$room"' EXIT
 . "$top/scripts/ttree_logs.sh"
 . "$top/scripts/ttree_junit.sh"
 . "$top/scripts/ttree_tap.sh"
+. "$top/scripts/ttree_otlp.sh"
 . "$top/scripts/ttree_chrome.sh"
 runs=0
 right=0
@@ -1064,6 +1065,7 @@ run_tracing
 run_logs
 run_junit
 run_tap
+run_otlp
 run_detection
 run_spans_of_traces
 run_tracks_of_traces

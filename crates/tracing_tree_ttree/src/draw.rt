@@ -4,11 +4,11 @@ use crate::input::{Detected, Head, is_gzip, whole_characters};
 use crate::junit::draw_junit;
 use crate::options::{Options, name_of};
 use crate::output::Flush;
-use crate::page::{write_input, write_trace};
+use crate::page::{write_input, write_otlp, write_trace};
 use crate::report::{
     Origin, Status, out_of_memory, refuse_format, refuse_gzip, refuse_lines, refuse_option, report,
 };
-use crate::tree::{clock, draw_calls, draw_input, draw_trace, some_moment};
+use crate::tree::{clock, draw_calls, draw_input, draw_otlp, draw_trace, some_moment};
 use std::alloc::AllocError;
 use std::io;
 use std::io::{BufReader, Read, Write};
@@ -119,7 +119,10 @@ fn draw_format<R: AllocGlobal + Eprint + Print, I: Read + Drop>(
         Format::GoTest => draw_tests(rt, origin, head.whole().chain(lines), head.mark, options),
         Format::Tracing => draw_tracing(rt, origin, head.whole().chain(lines), head.mark, options),
         Format::Logs => draw_logs(rt, origin, head.whole().chain(lines), head.mark, options),
-        Format::Otlp => pass_on(rt, origin, head, lines),
+        Format::Otlp => {
+            let before = draw_preamble(rt, origin, head, options)?;
+            Ok(before.worse(draw_elements(rt, origin, format, head, lines, options)?))
+        }
         Format::Junit => {
             let before = draw_preamble(rt, origin, head, options)?;
             Ok(before.worse(draw_junit(rt, origin, head, lines, options)?))
@@ -131,7 +134,7 @@ fn draw_format<R: AllocGlobal + Eprint + Print, I: Read + Drop>(
         }
         Format::Chrome => {
             let before = draw_preamble(rt, origin, head, options)?;
-            Ok(before.worse(draw_elements(rt, origin, head, lines, options)?))
+            Ok(before.worse(draw_elements(rt, origin, format, head, lines, options)?))
         }
     }
 }
@@ -285,6 +288,7 @@ fn draw_lines<R: AllocGlobal + Eprint + Print, I: Read + Drop, S: Source>(
 fn draw_elements<R: AllocGlobal + Eprint + Print, I: Read + Drop>(
     rt: &R,
     origin: Origin<'_>,
+    format: Format,
     head: &Head,
     lines: BufReader<I>,
     options: &Options<'_>,
@@ -305,8 +309,10 @@ fn draw_elements<R: AllocGlobal + Eprint + Print, I: Read + Drop>(
         let _ = eprintln!(rt; "{origin}{}", Lack::Utf8);
         return Ok(Status::Failure);
     };
-    match options.form {
-        None => draw_trace(rt, origin, text, options),
-        Some(form) => write_trace(rt, origin, head, text, form, options),
+    match (options.form, format) {
+        (None, Format::Otlp) => draw_otlp(rt, origin, text, options),
+        (None, _) => draw_trace(rt, origin, text, options),
+        (Some(form), Format::Otlp) => write_otlp(rt, origin, head, text, form, options),
+        (Some(form), _) => write_trace(rt, origin, head, text, form, options),
     }
 }

@@ -11,6 +11,7 @@ use std::io::{BufReader, Read, Write};
 use tracing_tree::format::Wrap;
 use tracing_tree::lines::{BLOCK, LineCause, LineFault};
 use tracing_tree_chrome::{TraceCalls, trace_calls};
+use tracing_tree_otlp::{OtlpCalls, otlp_calls};
 use tracing_tree_page::{LineForm, StepWriter};
 use tracing_tree_sources::run::make;
 use tracing_tree_sources::{AtLeast, Plain, Source, SourceRun, run_source};
@@ -85,6 +86,31 @@ pub fn write_read<R: AllocGlobal + Eprint + Print>(
         Some(cause) => ended(read.unknown, cause),
     };
     Ok(finish(run, steps, form, reporter))
+}
+
+// Writes traces and logs of OTLP, and the lines before them first.
+pub fn write_otlp<R: AllocGlobal + Eprint + Print>(
+    rt: &R,
+    origin: Origin<'_>,
+    head: &Head,
+    text: &str,
+    form: LineForm,
+    options: &Options<'_>,
+) -> Result<Status, AllocError> {
+    let alloc = rt.alloc();
+    let writer = Wrap::new(output(alloc, io::writer(rt), None)?);
+    let mut steps = StepWriter::new(alloc, form, writer);
+    let mut reporter = Reporter::new(rt, origin, Unit::Line, options.is_strict);
+    let OtlpCalls { calls, unknown } = otlp_calls(alloc, 1, some_moment(), text, &mut reporter);
+    let begun = match steps.begin(before_data(form), title(origin, options)) {
+        Ok(()) => write_preamble(rt, origin, head, &mut steps, options)?,
+        Err(refusal) => Some(LineCause::Refused(refusal)),
+    };
+    let run = match begun {
+        None => write_calls(TraceCalls { calls, unknown }, &mut steps),
+        Some(cause) => ended(unknown, cause),
+    };
+    Ok(finish(run, steps, form, &reporter))
 }
 
 // Writes the lines before a trace: each is an event at the root. Returns what ended that early.

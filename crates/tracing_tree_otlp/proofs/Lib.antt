@@ -1,0 +1,4 @@
+mod Inner
+mod Kept
+mod Numbers
+mod Worked

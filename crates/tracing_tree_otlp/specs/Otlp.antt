@@ -1,0 +1,87 @@
+-- What an input of OTLP/JSON tells.
+use Rattle.std.specs.Prelude.{◌≡◌, ◌<◌, ℕ, Bool, IsTrue, List, [], ◌∷◌, length, map, take, Result, Ok, Err, MatchOption, IsPermutation, IsSorted, ⊤}
+use Rattle.tracing_tree_context.specs.declared.context.Moment.{Moment}
+use Rattle.tracing_tree_context.specs.declared.context.Refusal.{Refusal}
+use Rattle.tracing_tree_layer.specs.Layered.Answered.{IsAnswered}
+use Rattle.tracing_tree_layer.specs.Layered.Seen.{Seen}
+use Rattle.tracing_tree_layer.specs.declared.call.Call.{Call}
+use Rattle.tracing_tree_lines.specs.declared.lines.LineCause.{LineCause}
+use Rattle.tracing_tree_lines.specs.declared.lines.LineCause.TheVariants.{Settings as NoSettings, NotACall, Read, Memory, Refused}
+use Rattle.tracing_tree_sources.specs.Noted.{AddsNotes, Note}
+use Rattle.tracing_tree_sources.specs.Source.{Makes, StopsIn}
+use Rattle.tracing_tree_sources.specs.declared.notes.Lack.TheVariants.{Object}
+use Rattle.tracing_tree_sources.specs.declared.run.SourceRun.{SourceRun}
+use Rattle.tracing_tree_otlp.specs.Draw.{calls_in_order}
+use Rattle.tracing_tree_otlp.specs.Gather.{GatheredState, gathered_in, item_cmp, resolved}
+use Rattle.tracing_tree_otlp.specs.declared.item.Item.{Item}
+
+-- rows in the one order in which they are drawn
+abbrev pub IsInOrder : List Item → List Item → Type 0
+IsInOrder rows ordered = IsPermutation rows ordered × IsSorted item_cmp ordered
+
+-- the rows of an input, each where it is nested
+abbrev pub rows_of : GatheredState → List Item
+rows_of gathered = map (resolved gathered.known) gathered.items
+
+-- the calls that draw what was gathered
+abbrev pub AreCallsOf : ℕ → Moment → GatheredState → List Call → Type 0
+AreCallsOf next moment gathered calls =
+    (ordered : List Item) × IsInOrder (rows_of gathered) ordered
+    × (calls ≡ calls_in_order next moment ordered)
+
+-- The drawing is that of the calls of the input, and each was accepted.
+abbrev pub DrawsAll : ℕ → Moment → GatheredState → Seen → Seen → Type 0
+DrawsAll next moment gathered old new =
+    (calls : List Call) × AreCallsOf next moment gathered calls × Makes calls old new
+
+-- The drawing ends at a call that was refused: it is that of the calls before it.
+abbrev pub DrawsUpTo : ℕ → Moment → GatheredState → Refusal → Seen → Seen → Type 0
+DrawsUpTo next moment gathered refusal old new =
+    (calls : List Call) × AreCallsOf next moment gathered calls
+    × StopsIn Makes IsAnswered calls (Refused refusal) old new
+
+-- what was gathered is drawn, or the drawing ends at a call that was refused, or nothing is drawn if an
+-- allocation failed
+abbrev pub DrawsOrEnds : ℕ → Moment → GatheredState → Result ⊤ LineCause → Seen → Seen → Type 0
+DrawsOrEnds next moment gathered (Ok done) old new = DrawsAll next moment gathered old new
+DrawsOrEnds next moment gathered (Err NoSettings) old new = ⊥
+DrawsOrEnds next moment gathered (Err NotACall) old new = ⊥
+DrawsOrEnds next moment gathered (Err Read) old new = ⊥
+DrawsOrEnds next moment gathered (Err Memory) old new = new ≡ old
+DrawsOrEnds next moment gathered (Err (Refused refusal)) old new =
+    DrawsUpTo next moment gathered refusal old new
+
+-- What ended a run: nothing was drawn if an allocation failed, or if the notes ended the run after a
+-- problem; or the drawing ends at a call that was refused.
+abbrev pub EndsRun : ℕ → Moment → GatheredState → LineCause → Seen → Seen → Type 0
+EndsRun next moment gathered NoSettings old new = ⊥
+EndsRun next moment gathered NotACall old new = (0 < length gathered.problems) × (new ≡ old)
+EndsRun next moment gathered Read old new = ⊥
+EndsRun next moment gathered Memory old new = new ≡ old
+EndsRun next moment gathered (Refused refusal) old new =
+    DrawsUpTo next moment gathered refusal old new
+
+-- The drawing is that of an input. If something ended the run, it is that of a first part.
+abbrev pub RunsOtlp : ℕ → Moment → List ℕ → SourceRun → Seen → Seen → Type 0
+RunsOtlp next moment text run old new =
+    let gathered = gathered_in text in
+    MatchOption run.fault
+    (DrawsAll next moment gathered old new × (run.unknown ≡ length gathered.problems))
+    (λ fault. (fault.line ≡ 1) × EndsRun next moment gathered fault.cause old new)
+
+-- Why no calls were read: an allocation failed, or the notes ended the run after a problem.
+abbrev pub EndsReading : LineCause → GatheredState → Type 0
+EndsReading NoSettings gathered = ⊥
+EndsReading NotACall gathered = 0 < length gathered.problems
+EndsReading Read gathered = ⊥
+EndsReading Memory gathered = ⊤
+EndsReading (Refused refusal) gathered = ⊥
+
+-- ---- notes
+
+abbrev pub note_of : ℕ → Note
+note_of line = (line, Object)
+
+-- the notes of the lines of what was skipped
+abbrev pub notes_of : List ℕ → List Note
+notes_of problems = map note_of problems

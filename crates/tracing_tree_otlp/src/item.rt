@@ -1,0 +1,252 @@
+//! What a span, its links, its events and its status, and a log say.
+
+ghost use Rattle.std.specs.Prelude.{◌≡◌, ◌<◌, IfOk, Some, codes};
+ghost use Rattle.json.specs.Find.{get};
+ghost use Rattle.json.specs.Value.{members_view, value_view};
+ghost use Rattle.tracing_tree_otlp.specs.Item.{above_of, body_fields, digit_added, event_level, event_note, failed_note, has_body, has_failed, has_members, hex_digit, link_note, log_note, log_time, number_of, reason_fields, span_of};
+
+use crate::any::any_text;
+use crate::read::{attributes_in, count_at, field_of, id_at, level_of, string_at};
+use json::Value;
+use std::alloc::{AllocError, Global};
+use tracing_tree_sources::told::message_field;
+use tracing_tree_text::field::Fields;
+use tracing_tree_text::style::Level;
+use tracing_tree_text::text::Text;
+
+// An event or a log.
+#[derive(Drop)]
+pub(crate) struct Note {
+    pub(crate) level: Level,
+    // What comes before the service.
+    pub(crate) message: Fields,
+    // Empty if that of the span is shown.
+    pub(crate) service: Text,
+    pub(crate) fields: Fields,
+}
+
+#[derive(Drop)]
+pub(crate) struct Span {
+    pub(crate) id: Text,
+    pub(crate) parent: Text,
+    pub(crate) name: Text,
+    pub(crate) kind: u64,
+    // In nanoseconds since 1970, as each time.
+    pub(crate) end: u64,
+    pub(crate) service: Text,
+    pub(crate) fields: Fields,
+}
+
+#[derive(Drop)]
+pub(crate) enum Shape {
+    // The trace with this id.
+    Trace(Text),
+    Span(Span),
+    Note(Note),
+}
+
+// What decides the order of items in a span. Links come first and the failure last; an event or a
+// log comes before a span that starts at the same time.
+#[derive(Clone, Copy)]
+pub(crate) struct Place {
+    pub(crate) time: u64,
+    pub(crate) rank: u64,
+    // That of the id.
+    pub(crate) number: u64,
+    // How many items were read before.
+    pub(crate) index: u64,
+}
+
+// A row of the tree, and where it is nested.
+#[derive(Drop)]
+pub(crate) struct Item {
+    // Empty for traces, and for logs without a trace.
+    pub(crate) trace: Text,
+    // The id of the span in which it is nested, empty if it is in none.
+    pub(crate) above: Text,
+    pub(crate) place: Place,
+    pub(crate) time: u64,
+    pub(crate) shape: Shape,
+}
+
+// The time of a log: when it happened, or else when it was observed.
+pub(crate) fn log_time(value: &Value<'_>) -> u64
+    ensures { result ≡ log_time (value_view value.now) }
+{
+    match count_at(value, "timeUnixNano") {
+        0 => count_at(value, "observedTimeUnixNano"),
+        time => time,
+    }
+}
+
+fn has_members(members: &Vec<(&str, Value<'_>)>) -> bool
+    ensures { result ≡ has_members (members_view members.now.items) }
+{
+    match members.as_slice() {
+        [] => false,
+        [_, ..] => true,
+    }
+}
+
+// Whether a body says something.
+fn has_body(value: &Value<'_>) -> bool
+    ensures { result ≡ has_body (value_view value.now) }
+{
+    match value {
+        Value::Null => false,
+        Value::Object(members) => has_members(members),
+        _ => true,
+    }
+}
+
+fn body_fields(alloc: Global, value: &Value<'_>) -> Result<Fields, AllocError>
+    ensures { IfOk result (λ fields. fields ≡ body_fields (Some (value_view value.now))) }
+{
+    if !has_body(value) {
+        return Ok(Fields::new(alloc));
+    }
+    let text = any_text(alloc, value)?;
+    Ok(Fields::one(alloc, message_field(alloc, text.as_str())?))
+}
+
+fn message_of(alloc: Global, value: &Value<'_>) -> Result<Fields, AllocError>
+    ensures { IfOk result (λ fields. fields ≡ body_fields (get (codes "body") (value_view value.now))) }
+{
+    match value.get("body") {
+        Some(body) => body_fields(alloc, body),
+        None => Ok(Fields::new(alloc)),
+    }
+}
+
+pub(crate) fn log_note(alloc: Global, service: Text, value: &Value<'_>) -> Result<Note, AllocError>
+    ensures { IfOk result (λ note. note ≡ log_note service (value_view value.now)) }
+{
+    Ok(Note {
+        level: level_of(count_at(value, "severityNumber")),
+        message: message_of(alloc, value)?,
+        service,
+        fields: attributes_in(alloc, value)?,
+    })
+}
+
+fn event_level(name: &str) -> Level
+    ensures { result ≡ event_level name.now }
+{
+    if name == "exception" {
+        Level::Error
+    } else {
+        Level::Info
+    }
+}
+
+pub(crate) fn event_note(alloc: Global, value: &Value<'_>) -> Result<Note, AllocError>
+    ensures { IfOk result (λ note. note ≡ event_note (value_view value.now)) }
+{
+    let name = string_at(value, "name");
+    Ok(Note {
+        level: event_level(name),
+        message: Fields::one(alloc, message_field(alloc, name)?),
+        service: Text::from_str(alloc, "")?,
+        fields: attributes_in(alloc, value)?,
+    })
+}
+
+// A link to another span.
+pub(crate) fn link_note(alloc: Global, value: &Value<'_>) -> Result<Note, AllocError>
+    ensures { IfOk result (λ note. note ≡ link_note (value_view value.now)) }
+{
+    let trace = id_at(alloc, value, "traceId")?;
+    let span = id_at(alloc, value, "spanId")?;
+    let mut message = Vec::new(alloc);
+    message.push(message_field(alloc, "link")?)?;
+    message.push(field_of(alloc, "trace", trace.as_str())?)?;
+    message.push(field_of(alloc, "span", span.as_str())?)?;
+    Ok(Note {
+        level: Level::Info,
+        message: Fields::from(message),
+        service: Text::from_str(alloc, "")?,
+        fields: attributes_in(alloc, value)?,
+    })
+}
+
+fn reason_fields(alloc: Global, text: &str) -> Result<Fields, AllocError>
+    ensures { IfOk result (λ fields. fields ≡ reason_fields text.now) }
+{
+    if text.is_empty() {
+        return Ok(Fields::new(alloc));
+    }
+    Ok(Fields::one(alloc, field_of(alloc, "message", text)?))
+}
+
+// What a span ends with whose status is that it failed.
+pub(crate) fn failed_note(alloc: Global, status: &Value<'_>) -> Result<Note, AllocError>
+    ensures { IfOk result (λ note. note ≡ failed_note (value_view status.now)) }
+{
+    Ok(Note {
+        level: Level::Error,
+        message: Fields::one(alloc, message_field(alloc, "failed")?),
+        service: Text::from_str(alloc, "")?,
+        fields: reason_fields(alloc, string_at(status, "message"))?,
+    })
+}
+
+pub(crate) fn has_failed(status: &Value<'_>) -> bool
+    ensures { result ≡ has_failed (value_view status.now) }
+{
+    count_at(status, "code") == 2
+}
+
+pub(crate) fn span_of(alloc: Global, service: Text, value: &Value<'_>) -> Result<Span, AllocError>
+    ensures { IfOk result (λ span. span ≡ span_of service (value_view value.now)) }
+{
+    Ok(Span {
+        id: id_at(alloc, value, "spanId")?,
+        parent: id_at(alloc, value, "parentSpanId")?,
+        name: Text::from_str(alloc, string_at(value, "name"))?,
+        kind: count_at(value, "kind"),
+        end: count_at(value, "endTimeUnixNano"),
+        service,
+        fields: attributes_in(alloc, value)?,
+    })
+}
+
+// The span in which a span is nested. One that is its own parent has none.
+pub(crate) fn above_of(alloc: Global, id: &str, parent: &str) -> Result<Text, AllocError>
+    ensures { IfOk result (λ above. above ≡ above_of id.now parent.now) }
+{
+    if id == parent {
+        return Text::from_str(alloc, "");
+    }
+    Text::from_str(alloc, parent)
+}
+
+fn hex_digit(byte: u8) -> u64
+    ensures value { result ≡ hex_digit byte }
+    ensures small { result < 16 }
+{
+    match byte {
+        b'0'..=b'9' => u64::from(byte - b'0'),
+        b'a'..=b'f' => u64::from(byte - 87),
+        _ => 0,
+    }
+}
+
+// One digit more, of which the last sixteen count.
+fn digit_added(number: u64, byte: u8) -> u64
+    ensures { result ≡ digit_added number byte }
+{
+    number.wrapping_mul(16).wrapping_add(hex_digit(byte))
+}
+
+// The number that an id's hexadecimal digits write.
+pub(crate) fn number_of(id: &[u8]) -> u64
+    ensures { result ≡ number_of id.now }
+{
+    let mut number = 0;
+    let mut rest = id;
+    while let [byte, others @ ..] = rest {
+        number = digit_added(number, *byte);
+        rest = others;
+    }
+    number
+}

@@ -1,0 +1,41 @@
+//! A length of time as it is shown.
+
+ghost use Rattle.std.specs.Prelude.{◌≡◌, ◌++◌, IfOk, OnOk, string_bytes};
+ghost use Rattle.tracing_tree_otlp.specs.Length.{length_text, thousandths_text};
+
+use std::alloc::{AllocError, Global};
+use tracing_tree_text::text::Text;
+
+// A length of time, in nanoseconds, as the largest unit of which it has one or more, with three digits after the point. What is
+// below them is cut.
+pub(crate) fn length_text(alloc: Global, nanoseconds: u64) -> Result<Text, AllocError>
+    ensures { IfOk result (λ text. text ≡ length_text nanoseconds) }
+{
+    if nanoseconds >= 1_000_000_000 {
+        unit_text(alloc, nanoseconds / 1_000_000, "s")
+    } else if nanoseconds >= 1_000_000 {
+        unit_text(alloc, nanoseconds / 1000, "ms")
+    } else {
+        unit_text(alloc, nanoseconds, "μs")
+    }
+}
+
+fn unit_text(alloc: Global, count: u64, unit: &str) -> Result<Text, AllocError>
+    ensures { IfOk result (λ text. text ≡ thousandths_text count ++ unit.now) }
+{
+    let mut out = String::new(alloc);
+    push_thousandths(&mut out, count)?;
+    out.push_str(unit)?;
+    Ok(Text::from(out))
+}
+
+// `count` thousandths of a unit.
+fn push_thousandths(out: &mut String, count: u64) -> Result<(), AllocError>
+    ensures { OnOk result (string_bytes out.new ≡ string_bytes out.old ++ thousandths_text count) }
+{
+    let whole = count / 1000;
+    let hundreds = count / 100 % 10;
+    let tens = count / 10 % 10;
+    let ones = count % 10;
+    write!(out, "{whole}.{hundreds}{tens}{ones}")
+}

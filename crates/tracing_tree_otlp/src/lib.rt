@@ -1,0 +1,17 @@
+//! OpenTelemetry's OTLP/JSON, as the Collector's file exporter writes it, drawn as a tree.
+//!
+//! [`run_otlp`] draws the traces and logs of a whole input: each trace is a span, its spans are
+//! nested by their ids, and logs and span events are in their spans. [`otlp_calls`] returns the
+//! calls that it makes.
+#![tactic(auto)]
+
+mod any;
+mod draw;
+mod gather;
+mod item;
+mod keyed;
+mod length;
+pub mod otlp;
+mod read;
+
+pub use otlp::{OtlpCalls, otlp_calls, run_otlp};

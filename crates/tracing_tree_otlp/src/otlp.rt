@@ -1,0 +1,162 @@
+//! Traces and logs in OTLP/JSON.
+
+ghost use Rattle.std.specs.Prelude.{◌≡◌, ◌<◌, IfErr, IfOk, MatchOption, MatchResult, OnOk, Some, length, ⊤};
+ghost use Rattle.tracing_tree_layer.specs.Layer.Layers.{seen, Changes};
+ghost use Rattle.tracing_tree_otlp.specs.Gather.{gathered_in};
+ghost use Rattle.tracing_tree_otlp.specs.Otlp.{AreCallsOf, DrawsOrEnds, EndsReading, RunsOtlp, notes_of};
+ghost use Rattle.tracing_tree_sources.specs.Noted.{AddsNotes};
+
+use crate::draw::calls_in_order;
+use crate::gather::{Gathered, gathered_in, in_order};
+use std::alloc::{AllocError, Global};
+use tracing_tree_layer::call::Call;
+use tracing_tree_layer::layered::Layered;
+use tracing_tree_lines::lines::{LineCause, LineFault};
+use tracing_tree_output::Output;
+use tracing_tree_sources::notes::{Lack, Notes};
+use tracing_tree_sources::run::{SourceRun, draw_calls, skip};
+use tracing_tree_time::{FormatTime, Moment};
+
+/// Draws traces and logs in OTLP/JSON: one object, which may take several lines, or one in each
+/// line, as the Collector's file exporter writes them.
+///
+/// Each trace is a span `trace`, at its earliest time. A span is nested in its parent, wherever that
+/// is in the input, and in its trace if its parent isn't there. Logs and events are in their spans,
+/// and logs without a trace at the root. All are ordered by time. Spans that are nested in each
+/// other come last, in a `trace` of their own. The first span gets the id `next`, and calls are made
+/// at the times that the input says, or at `moment` if a moment can't have that time.
+///
+/// A line that isn't an object, and a span without an id or without that of its trace, are counted,
+/// noted by the line's number from 1 on, and skipped. Nothing is drawn if an allocation fails, and
+/// if the notes end the run: `NotACall` is the cause then. The drawing ends at the first call that is
+/// refused. The line of a fault is 1.
+pub fn run_otlp<W: Output, FT: FormatTime, N: Notes>(
+    alloc: Global,
+    next: u64,
+    moment: Moment,
+    text: &str,
+    layered: &mut Layered<W, FT>,
+    notes: &mut N,
+) -> SourceRun
+    ensures run { Changes (seen FT.FormatTime W.Output) (RunsOtlp next moment text.now result)
+        layered.old layered.new }
+    ensures noted { MatchOption result.fault
+        (AddsNotes (notes_of (gathered_in text.now).problems) (N.noted notes.old) (N.noted notes.new))
+        (λ _. ⊤) }
+{
+    let Ok(gathered) = gathered_in(alloc, text) else {
+        return ended(0, LineCause::Memory);
+    };
+    let unknown = gathered.problems.len() as u64;
+    if let Err(cause) = note_all(gathered.problems.as_slice(), notes) {
+        return ended(unknown, cause);
+    }
+    match draw(alloc, next, moment, gathered, layered) {
+        Ok(()) => SourceRun {
+            unknown,
+            fault: None,
+        },
+        Err(cause) => ended(unknown, cause),
+    }
+}
+
+/// What was read of an input.
+#[derive(Drop)]
+pub struct OtlpCalls {
+    /// The calls that draw it, or what ended the reading.
+    pub calls: Result<Vec<Call>, LineCause>,
+
+    /// How many of its lines and spans were skipped.
+    pub unknown: u64,
+}
+
+/// Reads an input, and returns the calls that [`run_otlp`] makes on its receiver. The arguments are
+/// those of `run_otlp`, and so are the notes.
+pub fn otlp_calls<N: Notes>(
+    alloc: Global,
+    next: u64,
+    moment: Moment,
+    text: &str,
+    notes: &mut N,
+) -> OtlpCalls
+    ensures read { MatchResult result.calls
+        (λ calls. AreCallsOf next moment (gathered_in text.now) calls.items
+        × (result.unknown ≡ length (gathered_in text.now).problems))
+        (λ cause. EndsReading cause (gathered_in text.now)) }
+    ensures noted { OnOk result.calls
+        (AddsNotes (notes_of (gathered_in text.now).problems) (N.noted notes.old) (N.noted notes.new)) }
+{
+    let Ok(gathered) = gathered_in(alloc, text) else {
+        return OtlpCalls {
+            calls: Err(LineCause::Memory),
+            unknown: 0,
+        };
+    };
+    let unknown = gathered.problems.len() as u64;
+    if let Err(cause) = note_all(gathered.problems.as_slice(), notes) {
+        return OtlpCalls {
+            calls: Err(cause),
+            unknown,
+        };
+    }
+    let calls = match calls_of(alloc, next, moment, gathered) {
+        Ok(calls) => Ok(calls),
+        Err(AllocError) => Err(LineCause::Memory),
+    };
+    OtlpCalls { calls, unknown }
+}
+
+fn ended(unknown: u64, cause: LineCause) -> SourceRun
+    ensures { result ≡ record { unknown = unknown; fault = Some (record { line = 1; cause = cause }) } }
+{
+    SourceRun {
+        unknown,
+        fault: Some(LineFault { line: 1, cause }),
+    }
+}
+
+// Has each of these lines noted. An error ends the run.
+fn note_all<N: Notes>(problems: &[u64], notes: &mut N) -> Result<(), LineCause>
+    ensures noted { OnOk result
+        (AddsNotes (notes_of problems.now) (N.noted notes.old) (N.noted notes.new)) }
+    ensures ended { IfErr result (λ cause. (cause ≡ LineCause.NotACall) × (0 < length problems.now)) }
+{
+    for line in problems {
+        skip(notes, *line, Ok(Lack::Object))?;
+    }
+    Ok(())
+}
+
+// Draws what was gathered.
+fn draw<W: Output, FT: FormatTime>(
+    alloc: Global,
+    next: u64,
+    moment: Moment,
+    gathered: Gathered,
+    layered: &mut Layered<W, FT>,
+) -> Result<(), LineCause>
+    ensures { Changes (seen FT.FormatTime W.Output) (DrawsOrEnds next moment gathered result)
+        layered.old layered.new }
+{
+    let Ok(calls) = calls_of(alloc, next, moment, gathered) else {
+        return Err(LineCause::Memory);
+    };
+    match draw_calls(calls, layered) {
+        Ok(()) => Ok(()),
+        Err(refusal) => Err(LineCause::Refused(refusal)),
+    }
+}
+
+// The calls that draw what was gathered.
+fn calls_of(
+    alloc: Global,
+    next: u64,
+    moment: Moment,
+    gathered: Gathered,
+) -> Result<Vec<Call>, AllocError>
+    ensures { IfOk result (λ calls. AreCallsOf next moment gathered calls.items) }
+{
+    let (items, known) = gathered.into_rows();
+    let ordered = in_order(alloc, &known, items)?;
+    calls_in_order(alloc, next, moment, ordered)
+}

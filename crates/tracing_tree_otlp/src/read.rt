@@ -1,0 +1,210 @@
+//! What the objects of OTLP/JSON have at their keys.
+
+ghost use Rattle.std.specs.Prelude.{◌≡◌, IfOk, option_map, string_bytes};
+ghost use Rattle.std.specs.List.{list_all};
+ghost use Rattle.std.specs.Str.{all_ascii_digits};
+ghost use Rattle.json.specs.Value.{items_view, value_view};
+ghost use Rattle.tracing_tree_otlp.specs.Read.{attribute_at, attribute_field, attribute_fields, attribute_text, attributes_in, count_at, field_of, id_at, id_of, is_digits, is_zero, level_of, number_at, service_in, service_of, string_at, whole_of, word_of};
+
+use crate::any::any_text;
+use json::Value;
+use std::alloc::{AllocError, Global};
+use tracing_tree_sources::told::{message_field, shown};
+use tracing_tree_sources::values::{array_at, text_at};
+use tracing_tree_text::field::{Field, Fields};
+use tracing_tree_text::style::Level;
+use tracing_tree_text::text::Text;
+
+// A number as it is written, which may be in a string.
+fn word_of<'v>(value: &'v Value<'_>) -> Option<&'v str>
+    ensures { option_map (λ w. w.now) result ≡ word_of (value_view value.now) }
+{
+    match value {
+        Value::Number(text) => Some(text),
+        Value::String(text) => Some(text),
+        _ => None,
+    }
+}
+
+fn number_at(value: &Value<'_>, key: &str) -> Option<u64>
+    ensures { result ≡ number_at key.now (value_view value.now) }
+{
+    whole_of(word_of(value.get(key)?)?)
+}
+
+// The count at a key, 0 if none is there.
+pub(crate) fn count_at(value: &Value<'_>, key: &str) -> u64
+    ensures { result ≡ count_at key.now (value_view value.now) }
+{
+    number_at(value, key).unwrap_or(0)
+}
+
+// The number that digits write, if a u64 holds it.
+fn whole_of(text: &str) -> Option<u64>
+    ensures { result ≡ whole_of text.now }
+{
+    if !is_digits(text) {
+        return None;
+    }
+    text.parse().ok()
+}
+
+// Whether a text is one digit or more, and nothing else.
+fn is_digits(text: &str) -> bool
+    ensures { result ≡ is_digits text.now }
+{
+    !text.is_empty() && all_digits(text.as_bytes())
+}
+
+fn all_digits(bytes: &[u8]) -> bool
+    ensures { result ≡ all_ascii_digits bytes.now }
+{
+    let mut rest = bytes;
+    while let [byte, others @ ..] = rest {
+        if !byte.is_ascii_digit() {
+            return false;
+        }
+        rest = others;
+    }
+    true
+}
+
+// The string at a key, empty if none is there.
+pub(crate) fn string_at<'v>(value: &'v Value<'_>, key: &str) -> &'v str
+    ensures { result.now ≡ string_at key.now (value_view value.now) }
+{
+    match text_at(value, key) {
+        Some(text) => text,
+        None => "",
+    }
+}
+
+// The id at a key, empty if none is there.
+pub(crate) fn id_at(alloc: Global, value: &Value<'_>, key: &str) -> Result<Text, AllocError>
+    ensures { IfOk result (λ id. id ≡ id_at key.now (value_view value.now)) }
+{
+    id_of(alloc, string_at(value, key))
+}
+
+fn id_of(alloc: Global, text: &str) -> Result<Text, AllocError>
+    ensures { IfOk result (λ id. id ≡ id_of text.now) }
+{
+    if are_zeros(text.as_bytes()) {
+        return Text::from_str(alloc, "");
+    }
+    Ok(Text::from(text.to_ascii_lowercase(alloc)?))
+}
+
+fn are_zeros(bytes: &[u8]) -> bool
+    ensures { result ≡ list_all is_zero bytes.now }
+{
+    bytes.iter().all(|byte| *byte == b'0')
+}
+
+// An attribute's value.
+fn attribute_text(alloc: Global, attribute: &Value<'_>) -> Result<String, AllocError>
+    ensures { IfOk result (λ text. string_bytes text ≡ attribute_text (value_view attribute.now)) }
+{
+    match attribute.get("value") {
+        Some(value) => any_text(alloc, value),
+        None => String::from_str(alloc, "null"),
+    }
+}
+
+// A field. One called `message` would be drawn without its name, so its value begins with it.
+pub(crate) fn field_of(alloc: Global, name: &str, text: &str) -> Result<Field, AllocError>
+    ensures { IfOk result (λ field. field ≡ field_of name.now text.now) }
+{
+    if name == "message" {
+        let mut named = String::from_str(alloc, "message=")?;
+        named.push_str(text)?;
+        return message_field(alloc, named.as_str());
+    }
+    Ok(Field {
+        name: shown(alloc, name)?,
+        value: shown(alloc, text)?,
+    })
+}
+
+fn attribute_field(alloc: Global, attribute: &Value<'_>) -> Result<Field, AllocError>
+    ensures { IfOk result (λ field. field ≡ attribute_field (value_view attribute.now)) }
+{
+    let text = attribute_text(alloc, attribute)?;
+    field_of(alloc, string_at(attribute, "key"), text.as_str())
+}
+
+// The attributes of an object as fields.
+pub(crate) fn attributes_in(alloc: Global, value: &Value<'_>) -> Result<Fields, AllocError>
+    ensures { IfOk result (λ fields. fields ≡ attributes_in (value_view value.now)) }
+{
+    match array_at(value, "attributes") {
+        Some(attributes) => attribute_fields(alloc, attributes),
+        None => Ok(Fields::new(alloc)),
+    }
+}
+
+fn attribute_fields(alloc: Global, attributes: &Vec<Value<'_>>) -> Result<Fields, AllocError>
+    ensures { IfOk result (λ fields. fields ≡ attribute_fields (items_view attributes.now.items)) }
+{
+    let mut fields = Vec::new(alloc);
+    for attribute in attributes {
+        fields.push(attribute_field(alloc, attribute)?)?;
+    }
+    Ok(Fields::from(fields))
+}
+
+// The value of the first of these attributes with this key, empty if there is none.
+fn attribute_at(
+    alloc: Global,
+    key: &str,
+    attributes: &Vec<Value<'_>>,
+) -> Result<String, AllocError>
+    ensures { IfOk result (λ text. string_bytes text
+        ≡ attribute_at key.now (items_view attributes.now.items)) }
+{
+    for attribute in attributes {
+        if string_at(attribute, "key") == key {
+            return attribute_text(alloc, attribute);
+        }
+    }
+    Ok(String::new(alloc))
+}
+
+// The name of the service with this resource, empty if it has none.
+fn service_of(alloc: Global, resource: &Value<'_>) -> Result<Text, AllocError>
+    ensures { IfOk result (λ service. service ≡ service_of (value_view resource.now)) }
+{
+    match array_at(resource, "attributes") {
+        Some(attributes) => Ok(Text::from(attribute_at(alloc, "service.name", attributes)?)),
+        None => Text::from_str(alloc, ""),
+    }
+}
+
+// The service whose resource an object has.
+pub(crate) fn service_in(alloc: Global, value: &Value<'_>) -> Result<Text, AllocError>
+    ensures { IfOk result (λ service. service ≡ service_in (value_view value.now)) }
+{
+    match value.get("resource") {
+        Some(resource) => service_of(alloc, resource),
+        None => Text::from_str(alloc, ""),
+    }
+}
+
+// The level of a log's severity number; INFO if it says none.
+pub(crate) fn level_of(severity: u64) -> Level
+    ensures { result ≡ level_of severity }
+{
+    if severity >= 17 {
+        Level::Error
+    } else if severity >= 13 {
+        Level::Warn
+    } else if severity >= 9 {
+        Level::Info
+    } else if severity >= 5 {
+        Level::Debug
+    } else if severity >= 1 {
+        Level::Trace
+    } else {
+        Level::Info
+    }
+}

@@ -1,0 +1,148 @@
+# The runs of ttree on OTLP as JSON, for scripts/ttree.sh. The trees are made by hand of what docs/FORMATS.md says.
+
+# The run of this name, on an input and the tree that it makes: both come on standard input, with a line `--` between. What it says on
+# standard error and its status are the next two arguments.
+otlp_of() {
+    cat > "$room/both"
+    sed '/^--$/,$d' "$room/both" > "$room/otlp"
+    sed '1,/^--$/d' "$room/both" > "$room/want"
+    run --from otlp "${@:4}" "$room/otlp"
+    count "$1" want "$2" "$3"
+}
+
+# Any order of the lines draws the same tree.
+run_otlp_order() {
+    sample=$top/examples/otlp-shop.jsonl
+    run "$sample"
+    cp "$room/out" "$room/want"
+    tac "$sample" > "$room/otlp"
+    run "$room/otlp"
+    count 'on the lines of OTLP from the last on' want '' 0
+    for seed in 1 2 3 4; do
+        shuf --random-source=<(yes "$seed") "$sample" > "$room/otlp"
+        run "$room/otlp"
+        count "on the lines of OTLP in order $seed" want '' 0
+    done
+    python3 -c 'import json, sys
+spans, logs = [], []
+for line in open(sys.argv[1]):
+    it = json.loads(line)
+    spans += it.get("resourceSpans", [])
+    logs += it.get("resourceLogs", [])
+print(json.dumps({"resourceLogs": logs, "resourceSpans": spans}, indent=2))' "$sample" > "$room/otlp"
+    run --from otlp "$room/otlp"
+    count 'on one object of OTLP over several lines' want '' 0
+}
+
+run_otlp_forms() {
+    otlp_of 'on older keys, numbers and ids in upper case of OTLP' '' 0 << 'END_OF_LINES'
+{
+  "resourceSpans": [{
+    "resource": {"attributes": [{"key": "service.name", "value": {"stringValue": "a"}}]},
+    "instrumentationLibrarySpans": [{
+      "spans": [
+        {"traceId": "AB", "spanId": "02", "parentSpanId": "0A", "name": "inner", "startTimeUnixNano": 2000, "endTimeUnixNano": 3000},
+        {"traceId": "ab", "spanId": "0a", "name": "outer", "kind": 5, "startTimeUnixNano": 1000, "endTimeUnixNano": 4000}
+      ]
+    }]
+  }]
+}
+--
+┐trace id=ab
+└─┐outer service=a, time=3.000μs, kind=consumer
+  └─┐inner time=1.000μs
+  ┌─┘
+┌─┘
+┘
+END_OF_LINES
+    otlp_of 'on empty values of OTLP' '' 0 << 'END_OF_LINES'
+{"resourceSpans":[{"scopeSpans":[{"spans":[{"traceId":"a","spanId":"b","parentSpanId":"00","attributes":[{"key":"e","value":{}},{"key":"s","value":{"stringValue":""}},{"key":"l","value":{"arrayValue":{}}},{"key":"k","value":{"kvlistValue":{"values":[]}}}],"status":{},"events":[],"links":null}]}]}]}
+{"resourceLogs":[{"scopeLogs":[{"logRecords":[{"traceId":"a","spanId":"c","severityNumber":17,"body":{}},{"timeUnixNano":"1"}]}]},{}],"resourceMetrics":[1]}
+
+{}
+--
+┐trace id=a
+├─ ERROR
+└─┐ time=0.000μs, e=null, s=, l=[], k={}
+┌─┘
+┘
+INFO
+END_OF_LINES
+    otlp_of 'on values of OTLP in each other' '' 0 << 'END_OF_LINES'
+{"resourceLogs":[{"scopeLogs":[{"logRecords":[{"body":{"arrayValue":{"values":[{"kvlistValue":{"values":[{"key":"a\"","value":{"arrayValue":{"values":[{},{"boolValue":false},{"bytesValue":"AA=="},{"stringValue":"\u001b\n"}]}}},{"key":"b"}]}},{"doubleValue":-1e3},{"intValue":"-5"}]}},"attributes":[{"key":"message","value":{"stringValue":"m"}}]}]}]}]}
+--
+INFO [{"a\"":[null,false,"AA==","\u{1b}\n"],"b":null},-1e3,-5], message=m
+END_OF_LINES
+}
+
+# Bad input: each span is drawn once.
+run_odd_otlp() {
+    otlp_of 'on spans of OTLP that are nested in each other' '' 0 << 'END_OF_LINES'
+{"resourceSpans":[{"scopeSpans":[{"spans":[{"traceId":"a","spanId":"1","parentSpanId":"2","name":"one","startTimeUnixNano":"1"},{"traceId":"a","spanId":"2","parentSpanId":"1","name":"two","startTimeUnixNano":"2"}]}]}]}
+{"resourceSpans":[{"scopeSpans":[{"spans":[{"traceId":"b","spanId":"3","parentSpanId":"3","name":"self","startTimeUnixNano":"3","events":[{"name":"in it"}]}]}]}]}
+--
+┐trace id=b
+└─┐self time=0.000μs, parent=3
+  ├─ INFO in it
+┌─┘
+┘
+┐trace id=a
+└─┐two time=0.000μs
+  └─┐one time=0.000μs
+  ┌─┘
+┌─┘
+┘
+END_OF_LINES
+    otlp_of 'on two spans of OTLP with one id, and times that run backwards' '' 0 << 'END_OF_LINES'
+{"resourceSpans":[{"scopeSpans":[{"spans":[{"traceId":"a","spanId":"1","name":"late","startTimeUnixNano":"9","endTimeUnixNano":"3"},{"traceId":"a","spanId":"2","parentSpanId":"1","name":"child","startTimeUnixNano":"2"}]}]}]}
+{"resourceSpans":[{"scopeSpans":[{"spans":[{"traceId":"a","spanId":"1","name":"early","startTimeUnixNano":"5"}]}]}]}
+--
+┐trace id=a
+└─┐early time=0.000μs
+  └─┐child time=0.000μs
+  ┌─┘
+┌─┘
+└─┐late time=0.000μs
+┌─┘
+┘
+END_OF_LINES
+    otlp_of 'on lines of OTLP that are skipped' 'ttree: line 1: not a JSON object, skipped
+ttree: line 2: not a JSON object, skipped
+ttree: line 4: not a JSON object, skipped
+ttree: 3 lines skipped' 1 << 'END_OF_LINES'
+[1]
+{"resourceSpans":[{"scopeSpans":[{"spans":[{"spanId":"1","name":"no trace"},{"traceId":"A\u001b","spanId":"1","name":"\u001b[31m","status":{"code":2,"message":"\u001b"}}]}]}]}
+
+{"resourceSpans":[{"scopeSp
+--
+┐trace id=a\u{1b}
+└─┐\u{1b}[31m time=0.000μs
+  ├─ ERROR failed, message=\u{1b}
+┌─┘
+┘
+END_OF_LINES
+    : > "$room/otlp"
+    run --from otlp "$room/otlp"
+    count 'on an empty input of OTLP' otlp '' 0
+}
+
+# A tree so deep that no recursion on it would end well, and one so wide.
+run_large_otlp() {
+    python3 -c 'import sys
+def line(i, above):
+    print("{\"resourceSpans\":[{\"scopeSpans\":[{\"spans\":[{\"traceId\":\"a\",\"spanId\":\"%x\",\"parentSpanId\":\"%x\",\"startTimeUnixNano\":\"%d\"}]}]}]}" % (i, above, i))
+n = int(sys.argv[1])
+for i in range(1, n): line(i, i - 1 if sys.argv[2] == "deep" else 0)' 2000 deep > "$room/otlp"
+    run --from otlp "$room/otlp"
+    head -n 2 "$room/out" > "$room/first"
+    printf '┐trace id=a\n└─┐ time=0.000μs\n' > "$room/want"
+    cp "$room/first" "$room/out"
+    count 'on deep spans of OTLP' want '' 0
+}
+
+run_otlp() {
+    run_otlp_order
+    run_otlp_forms
+    run_odd_otlp
+    run_large_otlp
+}
