@@ -1,5 +1,5 @@
 -- What an input of OTLP/JSON tells.
-use Rattle.std.specs.Prelude.{◌≡◌, ◌<◌, ℕ, Bool, IsTrue, List, [], ◌∷◌, length, map, take, Result, Ok, Err, MatchOption, IsPermutation, IsSorted, ⊤}
+use Rattle.std.specs.Prelude.{◌≡◌, ◌<◌, ℕ, List, length, map, Result, Ok, Err, MatchOption, IsPermutation, IsSorted, ⊤}
 use Rattle.tracing_tree_context.specs.declared.context.Moment.{Moment}
 use Rattle.tracing_tree_context.specs.declared.context.Refusal.{Refusal}
 use Rattle.tracing_tree_layer.specs.Layered.Answered.{IsAnswered}
@@ -7,7 +7,7 @@ use Rattle.tracing_tree_layer.specs.Layered.Seen.{Seen}
 use Rattle.tracing_tree_layer.specs.declared.call.Call.{Call}
 use Rattle.tracing_tree_lines.specs.declared.lines.LineCause.{LineCause}
 use Rattle.tracing_tree_lines.specs.declared.lines.LineCause.TheVariants.{Settings as NoSettings, NotACall, Read, Memory, Refused}
-use Rattle.tracing_tree_sources.specs.Noted.{AddsNotes, Note}
+use Rattle.tracing_tree_sources.specs.Noted.{Note}
 use Rattle.tracing_tree_sources.specs.Source.{Makes, StopsIn}
 use Rattle.tracing_tree_sources.specs.declared.notes.Lack.TheVariants.{Object}
 use Rattle.tracing_tree_sources.specs.declared.run.SourceRun.{SourceRun}

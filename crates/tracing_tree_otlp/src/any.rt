@@ -128,11 +128,7 @@ fn push_array(out: &mut String, with_keys: bool, value: &Value<'_>) -> Result<()
 }
 
 #[cycle(json)]
-fn push_items(
-    out: &mut String,
-    with_keys: bool,
-    items: &Vec<Value<'_>>,
-) -> Result<(), AllocError>
+fn push_items(out: &mut String, with_keys: bool, items: &Vec<Value<'_>>) -> Result<(), AllocError>
     ensures { OnOk result (string_bytes out.new
         ≡ string_bytes out.old ++ items_json with_keys true (items_view items.now.items)) }
 {

@@ -110,12 +110,7 @@ fn put_first(alloc: Global, groups: &mut Groups, item: Item) -> Result<(), Alloc
 }
 
 impl Tree {
-    fn new(
-        alloc: Global,
-        next: u64,
-        moment: Moment,
-        groups: Groups,
-    ) -> Result<Tree, AllocError>
+    fn new(alloc: Global, next: u64, moment: Moment, groups: Groups) -> Result<Tree, AllocError>
         ensures { IfOk result (λ tree. tree ≡ begun_tree next moment groups) }
     {
         let mut groups = groups;
@@ -310,10 +305,11 @@ impl Tree {
         ensures rest { OnOk result (self.new ≡ without_group (key_of trace.now span.now) self.old) }
     {
         let key = key_of(self.alloc, trace, span)?;
-        Ok(self
-            .groups
-            .take(key.as_slice())
-            .unwrap_or(Group::new(self.alloc)))
+        Ok(
+            self.groups
+                .take(key.as_slice())
+                .unwrap_or(Group::new(self.alloc)),
+        )
     }
 
     // Opens a span in the innermost one, with these rows in it.
@@ -332,9 +328,10 @@ impl Tree {
         self.calls.push(call)?;
         let id = Id(self.next);
         self.next = self.next.saturating_add(1);
-        Ok(self
-            .frames
-            .push(frame_of(Some(id), above, end, service, items))?)
+        Ok(
+            self.frames
+                .push(frame_of(Some(id), above, end, service, items))?,
+        )
     }
 }
 

@@ -308,12 +308,7 @@ impl Gathered {
         Ok(())
     }
 
-    fn take_events(
-        &mut self,
-        trace: &str,
-        span: &str,
-        value: &Value<'_>,
-    ) -> Result<(), AllocError>
+    fn take_events(&mut self, trace: &str, span: &str, value: &Value<'_>) -> Result<(), AllocError>
         ensures { OnOk result (self.new ≡ events_taken trace.now span.now
             (items_at (codes "events") (value_view value.now)) self.old) }
     {
@@ -453,11 +448,7 @@ fn resolved(alloc: Global, known: &Known, item: Item) -> Result<Item, AllocError
     Ok(item)
 }
 
-fn resolved_all(
-    alloc: Global,
-    known: &Known,
-    items: Vec<Item>,
-) -> Result<Vec<Item>, AllocError>
+fn resolved_all(alloc: Global, known: &Known, items: Vec<Item>) -> Result<Vec<Item>, AllocError>
     ensures { IfOk result (λ rows. rows.items ≡ map (resolved known.now) items.items) }
 {
     let mut rows = Vec::with_capacity(alloc, items.len())?;

@@ -154,11 +154,7 @@ fn attribute_fields(alloc: Global, attributes: &Vec<Value<'_>>) -> Result<Fields
 }
 
 // The value of the first of these attributes with this key, empty if there is none.
-fn attribute_at(
-    alloc: Global,
-    key: &str,
-    attributes: &Vec<Value<'_>>,
-) -> Result<String, AllocError>
+fn attribute_at(alloc: Global, key: &str, attributes: &Vec<Value<'_>>) -> Result<String, AllocError>
     ensures { IfOk result (λ text. string_bytes text
         ≡ attribute_at key.now (items_view attributes.now.items)) }
 {

@@ -3,4 +3,4 @@ use Rattle.tracing_tree_otlp.specs.Draw.{stepped_times}
 use Rattle.tracing_tree_otlp.proofs.draw.Tree.step_times.Given as goal
 
 abbrev pub invariant-loop-done : goal.invariant-loop-done
-invariant-loop-done l = l.self ≡ stepped_times l.done l.fn.self
+invariant-loop-done l = l.self ≡ stepped_times l._done l.fn.self
