@@ -177,9 +177,9 @@ END_OF_LINES
 ┌─┘
 ┘
 END_OF_LINES
-    otlp_of 'on lines of OTLP that are skipped' 'ttree: line 1: not a JSON object, skipped
-ttree: line 2: not a JSON object, skipped
-ttree: line 4: not a JSON object, skipped
+    otlp_of 'on lines of OTLP that are skipped' 'ttree: line 1: expected an object, and "traceId" and "spanId" in its spans, skipped
+ttree: line 2: expected an object, and "traceId" and "spanId" in its spans, skipped
+ttree: line 4: expected an object, and "traceId" and "spanId" in its spans, skipped
 ttree: 3 lines skipped' 1 << 'END_OF_LINES'
 [1]
 {"resourceSpans":[{"scopeSpans":[{"spans":[{"spanId":"1","name":"no trace"},{"traceId":"A\u001b","spanId":"1","name":"\u001b[31m","status":{"code":2,"message":"\u001b"}}]}]}]}
