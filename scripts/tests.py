@@ -158,12 +158,13 @@ def main():
     STEPS["all"] = len(wanted) + len(programs) + has_bindings + (len(RUNS) + len(DOCS) if programs else 0)
     say(f"{len(wanted)} crates with tests and {len(programs)} programs, compiled without their proofs")
     with concurrent.futures.ThreadPoolExecutor(len(os.sched_getaffinity(0))) as pool:
-        tested = [pool.submit(run_tests, it) for it in wanted]
+        # The programs come first: most runs wait for them.
         built = [pool.submit(build, it) for it in programs]
-        counts = [it.result() for it in tested]
+        tested = [pool.submit(run_tests, it) for it in wanted]
         are_built = [it.result() for it in built]
         bound = [pool.submit(run_bindings)] if has_bindings else []
         ran_by = [pool.submit(run_programs, *it) if all(are_built) else None for it in RUNS if programs]
+        counts = [it.result() for it in tested]
         counts += [it.result() if it else (0, 1) for it in ran_by]
         counts += [it.result() for it in bound]
     if programs:
