@@ -43,8 +43,8 @@ def first_round(generator, settings):
 
 
 class Soak:
-    """A run of many rounds. Memory and time are recorded at the end of each round's text. The
-    number of calls is `rounds`, at least two rounds."""
+    """A run of the program. `rounds` is its number of calls, and it has at least two rounds. Memory
+    and time are recorded at the end of each round's text."""
 
     def __init__(self, program, generator, settings, rounds):
         self.calls, self.length, self.sum = first_round(generator, settings)
