@@ -179,7 +179,7 @@ def owner_of(head):
                 head = head[at + 1 :]
                 break
     trait, is_trait, kind = head.partition(" for ")
-    # The paths of the two aren't in the name, but those in their brackets are.
+    # The paths before the two names are left out. Those in their brackets are kept.
     trait, kind = (re.sub(r"^\s*(\w+::)*", "", it) for it in (trait, kind))
     if is_trait and not kind.strip("() "):
         kind = "Unit"
