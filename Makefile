@@ -3,7 +3,8 @@
 # README says how long the first ones take.
 .PHONY: help demo test prove gate edits page-test claim build install uninstall dist dist-test service jobs laws stress bench faults fuzz soak memcheck limits counts clean
 
-# Prints the targets in groups, from the lines that begin with '##' and the words after a target's '##'.
+# Prints the targets in groups. A group's name is a line that starts with '##', and a target's
+# description comes after its '##'.
 help:
 	@awk -F ':.*##' '/^## / { printf "\n%s\n", substr($$0, 4) } /^[a-z-]+:.*##/ { printf "  %-16s%s\n", $$1, $$2 }' $(MAKEFILE_LIST)
 
@@ -67,8 +68,8 @@ PREFIX ?= /usr/local
 install uninstall: export DESTDIR := $(DESTDIR)
 install uninstall: export PREFIX := $(PREFIX)
 
-# Installs the programs, man pages, completions and docs, and the library for C if it has been built.
-# Starts no proof: if a program is missing or old, it says what to run.
+# Installs the programs, man pages, completions and docs, and the library for C if it has been
+# built. Starts no proof: if a program is missing or old, it says what to run.
 install: ## installs what has been built (PREFIX=.. DESTDIR=..)
 	@scripts/install.sh install "$$DESTDIR" "$$PREFIX"
 

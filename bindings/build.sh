@@ -1,5 +1,5 @@
 #!/bin/sh
-# Proves the library for C, and leaves it in bin/:
+# Proves the library for C and writes it to bin/:
 # - libtracing_tree.a, with the kit's heap inside, so that it links by itself,
 # - libtracing_tree.so.1, and libtracing_tree.so for the linker.
 # usage: build.sh [ARCHIVE]

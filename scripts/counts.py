@@ -99,7 +99,7 @@ def works():
 def counted(programs, counter, work):
     """Returns how often a work allocates, how many bytes, and how many it holds at most. Returns
     None if the work failed."""
-    # The input is a file: how much a read of a pipe returns differs from run to run, and a line that
+    # The input is a file: how much a read of a pipe returns differs between runs, and a line that
     # two reads return is copied. The program's name is one of the strings that it keeps.
     with tempfile.TemporaryFile() as given:
         given.write(work.given)

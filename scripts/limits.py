@@ -20,7 +20,7 @@ from limit_inputs import Drawing, Lines, Told
 
 SECONDS = 120
 KIB = 1024
-# what ttree reports in place of the other programs' words
+# What ttree reports instead of the other programs' words.
 SENTENCES = {"out of memory": "memory", "the input can't be read": "read", "the output can't be written": "writer"}
 
 

@@ -1,9 +1,9 @@
 #!/usr/bin/env python3
-"""Compares the pages and the JSON lines of ttree with what docs/PAGE.md says: page.py TTREE DRAWING_PROGRAM
+"""Compares the pages and the JSON lines of ttree with docs/PAGE.md: page.py TTREE DRAWING_PROGRAM
 
-For each input, the page's bytes before and after the data must be those of viewer/build.py. Each line
-between must be the one that viewer/pages.py writes for the values in it, with no `<` and no control
-character. Each line of --json must have the same values under its keys. Then the lines are
+For each input, the page's bytes before and after the data must be those of viewer/build.py. Each
+line of the data must be what viewer/pages.py writes for its values, without `<` and control
+characters. Each line of --json must have the same values under its keys. Then the lines are
 converted back to calls. The first program must draw for them what ttree draws for the input. The
 last line is 'program ttree's pages: N of M runs ended as they must'."""
 
@@ -110,7 +110,7 @@ class Runs:
             print(f"program ttree's pages: {name}: FAILED {str(what)[:500]}")
 
     def try_input(self, name, path, *options):
-        """Tries one input."""
+        """Checks the page, the JSON lines and the calls of an input."""
         status, drawing, said = run(self.ttree, *options, str(path))
         page_status, page, page_said = run(self.ttree, "--html", *options, str(path))
         self.check(f"{name}: status and messages are those of the drawing", (page_status, page_said) == (status, said), (status, page_status, said, page_said))

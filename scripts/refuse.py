@@ -20,7 +20,7 @@ import sys
 import tempfile
 
 WORDS = {"malloc": "memory", "read": "read", "write": "writer"}
-# what ttree reports in their place
+# What ttree reports instead.
 SENTENCES = {"malloc": "out of memory", "read": "the input can't be read", "write": "the output can't be written"}
 
 

@@ -60,7 +60,7 @@ class Soak:
         self.seconds = time.time() - started
 
     def read(self):
-        """Reads the program's text to its end."""
+        """Reads the program's output to its end."""
         left, total = self.length, 0
         while part := os.read(self.drawing.stdout.fileno(), 1 << 16):
             while part:

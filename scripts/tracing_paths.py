@@ -70,7 +70,8 @@ def found(ttree, read, path):
 
 
 def is_same(rows, spans):
-    """Returns whether these rows show these spans. A field that was recorded later may be missing."""
+    """Returns whether these rows show these spans. A field that was recorded later may be
+    missing."""
     if len(rows) != len(spans):
         return False
     for row, (name, fields) in zip(rows, spans):

@@ -246,7 +246,8 @@ class Span:
         self._number = self._token = None
 
     def record(self, **fields):
-        """Adds fields to the span. They are drawn when the span is shown again. Raises TreeError."""
+        """Adds fields to the span. They are drawn when the span is shown again. Raises
+        TreeError."""
         if self._number is None:
             raise TreeError("the span isn't open")
         self._tree._record(self._number, fields)
