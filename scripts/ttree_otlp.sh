@@ -12,6 +12,77 @@ otlp_of() {
     count "$1" want "$2" "$3"
 }
 
+# What three services wrote.
+run_otlp_sample() {
+    tree_of 'on OTLP of three services' "$top/examples/otlp-shop.jsonl" 0 '' << 'END_OF_TREE'
+INFO listening, service=frontend, port=8080
+┐trace id=f3ff4d451e429e182215aaee06a2d64b
+└─┐POST /orders service=frontend, time=9.306ms, kind=server, http.method=POST, http.status_code=201, http.retry=false, sampling.ratio=0.25, http.request.header.accept=["text/html","*/*"], item.ids=[7,11], flags=[true,false]
+  ├─ INFO order received, order=1
+  └─┐cart.Reserve time=6.882ms, kind=client
+    └─┐cart.Reserve service=cart, time=6.858ms, kind=server
+      └─┐SELECT stock time=3.381ms, kind=client, db.statement=SELECT left FROM stock
+        │  WHERE item = $1, db.rows=1
+      ┌─┘
+      └─┐SELECT stock time=3.222ms, kind=client, db.statement=SELECT left FROM stock
+        │  WHERE item = $1, db.rows=2
+      ┌─┘
+      ├─ INFO reserved, left=38, warehouse=north "2"
+      ├─ WARN stock is low, left=3
+    ┌─┘
+  ┌─┘
+  └─┐payment.Charge time=6.811ms, kind=client
+    └─┐payment.Charge service=payment, time=6.792ms, kind=server
+    ┌─┘
+  ┌─┘
+┌─┘
+┘
+┐trace id=ecbd7cc3ba26c55e2f5169c92f2f4691
+└─┐POST /orders service=frontend, time=9.535ms, kind=server, http.method=POST, http.status_code=502, http.retry=true, sampling.ratio=0.25, http.request.header.accept=["text/html","*/*"], item.ids=[7,11], flags=[true,false]
+  ├─ INFO order received, order=2
+  └─┐cart.Reserve time=7.308ms, kind=client
+    └─┐cart.Reserve service=cart, time=7.298ms, kind=server
+      └─┐SELECT stock time=3.260ms, kind=client, db.statement=SELECT left FROM stock
+        │  WHERE item = $1, db.rows=1
+      ┌─┘
+      └─┐SELECT stock time=3.842ms, kind=client, db.statement=SELECT left FROM stock
+        │  WHERE item = $1, db.rows=2
+      ┌─┘
+      ├─ INFO reserved, left=38, warehouse=north "2"
+      ├─ WARN stock is low, left=3
+    ┌─┘
+  ┌─┘
+  └─┐payment.Charge time=7.189ms, kind=client
+    └─┐payment.Charge service=payment, time=7.175ms, kind=server
+      ├─ ERROR exception, exception.type=*errors.errorString, exception.message=card declined:
+      │    insufficient funds
+      ├─ ERROR charge failed, error=card declined:
+      │    insufficient funds
+      ├─ ERROR failed, message=card declined
+    ┌─┘
+    ├─ ERROR failed, message=rpc error: code = Aborted
+  ┌─┘
+  ├─ ERROR failed
+┌─┘
+┘
+┐trace id=1c00dd92d4e7d5b2c494d150ad051371
+└─┐restock service=cart, time=22.200μs, kind=consumer
+  ├─ INFO link, trace=f3ff4d451e429e182215aaee06a2d64b, span=6d1aadc9e5031e4b, why=sold
+  ├─ INFO link, trace=ecbd7cc3ba26c55e2f5169c92f2f4691, span=fae28d00f74ecaf2
+  └─┐count shelf time=2.178ms
+  ┌─┘
+┌─┘
+┘
+┐trace id=ab010000000000000000000000000000
+└─┐refund service=payment, time=6.054μs, parent=cd02000000000000, kind=server
+  ├─ INFO 
+┌─┘
+┘
+INFO stopping, service=frontend
+INFO {"event":"flush","n":2}, service=cart, raw=3q2+7w==, nested={"ok":true,"list":[1.5,"x"]}, empty=null
+END_OF_TREE
+}
+
 # The order of the lines doesn't change the tree.
 run_otlp_order() {
     sample=$top/examples/otlp-shop.jsonl
@@ -108,9 +179,9 @@ END_OF_LINES
 ┌─┘
 ┘
 END_OF_LINES
-    otlp_of 'on lines of OTLP that are skipped' 'ttree: line 1: not a JSON object, skipped
-ttree: line 2: not a JSON object, skipped
-ttree: line 4: not a JSON object, skipped
+    otlp_of 'on lines of OTLP that are skipped' 'ttree: line 1: expected an object, and "traceId" and "spanId" in its spans, skipped
+ttree: line 2: expected an object, and "traceId" and "spanId" in its spans, skipped
+ttree: line 4: expected an object, and "traceId" and "spanId" in its spans, skipped
 ttree: 3 lines skipped' 1 << 'END_OF_LINES'
 [1]
 {"resourceSpans":[{"scopeSpans":[{"spans":[{"spanId":"1","name":"no trace"},{"traceId":"A\u001b","spanId":"1","name":"\u001b[31m","status":{"code":2,"message":"\u001b"}}]}]}]}
@@ -143,6 +214,7 @@ for i in range(1, n): line(i, i - 1 if sys.argv[2] == "deep" else 0)' 2000 deep 
 }
 
 run_otlp() {
+    run_otlp_sample
     run_otlp_order
     run_otlp_forms
     run_odd_otlp

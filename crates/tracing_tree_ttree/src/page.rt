@@ -97,7 +97,7 @@ pub fn write_otlp<R: AllocGlobal + Eprint + Print>(
     form: LineForm,
     options: &Options<'_>,
 ) -> Result<Status, AllocError> {
-    let mut reporter = Reporter::new(rt, origin, Unit::Line, options.is_strict);
+    let mut reporter = Reporter::new(rt, origin, Unit::Export, options.is_strict);
     let OtlpCalls { calls, unknown } = otlp_calls(
         rt.alloc(),
         1,

@@ -185,14 +185,35 @@ pub fn report_written<R: Eprint, W: Write + Drop>(
 pub enum Unit {
     Line,
     Element,
+
+    // A line of OTLP.
+    Export,
 }
 
 impl fmt::Display for Unit {
     fn fmt<W: fmt::Write>(&self, f: &mut fmt::Formatter<W>) -> fmt::Result {
         f.write_str(match self {
-            Unit::Line => "line",
+            Unit::Line | Unit::Export => "line",
             Unit::Element => "element",
         })
+    }
+}
+
+// What a skipped line or element is or needs.
+#[derive(Drop)]
+struct Reason {
+    unit: Unit,
+    lack: Lack,
+}
+
+impl fmt::Display for Reason {
+    fn fmt<W: fmt::Write>(&self, f: &mut fmt::Formatter<W>) -> fmt::Result {
+        match (self.unit, self.lack) {
+            (Unit::Export, Lack::Object) => {
+                f.write_str("expected an object, and \"traceId\" and \"spanId\" in its spans")
+            }
+            (_, lack) => write!(f, "{lack}"),
+        }
     }
 }
 
@@ -214,12 +235,13 @@ impl<R: Eprint> Notes for Reporter<'_, R> {
             let _ = eprintln!(self.rt; "{origin}{lack}");
             return !self.is_strict;
         }
+        let reason = Reason { unit, lack };
         if self.is_strict {
-            let _ = eprintln!(self.rt; "{origin}{unit} {number}: {lack}");
+            let _ = eprintln!(self.rt; "{origin}{unit} {number}: {reason}");
             return false;
         }
         if self.count < NOTED {
-            let _ = eprintln!(self.rt; "{origin}{unit} {number}: {lack}, skipped");
+            let _ = eprintln!(self.rt; "{origin}{unit} {number}: {reason}, skipped");
         }
         self.count = self.count.saturating_add(1);
         true
@@ -261,7 +283,7 @@ impl<'a, R: Eprint> Reporter<'a, R> {
                     },
                 ),
             ) => Status::Failure,
-            (Unit::Element, Some(fault)) => self.report_cause(fault.cause, flush),
+            (Unit::Element | Unit::Export, Some(fault)) => self.report_cause(fault.cause, flush),
             _ => report(self.rt, self.origin, &fault, flush),
         }
     }

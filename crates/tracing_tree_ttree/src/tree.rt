@@ -105,7 +105,7 @@ pub fn draw_otlp<R: AllocGlobal + Eprint + Print>(
     let writer = output(alloc, io::writer(rt), options.width)?;
     let config = options.config().with_deferred_spans(false);
     let mut layered = layered(alloc, config, clock(options.is_timed), writer);
-    let mut reporter = Reporter::new(rt, origin, Unit::Line, options.is_strict);
+    let mut reporter = Reporter::new(rt, origin, Unit::Export, options.is_strict);
     let run = run_otlp(alloc, 1, some_moment(), text, &mut layered, &mut reporter);
     Ok(report_run(&run, layered, &reporter))
 }
