@@ -1,8 +1,10 @@
-# Every target except `install` needs the kit's command `rt` and Python 3. `bench`, `counts`, `faults` and `soak` also need a C compiler, and
-# `memcheck` needs valgrind. README says how long the first ones take.
+# Targets that prove, build or run something need the kit's command `rt` and Python 3. `bench`,
+# `counts`, `faults`, `soak` and `bindings` also need a C compiler, and `memcheck` needs valgrind.
+# README says how long the first ones take.
 .PHONY: help demo test prove gate edits page-test claim build install uninstall dist dist-test service jobs laws stress bench faults fuzz soak memcheck limits counts clean
 
-# Prints the targets in groups, from the lines that begin with '##' and the words after a target's '##'.
+# Prints the targets in groups. A group's name is a line that starts with '##', and a target's
+# description comes after its '##'.
 help:
 	@awk -F ':.*##' '/^## / { printf "\n%s\n", substr($$0, 4) } /^[a-z-]+:.*##/ { printf "  %-16s%s\n", $$1, $$2 }' $(MAKEFILE_LIST)
 
@@ -14,34 +16,37 @@ demo: ## draws examples/first.jsonl
 
 ## Test and prove
 
-# Every test, every worked case and the runs of the programs, on the sources as they stand and without a proof. Also the tests of the
-# library for C, where a checkout on this machine has proved it as it stands.
+# Runs every test, every worked case and the runs of the programs on the current sources, without a
+# proof. Also runs the tests of the library for C if its current sources were proved on this
+# machine.
 test: need-rt ## runs every test, without proofs
 	@python3 scripts/tests.py
 
-# Proves every crate, over what earlier runs proved, and leaves the programs at bin/.
+# Proves every crate, using what earlier runs proved, and writes the programs to bin/.
 prove: need-rt build ## proves every crate, over earlier runs
 	@rt all check
 
-# Proves everything from nothing, and tries everything: what must not compile, the edits that must be refused, tests and programs.
+# Proves everything and tries everything: what must not compile, the edits that must be refused, the
+# tests and the programs.
 gate: need-rt ## proves and tries everything from nothing
 	@python3 scripts/gate.py
 
-# The edits that must be refused, of all crates or of those that CRATES names.
+# Tries the edits that must be refused, of all crates or of those in CRATES.
 edits: need-rt ## tries the edits that must be refused (CRATES=..)
 	@python3 scripts/edits.py $(CRATES)
 
-# Opens pages in headless Chromium, those of the examples too. Without Chromium it says so.
+# Opens pages in headless Chromium, also those of the examples. Without Chromium it says so.
 page-test: need-python bin/ttree ## opens pages in headless Chromium
 	@python3 viewer/page_test.py bin/ttree
 
-# What a claim rests on: the contract of the function NAME, or the definition NAME, and all definitions that it leads to.
+# Prints everything that a claim depends on: the contract of the function NAME or the definition
+# NAME, and all definitions that it uses.
 claim: need-python ## prints a contract and its definitions (NAME=..)
 	@python3 scripts/claim.py $(NAME)
 
 ## Build
 
-# Proves and builds the programs, and leaves them at bin/.
+# Proves and builds the programs, and writes them to bin/.
 build: bin/tracing_tree bin/tracing_tree_read bin/ttree ## proves and builds the programs
 
 SOURCES = $(shell find crates crates.txt -type f -not -path '*/out/*' -not -path '*/must-fail/*')
@@ -58,21 +63,21 @@ bin/ttree: $(SOURCES)
 bin/%: $(SOURCES)
 	@scripts/build.sh $* $@
 
-# Where `make install` puts things. Packagers set DESTDIR too.
+# `make install` installs below PREFIX. Packagers also set DESTDIR.
 PREFIX ?= /usr/local
 install uninstall: export DESTDIR := $(DESTDIR)
 install uninstall: export PREFIX := $(PREFIX)
 
-# Installs the programs, man pages, completions and docs, and the library for C if it has been built.
-# Starts no proof: if a program is missing or old, it says what to run.
+# Installs the programs, man pages, completions and docs, and the library for C if it has been
+# built. Starts no proof: if a program is missing or old, it says what to run.
 install: ## installs what has been built (PREFIX=.. DESTDIR=..)
 	@scripts/install.sh install "$$DESTDIR" "$$PREFIX"
 
 uninstall: ## removes what `make install` installs
 	@scripts/install.sh uninstall "$$DESTDIR" "$$PREFIX"
 
-# Writes dist/tracing_tree-VERSION-x86_64-linux.tar.gz, for use without the kit. Starts no proof: if something is missing or old, it says
-# what to run.
+# Writes dist/tracing_tree-VERSION-x86_64-linux.tar.gz, for use without the kit. Starts no proof: if
+# something is missing or old, it says what to run.
 dist: ## writes an archive of what has been built
 	@scripts/dist.sh
 
@@ -90,17 +95,19 @@ jobs: bin/tracing_tree_jobs ## proves and runs the example of several threads
 
 ## Outside the gate
 
-# Outside the gate: draws and reads random rows, reads random changes of drawings, and draws random calls under settings that retrace
-# and looks in the text alone for each event's ancestors.
+# Outside the gate. Draws and reads random rows, and reads randomly changed drawings. Also draws
+# random calls with retracing on, and looks for each event's ancestors in the drawing.
 laws: need-python build bin/tracing_tree_rows_laws ## draws and reads random rows and calls
 	@bin/tracing_tree_rows_laws 10000
 	@python3 scripts/reading_law.py bin/tracing_tree
 
-# Outside the gate: random calls of two to eight threads through the layers for several threads, in ten thousand rounds.
+# Outside the gate. Makes random calls on two to eight threads through the layers for several
+# threads, in ten thousand rounds.
 stress: bin/tracing_tree_stress ## runs random calls of several threads
 	@timeout 1800 bin/tracing_tree_stress 10000 20261124
 
-# Times the library by its own calls, the program on inputs that are made here, and the reading of drawings. It asserts nothing.
+# Times the library's calls, the program on generated inputs, and the reading of drawings. Asserts
+# nothing.
 bench: need-python need-cc build bin/tracing_tree_bench ## times the library and the programs
 	@$(CC) -O1 -shared -fPIC -o bin/count.so scripts/count.c -ldl
 	@python3 scripts/bench_calls.py bin/tracing_tree_bench bin/count.so
@@ -108,22 +115,23 @@ bench: need-python need-cc build bin/tracing_tree_bench ## times the library and
 	@python3 scripts/bench.py bin/tracing_tree
 	@python3 scripts/bench_rows.py bin/tracing_tree bin/tracing_tree_bench
 
-# Inputs of worked cases that refusals are tried on too: with retracing, with clocks, with texts of two lines, with a fault of the settings
-# and of a call.
+# The worked cases for `faults`: with retracing, with clocks, with messages of two lines, and with a
+# fault of the settings and of a call.
 DATA = crates/tracing_tree_cases/data
 FAULTY = $(addprefix $(DATA)/,retracing/concurrent_eager.in retracing/deferred_closes.in close_retrace/stranger.in \
 	clocks/utc.in clocks/local.in clocks/uptime_higher.in \
 	drawing/two_lines_in_close.in drawing/no_lines_two_lines.in lines/settings_wraparound_text.in lines/call_close_without_id.in)
 DRAWINGS = $(addprefix $(DATA)/,first/tree.out retracing/concurrent_eager.out retracing/retrace.out)
 
-# Refuses the programs each allocation, each read and each write in turn, and looks at what they tell and leave, and at their status.
+# Makes each allocation, each read and each write of the programs fail in turn. Checks their output,
+# their messages and their status.
 faults: need-python need-cc build ## fails each allocation, read and write in turn
 	@$(CC) -O1 -shared -fPIC -o bin/refuse.so scripts/refuse.c -ldl
 	@python3 scripts/refuse.py bin/tracing_tree bin/refuse.so examples/first.jsonl examples/server.jsonl $(FAULTY)
 	@python3 scripts/refuse.py bin/tracing_tree_read bin/refuse.so $(DRAWINGS)
 	@python3 scripts/refuse.py bin/ttree bin/refuse.so examples/go-test.jsonl examples/uftrace.json
 
-# How much `fuzz` and `soak` try. The same seed gives the same runs again.
+# How much `fuzz` and `soak` try. Runs with the same seed are the same.
 LINES = 1000000
 CALLS = 300000
 DRAWN = 300000
@@ -131,33 +139,36 @@ SEED = 1
 SOAKED = 100000000
 SOAKED_CALLS = 100000000
 
-# Outside the gate: random lines, calls and lines of drawings through the programs. A model that is written from the docs alone says
-# what is right; first it must agree with the worked cases. Each failure is left below bin/fuzz, to be run again.
+# Outside the gate. Runs random lines, calls and drawings through the programs. A model that was
+# written only from the docs says what is right. The model must first agree with the worked cases.
+# Each failing input is left below bin/fuzz and can be run again.
 fuzz: need-python build ## runs random and damaged lines
 	@python3 scripts/model.py $(DATA)
 	@python3 scripts/fuzz.py --lines $(LINES) --calls $(CALLS) --drawings $(DRAWN) --seed $(SEED) bin/tracing_tree bin/tracing_tree_read
 
-# Outside the gate: many calls through the program, and many on the library itself: what is kept, and how fast it is at the start and
-# at the end.
+# Outside the gate. Makes many calls through the program and many of the library itself. Compares
+# the memory and the speed at the start and at the end.
 soak: need-python need-cc build bin/tracing_tree_bench ## makes 10^8 calls
 	@$(CC) -O2 -o bin/soak scripts/soak.c
 	@python3 scripts/soak.py bin/tracing_tree bin/soak $(SOAKED)
 	@python3 scripts/soak_calls.py bin/tracing_tree_bench $(SOAKED_CALLS)
 
-# Outside the gate: writes the figures anew that the gate compares with what the library takes of memory.
+# Outside the gate. Writes again the figures with which the gate compares the library's use of
+# memory.
 counts: need-python need-cc build bin/tracing_tree_bench bin/tracing_tree_service ## writes the figures of memory again
 	@$(CC) -O1 -shared -fPIC -o bin/count.so scripts/count.c -ldl
 	@python3 scripts/counts.py bin/tracing_tree_bench bin/tracing_tree bin/ttree bin/tracing_tree_service bin/count.so --write
 
-# Outside the gate: the programs under valgrind, on all worked cases and some drawings.
+# Outside the gate. Runs the programs under valgrind, on all worked cases and some drawings.
 memcheck: need-python need-valgrind build ## runs the programs under valgrind
 	@python3 scripts/memcheck.py bin/tracing_tree bin/tracing_tree_read bin/ttree
 
-# Outside the gate, but without limits of memory in `test` too: the programs where memory, stack, disks and pipes end, and odd arguments.
+# Outside the gate. Runs the programs with little memory or stack, with files, disks and pipes that
+# end, and with odd arguments. `test` does that too, but not with little memory or stack.
 limits: need-python build ## runs the programs with little memory, stack or disk
 	@python3 scripts/limits.py bin/tracing_tree bin/tracing_tree_read bin/ttree
 
-# Removes what the targets made: the programs, the logs and what the kit keeps of checks.
+# Removes what the targets made: the programs, the logs and the kit's results of checks.
 clean: ## removes what the targets made
 	@rm -rf bin dist crates/*/out
 

@@ -1,6 +1,7 @@
 #!/bin/bash
-# Counts instructions, by valgrind's callgrind, of the calls of c/bench.c: from C, through the Rust crate, and of tracing's registry
-# alone. They are those of 1,000 rounds less those of 500, for one round. Needs what build.sh has left in bin/.
+# Counts the instructions of the calls of c/bench.c with valgrind's callgrind: from C, through the
+# Rust crate, and of tracing's registry only. The numbers are for one round: the difference between
+# 1,000 and 500 rounds, divided by 500. Needs what build.sh has left in bin/.
 set -eu
 cd "$(dirname "$0")/.."
 scripts/need.sh cc valgrind library
@@ -12,7 +13,7 @@ if command -v cargo > /dev/null && (cd bindings/rust && TRACING_TREE_LIB=../../b
     rust=bindings/rust/target/release/examples/bench
 fi
 
-# The instructions of one round of a command, which is passed the number of rounds first.
+# Prints the instructions of one round of a command. Its first argument is the number of rounds.
 round() {
     local program=$1 few many
     shift

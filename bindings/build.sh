@@ -1,11 +1,13 @@
 #!/bin/sh
-# Proves the library for C, and leaves it in bin/:
+# Proves the library for C and writes it to bin/:
 # - libtracing_tree.a, with the kit's heap inside, so that it links by itself,
 # - libtracing_tree.so.1, and libtracing_tree.so for the linker.
-# usage: build.sh [ARCHIVE]     with an archive that was proved and built before, as the gate does, nothing is proved again
+# usage: build.sh [ARCHIVE]
 #
-# There is no build without the proof: where a source doesn't compile or isn't proved, the errors go to standard error, nothing is
-# left in bin/, and the status is 1.
+# ARCHIVE was proved and built before, as in the gate. With it nothing is proved again.
+#
+# Builds nothing without a proof. If a source doesn't compile or isn't proved, prints the errors on
+# standard error, leaves no library in bin/, and ends with status 1.
 set -eu
 cd "$(dirname "$0")/.."
 scripts/need.sh rt cc ar
@@ -16,7 +18,8 @@ if [ -n "${1:-}" ]; then
     proved=$1
 else
     rm -f "$proved"
-    # The check notes on this machine that the text is proved, which a build alone doesn't: `make test` looks for that.
+    # The check records on this machine that the sources are proved, which a build doesn't do.
+    # `make test` looks for that record.
     if ! (cd crates/tracing_tree_c && rt check && rt lib) > bin/bindings.log 2>&1; then
         cat bin/bindings.log >&2
         exit 1

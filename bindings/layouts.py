@@ -1,16 +1,19 @@
 #!/usr/bin/env python3
-"""Says where each field of the structs that cross lies, by their declarations in the proved crate: layouts.py SOURCES LANGUAGE
+"""Computes the layouts of the library's structs from their declarations in the proved crate.
 
-Prints assertions for the header (LANGUAGE c, for C11) or for the declarations of the Rust crate (rust). A `#[repr(C)]` struct lies
-as C lays it out: each field at the next multiple of its alignment. The crate itself proves the sizes (`src/layout.rt`)."""
+usage: layouts.py SOURCES LANGUAGE
+
+Prints assertions for the header (LANGUAGE c, for C11) or for the declarations of the Rust crate
+(rust). A `#[repr(C)]` struct has C's layout: each field is at the next multiple of its alignment.
+The crate itself proves the sizes (`src/layout.rt`)."""
 import re
 import sys
 from pathlib import Path
 
-# Size and alignment of each type that a struct may hold.
+# The size and the alignment of each type that a struct may have as a field.
 PLAIN = {"bool": (1, 1), "u32": (4, 4), "i32": (4, 4), "u64": (8, 8), "i64": (8, 8), "*mut u8": (8, 8), "&'a [u8]": (16, 8)}
 
-# What C and Rust call the structs, and the fields that have another name there.
+# The names of the structs in C and in Rust, and the fields that have another name there.
 NAMES = {"Tree": ("tt_tree", "RawTree"), "FieldRef": ("tt_field", "Field"), "SettingsRef": ("tt_settings", "Settings"),
          "ContextRef": ("tt_context", "Context"), "AttributesRef": ("tt_attributes", "Attributes"),
          "EventRef": ("tt_event_ref", "Event"), "TimeRef": ("tt_time", "Time")}
@@ -26,7 +29,8 @@ FIELD = re.compile(r"^    (?:pub )?(\w+): (.+?),?$", re.M)
 
 
 def declared(folder):
-    """The `repr(C)` structs of the sources, each a list of field and type. Ghost fields take no room."""
+    """Returns the fields and types of each `repr(C)` struct in the sources. Ghost fields take no
+    space."""
     found = {}
     for path in sorted(Path(folder).glob("*.rt")):
         for name, body in STRUCT.findall(path.read_text()):
@@ -35,7 +39,7 @@ def declared(folder):
 
 
 def laid_out(structs, name):
-    """The size and alignment of a type, and its fields' offsets."""
+    """Returns the size and the alignment of a type, and the offsets of its fields."""
     if name in PLAIN:
         return *PLAIN[name], []
     end, widest, offsets = 0, 1, []

@@ -1,9 +1,11 @@
 #!/usr/bin/env python3
-"""Compares what programs in several languages draw of the same calls: same.py CALLS PROGRAM LINES..
+"""Compares what programs in several languages draw for the same calls: same.py CALLS PROGRAM
+LINES..
 
-CALLS is a file of the calls as lines of JSON, PROGRAM the program that draws such lines. LINES are other programs, which make the same
-calls themselves; each draws them under the settings that its arguments number. Prints each that differs, and at the end how many
-passed and failed."""
+CALLS is a file with the calls as lines of JSON, and PROGRAM draws such lines. LINES are programs
+that make the same calls themselves. Each argument of such a program is the number of settings with
+which it draws them. Prints each difference, and at the end how many comparisons passed and
+failed."""
 import json
 import subprocess
 import sys
@@ -11,12 +13,13 @@ import sys
 SWITCHES = """ansi indent_lines targets thread_names verbose_entry verbose_exit span_retrace deferred_spans close_retrace span_modes
     bracketed_fields""".split()
 
-# Each switch alone, each left out, and others between.
+# Each switch by itself, all but each switch, and other combinations.
 NUMBERS = sorted({1 << bit for bit in range(11)} | {2047 - (1 << bit) for bit in range(11)} | {at * 389 % 2048 for at in range(64)})
 
 
 def settings(number):
-    """The settings with this number: each bit is a switch, and the number says amount and wraparound."""
+    """Returns the settings with this number. Each bit is a switch, and the number determines the
+    indent amount and the wraparound."""
     line = {name: bool(number >> bit & 1) for bit, name in enumerate(SWITCHES)}
     line["indent_amount"] = 1 + number % 5
     if number % 3 == 0:

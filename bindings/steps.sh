@@ -22,7 +22,7 @@ step() {
     if "$@" > "$room/log" 2>&1; then passed=$((passed + 1)); else fails "$name"; fi
 }
 
-# Runs a command that must fail, for a reason that the text names: refuses NAME TEXT COMMAND..
+# Runs a command that must fail and print this pattern: refuses NAME TEXT COMMAND..
 refuses() {
     local name=$1 text=$2
     shift 2

@@ -1,7 +1,8 @@
 #!/bin/bash
-# Tests what build.sh has left in bin/, from C, C++, Go, Python and Rust. Where a tool isn't there, it says in one line what it leaves
-# out. The last line is 'bindings: N passed, M failed', and the status is 1 where something failed.
-# Without the library, a C compiler or Python it says what to do, and ends with status 2.
+# Tests what build.sh has left in bin/, from C, C++, Go, Python and Rust. If a tool is missing, says
+# in one line what is left out. The last line is 'bindings: N passed, M failed', and the status is 1
+# if something failed. Without the library, a C compiler, ar or Python it says what to do, and ends
+# with status 2.
 set -u
 cd "$(dirname "$0")/.."
 scripts/need.sh library cc ar python || exit 2
@@ -27,7 +28,7 @@ for field in 'bool ansi;=uint64_t ansi;' 'uint64_t epoch;=uint32_t epoch;' 'int6
         $cc -std=c11 -I"$room/changed" -fsyntax-only "$room/layout.c"
 done
 
-# ---- a stand-in for a library of version 0: each function returns 0
+# ---- a stub of a library of version 0, in which each function returns 0
 sed -n 's/^[a-z0-9_]* \(tt_[a-z0-9_]*\)(.*/int \1(void) { return 0; }/p' bindings/c/tracing_tree.h > "$room/other.c"
 mkdir "$room/other"
 step "another version of the library" $cc -c "$room/other.c" -o "$room/other.o"
@@ -104,7 +105,7 @@ counts "the worked cases" python3 bindings/python/cases.py bin/libtracing_tree.s
 # ---- the Python module
 counts "the Python module" env TRACING_TREE_LIB=bin/libtracing_tree.so.1 python3 bindings/python/test_tracing_tree.py
 
-# ---- how the Rust crate finds the library: its build script, without cargo, in a stand-in for a checkout
+# ---- how the Rust crate finds the library: its build script, without cargo, in a dummy checkout
 tree=$(realpath "$room")/tree
 crate=$tree/bindings/rust
 

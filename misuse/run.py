@@ -1,6 +1,7 @@
 #!/usr/bin/env python3
-"""What must not compile: each misuse/*.txt is a library over the crates that its first line names, and must be refused with just the errors
-of its `expect` lines. The compiler reads the crates below it as sources, so that none has to be proved before."""
+"""Checks what must not compile. Each misuse/*.txt is a library that uses the crates in its first
+line. It must be refused with exactly the errors in its `expect` lines. The compiler reads those
+crates as sources, so they needn't be proved first."""
 import glob, os, re, shutil, subprocess, sys, tempfile
 
 TOP = os.path.dirname(os.path.dirname(os.path.abspath(__file__)))
@@ -8,7 +9,7 @@ sys.path.insert(0, f"{TOP}/scripts")
 import kit
 
 ERROR = re.compile(r"(?m)^\S+: error\[[^]]*\]")
-# No function has this name, so that the check ends once the sources are read.
+# No function has this name, so the check ends when the sources have been read.
 READS_ALONE = ["--jobs", "1", "--start", "no function"]
 
 
@@ -18,7 +19,7 @@ def read(path):
 
 
 def lay_out(room, cases):
-    """Copies the crates, with each case as one more."""
+    """Copies the crates, and adds each case as a crate."""
     shutil.copytree(f"{TOP}/crates", f"{room}/crates", ignore=shutil.ignore_patterns("out", "must-fail"))
     with open(f"{room}/crates.txt", "w", encoding="utf-8") as file:
         file.write(read(f"{TOP}/crates.txt"))
@@ -32,7 +33,7 @@ def lay_out(room, cases):
 
 
 def said_of(rtlib, crate):
-    """Returns what the compiler says of a case."""
+    """Returns the compiler's output for a case."""
     words = [rtlib.RATTLE, "check", *crate.words(READS_ALONE, as_source=True)]
     how = {"cwd": crate.folder, "stdin": subprocess.DEVNULL, "stdout": subprocess.PIPE, "stderr": subprocess.STDOUT, "errors": "replace"}
     return subprocess.run(words, timeout=600, text=True, check=False, **how).stdout

@@ -1,5 +1,5 @@
-/* Has `tell` of the file that includes this called when the program ends, whether its main returns or, as where it may start threads, it
- * ends by `_exit`. */
+/* Calls the including file's `tell` when the program ends: when its main returns, or when it calls
+ * `_exit`, as a program that may start threads does. */
 #include <dlfcn.h>
 #include <stdlib.h>
 #include <unistd.h>

@@ -1,6 +1,7 @@
-"""Times the program on inputs that it makes itself, the same each time, and prints for each: calls a second, output MB a second,
-peak memory, and how much longer ten times as many calls took (10 is linear); and then what a call costs among many live spans. It
-asserts nothing. A peak below Python's own, some 14 MiB, shows as that.
+"""Times the program on generated inputs, which are the same each time. Prints for each input the
+calls per second, the output in MB per second, the peak memory, and how much longer ten times as
+many calls took (10 is linear). Then prints the cost of a call among many live spans. Asserts
+nothing. The smallest peak that can be shown is Python's own, about 14 MiB.
 
 usage: bench.py PROGRAM
 """
@@ -33,7 +34,7 @@ def close(i):
 
 
 def nested(calls):
-    """Spans five deep with an event in the lowest, closed again: eleven calls a round."""
+    """Yields rounds of eleven calls: five nested spans, an event in the lowest, and five closes."""
     first = 1
     for _ in range(calls // 11):
         for depth in range(5):
@@ -45,7 +46,8 @@ def nested(calls):
 
 
 def chain(spans):
-    """Nested spans whose handles go from the root on, so that all close at once with the last."""
+    """Yields nested spans whose handles are dropped from the root down. All close with the last
+    one."""
     for i in range(1, spans + 1):
         yield new("span", i - 1 if i > 1 else None)
     for i in range(1, spans + 1):
@@ -53,7 +55,7 @@ def chain(spans):
 
 
 def roots(spans):
-    """Roots that all live at once, and close in the order in which they were made."""
+    """Yields roots that are all live at once and close in the order of their creation."""
     for _ in range(spans):
         yield new("span")
     for i in range(1, spans + 1):
@@ -61,13 +63,13 @@ def roots(spans):
 
 
 def opened(spans):
-    """Roots that all live at once."""
+    """Yields roots that are all live at once."""
     for _ in range(spans):
         yield new("span")
 
 
 def spread(spans, calls):
-    """Clones and records, in turn, spread over the spans."""
+    """Yields clones and records in turn, spread over the spans."""
     for n in range(calls):
         i = n * 7919 % spans + 1
         if n % 2 == 0:
@@ -77,13 +79,13 @@ def spread(spans, calls):
 
 
 def oldest(calls):
-    """Closes, each of the oldest span."""
+    """Yields closes, each of the oldest span."""
     for i in range(1, calls + 1):
         yield close(i)
 
 
 def write(file, settings, calls):
-    """Writes an input, and answers how many calls it has."""
+    """Writes an input. Returns how many calls it has."""
     count = 0
     file.write(json.dumps(settings) + "\n")
     for call in calls:
@@ -94,7 +96,8 @@ def write(file, settings, calls):
 
 
 def run(program, path):
-    """Runs the program on an input: seconds, bytes written, peak memory in KiB, and its status."""
+    """Runs the program on an input. Returns the seconds, the bytes written, the peak memory in KiB
+    and the status."""
     with open(path, "rb") as source, tempfile.TemporaryFile() as out:
         began = time.perf_counter()
         child = subprocess.Popen([program], stdin=source, stdout=out)
@@ -116,14 +119,15 @@ def report(name, program, settings, calls, before=None):
 
 
 def best(program, calls):
-    """The shortest of three runs of these calls, in seconds."""
+    """Returns the seconds of the shortest of three runs of these calls."""
     with tempfile.NamedTemporaryFile("w", suffix=".jsonl") as file:
         write(file, LINES, calls)
         return min(run(program, file.name)[0] for _ in range(3))
 
 
 def report_live(program, spans):
-    """What a call costs among this many live spans, beyond what it takes to make them and to let go of them."""
+    """Prints the cost of a call among this many live spans, without the cost of creating and
+    removing them."""
     without = best(program, opened(spans))
     for name, count, calls in (
         ("a clone or a record", 1_000_000, spread(spans, 1_000_000)),

@@ -1,8 +1,8 @@
-"""Times calls on the library itself, by a program that makes them: for each work what one call takes, the shortest of three runs,
-how many bytes it writes, and how often it asks for memory. It asserts nothing.
+"""Times calls of the library itself. PROGRAM makes them. Prints for each work the time of a call in
+the shortest of three runs, the bytes written, and the allocations per call. Asserts nothing.
 
-The requests for memory are counted in two runs of different length, less those of making the calls, so that what a layer takes
-once doesn't count.
+Allocations are counted in two runs of different length, without those that make the calls. So what
+a layer allocates once doesn't count.
 
 usage: bench_calls.py PROGRAM COUNTER
 """
@@ -11,7 +11,7 @@ import re
 import subprocess
 import sys
 
-# the rounds of each work
+# The rounds of each work.
 ROUNDS = {
     "nested": 20_000, "nested-styled": 20_000, "nested-retraced": 20_000,
     "alternating-10": 10_000, "alternating-100": 10_000, "alternating-1000": 10_000,
@@ -22,7 +22,7 @@ CLOSES = ("close-oldest", "close-newest", "close-shuffled")
 
 
 def timed(program, work, rounds):
-    """Calls, nanoseconds a call, and bytes."""
+    """Returns the calls, the nanoseconds of a call, and the bytes written."""
     best = None
     for _ in range(3):
         out = subprocess.run([program, work, str(rounds)], stdout=subprocess.PIPE, check=True).stdout.decode()
@@ -35,14 +35,14 @@ def timed(program, work, rounds):
 
 
 def requests(program, counter, work, rounds, *idle):
-    """How often the program asks for memory."""
+    """Returns how often the program allocates."""
     environment = dict(os.environ, LD_PRELOAD=os.path.abspath(counter))
     run = subprocess.run([program, work, str(rounds), *idle], stdout=subprocess.PIPE, stderr=subprocess.PIPE, env=environment, check=True)
     return int(run.stderr.split()[0])
 
 
 def taken(program, counter, work, rounds, calls):
-    """How often a call asks for memory, beyond what it takes to make it."""
+    """Returns how often a call allocates, without the allocations that make the call."""
     more, less = (requests(program, counter, work, n) - requests(program, counter, work, n, "idle") for n in (rounds, rounds // 2))
     return (more - less) / (calls / 2)
 

@@ -1,5 +1,6 @@
-"""Times the reading of drawings, by a program that reads each five times and prints the best: the drawing of spans nested five deep,
-one ten times as long (the same rate is linear), rows a thousand levels deep, and lines of a million columns.
+"""Times the reading of drawings. TIMING_PROGRAM reads each drawing five times and prints the best
+time. The drawings are of spans nested five deep, of ten times as many (linear if the rate is the
+same), of rows a thousand levels deep, and of lines with a million columns.
 
 usage: bench_rows.py DRAWING_PROGRAM TIMING_PROGRAM
 """
@@ -9,7 +10,8 @@ import sys
 
 
 def nested(rounds):
-    """Calls: spans five deep with an event in the lowest, closed again."""
+    """Yields settings and calls: spans nested five deep, an event in the lowest, and their
+    closes."""
     yield {"indent_lines": True}
     first = 1
     for _ in range(rounds):

@@ -1,8 +1,9 @@
-"""Times events through the layers for several threads, beside a layer of one thread and a plain lock round it, by a program that
-tells them: for each work and each count of threads what an event took, the shortest of three runs. It asserts nothing.
+"""Times events through the layers for several threads, through a layer for one thread, and through
+that layer in a lock. PROGRAM records the events. Prints the time of an event for each work and
+number of threads, from the shortest of three runs. Asserts nothing.
 
-The time is from the first event to the last of all threads, over the number of events. A layer under a lock has no drafts: its
-events are drawn under the lock.
+The time of an event is that from the first to the last event of all threads, divided by the number
+of events. A layer in a lock has no drafts: its events are drawn under the lock.
 
 usage: bench_shared.py PROGRAM
 """
@@ -10,10 +11,10 @@ import re
 import subprocess
 import sys
 
-# how many events each thread tells
+# The number of events that each thread records.
 EVENTS = 50_000
 
-# each work with its counts of threads
+# Each work, with the numbers of threads to try.
 WORKS = {
     "alone": (1,), "locked": (1, 2, 4), "shared": (1, 2, 4), "shared-drafted": (1,), "streaming": (1, 2, 4), "streaming-drafted": (1,),
     "counted": (1,), "counted-anew": (1,),
@@ -21,7 +22,7 @@ WORKS = {
 
 
 def timed(program, work, threads, fields):
-    """Nanoseconds an event."""
+    """Returns the nanoseconds of an event."""
     out = subprocess.run([program, "threads", work, str(threads), str(EVENTS), str(fields)], stdout=subprocess.PIPE, check=True).stdout.decode()
     told, nanos = map(int, re.fullmatch(r"\S+: \d+ threads, (\d+) events, (\d+) ns an event\n", out).groups())
     if told != threads * EVENTS:

@@ -1,6 +1,7 @@
 #!/bin/bash
-# Proves and builds a program, and copies it: build.sh CRATE PROGRAM. The program of an earlier build is removed first, so that a source
-# that doesn't compile or prove leaves none. `rt run` also runs what it built, here on no input, and how that run ends doesn't matter.
+# Proves and builds a program, and copies it: build.sh CRATE PROGRAM. The program of an earlier
+# build is removed first, so a source that doesn't compile or prove leaves no program. `rt run` also
+# runs what it built, here with an empty input. How that run ends doesn't matter.
 set -u
 top=$(cd "$(dirname "$0")/.." && pwd)
 "$top/scripts/need.sh" rt || exit 2
@@ -10,7 +11,7 @@ cd "$top/crates/$1" || exit 2
 rm -f "out/$1" "$top/$2"
 echo "build: $1: proving it and what it stands on; all that is said goes to bin/$1.log" >&2
 
-# How far the check is, and what it found, with the minutes so far.
+# Prints the check's progress and its errors, with the minutes so far.
 progress() {
     local line
     while IFS= read -r line; do

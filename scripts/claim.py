@@ -1,13 +1,20 @@
 #!/usr/bin/env python3
-"""Prints what a claim rests on: claim.py [--count] NAME | claim.py --check
+"""Prints everything that a claim depends on: claim.py [--count] NAME | claim.py --check
 
-NAME is a function, as `read_rows`, a method, as `Layered::run`, or a definition of specs/, as `IsRunOf`. Printed are the function's
-contract and then each definition that it rests on, once: those that it names first, then those that these name, and so on, grouped by
-file under the file's first comment, with the names that the file gives to what it imports, and the modules of words that several modules
-have. After them come the types of the code that these and the function's signature name, as they are declared, and of traits the ghost
-members; then the words of these types and of the toolchain's library with the modules that have them, and last 'N lines, M definitions'
-(comments, blank lines and types not counted), which --count prints alone. --check compares the counts in docs/PROVED.md with what is
-counted now."""
+NAME is a function such as `read_rows`, a method such as `Layered::run`, or a definition of specs/
+such as `IsRunOf`. The output has these parts:
+
+- The function's contract.
+- Each definition that the contract depends on, once. First come those that it names, then those
+  that these name, and so on. They are grouped by file, under the file's first comment. Also shown
+  are the imports that the file renames, and the module of each name that several modules have.
+- The types that these definitions and the function's signature name, as they are declared. Of a
+  trait only the ghost members are shown.
+- The other imported names, of these types and of the toolchain's library, with their modules.
+- 'N lines, M definitions'. The contract, comments, blank lines and types aren't counted.
+
+--count only prints the last line. --check compares the counts in docs/PROVED.md with the current
+ones."""
 import argparse, collections, difflib, glob, os, re, sys
 
 TOP = os.path.dirname(os.path.dirname(os.path.abspath(__file__)))
@@ -16,9 +23,11 @@ WORD = r"[A-Za-z_][\w'-]*"
 ITEM = re.compile(rf"(?m)^(?:(?:abbrev|pub|record|data|unfoldable|opaque)\s+)*(?P<name>{WORD})\b[^\n]*?(?::|where|\()")
 IMPORT = re.compile(r"(?m)^\s*(?:ghost |pub )*use (?P<module>[\w.]+?)\.(?:\{(?P<names>[^}]*)\}|(?P<one>[\w◌≡]+))[ \t]*;?[ \t]*$", re.S)
 
-# A definition: its name, its file, its text with the comment above it, what its file imports, and the head of its unnamed module, if any.
+# A definition: its name, its file, its source with the comment above it, its file's imports, and
+# the head of its unnamed module, if any.
 Definition = collections.namedtuple("Definition", "name file text imports head")
-# A function of the code: its name, its file, its signature with its contract, what its file imports, and the head of its impl.
+# A function of the code: its name, its file, its signature with its contract, its file's imports,
+# and the head of its impl.
 Function = collections.namedtuple("Function", "name file text imports head")
 
 
@@ -32,7 +41,7 @@ def without_comments(text):
 
 
 def imports_of(text):
-    """Returns the module and the name there of each name that a file imports."""
+    """Returns, for each name that a file imports, its module and its name there."""
     found = {}
     for use in IMPORT.finditer(text):
         for it in (use["names"] or use["one"]).split(","):
@@ -43,7 +52,8 @@ def imports_of(text):
 
 
 def blocks_of(text):
-    """Returns the blocks of a file between blank lines, each with the head of the unnamed module that it stands in, and at the left edge."""
+    """Returns the blocks of a file between blank lines, each with the head of its unnamed module or
+    an empty string. The indentation of such a module is removed."""
     found, head, lines = [], "", text.split("\n")
     while lines:
         line = lines.pop(0)
@@ -61,8 +71,9 @@ def blocks_of(text):
 
 
 def items_of(path):
-    """Returns the definitions of a file of specs/. One begins at the left edge of the file or of an unnamed module, below its comment, and
-    ends before the next one's."""
+    """Returns the definitions in a file of specs/, by name. A definition starts at the left edge of
+    the file or of an unnamed module. With the comment above it, it is a block between blank
+    lines."""
     text = read(path)
     imports, found = imports_of(text), {}
     for head, block in blocks_of(text):
@@ -79,7 +90,7 @@ def items_of(path):
 
 
 def module_of(path):
-    """Returns the module that a file of specs/ is."""
+    """Returns the module's name of a file of specs/."""
     crate, _, inside = os.path.relpath(path, f"{TOP}/crates").partition("/specs/")
     return f"Rattle.{crate}.specs.{inside.removesuffix('.antt').replace('/', '.')}"
 
@@ -98,7 +109,8 @@ def closing(text, at):
 
 
 def functions_of(path):
-    """Returns the public functions of a source file, each with its comment, its signature and its clauses."""
+    """Returns the functions in a source file, each with its comment, its signature and its
+    clauses."""
     text = read(path)
     imports, found = imports_of(text), []
     bare = re.sub(r'//[^\n]*|"(?:\\.|[^"\\])*"', lambda it: re.sub(r"[^\n]", " ", it[0]), text)
@@ -133,11 +145,11 @@ def all_functions():
 
 
 def named_in(text, imports, own, definitions):
-    """Returns what a text names, in its order: definitions, and other words with their modules, those of the toolchain's library and the
-    types of the code."""
+    """Returns the definitions that `text` names, in order, and the other imported names with their
+    modules. Those are types of the code and names of the toolchain's library."""
     ours, words = [], []
     code = re.sub(r"(?m)^\s*(?:ghost )?use [^\n]*(?:\n[ \t}][^\n]*)*", "", without_comments(text))
-    # A field names no definition: where a record declares it, where a value has it, and where it is asked for.
+    # A field isn't a definition: in a record's declaration, in a record's value, or after a dot.
     fields = re.sub(rf"(?m)^\s+pub {WORD}(?=\s*:)|(?<=[{{;])\s*{WORD}(?=\s*=(?!=))|\.{WORD}", " ", code)
     used = re.findall(WORD, fields)
     for word in dict.fromkeys(used):
@@ -156,7 +168,8 @@ def named_in(text, imports, own, definitions):
 
 
 def rests_on(start, definitions):
-    """Returns the definitions on which a text rests, those that it names first, and the other words with their modules."""
+    """Returns the definitions that `start` depends on, and the other imported names with their
+    modules. The definitions that `start` names come first."""
     found, words, row = {}, set(), [start]
     while row:
         following = []
@@ -173,16 +186,18 @@ def rests_on(start, definitions):
 
 
 def lines_of(definitions):
-    """Returns how many lines the definitions have. The head of an unnamed module counts once."""
+    """Returns the number of lines of the definitions, without comments and blank lines. The head of
+    an unnamed module counts once."""
     heads = {(it.file, it.head): it.head for it in definitions}
     texts = [*heads.values(), *[it.text for it in definitions]]
     return sum(len([it for it in without_comments(text).split("\n") if it.strip()]) for text in texts)
 
 
 def find(name, definitions, functions):
-    """Returns the function or the definition of this name, or says which names are near."""
+    """Returns the function or the definition with this name. If there is no such name, exits and
+    suggests similar ones."""
     if functions.get(name):
-        # A public one before a private one of the same name.
+        # A public function comes before a private one with the same name.
         return sorted(functions[name], key=lambda it: "pub fn" not in it.text)[0]
     for found in definitions.values():
         if name in found:
@@ -193,7 +208,8 @@ def find(name, definitions, functions):
 
 
 def homes_in(found, clashing):
-    """Returns a line for each of these words that definitions of one file have under its own name, with the module that it is from."""
+    """Returns a line for each clashing name that the definitions of a file use and that the file
+    doesn't rename, with its module."""
     homes = set()
     for each in found:
         used = named_in(each.text, each.imports, {}, {})[1]
@@ -202,7 +218,8 @@ def homes_in(found, clashing):
 
 
 def renamed_in(path, texts):
-    """Returns a line for each name that a file of specs/ gives to what it imports, where these texts have it."""
+    """Returns a line for each import that a file of specs/ renames, if one of the definitions in
+    `texts` uses the new name."""
     text, code = read(path), without_comments("\n".join(texts))
     whole = re.findall(rf"(?m)^use ([\w.]+)\.(\w+) as ({WORD})$", text)
     each = [(use["module"], *it.strip().split(" as ")) for use in IMPORT.finditer(text) for it in (use["names"] or "").split(",") if " as " in it]
@@ -210,14 +227,15 @@ def renamed_in(path, texts):
 
 
 def ghosts_in(trait):
-    """Returns a trait with what its ghost members say of its types alone, below their comments."""
+    """Returns a trait with only its ghost members and their comments."""
     head = trait[: trait.index("{") + 1]
     members = re.findall(r"(?m)^(?:[ \t]*///[^\n]*\n)*[ \t]*ghost (?!use\b)[^;]*;", trait)
     return "\n".join([head, *members, "}"])
 
 
 def type_in(text):
-    """Returns a type as it is declared, with the comments of what is public, without attributes, and `..` for fields that aren't public."""
+    """Returns a type's declaration with its doc comments, without attributes and other comments. In
+    a struct, `..` replaces the fields that aren't public."""
     lines, hidden = [], False
     for line in re.sub(r"(?m)^\s*(?:#\[|//(?!/))[^\n]*\n", "", text).split("\n"):
         is_field = text.startswith("pub struct") and re.match(r"    \w", line) and not line.startswith("    pub ")
@@ -228,7 +246,8 @@ def type_in(text):
 
 
 def declared():
-    """Returns each public type and trait of the code, by its crate and its name, as a claim shows it: a trait with its ghost members alone."""
+    """Returns the declaration of each public type and trait of the code, by its crate and its name.
+    A trait has only its ghost members."""
     found = {}
     for path in sorted(glob.glob(f"{TOP}/crates/*/src/**/*.rt", recursive=True)):
         text, crate = read(path), os.path.relpath(path, f"{TOP}/crates").partition("/")[0]
@@ -240,8 +259,9 @@ def declared():
 
 
 def types_of(start, modules):
-    """Returns the types and traits of the code that a claim shows: those that its definitions name by the modules of contracts, those of the
-    function's signature, and those of their public parts."""
+    """Returns the types and traits of the code that a claim shows. Its definitions import them from
+    the modules of contracts, or the function's signature or a public part of another shown type
+    names them."""
     every, shown = declared(), {}
     homes = collections.defaultdict(list)
     for crate, name in every:
@@ -264,7 +284,8 @@ def types_of(start, modules):
 
 
 def shown_in_modules(definitions):
-    """Returns the texts of these definitions of a file, those of one unnamed module together, below the module's head."""
+    """Returns the sources of a file's definitions. Those in one unnamed module come together, below
+    the module's head."""
     modules = collections.defaultdict(list)
     for it in definitions:
         modules[it.head].append(it.text)
@@ -299,7 +320,7 @@ def show(start, found, words):
 
 
 def check(definitions, functions):
-    """Compares the counts in docs/PROVED.md, and returns how many differ."""
+    """Compares the counts in docs/PROVED.md with the current ones. Returns how many differ."""
     rows = re.findall(r"(?m)`make claim NAME=(\S+)` \| (\d+) lines, (\d+) definitions", read(f"{TOP}/docs/PROVED.md"))
     differ = 0
     for name, lines, count in rows:

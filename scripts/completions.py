@@ -26,7 +26,7 @@ class Option:
 
 
 class Help:
-    """What a program can be given: its options, and whether it takes a file."""
+    """The arguments of a program: its options, and whether it takes a file."""
 
     def __init__(self, program):
         text = subprocess.check_output([program, "--help"], timeout=60).decode()
@@ -52,7 +52,7 @@ def bash(name, given):
         --{it.long}) words='{" ".join(it.values)}' ;;
 """ for it in given.options if it.values)
     free = "|".join(f"--{it.long}" for it in given.options if it.value and not it.values)
-    # Without an answer, readline completes the name of a file.
+    # Without a result, readline completes the name of a file.
     no_file = "compopt +o default 2> /dev/null; " if given.takes_file else ""
     default = "-o default " if given.takes_file else ""
     words = "\n".join(textwrap.wrap(" ".join(given.names()), 80, break_on_hyphens=False))
@@ -121,7 +121,7 @@ def fish(name, given):
 
 
 def files(name, given):
-    """Returns the text of each file of completions/ for this program."""
+    """Returns the contents of each file of completions/ for this program."""
     texts = (bash(name, given), zsh(name, given), fish(name, given))
     return dict(zip((f"{name}.bash", f"_{name}", f"{name}.fish"), texts))
 

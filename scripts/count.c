@@ -1,5 +1,6 @@
-/* Preloaded into a program, this counts its calls of malloc and realloc and the bytes that they ask for, and how many bytes it holds at
- * most at once. It tells these three numbers on standard error when the program ends. */
+/* Is preloaded into a program. Counts the calls of malloc and realloc, the bytes that they request,
+ * and the most bytes that are held at once. Prints these three numbers on standard error when the
+ * program ends. */
 #define _GNU_SOURCE
 #include <dlfcn.h>
 #include <stdint.h>
@@ -8,8 +9,7 @@
 
 #include "at_end.h"
 
-/* The blocks that are held, each in the place that its address leads to, or in one after that. Few enough of these stay for all to
- * find room. */
+/* The blocks that are held, in a hash table with linear probing. Few enough are held at once. */
 #define PLACES (1UL << 22)
 static struct { uintptr_t at; size_t size; } blocks[PLACES];
 static const uintptr_t FREED = 1;
@@ -39,7 +39,7 @@ static void *taken(void *block, size_t size)
     return block;
 }
 
-/* Blocks that came from elsewhere are not known here. */
+/* Blocks from other functions aren't in the table. */
 static void given_back(void *block)
 {
     size_t place = place_of((uintptr_t)block);
@@ -68,7 +68,7 @@ void *realloc(void *old, size_t size)
     return taken(real(old, size), size);
 }
 
-/* Looking up the next `free` may free something itself, which is then left. */
+/* dlsym may call `free` itself. Such a block isn't freed. */
 void free(void *block)
 {
     static void (*real)(void *);

@@ -1,11 +1,17 @@
 #!/usr/bin/env python3
-"""Counts what fixed works take of memory, and compares it with the figures in counts.txt beside this script.
+"""Counts the memory of fixed works and compares it with the figures in counts.txt next to this
+script.
 
-BENCH is crates/tracing_tree_bench, which makes calls of the library, by itself and through the layers for several threads. CLI, TTREE
-and SERVICE are the programs of those crates: they read lines of calls, other tools' output, and requests from which a tracer makes
-calls. COUNTER is scripts/count.c. Three numbers of each work are compared, exactly: how often it asks for memory, how many bytes it
-asks for, and how many it holds at most at once, its calls and their answers with it. No contract says them. They are the same on each
-machine, and change if the code or the toolchain does: then --write writes them again. The last line is 'N of M runs ended as they must'.
+BENCH is crates/tracing_tree_bench, which makes calls of the library, directly and through the
+layers for several threads. CLI, TTREE and SERVICE are the programs of those crates. They read lines
+of calls, other tools' output, and requests for which a tracer makes calls. COUNTER is
+scripts/count.c.
+
+Three numbers of each work must be exactly those of counts.txt: how often it allocates, how many
+bytes it allocates, and how many bytes it holds at most at once. They include the work's calls and
+their results. No contract states these numbers. They are the same on each machine. They change with
+the code and the toolchain, and --write then writes them again. The last line is
+'N of M runs ended as they must'.
 
 usage: counts.py BENCH CLI TTREE SERVICE COUNTER [--write]
 """
@@ -13,9 +19,9 @@ import collections, json, os, re, subprocess, sys, tempfile
 
 FIGURES = os.path.join(os.path.dirname(os.path.abspath(__file__)), "counts.txt")
 PROGRAMS = ("bench", "cli", "ttree", "service")
-# A work by its name and its number of rounds: the program, its arguments, its input, and what its output ends with.
+# A work: the program, its arguments, its input, and a pattern for the end of its output.
 Work = collections.namedtuple("Work", "program words given ending")
-# Works of the library's calls, each with the rounds in which it is counted.
+# Works of the library's calls, each with its number of rounds.
 CALLS = (
     ("nested", 64), ("nested", 640), ("nested-styled", 640), ("nested-retraced", 640),
     ("alternating-10", 64), ("alternating-100", 64), ("alternating-1000", 4),
@@ -24,7 +30,7 @@ CALLS = (
     ("spread-1000", 64), ("spread-1000", 4000), ("records", 500), ("records", 1000), ("records", 2000), ("gaps", 400), ("gaps", 700),
     ("event", 640), ("event-utc", 640), ("event-local", 640), ("event-uptime", 640), ("long-text", 3),
 )
-# Works of one thread through the layers for several.
+# Works of one thread through the layers for several threads.
 THREADS = ("shared", "shared-drafted", "streaming", "streaming-drafted")
 
 
@@ -33,7 +39,7 @@ def json_lines(values):
 
 
 def line_calls(rounds):
-    """Two spans, an event and two closes a round, after the settings."""
+    """Yields the settings, then two spans, an event and two closes for each round."""
     yield {"indent_lines": True}
     for number in range(rounds):
         root = 2 * number + 1
@@ -46,7 +52,7 @@ def line_calls(rounds):
 
 
 def go_tests(rounds):
-    """A test that prints two lines, of which one comes in two parts, a round."""
+    """Yields a test for each round. It prints two lines, the second one in two parts."""
     for number in range(rounds):
         test = {"Package": "example.com/p", "Test": f"Test{number:06}"}
         yield {"Action": "run", **test}
@@ -57,14 +63,14 @@ def go_tests(rounds):
 
 
 def tracing_events(rounds):
-    """An event in two spans a round, the second of which is another in each round."""
+    """Yields an event in two spans for each round. The second span is a new one in each round."""
     for number in range(rounds):
         spans = [{"name": "server", "port": 8080}, {"name": "request", "id": number % 1000}]
         yield {"level": "INFO", "fields": {"message": "served"}, "target": "web", "span": spans[-1], "spans": spans}
 
 
 def trace(rounds):
-    """A span of each round in one that spans all."""
+    """Yields a span for each round, and one span around all of them."""
     yield {"ph": "X", "name": "all", "pid": 1, "tid": 1, "ts": 0, "dur": 10 * rounds}
     for number in range(rounds):
         yield {"ph": "X", "name": "step", "pid": 1, "tid": 1, "ts": 10 * number, "dur": 5}
@@ -75,7 +81,7 @@ def requests(rounds):
 
 
 def works():
-    """All works, by name and rounds."""
+    """Returns all works, by name and rounds."""
     found = {(name, rounds): Work("bench", [name, str(rounds)], b"", rb" 0 refused") for name, rounds in CALLS}
     for rounds in (64, 640):
         ending = rb"1 threads, %d events, \d+ ns an event" % rounds
@@ -91,8 +97,9 @@ def works():
 
 
 def counted(programs, counter, work):
-    """How often a work asks for memory, for how many bytes, and how many it holds at most."""
-    # The input is a file: how much a read of a pipe returns differs from run to run, and a line that
+    """Returns how often a work allocates, how many bytes, and how many it holds at most. Returns
+    None if the work failed."""
+    # The input is a file: how much a read of a pipe returns differs between runs, and a line that
     # two reads return is copied. The program's name is one of the strings that it keeps.
     with tempfile.TemporaryFile() as given:
         given.write(work.given)
@@ -108,7 +115,7 @@ def counted(programs, counter, work):
 
 
 def written():
-    """The figures that are kept."""
+    """Returns the figures in counts.txt."""
     with open(FIGURES, encoding="utf-8") as file:
         lines = [line.split() for line in file if not line.startswith("#")]
     return {(work, int(rounds)): tuple(map(int, numbers)) for work, rounds, *numbers in lines}

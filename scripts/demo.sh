@@ -1,5 +1,6 @@
 #!/bin/bash
-# Draws the example: by the proved program, if bin/ has one that is newer than every source, else by an unproved run of the sources.
+# Draws the example. Uses the proved program if bin/ has one that is newer than every source;
+# otherwise compiles and runs the sources without a proof.
 set -eu
 top=$(cd "$(dirname "$0")/.." && pwd)
 example=$top/examples/first.jsonl

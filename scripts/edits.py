@@ -1,23 +1,32 @@
 #!/usr/bin/env python3
-"""Tries the edits that the prover must refuse, many in one check: edits.py [--plan] [--lanes N] [--sample N] [--share N] [--anew] [CRATE..]
+"""Tries the edits that the prover must refuse, many in one check.
 
-The proof of a function rests on the contracts of what it calls, and not on their bodies. So edits are tried in a copy of the crate in which
-each function's body is `unreachable!()`, with no proof. Beside a function stand copies of it with its clauses, each with one edit, and one
-without an edit. An edit is refused where its copy fails at a goal of its own and the copy without an edit is let through; that a copy
-calls a function without a proof shows nothing. A method of a trait or of its impl, and a function in a cycle of calls, can't have such
-copies: it is edited where it stands, one edit a check, and stands there without an edit in one more. An edit of a constant is tried in the
-functions that name it. With --share N one in N of the functions is tried without an edit.
+usage: edits.py [--plan] [--lanes N] [--sample N] [--share N] [--anew] [CRATE..]
 
-What such a round doesn't settle is tried alone, by the code of `rt must-fail`: an edit of a definition, and one that doesn't compile among
-the others. An edit that is refused only by a type error, only by a limit of the prover, or only since a proof file names what it took
-away, has failed, and so has one that is proved or doesn't apply. harmless.edit changes no meaning: it is tried as the others are, and must
-be let through, else no refusal shows anything.
+The proof of a function uses the contracts of what it calls, not their bodies. So a round tries
+edits in a copy of the crate in which every other function's body is `unreachable!()`, without a
+proof. Next to a function the round puts copies of it, with its clauses: each has one edit, and one
+has no edit. The edit is refused if its copy fails at its own goal and the copy without an edit is
+let through. That a copy calls a function without a proof shows nothing.
 
-Where the kit keeps what it proved, a refusal is kept too, under a sum of all that it rests on: the kit, the crate and those below it, the
-edit, this file and kit.py. An edit whose refusal is kept isn't tried again, unless --anew is given.
+Some functions can't have such copies: a method of a trait or of its impl, and a function in a cycle
+of calls. They are edited in place, with one edit in each check, and one more check has no edit. An
+edit of several functions is also tried in place, and so is an edit of a constant, in the functions
+that name it. With --share N one in N of the functions is tried without an edit.
 
-It prints a line for each edit, and last 'edits: N passed, M failed'. --plan prints the rounds alone. --sample N tries N of the edits that
-a round refused alone too, and an edit of which `rt must-fail` says otherwise has failed."""
+The code of `rt must-fail` tries each edit that a round doesn't refuse, in a check for that edit
+only. Examples are an edit of a definition and an edit that doesn't compile among the others. An
+edit fails if it is proved or doesn't apply. It also fails if the only refusal is a type error, a
+limit of the prover, or a proof file that names what the edit removed. harmless.edit changes no
+meaning. It is tried like the others and must be let through: otherwise no refusal shows anything.
+
+If the kit keeps what it proved, refusals are kept too. The key is a checksum of everything that a
+refusal depends on: the kit, the crate and its dependencies, the edit, this file and kit.py. An edit
+whose refusal is kept isn't tried again, unless --anew is given.
+
+Prints a line for each edit that it tries, and at the end 'edits: N passed, M failed'. --plan only
+prints the rounds. --sample N takes N of the edits that a round refused and tries each in a check
+for that edit only. An edit fails if `rt must-fail` doesn't refuse it."""
 import argparse, concurrent.futures, copy, functools, hashlib, os, re, shutil, sys, tempfile, threading, time
 from collections import defaultdict
 from dataclasses import dataclass
@@ -25,9 +34,9 @@ from dataclasses import dataclass
 import kit as kits
 
 TOP = os.path.dirname(os.path.dirname(os.path.abspath(__file__)))
-# A check of an edit takes up to so much memory, in KiB. None is begun while less is free.
+# The most memory that the check of an edit takes, in KiB. No check starts while less is available.
 ROOM = 3_000_000
-# The most trials of a round: edits, and functions without one.
+# The intended number of trials in a round: edits, and functions without one.
 LONG = 48
 
 FUNCTION = re.compile(rb"(?m)^[ \t]*(?P<words>(?:[a-z]+(?:\([a-z]+\))? +)*)fn (?P<name>\w+)")
@@ -35,25 +44,27 @@ FUNCTION = re.compile(rb"(?m)^[ \t]*(?P<words>(?:[a-z]+(?:\([a-z]+\))? +)*)fn (?
 OWNER = re.compile(rb"(?m)^(?:impl\b(?P<head>[^{]*)|(?:pub +)?trait +(?P<trait>\w+)[^{]*)\{")
 CLAUSE = re.compile(rb"[ \t]*(requires|ensures|decreases|ghost|where)\b")
 CONST = re.compile(rb"[ \t]*(?:pub(?:\([a-z]+\))? +)?const +(\w+) *:")
-# What the check says of a goal that it couldn't prove, with the file and the line of the function or of its proof's answer.
+# What the check reports for a goal that it couldn't prove. GOAL has the file and the line of the
+# function, and ANSWER has the folder of its proof.
 GOAL = re.compile(r"note: (?P<file>src/\S+?\.rt):(?P<line>\d+):\d+: (?P<goal>it is not proved that.*|.*`search` gave up.*)")
 ANSWER = re.compile(r"(?:\./)?proofs/(?P<folder>\S+)/(?:Answers|Invariants|Proof)\.antt:\d+:\d+: error: (?P<goal>.*)")
 COMPILES = re.compile(r"(?m)^(src/\S+?\.rt):(\d+):\d+: error")
-# The last line of a check that came to a verdict of some functions or of all.
+# The last line of a check that reached a verdict on some functions or on all.
 ENDED = re.compile(r"(?m)^(logic=not-proved|only=\d+ proved=|logic=proved)")
-# The status of a check that is asked for a function by words that fit none, or several.
+# The status of a check if the name after an --only fits no function or several functions.
 UNKNOWN = 2
-# What antt says of a proof that names what an edit took away. It is no answer about a contract.
+# What antt reports if a proof names what an edit removed. It says nothing about a contract.
 NAMES = re.compile(r"has no field|is not in scope|has no `|was not admitted|cannot continue|expected the end|write the case `goal")
-# Where antt goes on in the next line of such a message, and such a message as `rt must-fail` cuts it there.
+# Where antt breaks such a message into two lines. `rt must-fail` shows only the first: CUT.
 BROKEN = re.compile(r"\n +(?=has no )")
 CUT = re.compile(r"error: (`[^`]+`: )*(module `|record `|write the case `goal)")
 ONLY_NAMES = "only because a proof file names what the edit took away"
-# What stands before a refusal that an earlier run kept.
+# The prefix of a refusal that an earlier run kept.
 KEPT = "kept: "
-# What `rt must-fail` says of an edit with which the crate is still proved.
+# What `rt must-fail` says if the crate is still proved with the edit.
 LET_THROUGH = "NOT REFUSED"
-# What stands in a function's place where it isn't tried, and the parts of a proof, of which it has none.
+# The body of a function that isn't tried, and the files of a proof. Such a function's proof is
+# empty.
 NO_BODY = b"{\n    unreachable!()\n}"
 PROOF = ("Invariants.antt", "Answers.antt", "Proof.antt")
 # The edit that must be let through, and its crate.
@@ -62,8 +73,10 @@ HARMLESS, ITS_CRATE = f"{TOP}/scripts/harmless.edit", "tracing_tree_text"
 
 @dataclass(frozen=True)
 class Body:
-    """A function's body: its file, its name, the folder of its proofs, its lines, and the places at which what stands above it begins, then
-    its signature, and its braces, and at which they end. A method of a trait or of its impl is of a trait."""
+    """A function's body: its file, its name, the folder of its proofs, its first and last line, and
+    four offsets in the file. `top` is the start of its attributes, `head` of its signature and
+    `start` of its braces, and `end` is behind them. A method of a trait or of a trait's impl
+    `is_of_trait`."""
 
     file: str
     name: str
@@ -79,13 +92,14 @@ class Body:
 
     @property
     def tail(self):
-        """The end of the path by which the check knows the function, wherever an impl stands."""
+        """The last two parts of the function's path in the check. They don't depend on the module
+        that an impl is in."""
         return "::".join(self.folder.split("/")[-2:])
 
 
 @dataclass(frozen=True)
 class Change:
-    """A new text in place of an old one, at a place of a source file as it stands."""
+    """A replacement in a source file. `at` is the offset in the unchanged file."""
 
     file: str
     at: int
@@ -95,8 +109,8 @@ class Change:
 
 @dataclass(frozen=True)
 class Edit:
-    """An edit: its crate and file, what it changes, and the functions in which it is tried: none if it goes alone. Where it stands in one
-    function, `is_copied` says whether it is tried in a copy of it."""
+    """An edit: its crate, its file, its changes, and the functions in which a round tries it (empty
+    if no round does). `is_copied`: it is tried in a copy of its only function, not in place."""
 
     crate: str
     path: str
@@ -111,7 +125,7 @@ class Edit:
 
 @dataclass(frozen=True)
 class Tried:
-    """What a round tries: an edit in these functions, or these functions without one."""
+    """One trial of a round: an edit in these functions, or these functions without an edit."""
 
     edit: Edit | None
     bodies: tuple
@@ -131,7 +145,7 @@ def read(path):
 
 
 def closing(text, at):
-    """Returns the place after the brace that closes the one at this place."""
+    """Returns the offset after the brace that closes the brace at `at`."""
     depth = 0
     for brace in re.compile(rb"[{}]").finditer(text, at):
         depth += 1 if brace[0] == b"{" else -1
@@ -141,7 +155,7 @@ def closing(text, at):
 
 
 def body_after(text, at):
-    """Returns where the braces of a function's body stand, or None if it has no body."""
+    """Returns the start and the end of a function's braces, or None if it has no body."""
     while True:
         stop = re.compile(rb"[;{]").search(text, at)
         if not stop or stop[0] == b";":
@@ -153,7 +167,7 @@ def body_after(text, at):
 
 
 def owner_of(head):
-    """Returns the name that the check gives an impl: the words of its type, and then those of its trait."""
+    """Returns the check's name of an impl: the words of its type, then those of its trait."""
     head, taken = re.split(r"\bwhere\b", re.sub(r"'\w+|->", "", head))[0], []
     if head.lstrip().startswith("<"):
         depth = 0
@@ -165,7 +179,7 @@ def owner_of(head):
                 head = head[at + 1 :]
                 break
     trait, is_trait, kind = head.partition(" for ")
-    # The paths of the two aren't in the name, but those in their brackets are.
+    # The paths before the two names are left out. Those in their brackets are kept.
     trait, kind = (re.sub(r"^\s*(\w+::)*", "", it) for it in (trait, kind))
     if is_trait and not kind.strip("() "):
         kind = "Unit"
@@ -176,7 +190,8 @@ def owner_of(head):
 
 
 def bodies_of(file, text):
-    """Returns the bodies of a source file, whose text has blanks in place of comments, strings and characters."""
+    """Returns the bodies in a source file. In `text` its comments, strings and characters are
+    replaced by blanks."""
     owners = []
     for it in OWNER.finditer(text):
         name = it["trait"].decode() if it["trait"] else owner_of(it["head"].decode())
@@ -190,7 +205,7 @@ def bodies_of(file, text):
         owner, is_of_trait = next(((it, of) for start, end, it, of in owners if start <= fn.start() < end), ("", False))
         name = fn["name"].decode()
         folder = "/".join(it for it in ("" if module in ("lib", "main") else module, owner, name) if it)
-        # A note stands at the function's attributes if it has some, and those may stand above its comment.
+        # A note has the line of the first attribute, which may be above the function's comment.
         above = re.search(rb"(?m)^(?:[ \t]*(?:#\[[^\n]*)?\n)*\Z", text[: fn.start()])
         top = above.start() if above else fn.start()
         first, last = (text.count(b"\n", 0, it) + 1 for it in (top, places[1]))
@@ -209,7 +224,7 @@ def all_bodies(kit, crate):
 
 
 def pairs_of(path):
-    """Returns an edit's file, old text and new text, as often as it has them."""
+    """Returns the replacements in an edit's file, each with its source file, old and new string."""
     file, old, pairs = "", b"", []
     for line in read(path).split(b"\n"):
         if line.startswith(b"file: "):
@@ -222,7 +237,8 @@ def pairs_of(path):
 
 
 def changes_of(pairs, texts):
-    """Returns an edit's changes, or none if it doesn't apply. Each pair's old text stands once in what the pairs before it made."""
+    """Returns an edit's changes, or nothing if it doesn't apply. Each old string must occur exactly
+    once after the pairs before it were applied."""
     made, found = dict(texts), []
     for file, old, new in pairs:
         if not old or made.get(file, b"").count(old) != 1:
@@ -235,13 +251,15 @@ def changes_of(pairs, texts):
 
 
 def is_in_cycle(crate, body, text):
-    """Returns whether the function calls itself, or is one of several that call one another. Their proofs have a folder of their own."""
+    """Returns whether the function calls itself or is one of several that call one another. Such
+    functions have a separate folder of proofs."""
     at, _, name = body.folder.rpartition("/")
     return b"#[cycle" in text[body.top : body.head] or os.path.isdir(f"{crate.folder}/proofs/{at}/+{name}")
 
 
 def bodies_at(change, texts, bodies):
-    """Returns the function in which a change stands, or the functions that name the constant that it changes, or none."""
+    """Returns the function that contains a change. If the change is in a constant, returns the
+    functions that name the constant. May return nothing."""
     text, end = texts[change.file], change.at + len(change.old)
     within = [it for it in bodies[change.file] if it.head <= change.at and end <= it.end]
     const = CONST.match(text, text.rfind(b"\n", 0, change.at) + 1)
@@ -252,7 +270,7 @@ def bodies_at(change, texts, bodies):
 
 
 def edit_at(path, crate, bodies):
-    """Returns the edit in a file, of a crate with these bodies."""
+    """Returns the edit in a file for a crate with these bodies."""
     texts = {file: read(f"{crate.folder}/{file}") for file in bodies}
     changes = changes_of(pairs_of(path), texts)
     found = [bodies_at(it, texts, bodies) for it in changes]
@@ -263,22 +281,24 @@ def edit_at(path, crate, bodies):
 
 
 def edits_of(crate, folder, bodies):
-    """Returns the edits in a folder, of a crate with these bodies."""
+    """Returns the edits in a folder for a crate with these bodies."""
     names = [it for it in sorted(os.listdir(folder)) if it.endswith(".edit")]
     return [edit_at(f"{folder}/{it}", crate, bodies) for it in names]
 
 
 def rounds_of(edits, share):
-    """Returns rounds of much the same length, and the edits that go alone. Of the functions with edits one in `share` is tried without an edit
-    too. Where a function is edited as it stands, no other trial of the round is of it."""
+    """Returns rounds of about the same length, and the edits that no round tries. One in `share` of
+    the functions with edits is also tried without an edit. If a round edits a function in place, no
+    other trial of that round uses the function."""
     edited = [Tried(it, it.bodies, it.is_copied) for it in edits if it.bodies]
     functions = [Tried(None, *it) for it in dict.fromkeys((it.bodies, it.is_copied) for it in edited)][::share]
     rounds = [[] for _ in range(-(-(len(edited) + len(functions)) // LONG))]
-    # What stands where the function does comes first, since it can't go everywhere.
+    # Trials in place come first, since they don't fit into every round.
     for it in sorted(edited + functions, key=lambda it: it.is_copied):
-        # A copy is tried only beside other copies: what is edited in its place may be a constant that the copy names.
+        # A copy is only tried next to other copies: an edit in place may be of a constant that the
+        # copy names.
         free = [found for found in rounds if all((it.is_copied and other.is_copied) or not set(it.bodies) & set(other.bodies) for other in found)]
-        # No round is made for a function without an edit alone, unless all are to be tried.
+        # A function without an edit gets no extra round, unless all of them must be tried.
         if not free and (it.edit or share == 1):
             rounds.append([])
             free = rounds[-1:]
@@ -288,23 +308,24 @@ def rounds_of(edits, share):
 
 
 def applied(text, at, changes):
-    """Returns a part of a source file, which stands at this place there, with these changes."""
+    """Returns a part of a source file with these changes. `at` is the part's offset in the file."""
     for it in sorted(changes, key=lambda it: -it.at):
         text = text[: it.at - at] + it.new + text[it.at - at + len(it.old) :]
     return text
 
 
 def folders_told(folder, goal):
-    """Returns the folders that the body may have of whose proof a line tells. The proofs of a cycle lie in a folder with a plus sign before its
-    name, which is that of its one function, or else each goal there begins with its function's name."""
+    """Returns the folders that the body of a reported goal may have. A cycle's proofs are in a
+    folder whose name starts with a plus sign. The rest of the name is the cycle's only function;
+    otherwise each goal starts with its function's name."""
     top, _, last = folder.rpartition("/")
     own = re.match(r"`(\w+)-", goal) if last.startswith("+") else None
     return [folder.replace("+", ""), *([f"{top}/{own[1]}"] if own else [])]
 
 
 def told_at(line, bodies):
-    """Returns the body of which a line of the check tells that a goal of its own is refused, with the goal; else None. The body is None
-    where such a line is told of none that is known."""
+    """Returns the body whose own goal is refused in a line of the check's output, and the goal.
+    Returns None for any other line. The body is None if the line fits no known body."""
     goal, answer = GOAL.match(line), ANSWER.match(line)
     if goal:
         near = [it for it in bodies.get(goal["file"], []) if it.first <= int(goal["line"]) <= it.last]
@@ -314,13 +335,14 @@ def told_at(line, bodies):
     folders = folders_told(answer["folder"], answer["goal"])
     every = [it for found in bodies.values() for it in found]
     near = next((found for folder in folders if (found := [it for it in every if it.folder == folder])), [])
-    # An impl may stand in another module than its type.
+    # An impl may be in another module than its type.
     near = near or [it for it in every if "/" in it.folder and folders[0].endswith("/" + "/".join(it.folder.split("/")[-2:]))]
     return (near[0] if len(near) == 1 else None), f"proofs/{answer['folder']}: {answer['goal']}"
 
 
 def goals_in(output, bodies):
-    """Returns the first goal of each body that is refused by a goal of its own, and such goals of bodies that aren't known."""
+    """Returns the first refused goal of each body that has one, and the lines whose refused goal
+    fits no known body."""
     own, strange = {}, []
     for line in BROKEN.sub(" ", output).split("\n"):
         told = told_at(line, bodies)
@@ -332,21 +354,22 @@ def goals_in(output, bodies):
 
 
 class Refusals:
-    """What earlier runs on this machine refused, in the store in which the kit keeps the results of `rt ci`, if it has one."""
+    """The refusals of earlier runs on this machine. They are in the kit's store of `rt ci` results,
+    if it has such a store."""
 
     def __init__(self, kit, crates, is_anew):
         self.kit, self.store = kit, kit.store(crates, is_anew)
         self.own = hashlib.sha256(read(os.path.abspath(__file__)) + read(kits.__file__)).hexdigest()
         self.sum_of = functools.lru_cache(maxsize=None)(kit.sum_of)
-        # The names that the edits had when this run came to them.
+        # The names of the edits when this run looked them up.
         self.names = {}
 
     def name_of(self, crate, edit):
-        """Returns the name under which an edit's refusal is kept: a sum of all that it rests on."""
+        """Returns the key of an edit's refusal: a checksum of everything that it depends on."""
         return self.store.of_edit(edit.path, (self.own, self.sum_of(crate)))
 
     def known(self, crate, edit):
-        """Returns what was said when the edit was refused, or None if that isn't kept."""
+        """Returns why an earlier run refused the edit, or None if no such refusal is kept."""
         if not self.store:
             return None
         name = self.names[edit] = self.name_of(crate, edit)
@@ -354,7 +377,8 @@ class Refusals:
         return why if kind == self.kit.refused else None
 
     def keep(self, crate, verdict):
-        """Keeps a refusal, unless the edit changed since this run came to it, or a file of a crate was touched since this run began."""
+        """Keeps a refusal. Keeps nothing if the edit has changed since this run looked it up, or if
+        a file of the crate or its dependencies was touched since this run started."""
         if not self.store:
             return
         name = self.name_of(crate, verdict.edit)
@@ -364,7 +388,8 @@ class Refusals:
 
 
 class Room:
-    """A copy of a crate for a round: each function that isn't tried where it stands has no body and no proof."""
+    """A copy of a crate for a round. A function that isn't tried in place has no body and no proof.
+    Functions that are const, in a cycle or after a macro keep both."""
 
     def __init__(self, kit, crate, bodies, trials, folder):
         self.kit, self.crate, self.bodies, self.folder = kit, crate, bodies, folder
@@ -372,7 +397,7 @@ class Room:
         self.made.folder = folder
         self.texts = {file: read(f"{crate.folder}/{file}") for file in bodies}
         self.placed = [it for it in trials if not it.is_copied]
-        # The copies of each function, with their names, and what is tried in each folder of proofs.
+        # The copies of each function with their names, and the trials by folder of proofs.
         self.copies, self.trials = defaultdict(list), defaultdict(list)
         for n, it in enumerate(trials):
             for body in it.bodies:
@@ -389,13 +414,14 @@ class Room:
                 shutil.copytree(f"{self.crate.folder}/{part}", f"{self.folder}/{part}")
         stay = {body for it in self.placed for body in it.bodies}
         for file, found in self.bodies.items():
-            # A macro's functions stay as they are: their text may not be a function's.
+            # A macro's functions are unchanged: what looks like a function there may not be one.
             macros = self.texts[file].find(b"macro_rules")
             gone = [it for it in found if it not in stay and not it.is_const and not (0 <= macros < it.head)]
             self.write_source(file, [it for it in gone if not is_in_cycle(self.crate, it, self.texts[file])])
 
     def write_source(self, file, gone):
-        """Writes a source file without the bodies of some functions, with the copies of functions, and with what is edited in its place."""
+        """Writes a source file without the bodies of some functions, with the copies of functions
+        and with the edits in place."""
         text = self.texts[file]
         changes = [it for trial in self.placed if trial.edit for it in trial.edit.changes if it.file == file]
         for body in gone:
@@ -409,7 +435,8 @@ class Room:
             made.write(applied(text, 0, changes))
 
     def copied(self, body, name, edit):
-        """Returns a copy of a function under another name, with an edit of it if there is one, and copies its proof."""
+        """Returns a copy of a function under another name, with the edit if there is one. Also
+        copies its proof."""
         part = applied(self.texts[body.file][body.top : body.end], body.top, edit.changes if edit else ())
         own, old = f"{self.folder}/proofs/{body.folder}", f".{body.folder.replace('/', '.')}"
         proof = f"{self.crate.folder}/proofs/{body.folder}"
@@ -422,7 +449,7 @@ class Room:
         return b"\n" + re.sub(rb"\bfn +" + body.name.encode() + rb"\b", b"fn " + name.encode(), part, count=1)
 
     def drop_proof(self, body):
-        """Leaves a function with a proof that says nothing, so that the check doesn't look for one."""
+        """Gives a function an empty proof, so that the check doesn't look for one."""
         own = f"{self.folder}/proofs/{body.folder}"
         os.makedirs(own, exist_ok=True)
         for it in PROOF:
@@ -432,28 +459,30 @@ class Room:
             pass
 
     def check(self):
-        """Checks what is tried, and returns what was said. The ends of two functions' paths may be the same: then all is checked."""
+        """Checks the functions that are tried and returns the output. If the check doesn't accept
+        their names, since two paths can have the same end, checks the whole crate."""
         tails = [*self.names, *(body.tail for it in self.placed for body in it.bodies)]
         only = [word for it in tails for word in ("--only", it)]
         ran = self.kit.checked(self.made, {}, ["--jobs", "1", *only], None)
         return ran.stdout if ran.returncode != UNKNOWN else self.kit.checked(self.made, {}, ["--jobs", "1"], None).stdout
 
     def told(self, output):
-        """Returns the goal at which each trial is refused, and what the check said of other functions."""
+        """Returns the goal at which each trial is refused, and the refusals that fit no function of
+        the crate or of the round."""
         own, strange = goals_in(output, all_bodies(self.kit, self.made))
         known = {it.folder for found in self.bodies.values() for it in found}
         beyond = [it.folder for it in own if it.folder not in self.trials and it.folder not in known]
         return {trial: goal for body, goal in own.items() for trial in self.trials.get(body.folder, [])}, strange + beyond
 
     def not_compiled(self, output):
-        """Returns the trials in whose functions the check found errors before any proof."""
+        """Returns the trials whose functions don't compile."""
         bodies, places = all_bodies(self.kit, self.made), [(file, int(line)) for file, line in COMPILES.findall(output)]
         folders = {it.folder for file, n in places for it in bodies.get(file, []) if it.first <= n <= it.last}
         return [it for folder in folders for it in self.trials.get(folder, [])]
 
 
 class Trial:
-    """The edits of one crate: the rounds, and the edits alone."""
+    """The edits of one crate: its rounds, and the edits that no round tries."""
 
     def __init__(self, kit, crate, folder, room, say, known=lambda edit: None, share=1):
         self.kit, self.crate, self.room, self.say = kit, crate, room, say
@@ -462,7 +491,8 @@ class Trial:
         told = {it: known(it) for it in self.edits}
         self.refused = [Verdict(it, True, f"{KEPT}{why}") for it, why in told.items() if why]
         self.rounds, self.alone = rounds_of([it for it in self.edits if not told[it]], share)
-        # The functions that were refused without an edit, with the goal: a refusal of an edit of theirs shows nothing.
+        # The goals of the functions that were refused without an edit. If such a function is
+        # refused with an edit, that shows nothing.
         self.bad = {}
 
     def plan(self):
@@ -471,7 +501,8 @@ class Trial:
         return f"{self.crate.name}: {len(self.edits)} edits, in rounds of {', '.join(rounds) or 'none'}, {len(self.alone)} alone{kept}"
 
     def try_alone(self, edit):
-        """Returns the verdict of `rt must-fail`. An edit that only a proof file's names or a limit of the prover refuse has failed."""
+        """Returns the verdict of `rt must-fail`. The edit fails if the only refusal is a name in a
+        proof file or a limit of the prover."""
         wait_for_memory()
         is_refused, said = self.kit.must_fail(self.crate, edit.path, ["--jobs", "1"], None)
         why = said.partition(": ")[2]
@@ -480,14 +511,16 @@ class Trial:
         return Verdict(edit, is_refused and ONLY_NAMES not in why, f"alone: {why}")
 
     def is_by_names(self, edit):
-        """Returns whether no goal of the edit's own functions is refused, or of any function where it stands in none."""
+        """Returns whether no goal of the edit's functions is refused. For an edit that no round
+        tries, returns whether no goal at all is refused."""
         texts = {it.file: applied(read(f"{self.crate.folder}/{it.file}"), 0, [i for i in edit.changes if i.file == it.file]) for it in edit.changes}
         output = self.kit.checked(self.crate, {file: it.decode() for file, it in texts.items()}, ["--jobs", "1"], None).stdout
         own, _ = goals_in(output, self.bodies)
         return not own if not edit.bodies else not any(it in own for it in edit.bodies)
 
     def try_round(self, trials):
-        """Tries a round. Returns a verdict of each edit that the check refused, and the edits of which it says nothing."""
+        """Tries a round. Returns a verdict for each edit that the check refused, and the edits that
+        it didn't refuse."""
         wait_for_memory()
         with tempfile.TemporaryDirectory(dir=self.room) as folder:
             room = Room(self.kit, self.crate, self.bodies, trials, folder)
@@ -501,7 +534,8 @@ class Trial:
         return [Verdict(it.edit, True, f"refused at {told[it]}") for it in edits if it in told], [it.edit for it in edits if it not in told]
 
     def halves(self, trials, bad):
-        """Tries a round that shows nothing again, without what doesn't compile, or else in two halves."""
+        """Tries an inconclusive round again, without the trials that don't compile. If all compile,
+        tries it in two halves."""
         if len(trials) == 1 or len(bad) == len(trials):
             return [], [it.edit for it in trials if it.edit]
         good = [it for it in trials if it not in bad]
@@ -510,7 +544,8 @@ class Trial:
         return [it for found, _ in tried for it in found], [it.edit for it in bad if it.edit] + [it for _, left in tried for it in left]
 
     def doubt(self, verdict):
-        """Returns the verdict, or that it shows nothing where a function of the edit is refused without it too."""
+        """Returns the verdict. If one of the edit's functions is refused without the edit too,
+        returns a failed verdict."""
         goal = next((self.bad[it.folder] for it in verdict.edit.bodies if it.folder in self.bad), None)
         return verdict if not goal else Verdict(verdict.edit, False, f"shows nothing, since its function is refused without it too, at {goal}")
 
@@ -526,7 +561,8 @@ def available():
 
 
 class Edits:
-    """All edits of crates, tried in lanes. A crate's are tried once it is handed in, with all that it stands on built."""
+    """Tries the edits of all crates in several threads. A crate's edits start when `take` is
+    called. The crates that it depends on must have been built by then."""
 
     def __init__(self, kit, crates, lanes, say, sample=0, is_anew=False, share=1):
         self.kit, self.say, self.sample, self.share = kit, say, sample, share
@@ -537,12 +573,12 @@ class Edits:
         self.lock = threading.Lock()
 
     def take(self, crate, folder):
-        """Tries a crate's edits, in the background."""
+        """Starts to try a crate's edits in the background."""
         trial = Trial(self.kit, crate, folder, self.room.name, self.say, lambda edit: self.refusals.known(crate, edit), self.share)
         self.trials.append(trial)
         self.say(trial.plan())
         self.verdicts += trial.refused
-        # The harmless edit is tried by each run.
+        # Each run tries the harmless edit, even if all refusals are kept.
         self.run(trial)
 
     def start(self, call, *given):
@@ -550,8 +586,8 @@ class Edits:
             self.tasks.append(self.pool.submit(call, *given))
 
     def run(self, trial):
-        """Tries a crate's edits. What rounds refuse is told once all of them have ended, since a function may be tried without an edit in
-        another round than with one."""
+        """Starts to try a crate's edits. The refusals of rounds are reported after the last round,
+        since a function may be tried with and without an edit in different rounds."""
         if trial.crate.name == ITS_CRATE:
             self.start(self.try_harmless, trial)
         ended, lock = [], threading.Lock()
@@ -576,7 +612,8 @@ class Edits:
         self.add(trial, trial.try_alone(edit))
 
     def try_harmless(self, trial):
-        """Tries the edit that changes no meaning as the others are tried. It fails all where it isn't let through."""
+        """Tries the edit that changes no meaning like the others. If it isn't let through, the run
+        fails."""
         edit = edit_at(HARMLESS, trial.crate, trial.bodies)
         refused, left = trial.try_round([Tried(edit, edit.bodies, edit.is_copied)]) if edit.bodies else ([], [edit])
         told = refused + [trial.try_alone(it) for it in left]
@@ -592,8 +629,9 @@ class Edits:
         self.say(f"must-fail {verdict.edit.name}: {'' if verdict.is_refused else 'FAILED: '}{verdict.why[:240]}")
 
     def compare(self):
-        """Tries some of the edits that a round refused alone too, evenly from the crates. Returns how many, and the names of those of which
-        `rt must-fail` says otherwise."""
+        """Takes some of the edits that a round refused, spread evenly over the crates, and tries
+        each in a check for that edit only. Returns their number, and the names of those that
+        `rt must-fail` doesn't refuse."""
         by_round = sorted((it.edit for it in self.verdicts if it.why.startswith("refused at")), key=lambda it: it.name)
         count = min(self.sample, len(by_round))
         drawn = [by_round[n * len(by_round) // count] for n in range(count)]
@@ -604,7 +642,8 @@ class Edits:
         return count, [it.edit.name for it in singly if not it.is_refused]
 
     def finish(self):
-        """Waits until all edits are tried. Returns how many were refused as they must be, and the names of those that failed."""
+        """Waits until all edits have been tried. Returns the number of edits that were refused, as
+        they must be, and the names of those that failed."""
         at = 0
         while at < len(self.tasks):
             self.tasks[at].result()

@@ -1,8 +1,11 @@
 #!/usr/bin/env python3
-"""Compares the examples of README and of the docs in the sources with code that is compiled and tested: examples.py
+"""Compares the examples in README and in doc comments with code that is compiled and tested.
 
-Each block of Rust in README.md or in a `///` or `//!` comment must stand, line for line but for its indentation, in the sources of a crate
-of tests. The last line is 'examples: N passed, M failed'."""
+usage: examples.py
+
+Each block of Rust in README.md or in a `///` or `//!` comment must appear in the sources of a crate
+of tests. Indentation and empty lines may differ. The last line is
+'examples: N passed, M failed'."""
 import glob, os, re, sys
 
 TOP = os.path.dirname(os.path.dirname(os.path.abspath(__file__)))
@@ -14,12 +17,12 @@ def read(path):
 
 
 def lines_of(text):
-    """Returns the lines of a text without their indentation, and without those that are empty."""
+    """Returns the lines of a string without indentation and without empty lines."""
     return [line.strip() for line in text.split("\n") if line.strip()]
 
 
 def blocks(path):
-    """Returns the blocks of Rust in a file: its own in a manual, those of its docs in a source."""
+    """Returns the blocks of Rust in a Markdown file, or in the doc comments of a source file."""
     text = read(path)
     if path.endswith(".rt"):
         text = "\n".join(line.strip()[3:].removeprefix(" ") if re.match(r"\s*//[/!]", line) else "" for line in text.split("\n"))
@@ -27,7 +30,7 @@ def blocks(path):
 
 
 def stands_in(block, source):
-    """Returns whether the lines of a block stand one after another in these lines."""
+    """Returns whether `source` contains the lines of a block, one after another."""
     wanted = lines_of(block)
     return any(source[at : at + len(wanted)] == wanted for at in range(len(source) - len(wanted) + 1))
 

@@ -1,14 +1,22 @@
 #!/usr/bin/env python3
-"""Runs the programs on random inputs, and compares them with scripts/model.py and scripts/model_rows.py, written from the docs alone.
+"""Runs the programs on random inputs and compares them with scripts/model.py and
+scripts/model_rows.py. Those were written only from the docs.
 
-usage: fuzz.py [--lines N] [--calls N] [--drawings N] [--sizes N] [--seed S] [--checked] DRAWING_PROGRAM READING_PROGRAM
+usage: fuzz.py [--lines N] [--calls N] [--drawings N] [--sizes N] [--seed S] [--checked]
+               DRAWING_PROGRAM READING_PROGRAM
 
-Lines are those of runs that are changed by byte, token, member and line; calls are those of runs that are not changed, under all settings;
-drawings are changed too; and one quantity after another has sizes up to a largest one. Of each run output, standard error and status must
-be the model's, within a limit of time. The rows that the reading program tells, drawn again, must be the text up to its first bad line. A
-run that isn't so is written below bin/fuzz as a worked case, to be run again. The same seed gives the same runs. --checked says that the
-programs were compiled with checks of memory, so rows that no memory holds are left out. The last line is
-'fuzz: N of M runs ended as they must'.
+There are four kinds of runs:
+
+- --lines: lines of calls, with some lines changed by byte, token, member or as a whole.
+- --calls: unchanged calls, under all settings.
+- --sizes: inputs in which one quantity has a given size, up to this one.
+- --drawings: lines of drawings, with some changed.
+
+The output, the standard error and the status of each run must be those of the model, within a time
+limit. The rows that the reading program writes, drawn again, must be the drawing up to its first
+bad line. A run that fails is written below bin/fuzz as a worked case and can be run again. The same
+seed gives the same runs. --checked says that the programs were compiled with checks of memory, so
+rows that never fit in memory are left out. The last line is 'fuzz: N of M runs ended as they must'.
 """
 import argparse, os, random, subprocess, sys, time
 
@@ -20,7 +28,7 @@ RETRACING = {"span_retrace": True, "deferred_spans": True, "close_retrace": True
 
 
 def run(words, source):
-    """What a program writes, what it tells and its status."""
+    """Returns a program's output, its standard error and its status."""
     try:
         done = subprocess.run(words, input=source, capture_output=True, timeout=SECONDS, check=False)
         return done.stdout, done.stderr, done.returncode
@@ -29,7 +37,8 @@ def run(words, source):
 
 
 def shrunk(source, is_wrong):
-    """An input that goes wrong with lines taken out, as long as it still does: 400 runs at most."""
+    """Returns a failing input without the lines that it doesn't need to fail. Makes at most 400
+    runs."""
     lines, left = source.split(b"\n"), 400
     part = len(lines) // 2
     while part and left > 0:
@@ -45,13 +54,14 @@ def shrunk(source, is_wrong):
 
 
 class Tally:
-    """What was run so far, and what ended otherwise than the model says."""
+    """The number of runs so far, and of those that ended differently than the model says."""
 
     def __init__(self, seed):
         self.seed, self.runs, self.wrong, self.start = seed, 0, 0, time.time()
 
     def compare(self, name, words, source, evaluate, wanted=None):
-        """Runs a program, and compares it with what this function says of its input. Returns what it wrote, or None where it is wrong."""
+        """Runs a program and compares it with `wanted` or with what `evaluate` returns for its
+        input. Returns the output, or None if they differ."""
         self.runs += 1
         ended = run(words, source)
         if ended == (wanted or evaluate(source)):
@@ -62,7 +72,7 @@ class Tally:
         return None
 
     def fail(self, name, words, source, wanted, ended):
-        """Writes an input that went wrong as a worked case."""
+        """Writes a failing input as a worked case."""
         self.wrong += 1
         path = f"{TOP}/bin/fuzz/{name}_{self.seed}_{self.runs}"
         os.makedirs(os.path.dirname(path), exist_ok=True)
@@ -82,7 +92,8 @@ class Tally:
 # ---- lines and calls
 
 def drawn_of(source):
-    """What the model says of an input of the program that draws, or None where only memory decides whether a row can be drawn."""
+    """Returns the model's result for an input of the program that draws. Returns None if it depends
+    on the machine's memory whether a row can be drawn."""
     try:
         return model.run_of(source).ended()
     except model.Unsure:
@@ -90,7 +101,7 @@ def drawn_of(source):
 
 
 def is_spelled(line, is_first):
-    """Whether a line spells settings or a call, or is skipped."""
+    """Returns whether a line encodes settings or a call, or is skipped."""
     try:
         (model.Settings if is_first else model.Call)(model.read_object(line))
     except model.Unspelled:
@@ -99,7 +110,7 @@ def is_spelled(line, is_first):
 
 
 class Input:
-    """An input that is made line by line, beside the model's run of it."""
+    """An input that is made line by line, and the model's run of it."""
 
     def __init__(self, rng, is_wide, share):
         self.rng, self.share = rng, share
@@ -108,7 +119,7 @@ class Input:
         self.calls = random_calls.Calls(rng, self.run.tree) if self.is_open else None
 
     def put(self, source):
-        """Takes lines, up to the first that ends the run."""
+        """Appends lines, up to the first that ends the run."""
         for line in source.split(b"\n"):
             if not self.is_open:
                 return
@@ -120,7 +131,8 @@ class Input:
             self.lines.append(line)
 
     def turned(self, line, share):
-        """A line, changed for this share of lines. A change that ends the run is mostly passed over, so that runs get longer."""
+        """Returns the line, or a changed one in this share of the calls. Most changes that end the
+        run are dropped, so that runs get longer."""
         if self.rng.random() >= share * (self.share > 0):
             return line
         changed = random_calls.changed(self.rng, line)
@@ -133,7 +145,8 @@ class Input:
             self.put(self.turned(random_calls.line(self.rng, self.calls.next()), self.share))
 
     def end(self):
-        """The input: after the run's last line maybe a refused call, and more lines where it has ended by then."""
+        """Returns the input. May first append a call that is refused, and, after a fault, lines
+        that aren't read."""
         rng = self.rng
         if self.is_open and rng.random() < 0.3:
             self.put(random_calls.line(rng, self.calls.refused()))
@@ -144,7 +157,7 @@ class Input:
 
 
 def fuzz_lines(tally, program, count, is_wide, share):
-    """Runs of calls, `count` lines in all, of which this share is changed."""
+    """Runs calls, `count` lines in total. Changes about this share of the lines."""
     name = "lines" if share else "calls"
     rng, lines, runs, faults = random.Random(f"{name} {tally.seed}"), 0, 0, {}
     while lines < count:
@@ -159,7 +172,8 @@ def fuzz_lines(tally, program, count, is_wide, share):
 
 
 def sized_inputs(rng, most):
-    """Inputs with one quantity of a run after another at sizes up to this one, each under random settings or under those that retrace."""
+    """Returns inputs in which one quantity has a given size, for sizes up to `most`. The settings
+    are random, and in half of the inputs retracing is on too."""
     for size in sizes.sizes(most):
         yield from sizes.of_lines(size)
         for quantity, largest in sizes.QUANTITIES.items():
@@ -170,7 +184,8 @@ def sized_inputs(rng, most):
 
 
 def fuzz_sizes(tally, program, reader, most):
-    """Quantities at sizes up to this one. What is drawn with lines is read back too, whatever it is."""
+    """Runs quantities at sizes up to `most`. Also reads back each drawing without ANSI styles that
+    is shorter than 4 MiB, valid or not."""
     runs, drawn = tally.runs, 0
     for lines in sized_inputs(random.Random(f"sizes {tally.seed}"), most):
         source = b"\n".join(lines) + b"\n"
@@ -200,7 +215,7 @@ def random_row(rng):
 
 
 def drawn_run(rng, amount):
-    """The drawing of a run under settings without prefixes and wrap marks."""
+    """Returns the drawing of a run under settings without prefixes and wrap marks."""
     settings = random_calls.settings(rng) | {"indent_lines": True, "indent_amount": amount}
     for name in ("wraparound", "thread_ids", "thread_names"):
         settings.pop(name, None)
@@ -213,7 +228,7 @@ def drawn_run(rng, amount):
 
 
 def changed_drawing(rng, text):
-    """A drawing changed by characters and lines, as bytes."""
+    """Returns a drawing with changed characters and lines, as bytes."""
     for _ in range(rng.choice((0, 1, 1, 2, 4))):
         at, end = sorted((rng.randrange(len(text) + 1), rng.randrange(len(text) + 1)))
         kind = rng.randrange(5)
@@ -236,7 +251,8 @@ def changed_drawing(rng, text):
 
 
 def is_law_kept(source, out, amount):
-    """Whether the rows that are told, drawn again, are the text up to its first bad line, with the ancestors of each event."""
+    """Returns whether the rows in `out`, drawn again, are `source` up to its first bad line. Also
+    checks the ancestors of each event in the first 50 rows."""
     _, bad = model_rows.read_rows(source, amount)
     before = source if bad is None else b"".join(it + b"\n" for it in source.split(b"\n")[:bad - 1])
     rows, ancestors = model_rows.rows_of(out.decode())
@@ -246,7 +262,7 @@ def is_law_kept(source, out, amount):
 
 
 def fuzz_drawings(tally, program, count):
-    """Drawings, `count` lines in all."""
+    """Runs drawings, `count` lines in total."""
     rng, lines, bad, laws = random.Random(f"drawings {tally.seed}"), 0, 0, 0
     while lines < count:
         amount = rng.choice((2, 2, 2, 3, 4, 5, 8))

@@ -1,12 +1,12 @@
 #!/usr/bin/env python3
 """Draws changed examples of other tools' output: fuzz_formats.py [--inputs N] [--seed S] TTREE
 
-Each input is a file of examples/ with a few random changes: bytes that are replaced, removed, repeated or
-inserted, lines that are swapped, an end that is cut off. `ttree` draws many in one run, each under the
-option --from of its example and by detection. A run ends as it must if its status is 0, 1 or 2, and if
-nothing that it writes has a control character but tabs and line ends. What a message on standard error
-quotes of an argument is ours. A run that doesn't leaves its inputs below bin/fuzz. The last line is
-'fuzz formats: N of M runs ended as they must'."""
+Each input is a file of examples/ with a few random changes: bytes are replaced, removed, repeated
+or inserted, lines are swapped, or the end is cut off. `ttree` draws many inputs in one run, once
+with the --from option of their example and once by detection. A run ends as it must if its status
+is 0, 1 or 2 and if it writes no control characters except tabs and line ends. By detection only
+standard error is checked, since an unknown input is printed unchanged. The inputs of a run that
+fails are left below bin/fuzz. The last line is 'fuzz formats: N of M runs ended as they must'."""
 
 import argparse
 import pathlib
@@ -18,11 +18,11 @@ import sys
 import tempfile
 
 TOP = pathlib.Path(__file__).resolve().parent.parent
-# How many inputs a run draws.
+# The number of inputs in a run.
 SHARE = 40
 SECONDS = 120
 CONTROL = re.compile("[\x00-\x08\x0b-\x1f\x7f-\x9f]")
-# Strings that formats give a meaning, or that a terminal would.
+# Strings that have a meaning in a format or on a terminal.
 STRANGE = (b"\x1b[31m", b"\x00", b"\xff", b"\xc2\x9b", b"{", b"}", b"[", b"]", b'"', b"<", b">", b"&#27;", b"&x;", b"\n", b"\r\n",
            b"not ok ", b"ok 1", b"    ", b"# Subtest: ", b"  ---", b"  ...", b"1..0", b"<![CDATA[", b"]]>", b"<!--", b"\\u001b", b",", b"-1", b"1e9")
 FORMATS = {"go-": "go-test", "tap-": "tap", "junit-": "junit", "tracing": "tracing", "log-": "logs", "otlp-": "otlp",
@@ -66,7 +66,7 @@ def fault_of(program, words, files):
         return f"it took more than {SECONDS} seconds"
     if ran.returncode not in (0, 1, 2):
         return f"status {ran.returncode}: {ran.stderr[-300:]!r}"
-    # An input of no known format is printed unchanged.
+    # An input of an unknown format is printed unchanged.
     shown = (ran.stdout if words else b"") + ran.stderr
     found = CONTROL.search(shown.decode(errors="replace"))
     return f"a control character: {shown.decode(errors='replace')[max(0, found.start() - 80):found.end() + 20]!r}" if found else None
@@ -81,7 +81,7 @@ def main():
     program = str(pathlib.Path(asked.program).resolve())
     chance = random.Random(asked.seed)
     examples = [(it.read_bytes(), format_of(it.name)) for it in sorted((TOP / "examples").iterdir()) if format_of(it.name)]
-    # A long example says nothing that its first lines don't.
+    # The first lines of a long example are enough.
     examples = [(text[:20000], name) for text, name in examples]
     passed = runs = 0
     for number in range(0, asked.inputs, SHARE):

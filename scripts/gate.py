@@ -1,13 +1,17 @@
 #!/usr/bin/env python3
-"""The gate: what must not compile, every proof from nothing, every edit that the prover must refuse, the tests and the programs as they are
-proved and built, and the runs of these programs, some on random inputs: gate.py [--sample N] [--anew]
+"""Proves and tries everything: gate.py [--sample N] [--anew]
 
-`rt ci` works on a copy of the repository without its edits, which scripts/edits.py tries beside it, many in one check and each over the
-libraries that `rt ci` has just proved. Edits take only the processor time that `rt ci` leaves. Everything that is said goes to bin/gate.log
-too. The last line is 'N passed, M failed'.
+The gate checks what must not compile, every proof, and every edit that the prover must refuse. It
+runs the tests and the programs as they are proved and built, some on random inputs.
 
-What an earlier run on the machine proved or refused of the same files, over the same kit, isn't tried again, unless --anew is given. Some
-kits' `rt ci` keeps no proofs: they prove all from nothing each time."""
+`rt ci` works on a copy of the repository without its edits. Meanwhile scripts/edits.py tries the
+edits, many in one check and each over the libraries that `rt ci` has just proved. Edits only get
+the processor time that `rt ci` leaves. All output also goes to bin/gate.log. The last line is
+'N passed, M failed'.
+
+If an earlier run on this machine, with the same kit, proved or refused the same files, that isn't
+tried again, unless --anew is given. The `rt ci` of some kits keeps no proofs: they prove everything
+from nothing each time."""
 import argparse, concurrent.futures, glob, os, re, shutil, subprocess, sys, tempfile, threading, time
 
 import edits as edit_trials
@@ -16,9 +20,9 @@ import kit as kits
 TOP = edit_trials.TOP
 START = time.time()
 PRINTING = threading.Lock()
-# Of so many functions with edits one is tried without an edit.
+# One in this many functions with edits is tried without an edit.
 SHARE = 8
-# What is copied: what git has, and what was added to it since.
+# Lists the files to copy: those in git, and new ones that git doesn't ignore.
 LISTED = ["git", "ls-files", "-z", "--cached", "--others", "--exclude-standard"]
 
 
@@ -51,18 +55,20 @@ class Gate:
         self.handed_in = set()
 
     def count(self, step, passed, failed, start):
-        """Adds what a step counted."""
+        """Adds the counts of a step, and reports them."""
         with self.counting:
             self.passed += passed
             self.failed += failed
         say(f"{step}: {passed} passed, {len(failed)} failed", start)
 
     def start_proving(self):
-        """Starts `rt ci` on the copy. All that this process starts from then on takes only the processor time that it leaves."""
+        """Starts `rt ci` on the copy. Everything that this process starts later only gets the
+        processor time that `rt ci` leaves."""
         how = {"cwd": self.room, "stdin": subprocess.DEVNULL, "stdout": subprocess.PIPE, "stderr": subprocess.STDOUT, "text": True}
         ran = subprocess.Popen([*self.kit.rtlib.guarded(), *self.proving], errors="replace", **how)
         os.nice(15)
-        # Processors are idle while the first crates are proved, each over the one before. These edits need no proved crate below.
+        # Processors are idle while the first crates are proved, one after another. The edits of
+        # crates without dependencies need no proved crate.
         for crate in self.crates.values():
             if not crate.deps:
                 self.hand_in(crate)
@@ -71,14 +77,15 @@ class Gate:
         return reading
 
     def hand_in(self, crate):
-        """Has a crate's edits tried, once."""
+        """Starts to try a crate's edits, once."""
         folder = edit_trials.folder_of(crate)
         if crate.name not in self.handed_in and os.path.isdir(folder):
             self.handed_in.add(crate.name)
             self.edits.take(crate, folder)
 
     def prove(self, ran):
-        """Reads what `rt ci` says to its end, and has each crate's edits tried once the crate is proved."""
+        """Reads the output of `rt ci` to its end. Starts to try a crate's edits when the crate has
+        been proved."""
         start, last, names = time.time(), "", []
         for line in ran.stdout:
             last = self.heard(line.rstrip("\n")) or last
@@ -89,10 +96,10 @@ class Gate:
         self.count("proofs from nothing, tests and programs", int(found[1]) if found else 0, failed, start)
 
     def heard(self, line):
-        """Takes a line of `rt ci`, and returns it if it counts."""
+        """Logs a line of `rt ci` and acts on it. Returns it if it has the final counts."""
         with PRINTING, open(f"{TOP}/bin/ci.log", "a", encoding="utf-8") as log:
             print(line, file=log)
-        # A crate is kept where an earlier run of `rt ci` on this machine proved the same files.
+        # A crate is kept if an earlier run of `rt ci` on this machine proved the same files.
         proved = re.fullmatch(r"rt: (\w+) (?:proved|is kept: .*)", line)
         if proved:
             self.proved += 1
@@ -120,7 +127,7 @@ class Gate:
         self.count("edits that must be refused", passed, failed, start)
 
     def programs(self, script, *crates, more=()):
-        """Runs programs that `rt ci` built, by a script that is given these words more."""
+        """Runs a script with the programs that `rt ci` built, and with the arguments `more`."""
         start = time.time()
         built = [f"{self.room}/crates/{it}/out/{it}" for it in crates]
         if not all(os.path.isfile(it) for it in built):
@@ -133,8 +140,9 @@ class Gate:
         return self.count(f"runs by {script}", passed, failed, start)
 
     def run_programs(self):
-        """Compares the programs with the model on random inputs, and one quantity after another at many sizes. Then the programs' own runs,
-        refused memory, reads and writes, and the library for C."""
+        """Compares the programs with the model, on random inputs and on quantities of many sizes.
+        Then runs the programs as users do, makes calls for memory, reads and writes fail, and tests
+        the library for C."""
         asked = ["--lines", "20000", "--calls", "20000", "--drawings", "20000", "--sizes", "16385"]
         self.programs("scripts/fuzz.py", "tracing_tree_cli", "tracing_tree_read", more=asked)
         self.programs("scripts/program.sh", "tracing_tree_cli", "tracing_tree_read")
@@ -148,8 +156,9 @@ class Gate:
         self.bindings()
 
     def faults(self):
-        """Refuses programs each allocation, each read and each write of a small input in turn, and counts what fixed works of the library
-        take of memory and of instructions, where there is a C compiler."""
+        """Makes each allocation, each read and each write of programs on small inputs fail in turn.
+        Counts the memory and the instructions of fixed works. Needs a C compiler: without one, says
+        what is left out."""
         compiler = os.environ.get("CC", "cc")
         if not shutil.which(compiler):
             return say(f"left out: refused allocations, reads and writes, and counted memory and instructions: the C compiler {compiler} is not on the PATH")
@@ -169,7 +178,8 @@ class Gate:
         return self.programs("scripts/refuse.py", "tracing_tree_read", more=[shim, f"{data}/first/tree.out"])
 
     def bindings(self):
-        """Builds the library for C over what `rt ci` proved, and runs the tests of its header and of the Rust crate."""
+        """Builds the library for C over what `rt ci` proved. Runs the tests of its header and of
+        the Rust crate."""
         start, crate = time.time(), self.crates["tracing_tree_c"]
         archive = f"out/lib{crate.name}.a"
         with open(f"{TOP}/bin/bindings.log", "w", encoding="utf-8") as crate.out:
@@ -200,11 +210,11 @@ def main():
     with tempfile.TemporaryDirectory(prefix="gate-") as room:
         copy_to(room)
         gate = Gate(kit, room, asked.sample, asked.anew)
-        # First, since it takes seconds.
+        # First, since it only takes seconds.
         gate.misuse()
         proving = gate.start_proving()
         proving.join()
-        # Beside the edits, which leave a processor idle now and then.
+        # At the same time as the edits, which leave a processor idle now and then.
         with concurrent.futures.ThreadPoolExecutor(1) as pool:
             running = pool.submit(gate.run_programs)
             gate.try_edits()

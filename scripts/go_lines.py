@@ -1,8 +1,9 @@
 #!/usr/bin/env python3
-"""Writes the calls that lines of `go test -json` tell, as lines for the program: go_lines.py [--failed] < INPUT > LINES
+"""Converts lines of `go test -json` to lines of calls: go_lines.py [--failed] < INPUT > LINES
 
-A plain evaluation of 'Go's tests' and 'What failed' in docs/FORMATS.md, written from that page alone. The tests draw these lines and
-compare the tree with that of `ttree`. `go_lines.py --random SEED` writes lines of Go's tests that come in any order."""
+It was written only from 'Go's tests' and 'What failed' in docs/FORMATS.md. The tests draw these
+lines and compare the tree with that of `ttree`. `go_lines.py --random SEED` writes lines of Go's
+tests in random order."""
 import json, random, re, sys
 
 LEVELS = {"pass": "INFO", "fail": "ERROR", "skip": "WARN", "unfinished": "ERROR"}
@@ -38,7 +39,7 @@ class Run:
             self.call(current, current, call="event", level=level, fields=fields)
 
     def outer(self, one):
-        """The test in whose span a test stands, or its package."""
+        """Returns the test or the package in whose span a test is nested, or None."""
         found = [it for it in self.running if it is not one and it.span and it.package == one.package and (not it.test or one.test.startswith(it.test + "/"))]
         return max(found, key=lambda it: len(it.test)) if found else None
 
@@ -63,7 +64,7 @@ class Run:
         return self.running[-1]
 
     def tell(self, one):
-        """Draws the line that was printed, if there is one."""
+        """Writes an event for the line that was printed, if there is one."""
         line, level = one.part.removesuffix("\n"), "ERROR" if one.is_error else "INFO"
         if not one.part:
             return
@@ -132,7 +133,7 @@ class Run:
         return self.event(LEVELS[ending], f"{ending} {own_name(one.test, test)}", elapsed_of(elapsed), one.span)
 
     def tell_build(self, level, package):
-        """Draws what a build printed."""
+        """Writes what a build printed."""
         texts = self.builds.pop(package, None)
         if texts is None:
             return
@@ -205,7 +206,8 @@ class Run:
 
 
 class Failed:
-    """What failed: a run that is told, and one that takes all lines and counts."""
+    """Writes only what failed. `shown` is the run that is written. `whole` gets all lines and only
+    counts."""
 
     def __init__(self):
         self.whole, self.shown, self.kept = Run(lambda _: None), Run(), {}
@@ -255,7 +257,7 @@ class Failed:
 
 
 def own_name(outer, test):
-    """The name of a test in the span of this outer test."""
+    """Returns the name of a test within the span of its outer test."""
     return test.removeprefix(outer + "/") if outer else test
 
 
@@ -264,7 +266,7 @@ def elapsed_of(elapsed):
 
 
 def note(one, line):
-    """What a line of a package says of its end."""
+    """Notes what a line of a package says about its end."""
     if not one.test:
         if line.split("\t")[2:3] and line.split("\t")[2].startswith("(cached)"):
             one.notes["cached"] = "true"

@@ -53,7 +53,8 @@ files() {
 FILES
 }
 
-# The same for the library. A link's file is its target, and a function writes the pkg-config file.
+# What is installed of the library. A link's file is its target, and a function writes the
+# pkg-config file.
 library_files() {
     cat << 'FILES'
 644 bin/libtracing_tree.a lib/libtracing_tree.a

@@ -2,9 +2,10 @@
 """Compares the man pages and completions with the programs, and tries `make install`:
 install_test.py TREE READER TTREE
 
-The programs may be compiled without their proofs. `make install` runs on a copy with stand-ins for
-what is built. Checks that need mandoc, zsh, fish or pkg-config are left out without them. The last
-line counts the runs that ended as they must. The status is 1 if one failed."""
+The programs may be compiled without their proofs. `make install` runs in a copy of the repository
+with dummy files for what is built. Checks that need mandoc, zsh, fish or pkg-config are left out
+without them. The last line counts the runs that ended as they must. The status is 1 if one
+failed."""
 import functools, os, re, shlex, shutil, subprocess, sys, tarfile, tempfile, time
 
 import completions
@@ -16,7 +17,7 @@ RUNS = {"passed": 0, "all": 0}
 # Where things are installed: a prefix with a space, and the folder of the docs below it.
 PREFIX = "/opt/my tools"
 DOCS = "share/doc/tracing_tree"
-# The texts in the top folder. README links to all of them.
+# The documents in the top folder. README links to all of them.
 TEXTS = ("README.md", "CHANGELOG.md", "CONTRIBUTING.md", "LICENSE-APACHE", "LICENSE-MIT")
 
 
@@ -37,14 +38,14 @@ def equal(name, found, wanted):
 
 @functools.cache
 def has(tool, left_out):
-    """Returns whether a tool is there, and says what is left out without it."""
+    """Returns whether a tool is installed. If it isn't, prints what is left out."""
     if not shutil.which(tool):
         print(f"install: left out, since {tool} isn't there: {left_out}")
     return bool(shutil.which(tool))
 
 
 def ran(*words, **how):
-    """Runs a command, and returns its status and all that it printed."""
+    """Runs a command. Returns its status and its output, standard error included."""
     how = {"stdin": subprocess.DEVNULL, "timeout": 60, **how}
     done = subprocess.run(words, stdout=subprocess.PIPE, stderr=subprocess.STDOUT, **how)
     return done.returncode, done.stdout.decode(errors="replace")
@@ -62,7 +63,7 @@ def write(path, text):
 
 
 def text_of(path):
-    """Returns a file's text. A path that isn't absolute begins in the top folder."""
+    """Returns a file's contents. A relative path starts in the top folder."""
     return read(os.path.join(TOP, path)).decode()
 
 
@@ -75,7 +76,7 @@ def options_in(page):
 
 
 def items_of(page):
-    """Returns the text under each `.It Fl` of a man page, by the options in that line."""
+    """Returns the description below each `.It Fl` of a man page, by the options in that line."""
     found = {}
     for item in re.split(r"(?m)^\.It Fl ", page)[1:]:
         names = options_in(".It Fl " + item.split("\n")[0])
@@ -254,7 +255,8 @@ def kept(path):
 
 
 class Copy:
-    """A copy of what `make install` needs. What is built are stand-ins, and `rt` leaves a mark."""
+    """A copy of what `make install` needs. The built files are dummies, and `rt` is a stub that
+    leaves a mark."""
 
     def __init__(self, room):
         self.top, self.stage = f"{room}/the copy", f"{room}/the stage"
@@ -274,7 +276,7 @@ class Copy:
         self.make("tools/rt", 0, f"#!/bin/sh\n: > '{self.mark}'\n")
 
     def make(self, file, seconds, text=None):
-        """Writes a file that is this much younger than the sources."""
+        """Writes a file that is `seconds` newer than the sources."""
         write(f"{self.top}/{file}", text or f"the stand-in {file}\n")
         os.chmod(f"{self.top}/{file}", 0o755)
         self.age(file, seconds)
@@ -283,7 +285,8 @@ class Copy:
         os.utime(f"{self.top}/{file}", (self.now + seconds, self.now + seconds))
 
     def run(self, target, prefix=PREFIX, stage=None):
-        """Runs a target as a user who lets nobody read. Returns the status and what it says."""
+        """Runs a target as a user whose umask lets nobody else read. Returns the status and the
+        lines of `install`."""
         unset = ("MAKEFLAGS", "MFLAGS", "MAKELEVEL", "DESTDIR", "PREFIX")
         env = {name: value for name, value in os.environ.items() if name not in unset}
         env["PATH"] = f"{self.top}/tools:{env['PATH']}"
@@ -293,12 +296,13 @@ class Copy:
         return status, [line for line in said.split("\n") if line.startswith("install: ")]
 
     def installed(self):
-        """Returns what each place below the prefix has."""
+        """Returns the link's target, or the mode and bytes, of each installed file."""
         files = [f"{folder}/{it}" for folder, _, names in os.walk(self.stage) for it in names]
         return {os.path.relpath(it, self.stage + PREFIX): kept(it) for it in files}
 
     def compare(self, name, has_library):
-        """Compares what is installed with what must be. Returns the pkg-config file's text."""
+        """Compares the installed files with those that must be. Returns the pkg-config file's
+        contents."""
         found, wanted = self.installed(), {}
         places = install_places() | (library_places() if has_library else {})
         for place, file in places.items():
@@ -343,7 +347,7 @@ def check_uninstall(copy, name):
 
 
 def check_without_library(copy):
-    """Installs the rest, and says why there is no library."""
+    """Checks that the rest is installed, and that the reason is printed, if there is no library."""
     def said(file, fault):
         return (f"install: the C library is left out, since bin/{file} {fault}: "
                 "run 'make bindings' (20 minutes on four cores)")

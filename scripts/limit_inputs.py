@@ -1,4 +1,5 @@
-"""Inputs of the three programs, each with what is right: the whole text, what is told and the status, and what may be out after a fault."""
+"""Inputs of the three programs. Each has the right output, standard error and status, and the
+output that is right after a fault."""
 import os, subprocess
 
 import model, model_rows
@@ -7,7 +8,7 @@ TOP = os.path.dirname(os.path.dirname(os.path.abspath(__file__)))
 
 
 class Lines:
-    """An input of the program that draws: the text of each line."""
+    """An input of the program that draws, line by line."""
     program = 0
 
     def __init__(self, name, lines):
@@ -16,7 +17,8 @@ class Lines:
         self.whole, self.told, self.status = self.run.ended()
 
     def out(self, line, word):
-        """The least and the most that may be out where this is told of a line."""
+        """Returns the shortest and the longest output that is right if this fault is reported for
+        this line."""
         if word == "writer":
             return b"", b"".join(self.run.drawn[:line])
         text = b"".join(self.run.drawn[:line - 1])
@@ -24,7 +26,8 @@ class Lines:
 
 
 class Drawing:
-    """An input of the program that reads. A row is written when the line after it is read, and `memory` leaves out the last one."""
+    """An input of the program that reads. The program writes a row when it has read the next line.
+    If it runs out of memory, the last row is missing."""
     program = 1
 
     def __init__(self, name, source, amount=2):
@@ -43,7 +46,7 @@ class Drawing:
 
 
 class Told:
-    """An input of ttree, and what it writes of it without a limit."""
+    """An input of ttree, and what ttree writes for it without a limit."""
     program = 2
 
     def __init__(self, name, source, ttree):
@@ -56,25 +59,26 @@ class Told:
 
 
 def crowd(count):
-    """Roots that live all at once."""
+    """Returns `count` roots that are all live at the end."""
     new = b'{"call":"new","name":"n","fields":[["k","a value past sixteen bytes"]]}'
     return Lines("many live spans", [b'{"indent_lines":true}'] + [new] * count)
 
 
 def chain(count):
-    """A chain of spans whose handles go from the root on, so that all close at once."""
+    """Returns a chain of spans whose handles are dropped from the root down, so that all spans
+    close at once."""
     news = [b'{"call":"new","name":"n"%s}' % (b',"current":%d' % at if at else b"") for at in range(count)]
     closes = [b'{"call":"close","id":%d}' % (at + 1) for at in range(count)]
     return Lines("a chain that closes at once", [b'{"indent_lines":true,"indent_amount":1}'] + news + closes)
 
 
 def long_line(count):
-    """A line that is much longer than those before and after it."""
+    """Returns a line that is much longer than the lines before and after it."""
     return Lines("a long line", [b"{}"] + [b'{"call":"new","name":"%s"}' % name for name in (b"a", b"n" * count, b"b")])
 
 
 def recorded(count):
-    """A span whose fields grow, and are drawn at the end."""
+    """Returns a span whose fields grow and are drawn at the end."""
     record = b'{"call":"record","id":1,"fields":[["key","a value past sixteen bytes"]]}'
     event = b'{"call":"event","level":"INFO","current":1,"fields":[["message","x"]]}'
     return Lines("fields that grow", [b'{"deferred_spans":true}', b'{"call":"new","name":"a"}'] + [record] * count + [event] * 3)
@@ -86,7 +90,8 @@ def events(count):
 
 
 def deep_value(depth):
-    """A value under a key that no call has, within its object nested so deep."""
+    """Returns a call with a value under an unknown key. With the call's object it is nested `depth`
+    levels deep."""
     value = b"[" * (depth - 1) + b"]" * (depth - 1)
     return Lines(f"a value nested {depth} deep", [b"{}", b'{"call":"new","name":"a","x":%s}' % value, b'{"call":"close","id":1}'])
 
@@ -101,22 +106,22 @@ def many_rows(count):
 
 
 def wide_row():
-    """Rows drawn with an amount of 300."""
+    """Returns rows drawn with an amount of 300."""
     return Drawing("amount 300", ("└" + "─" * 299 + "┐b\n" + " " * 300 + "├" + "─" * 299 + " INFO x\n").encode(), 300)
 
 
 def go_lines(count):
-    """`count` times the lines of tests in Go of which some fail."""
+    """Returns the output of failing tests in Go, `count` times."""
     with open(f"{TOP}/examples/go-fail.jsonl", "rb") as file:
         return file.read() * count
 
 
 def long_output(count):
-    """A test in Go that prints a long line."""
+    """Returns the output of a test in Go that prints a long line."""
     return b'{"Action":"output","Package":"p","Test":"T","Output":"%s\\n"}\n' % (b"x" * count) + go_lines(1)
 
 
-# Odd lines and texts, each with what is out, what is told and the status.
+# Odd inputs, each with its output, its standard error and its status.
 TWO_ROOTS = '{"indent_lines":true}\n{"call":"new","name":"a"}\n{"call":"new","name":"b"}\n{"call":"close","id":1}\n'
 WIDE = ('{"indent_lines":LINES,"indent_amount":9223372036854775808,"deferred_spans":true}\n{"call":"new","name":"a"}\n'
         '{"call":"new","name":"b","current":1}\n{"call":"new","name":"c","current":2}\n{"call":"event","level":"INFO","parent":3}\n')

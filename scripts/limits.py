@@ -1,11 +1,16 @@
 #!/usr/bin/env python3
-"""Runs the programs at the machine's limits and with odd arguments: limits.py [--checked] DRAWING_PROGRAM READING_PROGRAM TTREE
+"""Runs the programs at the machine's limits and with odd arguments.
 
-Memory that ends in the middle, a small stack, a file that may not grow on, a full device and a full disk, a pipe whose reader goes, is slow
-or takes nothing, a signal that is ignored or not: what is out must be a beginning of the right text, which ends where docs/FORMATS.md says
-for the line and the word that are told, and the status must be the one of that word. The right texts are those of scripts/model.py and
-scripts/model_rows.py; of TTREE they are what it writes without a limit. --checked says that the programs were compiled with checks of
-memory: they reserve terabytes of addresses, so limits of memory and of the stack are left out. The last line is
+usage: limits.py [--checked] DRAWING_PROGRAM READING_PROGRAM TTREE
+
+The limits are memory, the stack, the size of a file, a full device and a full disk. There are also
+pipes whose reader stops, is slow or reads nothing, with SIGPIPE ignored or not. The output must be
+a prefix of the right text. It must end where docs/FORMATS.md says for the reported line and word,
+and the status must be that of the word. scripts/model.py and scripts/model_rows.py compute the
+right texts. For TTREE the right text is what it writes without a limit.
+
+--checked says that the programs were compiled with checks of memory. They reserve terabytes of
+addresses, so the limits of memory and of the stack are left out. The last line is
 'limits: N of M runs ended as they must'.
 """
 import fcntl, os, re, resource, shutil, signal, subprocess, sys, tempfile, threading, time
@@ -15,12 +20,13 @@ from limit_inputs import Drawing, Lines, Told
 
 SECONDS = 120
 KIB = 1024
-# what ttree reports in place of the other programs' words
+# What ttree reports instead of the other programs' words.
 SENTENCES = {"out of memory": "memory", "the input can't be read": "read", "the output can't be written": "writer"}
 
 
 def in_words(told):
-    """What ttree reports, in the words of the other programs. Without a line it is of the first, or of the output's end."""
+    """Returns a fault that ttree reports in the words of the other programs. If it names no line,
+    that is line 1, or the end if the output can't be written."""
     found = re.fullmatch(r"ttree: (line \d+: )?([^:]+)\n", told)
     word = SENTENCES.get(found[2]) if found else None
     if not word:
@@ -29,7 +35,8 @@ def in_words(told):
 
 
 class Limits:
-    """The programs, in the order of `program` of their inputs, and how many runs ended as they must."""
+    """The programs, indexed by the `program` of an input, and the number of runs that ended as they
+    must."""
 
     def __init__(self, programs, room):
         self.programs, self.room = programs, room
@@ -43,14 +50,15 @@ class Limits:
             print(f"limits: FAILED: {name}: status {status}, {len(out)} bytes out, standard error {told[:200]!r}", flush=True)
 
     def run(self, given, limit=None, out=subprocess.PIPE, words=None, **how):
-        """Runs an input's program, or these words, with a limit that is set in it first."""
+        """Runs an input's program, or the command `words`. `limit` is called in the new process
+        first."""
         how = {"input": given.source, "stderr": subprocess.PIPE, "timeout": SECONDS, "check": False, **how}
         done = subprocess.run(words or [self.programs[given.program]], stdout=out, preexec_fn=limit, **how)
         return done.stdout or b"", done.stderr, done.returncode
 
     def judge(self, name, given, ended, must_end=None):
-        """Counts a run under a limit: it ends well with the whole text, or tells a line and a word, and what is out is as they say. Where
-        it is known which of the two, `must_end` says it."""
+        """Counts a run under a limit. It either ends as without a limit, or reports a line and a
+        word that fit its output. If only one of the two is right, `must_end` says which."""
         out, told, status = ended
         is_whole = ended == (given.whole, given.told, given.status)
         found = re.fullmatch(r"(?:line (\d+): (memory|writer|read)|end: (writer))\n", in_words(told.decode(errors="replace")))
@@ -70,7 +78,8 @@ def at_most(kind, count):
 
 
 def little_memory(limits, inputs):
-    """Limits of the address space, from the least on with which the program begins: memory ends in the middle, at more places than one."""
+    """Limits the address space. The first limit is the smallest with which the program starts. With
+    the next ones it runs out of memory at several places."""
     for given in inputs:
         name = f"little memory, program {given.program}"
         empty = Lines("settings alone", [b"{}"]) if given.program == 0 else Drawing("nothing", b"")
@@ -90,7 +99,8 @@ def small_stack(limits, inputs):
 
 
 def short_files(limits, inputs):
-    """Files that may not grow past a size, as when a quota is used up. Their signal is ignored, so that the write is refused."""
+    """Limits the size of the output file, as a quota does. SIGXFSZ is ignored, so that the write
+    fails."""
     for given in inputs:
         for most in (0, 1, 7, 4095, 4096, 8191, 8192, 8193, 65536, 65537, len(given.whole) - 1, len(given.whole)):
             with open(f"{limits.room}/file", "w+b") as file:
@@ -117,7 +127,7 @@ def full_devices(limits, inputs):
 # ---- pipes
 
 def piped(limits, given, take, is_blocking=True, **how):
-    """Runs an input into a pipe of one page, from which this function takes what is out."""
+    """Runs an input with a pipe of one page as its output. `take` reads the pipe."""
     reading, writing = os.pipe()
     fcntl.fcntl(reading, fcntl.F_SETPIPE_SZ, 4 * KIB)
     os.set_blocking(writing, is_blocking)
@@ -134,7 +144,7 @@ def piped(limits, given, take, is_blocking=True, **how):
 
 
 def rest(reading):
-    """What a pipe still has. It is closed then."""
+    """Returns the rest of a pipe's data and closes the pipe."""
     out = b""
     while part := os.read(reading, 64 * KIB):
         out += part
@@ -143,7 +153,7 @@ def rest(reading):
 
 
 def slow(reading, _):
-    """Takes a few bytes, and again, and then all."""
+    """Reads a few bytes several times, then the rest."""
     out = b""
     for count in (1, 1, 2, 100, 4 * KIB, 1, 5000):
         time.sleep(0.05)
@@ -152,20 +162,20 @@ def slow(reading, _):
 
 
 def later(reading, _):
-    """Takes nothing for a while."""
+    """Waits before it reads."""
     time.sleep(0.5)
     return rest(reading)
 
 
 def gone(reading, _):
-    """Takes the beginning alone."""
+    """Reads only the first 100 bytes."""
     out = os.read(reading, 100)
     os.close(reading)
     return out
 
 
 def ended_first(reading, running):
-    """Takes nothing before the program has ended."""
+    """Reads nothing until the program has ended."""
     running.join(SECONDS)
     return rest(reading)
 
@@ -179,7 +189,7 @@ def pipes(limits, inputs):
             name = f"a pipe whose reader goes, SIGPIPE {'as it is' if is_default else 'ignored'}"
             ended = piped(limits, given, gone, restore_signals=is_default)
             if isinstance(given, Told):
-                # ttree ends as `head` lets other programs end: silently.
+                # ttree ends silently, as other programs do when `head` stops reading.
                 out, reported, status = ended
                 is_silent = (reported, status) == (b"", 0) and given.whole.startswith(out)
                 limits.count(f"{name}, {given.name}", is_silent, ended)
@@ -189,12 +199,13 @@ def pipes(limits, inputs):
 
 # ---- arguments and statuses
 
-# Stands for a text that isn't empty, where what it says isn't promised.
+# Any string that isn't empty. Used where the exact words aren't promised.
 ANY = object()
 
 
 def told(limits, name, words, source, wanted, closed=None, **how):
-    """Counts a run by what is out, what is told and the status. A standard stream may be closed first."""
+    """Counts a run by its output, its standard error and its status. `closed` is a standard stream
+    that is closed first."""
     how = {"stdout": subprocess.PIPE, "stderr": subprocess.PIPE, "timeout": SECONDS, "check": False, **how}
     done = subprocess.run(words, input=source, preexec_fn=None if closed is None else lambda: os.close(closed), **how)
     seen = done.stdout or b"", done.stderr or b"", done.returncode
@@ -221,7 +232,7 @@ def arguments(limits):
 
 
 def odd_lines(limits):
-    """Odd lines and texts, and what two of the texts are read as."""
+    """Runs odd lines, and reads two of the odd drawings back."""
     program, reader, _ = limits.programs
     for source, out, line, status in limit_inputs.ODD_LINES:
         told(limits, f"drawing {source!r}", [program], source.encode(), (out.encode(), line.encode(), status))
@@ -232,7 +243,7 @@ def odd_lines(limits):
 
 
 def statuses(limits):
-    """What is told of drawings that end badly, and the statuses where a standard stream is closed."""
+    """Runs drawings with a fault, and runs with a standard stream closed."""
     _, reader, ttree = limits.programs
     lines = "┐a\n├─ INFO x\n".encode()
     rows, first = Drawing("rows", lines), Drawing("row", lines[:5])

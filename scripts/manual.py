@@ -1,11 +1,11 @@
 #!/usr/bin/env python3
 """Runs the commands of the manual and compares what they print: manual.py TTREE TREE READ [--write]
 
-A block that is marked `console` in docs/manual has commands, each after `$ `, and after each what it
-prints, standard error too. They run in the repository, by names: the arguments are the programs
-`ttree`, `tracing_tree` and `tracing_tree_read`. Links of these pages to files must have their file.
---write puts what is printed into the pages, for a person to read and to commit. The last line is
-'manual: N of M runs ended as they must'."""
+A `console` block in docs/manual has commands, each after `$ `, and after each its output, standard
+error too. The commands run in a temporary folder that has the examples. They name the programs
+`ttree`, `tracing_tree` and `tracing_tree_read`, which are the arguments in this order. The files
+that the pages link to must exist. --write puts the current output into the pages, for a person to
+review and commit. The last line is 'manual: N of M runs ended as they must'."""
 
 import os
 import pathlib
@@ -22,13 +22,14 @@ SECONDS = 300
 
 
 def steps_of(block):
-    """Returns a block's commands, each with what it must print."""
+    """Returns a block's commands, each with the output that it must have."""
     parts = re.split(r"(?m)^\$ (.*)\n", block)
     return list(zip(parts[1::2], parts[2::2]))
 
 
 def printed(command, folder):
-    """Returns what a command prints. It runs in a folder with the examples, and may write files there."""
+    """Returns the output of a command. It runs in a folder that has the examples, and may write
+    files there."""
     path = f"{folder}/bin:{os.environ['PATH']}"
     how = {"cwd": f"{folder}/top", "env": {**os.environ, "PATH": path}, "stdin": subprocess.DEVNULL}
     done = subprocess.run(["sh", "-c", f"{{ {command}\n}} 2>&1"], stdout=subprocess.PIPE, timeout=SECONDS, **how)
@@ -36,7 +37,7 @@ def printed(command, folder):
 
 
 def lay_out(folder, programs):
-    """Makes a folder with the programs by their names, and one with the examples."""
+    """Makes a folder with the programs under their names, and one with the examples."""
     os.makedirs(f"{folder}/bin")
     os.makedirs(f"{folder}/top")
     os.symlink(f"{TOP}/examples", f"{folder}/top/examples")
@@ -45,7 +46,8 @@ def lay_out(folder, programs):
 
 
 def run_page(path, folder, is_written):
-    """Runs a page's commands and follows its links. Returns how many ended as they must, and how many there are."""
+    """Runs a page's commands and checks its links. Returns how many of both are right, and how many
+    there are."""
     text, passed, runs = path.read_text(encoding="utf-8"), 0, 0
 
     def run_block(block):

@@ -1,10 +1,14 @@
 #!/usr/bin/env python3
-"""Runs the built programs under valgrind's memcheck: memcheck.py [--every N] DRAWING_PROGRAM READING_PROGRAM TTREE
+"""Runs the built programs under valgrind's memcheck.
 
-Each worked case goes through the program that draws (or each Nth, where the faults of lines have many alike), the drawings of some through
-the one that reads, and the examples through all three. No run may have an error of memory or a block lost, and each must write what it
-writes without valgrind. What a run still keeps at its end may not grow with its input: a short input and one of a hundred times as many
-calls must leave the same. The last line is 'memcheck: N of M runs ended as they must'.
+usage: memcheck.py [--every N] DRAWING_PROGRAM READING_PROGRAM TTREE
+
+The program that draws runs on the worked cases. Of those with a status file, which are many and
+alike, it runs on every Nth. The program that reads runs on some of their drawings, and ttree runs
+on two examples. No run may have a memory error or lose a block, and each must end as without
+valgrind. The memory that a run still holds at its end may not grow with its input: a short input
+and one that is a hundred times as long must leave the same number of bytes. The last line begins
+with 'memcheck: N of M runs ended as they must'.
 """
 import argparse, glob, os, re, shutil, subprocess, sys, tempfile, time
 
@@ -27,7 +31,8 @@ class Memcheck:
         self.room, self.runs, self.right, self.start = room, 0, 0, time.time()
 
     def run(self, words, source):
-        """Runs a program with and without valgrind. Returns whether both ended alike and without an error, and what is kept at the end."""
+        """Runs a program with and without valgrind. Returns whether both ended alike and without an
+        error, valgrind's log, and the bytes that are still held at the end."""
         log = f"{self.room}/log"
         plain = subprocess.run(words, input=source, capture_output=True, timeout=60, check=False)
         seen = subprocess.run([*VALGRIND, f"--log-file={log}", *words], input=source, capture_output=True, timeout=600, check=False)
@@ -48,7 +53,7 @@ class Memcheck:
         return kept
 
     def compare(self, name, words, short, long):
-        """What is kept after a short and after a long input."""
+        """Counts whether a short and a long input leave the same number of bytes at the end."""
         kept = [self.count(f"{name}, {it}", words, source) for it, source in (("short", short), ("long", long))]
         self.runs += 1
         self.right += kept[0] is not None and kept[0] == kept[1]
@@ -58,7 +63,8 @@ class Memcheck:
 
 
 def calls(count):
-    """An input of `count` spans, each with an event: half of them are closed again, and the others live at the end."""
+    """Returns an input of `count` spans, each with an event. Half of the spans are closed, and the
+    others are live at the end."""
     lines = [b'{"indent_lines":true,"span_retrace":true,"deferred_spans":true}']
     for at in range(1, count + 1):
         lines += [b'{"call":"new","name":"a long name of a span","fields":[["key","a value past sixteen bytes"],["b","c"]]%s}'
@@ -69,7 +75,7 @@ def calls(count):
 
 
 def gathered(asked):
-    """The worked cases: each of all folders, but each Nth of the faults of lines."""
+    """Returns the worked cases. Of those with a status file, returns every Nth."""
     paths = sorted(glob.glob(f"{DATA}/*/*.in"))
     faults = [it for it in paths if os.path.exists(it.removesuffix(".in") + ".status")]
     return [it for it in paths if it not in faults] + faults[::asked.every]

@@ -1,15 +1,15 @@
 #!/usr/bin/env python3
-"""Runs targets and scripts without a tool or without the library for C that they need, and compares
-what they say with a sentence that says what to do: messages.py
+"""Runs targets and scripts without a tool or library that they need. Each must print the sentence
+that says what to do: messages.py
 
 Each run has its own PATH, in a copy of the repository without its crates. The kit, the compilers
-and the like are stand-ins there, and none may be called: a missing tool is reported before anything
-is proved or built. The last line is 'N of M runs ended as they must'."""
+and similar tools are stubs there, and no stub may be called: a missing tool is reported before
+anything is proved or built. The last line is 'messages: N of M runs ended as they must'."""
 import os, shutil, subprocess, sys, tempfile
 
 TOP = os.path.dirname(os.path.dirname(os.path.abspath(__file__)))
 COPIED = ("Makefile", "crates.txt", "scripts", "bindings", "misuse", "examples")
-# Tools that are taken from this machine, and those that get a stand-in.
+# Tools that are taken from this machine, and those that are replaced by a stub.
 TOOLS = ("awk bash basename cat chmod cmp cp cut date dirname env find grep head id install ln ls "
          "make mkdir mktemp mv realpath rm sed seq sh sleep sort tail tee test timeout touch tr "
          "true uname wc").split()
@@ -24,11 +24,11 @@ AR = "ar is not on the PATH: install it (Debian: apt install binutils)"
 VALGRIND = "valgrind is not on the PATH: install it (Debian: apt install valgrind)"
 LIBRARY = "bin/libtracing_tree.a isn't there: run 'make bindings' first (about 20 minutes)"
 
-# The targets that need the kit, and with it Python, and those that need a C compiler too.
+# The targets that need the kit, which needs Python, and those that need a C compiler too.
 KIT = ("demo test prove gate edits build service jobs laws stress bench faults fuzz soak memcheck "
        "limits counts bindings bindings-test bindings-bench").split()
 COMPILED = "bench faults soak counts bindings bindings-test bindings-bench".split()
-# What is missing, the words of a run, and what it says.
+# The missing tool, the command, and the sentence that it must print.
 RUNS = (
     *(("rt", f"make {it}", RT) for it in KIT),
     *(("python3", f"make {it}", PYTHON) for it in (*KIT, "claim NAME=read_rows")),
@@ -36,7 +36,7 @@ RUNS = (
     ("ar", "make bindings", AR),
     *(("valgrind", f"make {it}", VALGRIND) for it in ("memcheck", "bindings-bench")),
     ("cc", "make CC=other bindings", CC.replace("cc is", "other is")),
-    # As if the programs were built.
+    # `-o build` acts as if the programs were built.
     ("rt", "make -o build prove", RT),
     ("rt", "scripts/demo.sh", RT),
     ("rt", "scripts/build.sh tracing_tree_cli bin/tracing_tree", RT),
@@ -88,7 +88,7 @@ def lay_out(room):
 
 
 def run(room, missing, words):
-    """Runs a command without a tool or the library, and returns its status and all that it said."""
+    """Runs a command without a tool or the library. Returns its status and its output."""
     shutil.rmtree(f"{room}/bin", ignore_errors=True)
     os.mkdir(f"{room}/bin")
     write(f"{room}/bin/libtracing_tree.a", "")
@@ -103,7 +103,7 @@ def run(room, missing, words):
 
 
 def fault(room, missing, words, sentence):
-    """Returns how a run didn't end as it must, if so."""
+    """Returns why a run failed, or None if it ended as it must."""
     status, said = run(room, missing, words)
     if status != 2:
         return f"status {status}, and it said {said[-300:]!r}"

@@ -1,15 +1,20 @@
 #!/usr/bin/env python3
-"""Says what the program must write for an input: a plain evaluation of docs/FORMATS.md and docs/MODEL.md, written from these pages alone.
+"""Computes what the program must write for an input. It was written only from docs/FORMATS.md and
+docs/MODEL.md.
 
-usage: model.py < INPUT      writes the drawing and the fault's line, and ends with the status, as the program does
-       model.py FOLDER..     compares with the worked cases (`.in`, `.out`, `.err`, `.status`) below these folders
+usage: model.py < INPUT      writes the drawing and the fault line, and exits with the status, as
+                             the program does
+       model.py FOLDER..     compares with the worked cases (`.in`, `.out`, `.err`, `.status`)
+                             below these folders
 
-The last line of a comparison is 'model: N of M cases agree'. Nothing here is quick: each span keeps its path, and each text is built whole.
+The last line of a comparison is 'model: N of M cases agree'. The model is slow: each span keeps its
+path, and each text is built whole.
 """
 import collections, datetime, json, os, sys
 
 MOST = 2**64 - 1
-# Rows of more columns than this are not built, since the machine decides whether memory holds them. Past the second number it never does.
+# Rows with more columns than this aren't built: the machine decides whether they fit in memory.
+# Rows with more columns than the second number never fit.
 COLUMNS = 2**17
 TOO_MANY_COLUMNS = 2**44
 CODES = {"dimmed": "2", "green": "1;32", "purple": "1;35", "blue": "1;34", "warn": "1;38;2;252;234;160", "red": "1;31"}
@@ -17,7 +22,7 @@ LEVELS = {
     "TRACE": ("purple", "TRACE"), "DEBUG": ("blue", "DEBUG"), "INFO": ("green", " INFO"), "WARN": ("warn", " WARN"),
     "ERROR": ("red", "ERROR"),
 }
-# The kinds of rows, each by its label. An event has none.
+# The kinds of rows, each as its label. An event has no label.
 PRE_OPEN, POST_CLOSE, EVENT = "pre_open: ", "post_close: ", ""
 OPEN, OPEN_VERBOSE, RETRACE, RETRACE_VERBOSE = "open: ", "open(v): ", "retrace: ", "retrace(v): "
 CLOSE, CLOSE_VERBOSE = "close: ", "close(v): "
@@ -30,21 +35,22 @@ Context = collections.namedtuple("Context", "current thread thread_name mono wal
 
 
 class Unspelled(Exception):
-    """A line that is no value, or a value that is not what it must be."""
+    """A line that isn't a JSON object, or a value with an invalid type or range."""
 
 
 class Refused(Exception):
-    """A call that is refused, with the text of the cause."""
+    """A refused call, with the words of the cause."""
 
 
 class Unsure(Exception):
-    """A row so wide that only the machine's memory decides."""
+    """A row so wide that the result depends on the machine's memory."""
 
 
 # ---- values
 
 class Float:
-    """A number that is not whole within 64 bits. One that is past the range of a float is none."""
+    """A number that isn't an integer of 64 bits. A number beyond the range of a float is
+    invalid."""
 
     def __init__(self, digits):
         if abs(float(digits)) == float("inf"):
@@ -56,7 +62,8 @@ class Members(list):
 
 
 def whole(digits):
-    """The whole number that these digits are, or a float: of more than 64 bits, and minus zero, are floats."""
+    """Returns the integer with these digits. Returns a float for minus zero and for an integer that
+    doesn't fit in 64 bits."""
     number = int(digits) if len(digits) < 25 else MOST + 1
     return number if -2**63 <= number <= MOST and digits != "-0" else Float(digits)
 
@@ -66,7 +73,7 @@ def no_constant(word):
 
 
 def depth(value):
-    """How deep a value is nested, without recursion."""
+    """Returns how deep a value is nested. Doesn't recurse."""
     deepest, left = 0, [(value, 1)]
     while left:
         value, level = left.pop()
@@ -77,7 +84,8 @@ def depth(value):
 
 
 def settled(value):
-    """The value with each object as what its last members of each key say."""
+    """Returns the value with each object as a dict. If a key is repeated, its last member
+    counts."""
     if isinstance(value, Members):
         return {key: settled(it) for key, it in dict(value).items()}
     if isinstance(value, list):
@@ -86,7 +94,7 @@ def settled(value):
 
 
 def read_object(line):
-    """The object that a line is."""
+    """Returns the object in a line."""
     try:
         text = line.decode()
         value = json.loads(text, object_pairs_hook=Members, parse_float=Float, parse_int=whole, parse_constant=no_constant)
@@ -100,7 +108,7 @@ def read_object(line):
 
 
 def strings(value):
-    """All strings in a value, joined."""
+    """Returns all strings in a value, joined."""
     found, left = [], [value]
     while left:
         value = left.pop()
@@ -120,7 +128,8 @@ def has_float(value):
 
 
 def value_at(value, key, kind, otherwise, least=0, most=MOST):
-    """The value of a key, of this type and within these bounds; or the other one where the key is absent."""
+    """Returns the value of a key. It must have this type and be within these bounds. Returns
+    `otherwise` if the key is absent or its value is null."""
     found = value.get(key)
     if found is None:
         return otherwise
@@ -137,7 +146,7 @@ def needed(value, key, kind, least=0, most=MOST):
 
 
 def only(value, keys):
-    """Refuses an object with a key past these."""
+    """Raises `Unspelled` if the object has another key than these, unless its value is null."""
     if any(found is not None and key not in keys for key, found in value.items()):
         raise Unspelled("unknown key")
 
@@ -188,7 +197,7 @@ class Utc(Uptime):
 
 
 def civil(wall, offset):
-    """The date and the time of a moment at an offset."""
+    """Returns the date and the time of a moment at an offset."""
     seconds, nanos = divmod(wall, 10**9)
     days, second = divmod(seconds + offset, 86400)
     date = datetime.date(1970, 1, 1) + datetime.timedelta(days=days)
@@ -220,7 +229,7 @@ def timer_of(value):
 
 
 class Settings:
-    """What the object of line 1 sets."""
+    """The settings in line 1."""
 
     def __init__(self, value):
         only(value, ("indent_amount", "wraparound", "timer", *FLAGS))
@@ -236,7 +245,7 @@ class Settings:
 # ---- calls
 
 class Call:
-    """What the object of a further line tells."""
+    """The call in a line after the first."""
 
     def __init__(self, value):
         if has_float(value):
@@ -260,7 +269,7 @@ class Call:
         self.fields = fields_of(value) if self.kind in ("new", "event", "record") else []
 
     def parent_of(self, parent):
-        """The id of the parent, or None at the root."""
+        """Returns the parent's id, or None for a root."""
         if parent in (None, "current"):
             return self.context.current
         if parent == "root":
@@ -295,13 +304,14 @@ def event_fields(fields):
 
 
 def row_lines(block, is_lined):
-    """The lines of a block. With lines one line end is put after it first."""
+    """Returns the lines of a block. If `is_lined`, first appends a line end to the block."""
     *ended, last = (block + "\n" if is_lined else block).split("\n")
     return [it[:-1] if it.endswith("\r") else it for it in ended] + ([last] if last else [])
 
 
 def branch(kind, amount):
-    """What stands before the text on the first line of a row that is not at the left edge."""
+    """Returns what is drawn before the text in the first line of a row that isn't at the left
+    edge."""
     half = amount // 2
     left, right = ("┌", "┘") if kind in CLOSING or kind == POST_CLOSE else ("└", "┐")
     if kind == EVENT:
@@ -314,12 +324,12 @@ def branch(kind, amount):
 
 
 def shift(kind):
-    """How many columns a later line stands further right."""
+    """Returns by how many columns a row's later lines are shifted right."""
     return 2 if kind in OPENING else 1 if kind in CLOSING else 0
 
 
 def lined(kind, used, amount, lines):
-    """The picture of a row with lines, without prefix: its lines."""
+    """Returns the lines of a row, drawn as with `indent_lines`, without prefix."""
     width = used * amount
     if width == 0:
         corner = "" if used else "┐" if kind in OPENING else "┘" if kind in CLOSING else ""
@@ -330,7 +340,8 @@ def lined(kind, used, amount, lines):
 
 
 def is_above(kind):
-    """Whether a row shows a parent again, which moves it one level."""
+    """Returns whether a row shows a parent again. With `indent_lines` it is drawn one level
+    deeper."""
     return kind in (PRE_OPEN, POST_CLOSE)
 
 
@@ -344,7 +355,7 @@ class Span:
 
 
 class Tree:
-    """The live spans with a layer that draws them."""
+    """The live spans and the layer that draws them."""
 
     def __init__(self, settings):
         self.settings, self.spans, self.next, self.last = settings, {}, 1, None
@@ -353,7 +364,7 @@ class Tree:
         return self.spans[span].path if span in self.spans else ()
 
     def take(self, call):
-        """Takes a call, and returns what it draws."""
+        """Makes a call. Returns what it draws."""
         if call.kind != "event" and call.kind != "record":
             self.check_held(call)
         rows = getattr(self, f"take_{call.kind}")(call)
@@ -423,7 +434,8 @@ class Tree:
         return rows
 
     def retrace_to(self, span):
-        """The rows of a retrace. The span is the last one from then on, and all that is shown counts as printed."""
+        """Returns the rows of a retrace. Makes `span` the last span, and marks all spans in the
+        rows as printed."""
         before, path = self.path(self.last), self.path(span)
         shared = 0
         while shared < min(len(before), len(path)) and before[shared] == path[shared]:
@@ -470,12 +482,12 @@ class Tree:
         return f"{number}:{context.thread_name}" if settings.thread_ids else context.thread_name
 
     def used(self, row):
-        """The level that is drawn."""
+        """Returns the level at which a row is drawn."""
         wrapped = row.level % self.settings.wraparound
         return wrapped + (1 if self.settings.indent_lines and is_above(row.kind) else 0)
 
     def draw(self, rows, context):
-        # The row of an event is looked at before all others, and again in its turn.
+        # The row of an event is checked before all others, and again in its turn.
         own = [row for row in rows if row.kind == EVENT and self.used(row) * self.settings.amount > MOST]
         for row in own + rows:
             width = self.used(row) * self.settings.amount
@@ -487,7 +499,7 @@ class Tree:
         return "".join(f"{prefix}{line}\n" for row in rows for line in self.picture(row))
 
     def picture(self, row):
-        """The lines of a row, with its wrap mark, without prefix."""
+        """Returns the lines of a row, with its wrap mark and without prefix."""
         settings = self.settings
         lines = row_lines(row.block, settings.indent_lines)
         if not settings.indent_lines:
@@ -505,13 +517,14 @@ class Tree:
 # ---- runs
 
 class Run:
-    """A run of the program, line by line: what is drawn of each line, and the fault with which it ended."""
+    """A run of the program, line by line: what each line draws, and the fault that ended the
+    run."""
 
     def __init__(self):
         self.tree, self.line, self.fault, self.drawn = None, 0, None, []
 
     def take(self, line):
-        """Takes a line without its line end. Returns whether the run goes on."""
+        """Runs a line, which is without its line end. Returns whether the run continues."""
         self.line += 1
         try:
             self.drawn.append(self.judge(line).encode())
@@ -528,7 +541,7 @@ class Run:
         return self.tree.take(Call(read_object(line))) if line.strip(b" \t\r") else ""
 
     def ended(self):
-        """What is written, what is told on standard error, and the status, where the input ends here."""
+        """Returns the output, the standard error and the status if the input ends here."""
         if self.line == 0:
             self.line, self.fault = 1, "settings"
         told = f"line {self.line}: {self.fault}\n" if self.fault else ""
@@ -536,13 +549,13 @@ class Run:
 
 
 def lines_of(source):
-    """The lines of an input, without their line ends."""
+    """Returns the lines of an input, without their line ends."""
     lines = source.split(b"\n")
     return lines[:-1] if lines[-1] == b"" else lines
 
 
 def run_of(source):
-    """The run of an input, up to its end or its fault."""
+    """Runs an input up to its end or its first fault."""
     run = Run()
     for line in lines_of(source):
         if not run.take(line):
@@ -560,7 +573,7 @@ def bytes_of(path, otherwise=b""):
 
 
 def agrees(path):
-    """Whether the model says what stands beside this input."""
+    """Returns whether the model agrees with the files next to this input."""
     name = path.removesuffix(".in")
     out, err, status = run_of(bytes_of(path)).ended()
     wanted = bytes_of(f"{name}.out"), bytes_of(f"{name}.err"), int(bytes_of(f"{name}.status", b"0"))

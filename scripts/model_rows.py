@@ -1,15 +1,16 @@
 #!/usr/bin/env python3
-"""Says what the reading program must write for a drawing: a plain evaluation of 'Rows and their reader' and 'The reading program' in
-docs/FORMATS.md, written from that page alone.
+"""Computes what the reading program must write for a drawing. It was written only from 'Rows and
+their reader' and 'The reading program' in docs/FORMATS.md.
 
-usage: model_rows.py [AMOUNT] < DRAWING      writes the lines of JSON and the fault's line, and ends with the status, as the program does
+usage: model_rows.py [AMOUNT] < DRAWING      writes the lines of JSON and the fault line, and exits
+                                             with the status, as the program does
 """
 import collections, json, sys
 
 import model
 
 TextRow = collections.namedtuple("TextRow", "shape verbose level lines")
-# What the drawing of a row is called in the model of the layer.
+# The kind of row in model.py for each shape.
 KINDS = {
     ("PreOpen", None): model.PRE_OPEN, ("OpenRoot", None): model.OPEN, ("Open", False): model.OPEN, ("Open", True): model.OPEN_VERBOSE,
     ("CloseRoot", None): model.CLOSE, ("Close", False): model.CLOSE, ("Close", True): model.CLOSE_VERBOSE,
@@ -24,7 +25,7 @@ def used(row):
 
 
 def row_text(row, amount):
-    """The drawing of a row."""
+    """Returns the drawing of a row."""
     return "".join(f"{line}\n" for line in model.lined(KINDS[row.shape, row.verbose], used(row), amount, row.lines))
 
 
@@ -33,7 +34,7 @@ def rows_text(rows, amount):
 
 
 def edge_row(first, spaces, rest, amount):
-    """The row of a line that opens or closes, or None."""
+    """Returns the row of a line that opens or closes a span, or None."""
     corner, plain, shown = EDGES[first]
     text = rest.lstrip("─")
     dashes, half = len(rest) - len(text), amount // 2
@@ -49,15 +50,15 @@ def edge_row(first, spaces, rest, amount):
 
 
 def is_later_line(line, row, amount):
-    """Whether a line that begins with a bar goes on with the row before."""
+    """Returns whether a line that starts with a bar continues the row before it."""
     width = used(row) * amount if row else 0
     shift = model.shift(KINDS[row.shape, row.verbose]) if row else 0
     return width > 0 and line.startswith(" " * (width - amount + shift) + "│" + " " * amount)
 
 
 def read_line(line, row, amount):
-    """The row that a line is, after this row. It is that row with one line more where the line goes on with it, and None where the line
-    is no line of a row."""
+    """Returns the row that a line starts. If the line continues `row`, returns `row` with the line
+    appended. Returns None if the line is invalid."""
     rest = line.lstrip(" ")
     first, spaces = rest[:1], len(line) - len(rest)
     if first in ROOTS:
@@ -73,7 +74,8 @@ def read_line(line, row, amount):
 
 
 def read_rows(source, amount):
-    """The rows of a drawing up to its end or its first bad line, and the number of that line, or None."""
+    """Returns the rows up to a drawing's end or its first bad line, and the number of that line or
+    None."""
     lines = source.split(b"\n")
     rows = []
     for number, line in enumerate(lines, 1):
@@ -92,7 +94,7 @@ def read_rows(source, amount):
 
 
 def rows_json(rows):
-    """The lines of JSON of rows, the places of each event's ancestors with them."""
+    """Returns rows as lines of JSON. An event has the numbers of its ancestors' rows."""
     latest, text = {}, ""
     for place, row in enumerate(rows):
         value = {"shape": row.shape, "verbose": row.verbose, "level": row.level, "lines": row.lines}
@@ -107,13 +109,13 @@ def rows_json(rows):
 
 
 def rows_of(text):
-    """The rows that lines of JSON name, and the ancestors that stand in them."""
+    """Returns the rows in lines of JSON, and the ancestors of each row."""
     values = [json.loads(it) for it in text.split("\n")[:-1]]
     return [TextRow(it["shape"], it.get("verbose"), it["level"], it["lines"]) for it in values], [it.get("ancestors") for it in values]
 
 
 def ended(source, amount):
-    """What is written, what is told on standard error, and the status."""
+    """Returns the output, the standard error and the status."""
     rows, bad = read_rows(source, amount)
     told = f"line {bad}: not a row\n" if bad else ""
     return rows_json(rows).encode(), told.encode(), 1 if bad else 0

@@ -1,5 +1,5 @@
 #!/bin/sh
-# Says of each tool that is missing what to do, and ends with status 2 if one is: need.sh NAME..
+# Says for each missing tool what to do, and ends with status 2 if one is missing: need.sh NAME..
 # A NAME is a command, `rt` (with the Python that runs it), `python`, `cc` (the compiler that CC
 # names), or `library` (the proved library for C in bin/). It needs no command itself.
 missing=0

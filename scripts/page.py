@@ -1,11 +1,11 @@
 #!/usr/bin/env python3
-"""Compares the pages and the JSON lines of ttree with what docs/PAGE.md says: page.py TTREE DRAWING_PROGRAM
+"""Compares the pages and the JSON lines of ttree with docs/PAGE.md: page.py TTREE DRAWING_PROGRAM
 
-For each input, the page's bytes before and after the data must be those of viewer/build.py. Each line
-between must be the one that viewer/pages.py writes for the values in it, with no `<` and no control
-character. Each line of --json must have the same values under its keys. Then the lines are made calls
-again: the first program must draw of them what ttree draws of the input. The last line is
-'program ttree's pages: N of M runs ended as they must'."""
+For each input, the page's bytes before and after the data must be those of viewer/build.py. Each
+line of the data must be what viewer/pages.py writes for its values, without `<` and control
+characters. Each line of --json must have the same values under its keys. Then the lines are
+converted back to calls. The first program must draw for them what ttree draws for the input. The
+last line is 'program ttree's pages: N of M runs ended as they must'."""
 
 import json
 import pathlib
@@ -38,7 +38,7 @@ def pairs_of(strings):
 
 
 def line_of(values):
-    """The line of these values, by the writer of the tests."""
+    """Returns the page's line for these values, as viewer/pages.py writes it."""
     kind, *rest = values
     if kind == 0:
         return pages.about(rest[1])
@@ -57,7 +57,7 @@ def line_of(values):
 
 
 def object_of(values):
-    """The pairs of keys and values of the object that --json writes for a line of the page."""
+    """Returns the keys and values of the object that --json writes for a line of the page."""
     kind, *rest = values
     pairs = [("step", KINDS[kind])]
     if kind == 0:
@@ -76,7 +76,7 @@ def object_of(values):
 
 
 def calls_of(lines):
-    """The lines of settings and calls that draw what the lines of a page say."""
+    """Yields the settings and calls that draw the lines of a page."""
     yield SETTINGS
     for kind, *rest in lines:
         if kind in (0, 5):
@@ -110,7 +110,7 @@ class Runs:
             print(f"program ttree's pages: {name}: FAILED {str(what)[:500]}")
 
     def try_input(self, name, path, *options):
-        """Tries one input."""
+        """Checks the page, the JSON lines and the calls of an input."""
         status, drawing, said = run(self.ttree, *options, str(path))
         page_status, page, page_said = run(self.ttree, "--html", *options, str(path))
         self.check(f"{name}: status and messages are those of the drawing", (page_status, page_said) == (status, said), (status, page_status, said, page_said))

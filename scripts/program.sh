@@ -1,12 +1,13 @@
 #!/bin/bash
-# Runs the built programs as their users do: the one that draws over each worked case, and over inputs and outputs that are missing,
-# full or gone; then the one that reads. It prints how many runs ended as they must, names each other run, and ends with status 1 if
-# there is one.
+# Runs the built programs as their users do. The program that draws runs on each worked case, and
+# with inputs and outputs that are missing, full or closed. Then the program that reads runs. Names
+# each run that failed and prints how many runs ended as they must. The status is 1 if one failed.
 #
 # usage: program.sh [--checked] DRAWING_PROGRAM READING_PROGRAM
 #
-# --checked says that the programs were compiled with checks of memory. They reserve terabytes of addresses, so the run with little
-# memory is left out, and they are a hundred times as slow, so long inputs are shorter.
+# --checked says that the programs were compiled with checks of memory. They reserve terabytes of
+# addresses, so the run with little memory is left out. They are a hundred times as slow, so long
+# inputs are shorter.
 set -u
 is_checked=
 long_lines=50000
@@ -29,13 +30,13 @@ trap 'rm -rf "$room"' EXIT
 runs=0
 right=0
 
-# Runs the program on the standard input, output and error of this call, and keeps its status.
+# Runs the program with this call's standard input, output and error, and keeps its status.
 run() {
     timeout 120 "$program" "$@"
     status=$?
 }
 
-# Counts the run of this name. What is in `out` and `err` must be these files' bytes, and the status this one.
+# Counts the run with this name. `out` and `err` must equal these files, and the status this one.
 count() {
     runs=$((runs + 1))
     if cmp -s "$2" "$room/out" && cmp -s "$3" "$room/err" && [ "$4" = "$status" ]; then
@@ -45,22 +46,22 @@ count() {
     fi
 }
 
-# The file, or that one where it isn't there.
+# Prints the first path if that file exists, otherwise the second.
 file_or() {
     if [ -e "$1" ]; then echo "$1"; else echo "$2"; fi
 }
 
-# The text of the file, or this one where it isn't there.
+# Prints the file's contents if it exists, otherwise this string.
 text_or() {
     if [ -e "$1" ]; then cat "$1"; else echo "$2"; fi
 }
 
-# A file of these lines.
+# Writes a file with these lines.
 lines() {
     printf '%s\n' "${@:2}" > "$room/$1"
 }
 
-# The lines of a file, each in two pieces.
+# Prints the lines of a file, each in two pieces.
 pieces() {
     while IFS= read -r line; do
         printf '%s' "${line:0:20}"
@@ -69,7 +70,7 @@ pieces() {
     done < "$1"
 }
 
-# Which line a long output is refused at isn't promised.
+# It isn't promised at which line a long output can't be written.
 hide_line() {
     sed -i 's/^line [0-9][0-9]*: /line N: /' "$room/err"
 }
@@ -119,7 +120,8 @@ run_inputs() {
     count "with arguments" "$tree.out" "$room/none" 0
 }
 
-# Two lines and a beginning of the next one, and then nothing more until what they draw is out, which it must be within ten seconds.
+# Prints two lines and the first part of the next one. Prints the rest when the drawing of the two
+# lines has been written, or after ten seconds.
 waiting() {
     printf '%s\n' '{"indent_lines":true}' '{"call":"new","name":"a"}'
     printf '{"call":"event",'
@@ -131,7 +133,7 @@ waiting() {
     printf '%s\n' '"level":"INFO","fields":[["message","x"]],"current":1}'
 }
 
-# What can be drawn is out before the program waits for more.
+# The program writes everything that it can draw before it waits for more input.
 run_live() {
     cp "$room/none" "$room/out"
     lines live '┐a ' '├─ INFO x'
@@ -141,7 +143,8 @@ run_live() {
     count "while its input waits" "$room/opened" "$room/none" 0
 }
 
-# A first line padded with spaces, a long name, and a value of many parts under a key that no call has, without and with a float.
+# Runs a first line padded with spaces, a long name, and a long array under an unknown key, without
+# and with a float.
 run_large() {
     { printf '{"indent_lines":'; head -c "$large_parts" /dev/zero | tr '\0' ' '; echo 'true}'
       printf '{"call":"new","name":"'; head -c "$large_bytes" /dev/zero | tr '\0' n; echo '"}'
@@ -149,14 +152,14 @@ run_large() {
     { printf '┐'; head -c "$large_bytes" /dev/zero | tr '\0' n; printf ' \n┘\n'; } > "$room/large"
     run < "$room/large.in" > "$room/out" 2> "$room/err"
     count "on long lines" "$room/large" "$room/none" 0
-    # A float among these values makes the line no call.
+    # A float in the array makes the line invalid.
     sed -i '3s/1]}$/1.5]}/' "$room/large.in"
     head -n 1 "$room/large" > "$room/large_opened"
     run < "$room/large.in" > "$room/out" 2> "$room/err"
     count "on a long line with a float" "$room/large_opened" "$room/no_call" 1
 }
 
-# A line that is longer than the memory that the program may take.
+# Runs a line that is longer than the memory that the program may use.
 run_memory() {
     [ -z "$is_checked" ] || return 0
     status=$(ulimit -v 50000; run < "$room/wide.in" > "$room/out" 2> "$room/err"; echo "$status")
@@ -178,7 +181,7 @@ run_outputs() {
     count "on a full device, with nothing to write" "$room/none" "$room/settings" 2
 }
 
-# A pipe without a reader: its one reader is closed before the run.
+# Runs with a pipe whose only reader was closed before the run, and with one whose reader stops.
 run_pipes() {
     mkfifo "$room/pipe"
     exec 3<> "$room/pipe" 4> "$room/pipe" 3>&-
@@ -202,7 +205,7 @@ run_quiet() {
     esac
 }
 
-# A fault of standard error changes neither the output nor the status.
+# If standard error can't be written, the output and the status don't change.
 run_errors() {
     cp "$room/none" "$room/err"
     for kind in full closed; do
@@ -215,7 +218,7 @@ run_errors() {
     done
 }
 
-# The program that reads: a drawing, and the faults that it tells.
+# Runs the program that reads: on a drawing, and with the faults that it reports.
 run_reader() {
     program=$reader
     lines rows \
@@ -241,7 +244,8 @@ run_reader() {
     count "that reads, with standard output closed" "$room/none" "$room/end_writer" 1
 }
 
-# The arguments of the program that reads. What it tells of them isn't promised: an x stands in place of it.
+# Runs the program that reads with arguments. What it says about them isn't promised, so an x
+# replaces that.
 run_arguments() {
     lines rows_4 '{"shape":"Open","verbose":false,"level":1,"lines":["b "]}'
     run --amount 4 < <(echo '└───┐b ') > "$room/out" 2> "$room/err"

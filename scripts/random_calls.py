@@ -1,4 +1,5 @@
-"""Random settings, calls and changes of lines, each from a random generator that is handed in, so that a seed gives them again."""
+"""Random settings, calls and changes of lines. The caller passes the random generator, so the same
+seed gives the same results."""
 import json, re
 
 WORDS = ("a", "span", "conn", "order 7", "message", "log.file", "log.", "logs", "key", "value", "x=1", "INFO", "retrace: ")
@@ -13,7 +14,7 @@ AMOUNTS = (0, 1, 2, 2, 2, 3, 4, 4, 5, 8, 9, 63, 64, 300)
 WIDE = (2**62, 2**63 - 1, 2**63, 2**64 - 1)
 NANOS = (0, 1, 4, 5, 6, 15, 25, 994, 995, 10**6 - 1, 10**6, 1005000, 10**9 - 1, 10**9, 10**10, 6 * 10**10 - 1, 6 * 10**10, 10**13, 10**18)
 WALLS = (0, -1, 1, 2**63 - 1, -2**63, 951827696050000000, 951782399999999999, 951782400000000000, -10**9, 10**9 - 1)
-# What is put in the place of a token.
+# What replaces a token.
 NUMBERS = (
     b"0", b"1", b"2", b"-1", b"-0", b"01", b"1.0", b"1.", b".5", b"+1", b"1e3", b"1E-2", b"1e999", b"18446744073709551615",
     b"18446744073709551616", b"9223372036854775807", b"9223372036854775808", b"-9223372036854775808", b"-9223372036854775809",
@@ -40,14 +41,14 @@ BYTES = b'\0\t\n\r "\\/{}[],:-+.0159aeEfnrtux\x7f\x80\xbf\xc0\xc3\xe2\xed\xf4\xf
 
 
 def size(rng, most):
-    """A length: often small, else beside a power of two."""
+    """Returns a length that is often small and otherwise next to a power of two."""
     if rng.random() < 0.7:
         return rng.randrange(min(most, 70) + 1)
     return min(most, 2**rng.randrange(most.bit_length() + 1) + rng.choice((-1, 0, 1)))
 
 
 def text(rng, most=200):
-    """A text: mostly a word, else pieces of many kinds, seldom a long one."""
+    """Returns a string: mostly a word, sometimes pieces of many kinds, and rarely a long one."""
     kind = rng.random()
     if kind < 0.7:
         return rng.choice(WORDS)
@@ -74,7 +75,7 @@ def timer(rng):
 
 
 def settings(rng, is_wide=True):
-    """A settings object. Wide amounts are those of which a row takes more memory than there is."""
+    """Returns a settings object. With a wide amount, a row takes more memory than there is."""
     share = rng.choice((0.0, 0.2, 0.5, 0.8))
     value = {name: True for name in FLAGS if rng.random() < share}
     if rng.random() < 0.75:
@@ -91,7 +92,7 @@ def settings(rng, is_wide=True):
 
 
 class Calls:
-    """The calls of a run, each made for the spans that live in its tree."""
+    """Makes the calls of a run, each for the spans that are live in its tree."""
 
     def __init__(self, rng, tree):
         self.rng, self.tree = rng, tree
@@ -101,14 +102,14 @@ class Calls:
         self.is_odd = rng.random() < 0.3
 
     def any_id(self):
-        """An id that is mostly of a live span."""
+        """Returns an id, mostly that of a live span."""
         live = list(self.tree.spans)
         if self.is_odd and self.rng.random() < 0.1 or not live:
             return self.rng.choice((0, 1, self.tree.next, self.tree.next + 1, 2**64 - 1))
         return live[-1] if self.rng.random() < self.depth else self.rng.choice(live)
 
     def held(self):
-        """A live span with a handle, or None."""
+        """Returns a live span with a handle, or None."""
         held = [it for it, span in self.tree.spans.items() if span.handles]
         return self.rng.choice(held) if held else None
 
@@ -152,7 +153,7 @@ class Calls:
         return self.with_texts(value)
 
     def next(self):
-        """The next call that is accepted, as an object."""
+        """Returns the next call, which is accepted, as an object."""
         rng, live = self.rng, len(self.tree.spans)
         is_crowd = live >= self.crowd
         kind = rng.choice(("event", "close", "close") if is_crowd else ("new", "event", "event", "event", "record", "clone", "close"))
@@ -168,14 +169,15 @@ class Calls:
         return self.context(value)
 
     def refused(self):
-        """A call that is refused, since no such span lives or none has a handle for it."""
+        """Returns a call for a span that is most likely not live or has no handle, so that the call
+        is refused."""
         call = self.rng.choice(("clone", "close", "new"))
         span = self.rng.choice((0, self.tree.next, 2**64 - 1, max(1, self.tree.next - 1)))
         return self.context({"call": call, "id": span} if call != "new" else {"call": call, "name": "n", "parent": span})
 
 
 def line(rng, value):
-    """An object as a line, in one of the ways in which it can be written."""
+    """Returns an object as a line, with random spaces, escapes and order of keys."""
     if rng.random() < 0.1:
         members = list(value.items())
         rng.shuffle(members)
@@ -206,7 +208,7 @@ def change_bytes(rng, source):
 
 
 def change_tokens(rng, source):
-    """Puts a token in the place of another, takes one away, writes one twice, or makes two change places."""
+    """Replaces, removes or repeats a token, appends another one to it, or swaps two tokens."""
     tokens = TOKEN.findall(source) or [b""]
     at, other = rng.randrange(len(tokens)), rng.randrange(len(tokens))
     kind = rng.randrange(6)
@@ -222,14 +224,14 @@ def change_tokens(rng, source):
 
 
 def change_members(rng, source):
-    """Puts a member more into an object, maybe one of a key that is there."""
+    """Adds a member to an object. The object may have its key already."""
     member = b'"' + rng.choice(KEYS) + b'":' + rng.choice(TOKENS)
     at = source.rfind(b"}") if rng.random() < 0.7 else -1
     return source[:at] + b"," + member + source[at:] if at > 0 else b"{" + member + b"," + source.lstrip(b" {")
 
 
 def change_lines(rng, source):
-    """A blank line, the line twice, in two, or with something around it."""
+    """Returns a blank line, or the line repeated, split, cut, or with something around it."""
     half = len(source) // 2
     return rng.choice((
         b"", b" \t\r", b"\r", source + b"\n" + source, source[:half] + b"\n" + source[half:], source + b"\r", b" \t" + source,
@@ -237,5 +239,6 @@ def change_lines(rng, source):
 
 
 def changed(rng, source):
-    """A line changed by bytes, by tokens, by members or as a whole. It may be several lines, or none of a call."""
+    """Returns a line with changed bytes, tokens or members, or changed as a whole. The result may
+    be several lines, or no valid line."""
     return rng.choice((change_bytes, change_tokens, change_members, change_members, change_lines))(rng, source)

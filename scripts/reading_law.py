@@ -2,9 +2,10 @@
 
 usage: reading_law.py PROGRAM [RUNS [CALLS [SEED]]]
 
-Each run is an input of random calls under settings that retrace. The program draws it, and a reader that knows nothing
-of the layer goes through the text: for each event, the last open row of each level above it has to be the one of the
-span that the event's path has there. The path stands in the event's own message, as this script kept it.
+Each run is an input of random calls with retracing on. The program draws it, and a reader that
+knows nothing of the layer goes through the text. For each event, the last open row of each lower
+level must be that of the event's ancestor at that level. The event's message has the path, which
+this script computed.
 """
 import json
 import random
@@ -13,7 +14,7 @@ import sys
 
 
 class Spans:
-    """The live spans: parent, name and handles of each."""
+    """The live spans, each with its parent, name and handles."""
 
     def __init__(self):
         self.live = {}
@@ -81,7 +82,7 @@ def calls(rng, spans, count):
 
 
 def opened(line, amount):
-    """The level and the name of an open row, or None."""
+    """Returns the level and the name of an open row, or None for another line."""
     half = amount // 2
     text = line.lstrip(" ")
     spaces = len(line) - len(text)
@@ -99,7 +100,8 @@ def opened(line, amount):
 
 
 def check(text, amount):
-    """The first event whose ancestors aren't the last open rows above it, or None; and how many events there were."""
+    """Returns the first event whose ancestors aren't the last open rows before it, or None, and the
+    number of events up to there."""
     latest, events = {}, 0
     for line in text.split("\n"):
         row = opened(line, amount)

@@ -1,6 +1,7 @@
-/* Preloaded into the program, this refuses the call of REFUSE_KIND (malloc, read or write) with the number REFUSE_AT, counted
- * from 1: from the program's start, or from its first write to standard output that begins with REFUSE_FROM. The file REFUSE_TOLD is
- * there from then on. How many blocks of memory are held when the program ends goes to the file REFUSE_HELD. */
+/* Is preloaded into a program. Makes call number REFUSE_AT (from 1) of the kind REFUSE_KIND fail:
+ * malloc (or realloc), read, or write (to standard output). If REFUSE_FROM is set, counting starts
+ * at the first write to standard output that begins with it. Creates the file REFUSE_TOLD when the
+ * call fails. At the end writes the number of blocks that are held to the file REFUSE_HELD. */
 #define _GNU_SOURCE
 #include <dlfcn.h>
 #include <errno.h>
@@ -44,7 +45,7 @@ void *realloc(void *old, size_t size)
     return block;
 }
 
-/* Looking up the next `free` may free something itself, which is then left. */
+/* dlsym may call `free` itself. Such a block isn't freed. */
 void free(void *block)
 {
     static void (*real)(void *);
@@ -57,7 +58,7 @@ void free(void *block)
     real(block);
 }
 
-/* Takes no memory, which would count. */
+/* Doesn't allocate, since that would count. */
 __attribute__((destructor)) static void tell(void)
 {
     const char *path = getenv("REFUSE_HELD");

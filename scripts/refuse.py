@@ -1,11 +1,16 @@
 #!/usr/bin/env python3
-"""Refuses the program each allocation, each read and each write in turn, and looks at the status, at what it tells and at what it leaves.
+"""Makes each allocation, each read and each write of a program fail in turn, and checks the status,
+the fault line and the output.
 
-After a refusal the program must end with status 1, name the line and the cause, and have written what it writes of the lines
-before that one: nothing lost, nothing of a call that was not accepted. After a refused write a beginning of the text is out, and the line
-that is told has a text that ends no earlier; where the input has a fault of its own, that may be told, with its status. A refused read or
-write that changes nothing is wrong too; an allocation may be one that can be done without. The inputs may be of the program that draws, of
-the one that reads, or of ttree, of which a beginning of the whole text must be out. The last line is
+The program must then end with status 1 and report the line and the cause. Its output must be that
+of the lines before the reported one: nothing is lost, and nothing of a refused call is drawn. (The
+program that reads may also lack the last row.) After a failed write the output may be truncated. It
+must not end behind the text of the reported line. If the input has a fault, the program may then
+report that fault instead, with its status. The output of ttree only has to be a prefix of the whole
+text.
+
+After a failed read or write the run must end differently. After a failed allocation it may end as
+without a failure, since the program may do without that memory. The last line is
 'refuse: N of M runs ended as they must'.
 
 usage: refuse.py PROGRAM SHIM INPUT..
@@ -17,12 +22,12 @@ import sys
 import tempfile
 
 WORDS = {"malloc": "memory", "read": "read", "write": "writer"}
-# what ttree reports in their place
+# What ttree reports instead.
 SENTENCES = {"malloc": "out of memory", "read": "the input can't be read", "write": "the output can't be written"}
 
 
 class Refusals:
-    """A program under refusals, on one input after another."""
+    """Runs a program with failing calls, on one input after another."""
 
     def __init__(self, program, shim, room):
         self.program, self.shim, self.told = program, shim, f"{room}/told"
@@ -30,7 +35,8 @@ class Refusals:
         self.runs = self.wrong = 0
 
     def run(self, lines, kind=None, at=0):
-        """The status, the text and the fault line of a run, where this call of this kind is refused, and whether it was."""
+        """Runs the program so that call number `at` of this kind fails. Returns the status, the
+        output and the fault line, and whether the call was reached."""
         env = dict(os.environ)
         if kind:
             env.update(LD_PRELOAD=self.shim, REFUSE_KIND=kind, REFUSE_AT=str(at), REFUSE_TOLD=self.told)
@@ -41,11 +47,12 @@ class Refusals:
         return (done.returncode, done.stdout, done.stderr.decode()), was_refused
 
     def before(self, lines, line):
-        """What the program writes of the lines before this one."""
+        """Returns what the program writes for the lines before this one."""
         return self.run(lines[:line - 1])[0][1] if line > 1 else b""
 
     def is_right(self, lines, kind, whole, ended):
-        """Whether a run that was refused something told it, with its status, and left what it must."""
+        """Returns whether a run with a failed call reported it, and has the right status and
+        output."""
         status, text, told = ended
         if kind == "malloc" and ended == whole:
             return True
@@ -65,12 +72,14 @@ class Refusals:
         return self.is_before(text, self.before(lines, line))
 
     def is_before(self, text, wanted):
-        """Whether the text is that of the lines before. The program that reads may still hold the last row, which a line can go on."""
+        """Returns whether the output is that of the lines before. The program that reads may still
+        hold the last row, since the next line can continue it."""
         held = wanted[len(text):].count(b"\n")
         return wanted.startswith(text) and (held == 0 or (self.kind == "read" and held == 1))
 
     def refuse_all(self, name, lines, kind):
-        """Refuses one call after another until there is none left. Returns how many were refused, and how many went wrong."""
+        """Makes one call after another fail, until the run has no further call. Returns the number
+        of failed calls, and the number of runs that ended wrongly."""
         whole, at, wrong = self.run(lines)[0], 1, 0
         ended, was_refused = self.run(lines, kind, at)
         while was_refused:
@@ -82,7 +91,8 @@ class Refusals:
         return at - 1, wrong
 
     def take(self, path):
-        """Refuses the program each call on this input. An input of which nothing is drawn has no write."""
+        """Makes each call of the program on this input fail in turn. An input for which nothing is
+        drawn has no writes."""
         with open(path, "rb") as file:
             lines = file.readlines()
         for kind in WORDS:

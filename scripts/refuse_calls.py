@@ -1,10 +1,11 @@
 #!/usr/bin/env python3
-"""Refuses a program that makes calls each request for memory in turn, work by work.
+"""Makes each allocation of a program that calls the library fail in turn, work by work.
 
-The program (crates/tracing_tree_refusals) makes what a work needs, prints `begin NAME`, does the work, and prints how often memory was
-refused. It looks itself at what a refusal left, and asks once more; it ends with an error where that isn't as it must be. When it ends it
-must hold no more blocks of memory than without a refusal. The last line is 'N of M runs ended as they must', where each run in which a
-request was refused counts.
+The program (crates/tracing_tree_refusals) makes what a work needs, prints `begin NAME`, does the
+work, and prints how many allocations failed. After a failure the program itself checks what was
+left and tries again. It ends with an error if the result is wrong. At its end it must hold no more
+blocks of memory than without a failure. The last line is 'N of M runs ended as they must'. Each run
+with a failed allocation counts.
 
 usage: refuse_calls.py PROGRAM SHIM
 """
@@ -14,13 +15,13 @@ import subprocess
 import sys
 import tempfile
 
-# how many runs in a row without a refusal end a work
+# A work ends after this number of runs in a row without a failed allocation.
 QUIET = 3
 
 
 def run(program, shim, work, at=0):
-    """The status, the output and the error of a run of a work, in which the request of this number is refused, from 1, and how many blocks
-    it holds when it ends."""
+    """Runs a work so that allocation number `at` (from 1) fails. Returns its status, its output,
+    its standard error, and the number of blocks that it holds at its end."""
     with tempfile.NamedTemporaryFile("r", prefix="held-") as held:
         env = dict(os.environ, LD_PRELOAD=shim, REFUSE_KIND="malloc", REFUSE_AT=str(at), REFUSE_FROM="begin ", REFUSE_HELD=held.name)
         done = subprocess.run([program, work], stdin=subprocess.DEVNULL, capture_output=True, env=env, timeout=60, check=False)
@@ -28,13 +29,14 @@ def run(program, shim, work, at=0):
 
 
 def works_of(program):
-    """The names of all works, each of which has to end well without a refusal."""
+    """Returns the names of all works that end well without a failed allocation."""
     done = subprocess.run([program], stdin=subprocess.DEVNULL, capture_output=True, timeout=60, check=True)
     return re.findall(r"(?m)^end (\w+): 0 refused$", done.stdout.decode())
 
 
 def refuse_all(program, shim, work):
-    """How many requests of a work were refused, and what went wrong."""
+    """Makes each allocation of a work fail in turn. Returns how many failed, and what went
+    wrong."""
     refused, wrong, quiet, at = 0, [], 0, 0
     kept = run(program, shim, work)[3]
     while quiet < QUIET:

@@ -1,4 +1,5 @@
-"""Inputs in which one quantity of a call, of a line or of a run has a given size, under settings that are handed in."""
+"""Inputs in which one quantity of a call, a line or a run has a given size. The caller passes the
+settings."""
 import json
 
 
@@ -15,7 +16,7 @@ def close(span):
 
 
 def chain(size, first=1, above=None):
-    """`size` spans, each in the one before it."""
+    """Returns `size` spans, each in the one before it."""
     return [new(above if at == 0 else first + at - 1) for at in range(size)]
 
 
@@ -36,7 +37,7 @@ def live_spans(size):
 
 
 def children(size):
-    """A span that `size` children keep alive, which close in the order in which they were made."""
+    """Returns a span that `size` children keep alive. They close in the order of their creation."""
     return [new(), *([new(1)] * size), event(2 if size else 1), close(1), *(close(at) for at in range(2, size + 2)), event(1)]
 
 
@@ -45,7 +46,8 @@ def fields_of_a_call(size):
 
 
 def fields_recorded(size):
-    """Fields that come one by one, onto none, one or many, and all at once."""
+    """Returns records of one field each, for a span without fields and for one with a field, and a
+    record of all fields at once."""
     record = {"call": "record", "fields": fields(1)}
     return [new(), new(fields=fields(1)), *({**record, "id": at % 2 + 1} for at in range(size)),
             {"call": "record", "id": 1, "fields": fields(size)}, event(1), event(2), close(2), close(1)]
@@ -72,17 +74,17 @@ def handles(size):
 
 
 def branches(size):
-    """Two branches below one span, with events in turn."""
+    """Returns two branches below one span, with events in turn."""
     return [new(), *chain(size, 2, 1), *chain(size, size + 2, 1), event(size + 1), event(2 * size + 1), event(1), event(size + 1), event(),
             *(close(at) for at in range(2 * size + 1, 0, -1))]
 
 
 def turns(size):
-    """Two spans in turn, `size` times."""
+    """Returns events in two spans in turn, `size` times."""
     return [new(), new(), *([event(1), event(2)] * size), close(1), close(2)]
 
 
-# Each quantity, with the largest size for which a run takes a second at most.
+# The quantities, each with the largest size for which a run takes at most a second.
 QUANTITIES = {
     depth: 1025, closing_at_once: 1025, live_spans: 16385, children: 16385, fields_of_a_call: 16385, fields_recorded: 4097,
     bytes_of_texts: 2**20 + 1, lines_of_a_block: 16385, calls_of_a_run: 16385, handles: 16385, branches: 1025, turns: 4097,
@@ -90,7 +92,7 @@ QUANTITIES = {
 
 
 def sizes(most):
-    """The sizes that are tried: up to 70 each, and beside the powers of two."""
+    """Returns the sizes to try: all up to 70, and those next to the powers of two."""
     beside = (2**power + it for power in range(6, 21) for it in (-1, 0, 1))
     return sorted(it for it in {*range(71), *beside} if it <= most)
 
@@ -100,7 +102,8 @@ def lines(settings, calls):
 
 
 def of_lines(size):
-    """Runs in which the size is of a line, of the nesting of a value, of the amount or of the wraparound."""
+    """Yields runs in which a line, the nesting of a value, the amount or the wraparound has this
+    size."""
     pad, calls = b" " * size, depth(3)
     plain = lines({"indent_lines": True}, calls)
     yield [pad + it + pad for it in plain]

@@ -1,8 +1,8 @@
-/* Writes lines for the program: settings, and then calls in ROUNDS rounds: soak SETTINGS ROUNDS
+/* Writes lines for the program: settings, then calls in ROUNDS rounds: soak SETTINGS ROUNDS
  *
- * A round opens and closes the same spans each time, all of them, so each round draws the same text. Only the ids rise. It has a wave of
- * 100,000 roots at once, 20,000 children of one span, many chains in two branches, fields that grow, and long texts. On standard error
- * stands how many calls a round has. */
+ * Each round opens and closes the same spans, so each round draws the same text. Only the ids rise.
+ * A round has 100,000 roots at once, 20,000 children of one span, many chains in two branches,
+ * fields that grow, and long strings. Prints the number of calls in a round on standard error. */
 #define _GNU_SOURCE
 #include <stdio.h>
 #include <stdlib.h>
@@ -26,7 +26,7 @@ static void number(unsigned long value)
     fwrite_unlocked(digits + at, 1, 20 - at, stdout);
 }
 
-/* Ends a line that has its span in it. */
+/* Ends a call's line, with the span's id if it isn't 0. */
 static void ended(const char *key, unsigned long id)
 {
     if (id) {
@@ -60,7 +60,8 @@ static void closed(unsigned long id)
     ended(",\"id\":", id);
 }
 
-/* Roots that all live at once, with an event in each tenth, and close in the order in which they were opened. */
+/* Roots that are all live at once, with an event in every tenth. They close in the order of their
+ * creation. */
 static void roots(int count)
 {
     unsigned long first = next_id;
@@ -73,7 +74,8 @@ static void roots(int count)
         closed(first + at);
 }
 
-/* Children of one span that all live at once, and close from the last one on. */
+/* Children of one span that are all live at once, with an event in every third. The last one closes
+ * first. */
 static void children(int count)
 {
     unsigned long parent = opened("parent", 0), first = next_id;
@@ -87,8 +89,8 @@ static void children(int count)
     closed(parent);
 }
 
-/* Two branches of `depth` spans below one root, with events in turn, so that each is shown again. The handles go from the root on, and
- * each branch closes at once. */
+/* Two branches of `depth` spans below one root, with events in turn, so that each branch is shown
+ * again. The handles are dropped from the root down, so each branch closes at once. */
 static void branches(int depth)
 {
     unsigned long root = opened("service", 0), first = next_id;

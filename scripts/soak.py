@@ -1,12 +1,15 @@
 #!/usr/bin/env python3
-"""Runs many calls through the program, and looks at its memory and speed: soak.py PROGRAM GENERATOR [CALLS]
+"""Runs many calls through the program and checks its memory and speed.
 
-GENERATOR (scripts/soak.c) writes rounds of calls that open and close the same spans, up to 100,000 at once, with long texts now and then.
-They go through one run of the program under settings that retrace and through one with deferred spans besides, half of CALLS (10^8) each.
-The first round's text must be that of scripts/model.py, and each further round's text the first's. Memory may not grow past what it was
-after the first round by more than a twentieth and 1 MiB, and the last tenth of the rounds may take at most 1.5 times the first tenth's
-processor time.
-The last line is 'soak: N of M runs ended as they must'.
+usage: soak.py PROGRAM GENERATOR [CALLS]
+
+GENERATOR (scripts/soak.c) writes rounds of calls that open and close the same spans, up to 100,000
+at once, with some long strings. The program runs them twice, with half of CALLS (10^8) each: once
+with retracing, and once with deferred spans too. The text of the first round must be that of
+scripts/model.py, and each later round must draw the same text. At the end the program may keep at
+most a twentieth and 1 MiB more memory than after the first round. The last tenth of the rounds may
+take at most 1.5 times the processor time of the first tenth. The last line is
+'soak: N of M runs ended as they must'.
 """
 import os, subprocess, sys, time, zlib
 
@@ -21,7 +24,7 @@ TICKS = os.sysconf("SC_CLK_TCK")
 
 
 def resident(process):
-    """What the process keeps in memory, in KiB, and the seconds that it has run."""
+    """Returns the process's resident memory in KiB and its processor time in seconds."""
     with open(f"/proc/{process}/status", encoding="utf-8") as file:
         kept = next(int(it.split()[1]) for it in file if it.startswith("VmRSS:"))
     with open(f"/proc/{process}/stat", encoding="utf-8") as file:
@@ -30,7 +33,8 @@ def resident(process):
 
 
 def first_round(generator, settings):
-    """How many calls a round has, and the length and the sum of its text, as the model says."""
+    """Returns the number of calls in a round, and the length and the checksum of its text. The text
+    is the model's."""
     made = subprocess.run([generator, settings, "1"], capture_output=True, check=True)
     out, _, status = model.run_of(made.stdout).ended()
     if status:
@@ -39,7 +43,8 @@ def first_round(generator, settings):
 
 
 class Soak:
-    """A run of `rounds` rounds. At the end of each round's text memory and time are looked at."""
+    """A run of the program. `rounds` is its number of calls, and it has at least two rounds. Memory
+    and time are recorded at the end of each round's text."""
 
     def __init__(self, program, generator, settings, rounds):
         self.calls, self.length, self.sum = first_round(generator, settings)
@@ -55,7 +60,7 @@ class Soak:
         self.seconds = time.time() - started
 
     def read(self):
-        """Reads the program's text to its end."""
+        """Reads the program's output to its end."""
         left, total = self.length, 0
         while part := os.read(self.drawing.stdout.fileno(), 1 << 16):
             while part:
@@ -73,7 +78,7 @@ class Soak:
             self.seen.append(self.seen[-1])
 
     def report(self, name):
-        """Prints the figures, and returns whether they are as they must be."""
+        """Prints the figures. Returns whether they are within the bounds."""
         if len(self.seen) != self.rounds or self.strange or self.status or self.told:
             print(f"soak: {name}: FAILED: {len(self.seen)} rounds of {self.rounds}, {self.strange} of another text, status {self.status},"
                   f" {self.told!r}")

@@ -1,23 +1,28 @@
 #!/usr/bin/env python3
-"""Runs many calls on the library itself, and looks at memory, speed and the longest call: soak_calls.py PROGRAM [CALLS]
+"""Makes many calls of the library itself, and checks memory and speed. Prints the longest call.
 
-PROGRAM (crates/tracing_tree_bench) makes waves of calls that open and close the same spans, 100,000 of them at once, branches in turn, and
-a span whose fields and handles grow, and times each call by itself. Half of CALLS (10^8) are made under settings that retrace, and half
-with deferred spans besides. No call may be refused. The most memory that was kept may not grow past what it was in the second wave by more
-than a twentieth and 1 MiB, and a call may take at most 1.5 times as long in the last tenth of the waves as in the first. The last line is
-'soak: N of M runs ended as they must'.
+usage: soak_calls.py PROGRAM [CALLS]
+
+PROGRAM (crates/tracing_tree_bench) makes waves of calls and times each call. A wave opens and
+closes the same spans: 100,000 at once, branches in turn, and a span whose fields and handles grow.
+Half of CALLS (10^8) are made with retracing, and half with deferred spans too. No call may be
+refused. The peak memory at the end may be at most a twentieth and 1 MiB more than after the second
+wave. The average call in the last tenth of the waves may take at most 1.5 times as long as in the
+first tenth. The last line is 'soak: N of M runs ended as they must'.
 """
 import os, re, subprocess, sys
 
 
 def most_kept(process):
-    """The most that the process has kept in memory so far, in KiB."""
+    """Returns the process's peak memory so far, in KiB."""
     with open(f"/proc/{process}/status", encoding="utf-8") as file:
         return next(int(it.split()[1]) for it in file if it.startswith("VmHWM:"))
 
 
 def waves_of(program, settings, waves):
-    """Of each wave its calls, their nanoseconds, the longest call's, how many were refused, and the KiB kept at most until then."""
+    """Runs waves. Returns a tuple for each wave and the status. A tuple has the number of calls,
+    their nanoseconds, those of the longest call, the number of refused calls, and the peak KiB so
+    far."""
     seen = []
     with subprocess.Popen([program, settings, str(waves)], stdout=subprocess.PIPE, text=True) as ran:
         for line in ran.stdout:
@@ -27,14 +32,15 @@ def waves_of(program, settings, waves):
             try:
                 kept = most_kept(ran.pid)
             except (OSError, StopIteration):
-                # It has ended.
+                # The process has ended.
                 kept = seen[-1][4] if seen else 0
             seen.append((*(int(it) for it in told.groups()), kept))
     return seen, ran.returncode
 
 
 def is_steady(program, settings, count):
-    """Runs calls under these settings, prints the figures, and returns whether they are as they must be."""
+    """Makes calls under these settings and prints the figures. Returns whether they are within the
+    bounds."""
     first, status = waves_of(program, settings, 1)
     if status or not first:
         print(f"soak: {settings}: FAILED: the first wave ended with status {status}")

@@ -1,6 +1,7 @@
-/* Preloaded into a program, this counts the instructions that the program executes between a write of a line `begin` to standard output
- * and the next write of a line `end`, and tells their sum on standard error when the program ends: `none` where the processor's trap flag
- * tells nothing here. The flag has the processor stop after each instruction. */
+/* Is preloaded into a program. Counts the instructions that the program executes between a write of
+ * a line `begin` to standard output and the next write of a line `end`. The processor's trap flag
+ * stops it after each of them. Prints the sum on standard error when the program ends, or `none` if
+ * the flag doesn't work here. */
 #define _GNU_SOURCE
 #include <dlfcn.h>
 #include <signal.h>
@@ -11,7 +12,7 @@
 
 #include "at_end.h"
 
-/* More than this isn't counted: it would take long. */
+/* Stops counting here, since more would take long. */
 static const long MOST = 2000000;
 
 static volatile long steps;
@@ -34,7 +35,7 @@ static void count(int on)
     __builtin_ia32_writeeflags_u64(on ? flags | TRAP : flags & ~TRAP);
 }
 
-/* Tries it on a few instructions. */
+/* Tries the flag on a few instructions. */
 __attribute__((constructor)) static void begin(void)
 {
     struct sigaction action = {.sa_sigaction = step, .sa_flags = SA_SIGINFO};

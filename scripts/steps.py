@@ -1,23 +1,26 @@
 #!/usr/bin/env python3
-"""Counts the instructions of calls that look spans up, among few live spans and among many, and compares the two.
+"""Compares the number of instructions of calls that look spans up, among few live spans and among
+many.
 
-PROGRAM is crates/tracing_tree_bench, and COUNTER is scripts/steps.c. No contract says how many places a look-up reads. While no gap
-between a span and the newest was closed, it is one: so calls among 100,000 live spans take as many instructions as among ten. Where gaps
-were closed that are alike, it is some six places, however many spans there are. A search by halving alone, and more so one from end to end,
-would pass the bounds. Where the processor tells no instructions, nothing is compared, and a line says so. The last line is
-'N of M runs ended as they must'.
+PROGRAM is crates/tracing_tree_bench, and COUNTER is scripts/steps.c. No contract says how many
+places a look-up reads. If no gap between a span and the newest span was closed, it reads one place:
+calls among 100,000 live spans take as many instructions as among ten. If gaps were closed evenly,
+it reads about six places, however many spans there are. A binary search would exceed the bounds,
+and a linear search even more. If the processor doesn't stop after each instruction, nothing is
+compared, and a line says so. The last line is 'N of M runs ended as they must'.
 
 usage: steps.py PROGRAM COUNTER
 """
 import os, re, subprocess, sys
 
 ROUNDS = 64
-# A work among few spans, the same among many, and how many times as many instructions that may take.
+# A work among few spans, the same work among many, and the largest allowed ratio of instructions.
 PAIRS = (("clone-10", "clone-100000", 1.05), ("clone-old-1000", "clone-old-100000", 1.15))
 
 
 def counted(program, counter, work):
-    """The instructions of a work's calls: 0 where the processor tells none, and None where the work went wrong."""
+    """Returns the number of instructions of a work's calls: 0 if the processor doesn't report any,
+    None if the work failed."""
     how = {"env": {"LD_PRELOAD": counter}, "stdout": subprocess.PIPE, "stderr": subprocess.PIPE, "timeout": 120}
     try:
         run = subprocess.run([program, work, str(ROUNDS), "marked"], check=False, **how)

@@ -1,27 +1,39 @@
 #!/usr/bin/env python3
-"""Runs every test, every worked case and the runs of the programs, without a proof: tests.py [CRATE..]
+"""Runs every test, every worked case and the runs of the programs, without proofs: tests.py
+[CRATE..]
 
-The tests of each crate run by `rt try --test`, which compiles the sources as they stand, with checks. The programs are compiled so too
-(scripts/unproved.py), and scripts/program.sh runs them as their users do. A model that is written from the docs alone (scripts/model.py)
-says what they must write for random lines, and they are run where files and pipes end. The pages of ttree are compared with docs/PAGE.md
-(scripts/page.py), and the text of their viewer with its parts. The manual's commands are run (scripts/manual.py). Their man pages and completions are compared with
-what they print, and `make install` is tried on a copy (scripts/install_test.py). That no function does anything but what its contract
-says is for `make gate` to show, which runs tests, cases and programs again as they are proved and built. What targets and scripts say if a
-tool is missing is compared by scripts/messages.py.
+`rt try --test` runs the tests of each crate. It compiles the current sources with runtime checks.
+The programs are compiled in the same way (scripts/unproved.py), and these scripts run them:
 
-The library for C has no build without its proofs, which take longer than all the tests. Its tests and those of the Rust crate run where a
-check on this machine has proved the library as it stands. The last line is 'N passed, M failed'."""
+- scripts/program.sh and scripts/ttree.sh run the programs as users do.
+- scripts/fuzz.py compares them on random lines with a model that was written only from the docs
+  (scripts/model.py).
+- scripts/limits.py runs them with files and pipes that end.
+- scripts/page.py compares the pages of ttree with docs/PAGE.md.
+- scripts/manual.py runs the manual's commands.
+- scripts/tracing_paths.py compares the spans of drawn events with those in the logs.
+- scripts/install_test.py compares man pages and completions with the programs' help, and tries
+  `make install` on a copy.
+
+scripts/messages.py compares what targets and scripts say if a tool is missing. The docs and the
+text of the viewer are compared with their sources. None of this shows that a function does only
+what its contract says: `make gate` does, and runs tests, cases and programs again as they are
+proved and built.
+
+The library for C has no build without its proofs, which take longer than all the tests. Its tests
+and those of the Rust crate run if a check on this machine has proved the current sources of the
+library. The last line is 'N passed, M failed'."""
 import concurrent.futures, glob, os, re, shutil, subprocess, sys, time
 
 import kit as kits
 
 TOP = os.path.dirname(os.path.dirname(os.path.abspath(__file__)))
 START = time.time()
-# The programs: the crate, and where its unproved executable goes.
+# The programs: the crate, and the path of its unproved executable.
 PROGRAMS = {"tracing_tree_cli": "bin/unproved_tree", "tracing_tree_read": "bin/unproved_read", "tracing_tree_ttree": "bin/unproved_ttree"}
 # Logs of Rust's tracing.
 LOGS = tuple(f"examples/{it}.jsonl" for it in ("tracing", "tracing-flat", "tracing-full", "tracing-plain"))
-# The scripts that run them, with their words.
+# The scripts that run them, with their arguments.
 RUNS = (
     ("scripts/program.sh", "--checked", "tracing_tree_cli", "tracing_tree_read"),
     ("scripts/ttree.sh", "--checked", "tracing_tree_ttree", "tracing_tree_cli"),
@@ -35,14 +47,14 @@ RUNS = (
     ("scripts/install_test.py", "tracing_tree_cli", "tracing_tree_read", "tracing_tree_ttree"),
     ("scripts/messages.py",),
 )
-# What compares the docs with the sources.
+# The scripts that compare the docs with the sources, each with a name.
 DOCS = (
     ("sizes of the claims", "scripts/claim.py", "--check"),
     ("examples of the docs", "scripts/examples.py"),
     ("the viewer's text", "viewer/build.py", "--check"),
 )
 
-# How many of the steps have ended, and how many there are.
+# The number of steps that have ended, and of all steps.
 STEPS = {"done": 0, "all": 0}
 
 
@@ -51,20 +63,20 @@ def say(text):
 
 
 def ended(text):
-    """Says that a step has ended."""
+    """Reports that a step has ended."""
     STEPS["done"] += 1
     say(f"{STEPS['done']} of {STEPS['all']}: {text}")
 
 
 def ran(*words, folder=TOP):
-    """Runs a command, and returns its status and all that it said."""
+    """Runs a command. Returns its status and its output, standard error included."""
     how = {"cwd": folder, "stdin": subprocess.DEVNULL, "stdout": subprocess.PIPE, "stderr": subprocess.STDOUT, "text": True}
     done = subprocess.run(words, errors="replace", **how)
     return done.returncode, done.stdout
 
 
 def crates_with_tests():
-    """Returns the crates of crates.txt that have a test, those with the most text first."""
+    """Returns the crates of crates.txt that have a test, the largest first."""
     with open(f"{TOP}/crates.txt", encoding="utf-8") as file:
         names = [line.partition(":")[0].split()[0] for line in file if line.strip() and not line.startswith("#")]
     sizes = {}
@@ -79,7 +91,7 @@ def crates_with_tests():
 
 
 def run_tests(crate):
-    """Runs a crate's tests, and returns how many passed and how many failed."""
+    """Runs a crate's tests. Returns how many passed and how many failed."""
     status, said = ran("rt", "try", "--test", "--seconds", "600", folder=f"{TOP}/crates/{crate}")
     found = re.search(r"test result: \w+\. (\d+) passed; (\d+) failed", said)
     passed, failed = (int(found[1]), int(found[2])) if found else (0, 1)
@@ -92,7 +104,7 @@ def run_tests(crate):
 
 
 def build(crate):
-    """Compiles a program, and returns whether it was."""
+    """Compiles a program. Returns whether that succeeded."""
     status, said = ran(sys.executable, "scripts/unproved.py", crate, PROGRAMS[crate])
     ended(f"{crate}: {'compiled, without its proofs' if not status else 'NOT COMPILED'}")
     if status:
@@ -101,7 +113,7 @@ def build(crate):
 
 
 def run_programs(*words):
-    """Runs programs by a script, and returns how many runs passed and how many failed."""
+    """Runs a script that runs programs. Returns how many of its runs passed and how many failed."""
     status, said = ran(*(PROGRAMS.get(it, it) for it in words))
     print(said, end="", flush=True)
     found = re.search(r"(\d+) of (\d+) (?:runs ended as they must|cases agree|events are under the spans of their lines)", said)
@@ -113,7 +125,7 @@ def run_programs(*words):
 
 
 def lacks_for_bindings():
-    """Returns why the tests of the library for C are left out, or None where they can run soon."""
+    """Returns why the tests of the library for C are left out, or None if they can run."""
     if not shutil.which(os.environ.get("CC", "cc")):
         return "there is no C compiler"
     kit = kits.load()
@@ -122,8 +134,8 @@ def lacks_for_bindings():
 
 
 def run_bindings():
-    """Builds the library for C over the proofs that are kept, and runs its tests and those of the Rust crate. One compares it with the
-    program, as compiled here."""
+    """Builds the library for C from kept proofs, and runs its tests and those of the Rust crate.
+    One test compares the library with the program that was compiled here."""
     status, said = ran("bindings/build.sh")
     if not status:
         status, said = ran("env", f"TRACING_TREE={PROGRAMS['tracing_tree_cli']}", "bindings/test.sh")
@@ -135,7 +147,8 @@ def run_bindings():
 
 
 def check_docs(what, *words):
-    """Compares the docs with the sources by a script, and returns how many places are as they stand there and how many are not."""
+    """Runs a script that compares the docs with the sources. Returns how many places agree and how
+    many don't."""
     _, said = ran(sys.executable, *words)
     print(said, end="", flush=True)
     ended(what)

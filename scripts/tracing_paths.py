@@ -1,12 +1,12 @@
 #!/usr/bin/env python3
 """Checks the ancestors of tracing's events: tracing_paths.py TTREE TRACING_TREE_READ FILE..
 
-Draws each file with TTREE, reads the drawing back with TRACING_TREE_READ, and compares the ancestors of
-each event with the spans that its line lists. Prints how many events were right of how many, and ends
-with status 1 if one wasn't."""
+Draws each file with TTREE, reads the drawing back with TRACING_TREE_READ, and compares the
+ancestors of each event with the spans that its line lists. Prints how many events were right, and
+how many there are. The status is 1 if one was wrong."""
 import json, subprocess, sys
 
-# The keys of a line beside its event's fields.
+# The keys of a line that aren't fields of its event.
 LINE_KEYS = {"timestamp", "level", "target", "filename", "line_number", "span", "spans", "threadId", "threadName"}
 
 
@@ -48,7 +48,7 @@ def is_close(line):
 
 
 def wanted(path):
-    """Returns the ancestors of the event that each line draws. None: they aren't known from the line."""
+    """Yields the ancestors of each line's event, or None if the line doesn't determine them."""
     for text in open(path, encoding="utf-8"):
         line = json.loads(text)
         if is_span_event(line):
@@ -70,7 +70,8 @@ def found(ttree, read, path):
 
 
 def is_same(rows, spans):
-    """Returns whether these rows show these spans. A field that was recorded later may be missing."""
+    """Returns whether these rows show these spans. A field that was recorded later may be
+    missing."""
     if len(rows) != len(spans):
         return False
     for row, (name, fields) in zip(rows, spans):

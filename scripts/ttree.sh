@@ -1,11 +1,12 @@
 #!/bin/bash
-# Runs the program that draws other tools' output as its users do, and compares what it draws with what the first program draws of the
-# calls that scripts/go_lines.py tells of the same input. It prints how many runs ended as they must, names each other run, and ends with
-# status 1 if there is one.
+# Runs the program that draws other tools' output as its users do. For Go's tests, the drawing must
+# be that of the first program for the calls that scripts/go_lines.py writes. Names each run that
+# failed and prints how many runs ended as they must. The status is 1 if one failed.
 #
 # usage: ttree.sh [--checked] TTREE DRAWING_PROGRAM
 #
-# --checked says that the programs were compiled with checks of memory. They are a hundred times as slow, so long inputs are shorter.
+# --checked says that the programs were compiled with checks of memory. They are a hundred times as
+# slow, so long inputs are shorter.
 set -u
 long_spans=100000
 if [ "$1" = --checked ]; then
@@ -26,14 +27,15 @@ trap 'rm -rf "$room"' EXIT
 runs=0
 right=0
 
-# Runs the program. A message's file is left out if it is one of these tests' own: `count` compares the rest.
+# Runs the program. Removes the paths of the tests' own files from its messages.
 run() {
     timeout 300 "$ttree" "$@" > "$room/out" 2> "$room/err"
     status=$?
     sed -i "s#^ttree: \($room\|$top\)/[^:]*: #ttree: #" "$room/err"
 }
 
-# Counts the run of this name: what stands in `out` must be this file, on standard error this text, and the status this one.
+# Counts the run with this name. `out` must equal this file, standard error this string, and the
+# status this one.
 count() {
     runs=$((runs + 1))
     if cmp -s "$room/$2" "$room/out" && [ "$3" = "$(cat "$room/err")" ] && [ "$4" = "$status" ]; then
@@ -43,12 +45,13 @@ count() {
     fi
 }
 
-# What the first program draws of this input, under settings that this expression of sed changes; other arguments are go_lines.py's.
+# Writes the first program's drawing of this input to `want`. The second argument is a sed
+# expression that changes the settings, and the others are passed to go_lines.py.
 expect() {
     python3 "$top/scripts/go_lines.py" "${@:3}" < "$1" | sed "1$2" | "$tree" > "$room/want"
 }
 
-# The drawing of an input with a status.
+# Counts the drawing of this input, which must end with this status.
 drawing() {
     expect "$1" 's/^//'
     run "$1"
@@ -74,7 +77,7 @@ run_options() {
     count 'without retracing' want '' 1
 }
 
-# Lines that no test of Go prints so, and the ends of inputs.
+# Lines that Go's tests don't print like this, and the ends of inputs.
 run_odd() {
     printf '%s\n' '{"Action":"output","Package":"p","Output":"a\u001b[31mred\u0085 \tb\n"}' '{"Action":"pause","Package":"p"}' '' \
         '{"Action":"pass","Package":"p","Test":"Never/Ran","Elapsed":1e-3}' '{"Action":"fail","Package":"p"}' 'no build' > "$room/odd"
@@ -103,8 +106,8 @@ ttree: 1 line skipped' 1
     count 'on an empty file' want '' 0
 }
 
-# Tests that still run: where one of the same name begins, and where their package or the input ends. Each tree is made by hand of what
-# docs/FORMATS.md says.
+# Tests that are still running when one with the same name starts, or when their package or the
+# input ends. Each tree was written by hand from docs/FORMATS.md.
 run_left() {
     cat > "$room/left" << 'END_OF_LINES'
 {"Action":"run","Package":"p","Test":"TestA"}
@@ -189,8 +192,8 @@ END_OF_TREE
     count 'on a build alone' want '' 0
 }
 
-# The run on lines, which come on standard input up to a line `--`, with this status. The tree comes after that line; it is made by hand of
-# what docs/FORMATS.md says.
+# Counts the run on lines, which must end with this status. Standard input has the lines, a line
+# `--` and the tree, which was written by hand from docs/FORMATS.md.
 tree_of_lines() {
     cat > "$room/both"
     sed '/^--$/,$d' "$room/both" > "$room/lines"
@@ -201,7 +204,8 @@ tree_of_lines() {
     count "$1, as go_lines.py tells them" want '' "$2"
 }
 
-# What Go 1.20 and later print: benchmarks without an end, frames behind half a line, kinds of strings, builds, and how packages end.
+# What Go 1.20 and later print: benchmarks without an end, frames after half a line, kinds of
+# strings, builds, and how packages end.
 run_newer() {
     tree_of_lines 'on benchmarks without an end' 0 << 'END_OF_LINES'
 {"Action":"start","Package":"p"}
@@ -296,7 +300,7 @@ END_OF_LINES
     count 'on twelve tests that fail' want '' 1
 }
 
-# Lines that are skipped: the first ten are told, and then how many there are.
+# Skipped lines. The first ten are reported, and then their number.
 run_skipped() {
     local number notes=''
     { cat "$room/odd"; printf '[1]\n%.0s' {1..12}; } > "$room/many"
@@ -315,8 +319,8 @@ run_skipped() {
     count 'with --strict on lines that are known' want '' 1
 }
 
-# The run with this least level on this file, which must end with this status and this text on standard error. The tree comes on standard
-# input; it is made by hand of what docs/FORMATS.md says.
+# Counts the run with this --level on this file. It must end with this status and this standard
+# error. Standard input has the tree, which was written by hand from docs/FORMATS.md.
 level_of() {
     cat > "$room/want"
     run --level "$1" "$2"
@@ -389,7 +393,8 @@ END_OF_TREE
 ttree: 1 line skipped' < "$room/none"
 }
 
-# The run with --failed on this file, as `level_of`. Each tree is made by hand of what docs/FORMATS.md says.
+# Counts the run with --failed on this file, like `level_of`. Each tree was written by hand from
+# docs/FORMATS.md.
 failed_of() {
     cat > "$room/want"
     run --failed "$1"
@@ -482,7 +487,7 @@ END_OF_TREE
     count 'with --failed and --level error' want '' 1
 }
 
-# Tests that print for the first time, or end, after the test in which they began.
+# Tests that first print, or end, after the test in which they started.
 run_late() {
     cat > "$room/late" << 'END_OF_LINES'
 {"Action":"run","Package":"p","Test":"TestA"}
@@ -540,7 +545,7 @@ END_OF_TREE
     drawing "$room/late" 1
 }
 
-# Lines of Go's tests that come in any order, with --failed and without.
+# Lines of Go's tests in random order, with and without --failed.
 run_random() {
     local seed options status_of
     for seed in $(seq 1 20); do
@@ -555,7 +560,7 @@ run_random() {
     done
 }
 
-# Two packages whose lines come in turn, and a line that is no test's.
+# Two packages whose lines alternate, and a line that belongs to no test.
 run_failed_apart() {
     cat > "$room/apart" << 'END_OF_LINES'
 {"Action":"run","Package":"p","Test":"TestA"}
@@ -620,7 +625,8 @@ ERROR passed=0, failed=0, skipped=0, unfinished=0, packages=2, packages_failed=1
 END_OF_TREE
 }
 
-# What is left where a test, a package or the input ends: a test of a longer name, a test in a test that passed, a line after the end.
+# What remains when a test, a package or the input ends: a test with a longer name, a test in a test
+# that passed, a line after the end.
 run_failed_ends() {
     cat > "$room/ends" << 'END_OF_LINES'
 {"Action":"run","Package":"p","Test":"TestAll"}
@@ -680,7 +686,8 @@ ERROR passed=2, failed=2, skipped=2, unfinished=2, packages=2, packages_failed=2
 END_OF_TREE
 }
 
-# A test in a test that failed passes later, a name runs twice, a test never ends, and a package passes in which a test failed.
+# A test in a failed test passes later, a name runs twice, a test never ends, and a package passes
+# although one of its tests failed.
 run_failed_in_part() {
     cat > "$room/part" << 'END_OF_LINES'
 {"Action":"output","Package":"p","Output":"own\n"}
@@ -745,7 +752,7 @@ ERROR passed=3, failed=4, skipped=0, unfinished=1, packages=2, packages_failed=1
 END_OF_TREE
 }
 
-# When each event happened, and on which thread. Each tree is made by hand of what docs/FORMATS.md says.
+# The time and the thread of each event. Each tree was written by hand from docs/FORMATS.md.
 run_times_and_threads() {
     cat > "$room/timed" << 'END_OF_LINES'
 {"level":"INFO","fields":{"message":"untimed"},"target":"t"}
@@ -826,7 +833,7 @@ run_options_of_other_formats() {
     done
 }
 
-# Several files are drawn one after another, and the status is the worst of theirs.
+# Several files are drawn one after another. The status is the worst of theirs.
 run_files() {
     local passed=$top/examples/go-std.jsonl failed=$top/examples/go-test.jsonl calls=$top/examples/server.jsonl
     for input in "$passed" "$failed" "$calls"; do
@@ -849,7 +856,8 @@ run_files() {
 ttree: $room/bad: 1 line skipped" 1
 }
 
-# Rows that are cut: the trees are made by hand. `…` takes the last column, a wide character two, and what switches colours none.
+# Rows that are cut off. The trees were written by hand. `…` takes the last column, a wide character
+# takes two columns, and escape sequences take no column.
 run_widths() {
     printf '%s\n' '{"indent_lines":true}' '{"call":"new","name":"abcdefgh"}' \
         '{"call":"event","level":"INFO","fields":[["message","wide 日本語"]],"current":1}' > "$room/wide"
@@ -889,7 +897,7 @@ run_widths() {
     count 'with --width and colours' want '' 0
 }
 
-# Output whose reader goes away, as `head` does, ends the program without a message.
+# If the reader of its output stops, as `head` does, the program ends without a message.
 run_closed() {
     local input
     for input in go-std.jsonl clang-trace.json server.jsonl; do
@@ -900,7 +908,7 @@ run_closed() {
     done
 }
 
-# Lines of settings and calls: the first line decides, or --from.
+# Lines of settings and calls. The first line or --from selects the format.
 run_lines() {
     local input=$top/examples/server.jsonl
     "$tree" < "$input" > "$room/want"
@@ -938,14 +946,14 @@ ttree: 1 line skipped' 1
 ttree: 1 line skipped' 1
 }
 
-# Counts the run on this input, no line of which determines its format: it is printed unchanged.
+# Counts the run on this input. None of its lines determines its format, so it is printed unchanged.
 passes_on() {
     run "$2"
     cp "$2" "$room/want"
     count "on $1" want "ttree: no line determines the format; expected the output of go test -json, TAP, JUnit XML, the JSON of Rust's tracing-subscriber, JSON logs, OTLP as JSON, a Chrome trace, or settings and calls; --from names the format" 2
 }
 
-# Counts the run on this input, whose tree comes on standard input.
+# Counts the run on this input. Standard input has its tree.
 detects() {
     printf "$2" > "$room/lines"
     cat > "$room/want"
@@ -953,7 +961,7 @@ detects() {
     count "on $1" want "${4-}" "${3-0}"
 }
 
-# The lines that come before the one that determines the format, and inputs without such a line.
+# Lines before the one that determines the format, and inputs without such a line.
 run_detection() {
     local event='{"level":"INFO","fields":{"message":"x"},"target":"t"}\n'
     detects 'a line before tracing' "Starting\n$event" <<< $'INFO Starting\nINFO x'
@@ -987,7 +995,8 @@ ttree: 1 line skipped' <<< 'INFO x'
     count 'on 999 lines before tracing' want '' 0
 }
 
-# Colours on a terminal, but not under NO_COLOR or on one without colours. A terminal ends lines with a carriage return too.
+# Colours on a terminal, but not with NO_COLOR or on a terminal without colours. A terminal's lines
+# end with a carriage return too.
 run_terminal() {
     local input=$top/examples/go-test.jsonl
     local -x TERM=xterm

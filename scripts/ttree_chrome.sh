@@ -1,7 +1,8 @@
-# The runs of ttree on traces, for scripts/ttree.sh. Each tree is made by hand of what docs/FORMATS.md says.
+# The runs of ttree on traces, for scripts/ttree.sh. Each tree was written by hand from
+# docs/FORMATS.md.
 
-# The run of this name, with these words, on a trace and the tree that it makes: both come on standard input, with a line `--` between.
-# The words are those before a word `--`; behind it stand the status and the text on standard error.
+# Counts the run with this name and these arguments on a trace. Standard input has the trace, a line
+# `--` and its tree. The arguments end with `--`. After that come the status and the standard error.
 trace_of() {
     local name=$1 words=()
     shift
@@ -88,7 +89,7 @@ END
 END
 }
 
-# Asynchronous tracks: by process, category, scope and id, before the threads.
+# Asynchronous tracks, by process, category, scope and id. They come before the threads.
 run_tracks_of_traces() {
     trace_of 'on asynchronous tracks' << 'END'
 [{"ph":"B","ts":0,"pid":1,"tid":1,"name":"main"},
@@ -242,7 +243,7 @@ For more information, try '--help'." 2
     done
 }
 
-# Traces that end early, elements of which nothing is known, and inputs that are no traces.
+# Traces that end early, unknown elements, and inputs that aren't traces.
 run_odd_traces() {
     trace_of 'on a list that ends early' << 'END'
 [{"ph":"i","ts":0,"name":"only"},
@@ -326,7 +327,7 @@ END
     many_spans "$long_spans"
 }
 
-# As many spans as the first argument says: side by side, the last of them first, and in one another.
+# Runs this number of spans: side by side with the last one first, and nested in one another.
 many_spans() {
     python3 -c 'print("[" + ",".join("{\"ph\":\"X\",\"ts\":%d,\"dur\":1,\"name\":\"s\"}" % (n * 2) for n in reversed(range('"$1"'))) + "]")' > "$room/wide"
     python3 -c 'print("┐s time=1.000μs\n┘\n" * '"$1"', end="")' > "$room/want"

@@ -1,7 +1,8 @@
-# The runs of ttree on JUnit XML, for scripts/ttree.sh. The trees are made by hand of what docs/FORMATS.md says.
+# The runs of ttree on JUnit XML, for scripts/ttree.sh. The trees were written by hand from
+# docs/FORMATS.md.
 
-# The run of this name on a document and the tree that it makes: both come on standard input, with a line `--` between. The status
-# and the message follow.
+# Counts the run with this name on a document. Standard input has the document, a line `--` and its
+# tree. The other arguments are the status and the standard error.
 junit_of() {
     cat > "$room/both"
     sed '/^--$/,$d' "$room/both" > "$room/junit"
@@ -10,7 +11,7 @@ junit_of() {
     count "$1" want "${3-}" "${2-0}"
 }
 
-# The drawing of a sample is the tree beside it.
+# Counts the run on a sample. Its tree is in scripts/junit.
 junit_sample() {
     cp "$top/scripts/junit/$1.tree" "$room/want"
     run "$top/examples/$1"
@@ -116,7 +117,7 @@ ERROR passed=2, failed=1, skipped=2
 END_OF_RUN
 }
 
-# XML that is hard to read, or isn't well-formed.
+# XML that is hard to parse or isn't well-formed.
 run_junit_xml() {
     junit_of 'on entities' 0 << 'END_OF_RUN'
 <?xml version="1.0"?>
@@ -175,7 +176,7 @@ INFO passed=1, failed=0, skipped=0
 END_OF_RUN
 }
 
-# Long documents, and deep ones.
+# Long documents and deep ones.
 run_junit_long() {
     { printf '<testsuite name="a"><testcase name="x"'; for at in $(seq 100000); do printf ' a%d="b"' "$at"; done; printf '/></testsuite>\n'; } > "$room/long"
     printf '┐a \n├─ INFO pass x\n┘\nINFO passed=1, failed=0, skipped=0\n' > "$room/want"

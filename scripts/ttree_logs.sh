@@ -1,6 +1,8 @@
-# The runs of ttree on JSON logs of services, for scripts/ttree.sh. The trees are made by hand of what docs/FORMATS.md says.
+# The runs of ttree on JSON logs of services, for scripts/ttree.sh. The trees were written by hand
+# from docs/FORMATS.md.
 
-# The run of this name on lines of a log and the tree that they make: both come on standard input, with a line `--` between.
+# Counts the run with this name on lines of a log. Standard input has the lines, a line `--` and
+# their tree. Further arguments are passed to ttree.
 log_of() {
     cat > "$room/both"
     sed '/^--$/,$d' "$room/both" > "$room/log"

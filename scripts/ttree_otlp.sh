@@ -1,7 +1,9 @@
-# The runs of ttree on OTLP as JSON, for scripts/ttree.sh. The trees are made by hand of what docs/FORMATS.md says.
+# The runs of ttree on OTLP as JSON, for scripts/ttree.sh. The trees were written by hand from
+# docs/FORMATS.md.
 
-# The run of this name, on an input and the tree that it makes: both come on standard input, with a line `--` between. What it says on
-# standard error and its status are the next two arguments.
+# Counts the run with this name on an input. Standard input has the input, a line `--` and its tree.
+# The next two arguments are the standard error and the status, and further ones are passed to
+# ttree.
 otlp_of() {
     cat > "$room/both"
     sed '/^--$/,$d' "$room/both" > "$room/otlp"
@@ -81,7 +83,7 @@ INFO {"event":"flush","n":2}, service=cart, raw=3q2+7w==, nested={"ok":true,"lis
 END_OF_TREE
 }
 
-# Any order of the lines draws the same tree.
+# The order of the lines doesn't change the tree.
 run_otlp_order() {
     sample=$top/examples/otlp-shop.jsonl
     run "$sample"
@@ -146,7 +148,7 @@ INFO [{"a\"":[null,false,"AA==","\u{1b}\n"],"b":null},-1e3,-5], message=m
 END_OF_LINES
 }
 
-# Bad input: each span is drawn once.
+# Invalid input. Each span is drawn once.
 run_odd_otlp() {
     otlp_of 'on spans of OTLP that are nested in each other' '' 0 << 'END_OF_LINES'
 {"resourceSpans":[{"scopeSpans":[{"spans":[{"traceId":"a","spanId":"1","parentSpanId":"2","name":"one","startTimeUnixNano":"1"},{"traceId":"a","spanId":"2","parentSpanId":"1","name":"two","startTimeUnixNano":"2"}]}]}]}
@@ -197,7 +199,7 @@ END_OF_LINES
     count 'on an empty input of OTLP' otlp '' 0
 }
 
-# A tree so deep that no recursion on it would end well, and one so wide.
+# A tree that is too deep for recursion, and one that is as wide.
 run_large_otlp() {
     python3 -c 'import sys
 def line(i, above):

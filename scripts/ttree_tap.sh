@@ -1,6 +1,8 @@
-# The runs of ttree on TAP, for scripts/ttree.sh. The trees are made by hand of what docs/FORMATS.md says.
+# The runs of ttree on TAP, for scripts/ttree.sh. The trees were written by hand from
+# docs/FORMATS.md.
 
-# The run of this name on lines of TAP and the tree that they make, with this status: both come on standard input, with a line `--` between.
+# Counts the run with this name on lines of TAP, which must end with this status. Standard input has
+# the lines, a line `--` and their tree. Further arguments are passed to ttree.
 tap_of() {
     cat > "$room/both"
     sed '/^--$/,$d' "$room/both" > "$room/tap"
@@ -9,14 +11,16 @@ tap_of() {
     count "$1" want '' "$2"
 }
 
-# The run of this name on a file of examples/, with rows of any width, and its tree.
+# Counts the run with this name on a file of examples/, with rows of any width. Standard input has
+# its tree.
 tap_sample() {
     cat > "$room/want"
     run --width 0 "$top/examples/$2"
     count "$1" want '' 1
 }
 
-# What node, prove and a script of Perl wrote. The blank line in a block of node's isn't drawn: a run skips blank lines.
+# What node, prove and a Perl script wrote. The blank line in one of node's blocks isn't drawn:
+# ttree skips blank lines.
 run_tap_samples() {
     tap_sample "on node's TAP" tap-node.tap << 'END_OF_TREE'
 INFO a plain line
@@ -556,7 +560,7 @@ ERROR passed=3, failed=0, skipped=0, todo=0
 END_OF_LINES
 }
 
-# Nothing from the input writes a control character.
+# Control characters in the input are never written.
 run_tap_hostile() {
     printf 'ok 1 - a\033[31m\n# b\033c\nnot ok 2 - d\302\233 # TODO e\007\n  ---\n  f\033: 1\n  ...\n# Subtest: \033g\n    ok 1\nok 3 - \033g\n' > "$room/tap"
     printf '%s\n' 'INFO pass a\u{1b}[31m' 'INFO b\u{1b}c' '┐d\u{9b} ' '├─ INFO f\u{1b}: 1' '├─ WARN todo, reason=e\u{7}' '┘' '┐\u{1b}g ' '├─ INFO pass 1' '├─ INFO pass' '┘' \

@@ -1,14 +1,16 @@
-# The runs of ttree on lines of Rust's tracing, for scripts/ttree.sh. Each tree is made by hand of what docs/FORMATS.md says.
+# The runs of ttree on lines of Rust's tracing, for scripts/ttree.sh. Each tree was written by hand
+# from docs/FORMATS.md.
 
-# Counts the run of this name on this file, which must end with this status and this text on standard error. The tree comes on standard
-# input.
+# Counts the run with this name on this file. It must end with this status and this standard error.
+# Standard input has the tree.
 tree_of() {
     cat > "$room/want"
     run "$2"
     count "$1" want "$4" "$3"
 }
 
-# The run of this name on lines and the tree that they make: both come on standard input, with a line `--` between.
+# Counts the run with this name on lines. Standard input has the lines, a line `--` and their tree.
+# The other arguments are the status and the standard error.
 lines_of() {
     cat > "$room/both"
     sed '/^--$/,$d' "$room/both" > "$room/tracing"
@@ -178,7 +180,7 @@ END_OF_LINES
 END_OF_LINES
 }
 
-# Messages, names and ends of spans that look alike.
+# Messages, names and closes of spans that look alike.
 run_tracing_events() {
     lines_of 'on messages of tracing that read as span events' << 'END_OF_LINES'
 {"level":"INFO","fields":{"message":"new"},"target":"t"}
@@ -265,7 +267,7 @@ END_OF_LINES
 END_OF_LINES
 }
 
-# Least levels. A span whose opening is told is drawn only where an event is.
+# Minimum levels. A span whose opening was logged is drawn only if one of its events is.
 run_tracing_levels() {
     cat > "$room/shared" << 'END_OF_LINES'
 {"level":"INFO","fields":{"message":"a"},"target":"t","spans":[{"name":"s"},{"id":1,"name":"r"}]}

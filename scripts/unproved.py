@@ -1,12 +1,14 @@
 #!/usr/bin/env python3
 """Compiles a program without its proofs: unproved.py CRATE PROGRAM
 
-`rt try` compiles a program with checks (of bounds, overflow and memory), runs it, and leaves no executable. So
-the executable is copied while it runs on a long input. Nothing is proved of what this leaves."""
+`rt try` compiles a program with checks (of bounds, overflow and memory), runs it, and leaves no
+executable. So the executable is copied while it runs on a long input. Nothing is proved about this
+copy."""
 import glob, os, shutil, subprocess, sys, tempfile, time
 
-# The first line, and the one after it many times, of what each program reads for long and writes nothing of, so that there is time to
-# copy it: `rt try` ends a run that writes more than 1 MiB.
+# The first line of a long input for each program, and the line that is repeated after it. The run
+# leaves time to copy the program. The programs write nothing while they read, since `rt try` ends a
+# run that writes more than 1 MiB.
 LONG = {
     "tracing_tree_cli": ("{}\n", '{"call":"record","id":1}\n'),
     "tracing_tree_read": ("├─ INFO x\n", "│  x\n"),
@@ -21,14 +23,15 @@ def fail(why):
 
 
 def write_input(path, crate):
-    """Writes what the program reads for long."""
+    """Writes the program's long input."""
     first, line = LONG[crate]
     with open(path, "w", encoding="utf-8") as file:
         file.write(first + line * LINES)
 
 
 def running(room):
-    """Returns the program below this folder that is running, if there is one. It is an argument of the loader that runs it."""
+    """Returns the running program in this folder, if there is one. It is an argument of the
+    loader."""
     for file in glob.glob("/proc/[0-9]*/cmdline"):
         try:
             with open(file, "rb") as it:

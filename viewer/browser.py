@@ -1,4 +1,4 @@
-"""A headless Chromium, driven over its debugging pipe with nothing but the standard library."""
+"""A headless Chromium, driven over its debugging pipe with only the standard library."""
 import base64, json, os, select, shutil, subprocess, tempfile, time
 
 
@@ -29,7 +29,7 @@ class Browser:
         self.buffer, self.next, self.session, self.events = b"", 1, None, []
 
     def open(self, width=1280, height=800, dark=False, mobile=False, scale=1):
-        """A fresh tab."""
+        """Opens a new tab."""
         target = self.send("Target.createTarget", {"url": "about:blank"}, None)["targetId"]
         self.session = self.send("Target.attachToTarget", {"targetId": target, "flatten": True}, None)["sessionId"]
         self.target = target

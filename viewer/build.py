@@ -1,10 +1,10 @@
 #!/usr/bin/env python3
-"""Joins the viewer of a page into the two fixed texts around its data.
+"""Joins the viewer of a page into its head and tail: the fixed parts before and after the data.
 
     viewer/build.py            writes crates/tracing_tree_viewer/src/fixed.rt
     viewer/build.py --check    fails if that file isn't what would be written
-    viewer/build.py --head     prints the text before the data
-    viewer/build.py --tail     prints the text after the data
+    viewer/build.py --head     prints the part before the data
+    viewer/build.py --tail     prints the part after the data
 
 The head has the style, the script, and a Content-Security-Policy that allows these two by their
 hashes and nothing else. It ends inside the script element that has the data."""
@@ -18,7 +18,7 @@ import sys
 HERE = pathlib.Path(__file__).resolve().parent
 TARGET = HERE.parent / "crates/tracing_tree_viewer/src/fixed.rt"
 
-# The parts of the script, in the order in which they are joined.
+# The parts of the script, in their order.
 PARTS = ["common", "run", "text", "filter", "list", "timeline", "details", "search", "overview", "keyboard", "reading"]
 
 START = '"use strict";\n(() => {\n'
@@ -30,8 +30,8 @@ def read(name):
 
 
 def compact(text):
-    """The text without indentation, empty lines and lines that are comments. No string of the script
-    or the style goes over several lines."""
+    """Returns the source without indentation, empty lines and comment lines. This is safe since no
+    string in the script or the style has several lines."""
     lines = [line.strip() for line in text.split("\n")]
     return "\n".join(line for line in lines if line and not line.startswith("//")) + "\n"
 
@@ -52,7 +52,8 @@ def hash_of(text):
 
 
 def is_contained(script, style):
-    """Nothing in the script or the style ends its element, or begins one in which data could end."""
+    """Returns whether nothing in the style or the script ends its element early, or hides the end
+    of the script's element."""
     return not re.search("</style", style, re.I) and not re.search("</script|<!--|<script", script, re.I)
 
 
@@ -63,7 +64,7 @@ def head():
     text = read("head.html")
     for name in list(parts):
         parts[f"{name}-hash"] = hash_of(parts[name])
-    # One pass, so that no replacement is searched for another.
+    # One pass, so that a replacement isn't searched for placeholders.
     text = re.sub(r"\{\{([a-z-]+)\}\}", lambda found: parts[found[1]], text)
     if not text.endswith('<script type="text/plain" id="data">\n'):
         sys.exit("build.py: the head doesn't end at the start of the data")
@@ -77,7 +78,7 @@ def tail():
 
 
 def literal(text):
-    """The text as a literal of Rattle."""
+    """Returns the string as a literal of Rattle."""
     escapes = {"\\": "\\\\", '"': '\\"', "\t": "\\t", "\r": "\\r"}
     for character in text:
         if ord(character) < 32 and character not in "\n\t\r":

@@ -1,9 +1,12 @@
 #!/usr/bin/env python3
-"""Tests pages in headless Chromium: page_test.py [--measure] [--only NAME,..] [--keep DIR] [TTREE]
+"""Tests pages in headless Chromium.
 
-Writes pages of small, hostile, truncated and large inputs, opens each from a file, and looks at what
-is there. With the program TTREE, the pages of the examples too: their rows must be the tree of
-`ttree --json`. `--measure` prints sizes and times, `--shots DIR` writes screenshots. The last line is
+usage: page_test.py [--measure] [--shots DIR] [--only NAME,..] [--keep DIR] [TTREE]
+
+Writes pages of small, hostile, truncated and large inputs, opens each from a file, and checks what
+it shows. With the program TTREE, also checks the pages of the examples: their rows must be the tree
+of `ttree --json`. `--only` selects tests, and `--keep` is a folder for the pages. Instead of the
+tests, `--measure` prints sizes and times, and `--shots` writes screenshots. The last line is
 'pages in Chromium: N of M runs ended as they must'. Without Chromium, nothing is tried."""
 import argparse, io, json, os, random, subprocess, sys, tempfile, time
 import pages
@@ -52,7 +55,8 @@ def wide(take, children=100_000):
 
 
 def service(take, calls, failures=7):
-    """A service: requests with queries in them, of four threads, about `calls` calls."""
+    """Makes the calls of a service: requests on four threads with queries in them. There are about
+    `calls` calls."""
     draw, now, made, span = random.Random(7), 1_795_832_513 * SECOND, 1, 1
     def at(thread=1):
         nonlocal now
@@ -127,7 +131,7 @@ class Tests:
         self.settle()
 
     def fragment(self):
-        """What the selection is in the address, which follows it a moment later."""
+        """Returns the address's fragment, which follows the selection a moment later."""
         time.sleep(0.25)
         return self.run("location.hash")
 
@@ -148,7 +152,8 @@ class Tests:
         return self.run("(document.querySelector('.row.selected:not([hidden]) .tree') || {innerText: ''}).innerText.replace(/\\s+/g, ' ').trim()")
 
     def is_quiet(self, name):
-        """Nothing was fetched but the page, and nothing was told on the console."""
+        """Checks that nothing but the page was fetched, and that nothing was logged on the
+        console."""
         self.run("0")
         events = self.browser.events
         fetched = [it["params"]["request"]["url"] for it in events if it.get("method") == "Network.requestWillBeSent"]
@@ -180,7 +185,8 @@ class Tests:
     # ---- What is tested
 
     def samples(self):
-        """The page of each example that `ttree --html` takes: its rows are those of the drawing."""
+        """Checks the page of each example that `ttree --html` accepts. Its rows must be those of
+        `ttree --json`."""
         if not self.ttree:
             print("page_test: without the program ttree, the pages of the examples aren't tried")
             return
@@ -200,7 +206,8 @@ class Tests:
             self.end_page(name)
 
     def tree(self, path):
-        """The depth and the name or level of each span and event in the order of the tree, from `ttree --json`."""
+        """Returns the depth and the name or level of each span and event, in the order of the tree,
+        from `ttree --json`."""
         made = subprocess.run([self.ttree, "--json", path], stdout=subprocess.PIPE, stderr=subprocess.DEVNULL, check=False)
         children, roots = {}, []
         for step in map(json.loads, made.stdout.decode().split("\n")[:-1]):
@@ -289,7 +296,7 @@ class Tests:
         self.end_page("folds")
 
     def random(self, rounds=12):
-        """Numbers and order of random calls, against a plain evaluation of what they mean."""
+        """Compares the numbers and the order of random calls with a simple computation."""
         for seed in range(rounds):
             draw = random.Random(seed)
             nodes, roots, live, calls, now = [], [], [], [], 0
@@ -366,7 +373,8 @@ class Tests:
         self.check("hostile: the escape is the same, quick or by the definition", all(pages.quick(it) == pages.quoted(it) and json.loads(pages.quoted(it)) == it for it in HOSTILE + ["".join(map(chr, range(256)))]))
 
     def texts(self):
-        """Random texts of pieces that end, begin or escape something: the browser has them as they were written."""
+        """Checks that the browser has random strings unchanged. Their pieces end, start or escape
+        something."""
         pieces = ["<", "/", "script", ">", "!--", "--", "</script", "<script", "]]>", "&lt;", "&#60;", "\\", '"', "'", "`", "\n", "\r", "\t", "\0", "\x1b$B", "\x7f", "\x85", "\u2028", "\ufeff", "\uffff", "\U0010ffff", "é", "x", " ", "u003c", "["]
         draw = random.Random(11)
         want = ["".join(draw.choices(pieces, k=draw.randint(0, 9))) for _ in range(3000)]
@@ -438,7 +446,7 @@ class Tests:
         self.end_page("empty")
 
     def clocks(self):
-        """Lines without a time, and closes without one."""
+        """Checks lines without a time, and closes without one."""
         second = 1_795_832_513
         self.show("clocks", page_of(lambda take: [take({"call": "new", "name": "early"}), take({"call": "event", "level": "INFO", "current": 1}),
             take({"call": "new", "name": "late", "mono": second * SECOND, "wall": second * SECOND}), take({"call": "close", "id": 1, "mono": (second + 2) * SECOND, "wall": (second + 2) * SECOND})]))

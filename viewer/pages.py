@@ -27,7 +27,7 @@ SPECIAL = re.compile(rb'[\x00-\x1f"\\<]')
 
 
 def quick(text):
-    """The same as `quoted`, faster."""
+    """Like `quoted`, but faster."""
     data = text.encode()
     return b'"' + (data if not SPECIAL.search(data) else b"".join([TABLE[it] for it in data])) + b'"'
 
@@ -75,7 +75,7 @@ def close(at, span):
 
 
 class Calls:
-    """Writes the lines of calls. `live` has a live span's parent, handles and children."""
+    """Writes the lines of calls. `live` has the parent, handles and children of each live span."""
 
     def __init__(self, write):
         self.write, self.next, self.live = write, 1, {}
@@ -119,14 +119,14 @@ class Calls:
 
 
 def take_lines(text, take):
-    """Makes the calls of lines of settings and calls."""
+    """Makes the calls in lines of settings and calls."""
     for it in text.split("\n")[1:]:
         if it.strip():
             take(json.loads(it))
 
 
 def write_page(out, title, calls):
-    """Writes the page of the calls that this function makes on what it is passed."""
+    """Writes a page. `calls` is passed a function that it calls with each call."""
     out.write(build.head().encode())
     out.write(about(title))
     calls(Calls(out.write).take)

@@ -1,4 +1,5 @@
-/* Tests tracing_tree.hpp. The trees are made by hand. Prints what fails, and at the end how many
+/* Tests tracing_tree.hpp. The trees were written by hand. Prints what fails, and at the end how
+ * many
  * checks passed and failed. */
 #include "tracing_tree.hpp"
 #include <functional>
@@ -44,7 +45,7 @@ struct Grouped : std::numpunct<char> {
   std::string do_grouping() const override { return "\3"; }
 };
 
-/* Checks what is drawn of a field's value. */
+/* Checks how a field's value is drawn. */
 static void values() {
   std::locale before = std::locale::global(std::locale(std::locale(), new Grouped));
   const char *null = nullptr;

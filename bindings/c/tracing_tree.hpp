@@ -67,7 +67,8 @@ enum class Level : std::uint32_t {
   error = TT_ERROR
 };
 
-/* A field. A string is drawn as it is, anything else as `<<` writes it, with `true` and `false`. */
+/* A field. A string is drawn unchanged, anything else as `<<` writes it, with `true` and `false`.
+ * */
 class Field {
 public:
   template <class T>
@@ -118,7 +119,7 @@ inline std::int64_t wall() {
   return std::chrono::nanoseconds(now).count();
 }
 
-/* What is known of a thread: its number, its name and its innermost span. */
+/* A thread's number, its name and its innermost span. */
 struct Thread {
   static Thread &here() {
     static thread_local Thread thread;

@@ -12,8 +12,8 @@
 //	├─ WARN slow, ms=271
 //	┘
 //
-// It links the C library statically: `libtracing_tree.a` in `lib/` beside this file, in the `bin/`
-// of a checkout, or where the linker looks. CGO_LDFLAGS=-L.. and CGO_CFLAGS=-I.. name other
+// It links the C library statically: `libtracing_tree.a` in `lib/` next to this file, in the `bin/`
+// of a checkout, or in a folder of the linker. CGO_LDFLAGS=-L.. and CGO_CFLAGS=-I.. name other
 // folders. The handler for log/slog needs Go 1.21, the rest Go 1.19.
 package tracingtree
 
@@ -41,7 +41,7 @@ import (
 // ErrClosed is the error of a call on a tree that was closed.
 var ErrClosed = errors.New("tracingtree: the tree was closed")
 
-// What the library's functions return, by their status.
+// The errors for what the library's functions return.
 var refusals = map[C.uint32_t]error{
 	C.TT_TOO_WIDE:  errors.New("tracingtree: a row is too wide"),
 	C.TT_TOO_MANY:  errors.New("tracingtree: no span or handle is left"),
@@ -64,7 +64,7 @@ func errorOf(status C.uint32_t) error {
 // Level is an event's level.
 type Level uint32
 
-// The levels, the least first.
+// The levels, from the lowest to the highest.
 const (
 	LevelTrace Level = C.TT_TRACE
 	LevelDebug Level = C.TT_DEBUG
@@ -73,10 +73,10 @@ const (
 	LevelError Level = C.TT_ERROR
 )
 
-// Field is a field's name and its value as it is drawn.
+// Field is a field's name and its drawn value.
 type Field struct{ Name, Value string }
 
-// F returns a field. A string is drawn as it is, anything else as fmt.Sprint prints it.
+// F returns a field. A string is drawn unchanged, anything else as fmt.Sprint returns it.
 func F(name string, value any) Field {
 	if text, ok := value.(string); ok {
 		return Field{Name: name, Value: text}
@@ -182,7 +182,7 @@ func (t *Tree) Close() error {
 	return nil
 }
 
-// Err returns the first error of a Start, Record or End, which return none.
+// Err returns the first error of a Start, Record or End. Those methods return no error.
 func (t *Tree) Err() error {
 	t.mutex.Lock()
 	defer t.mutex.Unlock()
@@ -230,8 +230,8 @@ func (s *Span) Record(fields ...Field) {
 	}
 }
 
-// End closes the span: it is drawn as closed once the spans in it have ended too. It does nothing
-// the second time.
+// End closes the span. It is drawn as closed once the spans in it have ended too. A second call
+// does nothing.
 func (s *Span) End() {
 	if s.tree == nil {
 		return
@@ -315,7 +315,7 @@ func (t *Tree) current(ctx context.Context) *Span {
 	return span
 }
 
-// here returns what goes with a call at this time.
+// here returns the context of a call at this time.
 func (t *Tree) here(current *Span, at time.Time) C.tt_context {
 	here := C.tt_context{thread_id: 1, thread_name: C.tt_bytes(nil, 0)}
 	here.wall = C.int64_t(at.UnixNano())
@@ -346,7 +346,7 @@ func (t *Tree) draw(status C.uint32_t) error {
 	return err
 }
 
-// keep notes the first error.
+// keep stores the first error.
 func (t *Tree) keep(err error) {
 	if t.failure == nil {
 		t.failure = err
@@ -388,7 +388,7 @@ func (t *Tree) lend(
 	return (*C.tt_field)(t.lent), C.size_t(len(fields)), [2]C.tt_text_ref{next(), next()}
 }
 
-// validUTF8 returns the string with a replacement character in place of what isn't UTF-8.
+// validUTF8 returns the string with what isn't UTF-8 replaced by a replacement character.
 func validUTF8(text string) string { return strings.ToValidUTF8(text, "\uFFFD") }
 
 // callerPackage returns the package that called the method of this package that calls it. It is

@@ -37,7 +37,7 @@ type full struct{}
 
 func (full) Write([]byte) (int, error) { return 0, errFull }
 
-// What is drawn of strings and values, after the level of an event and a space.
+// How strings and values are drawn, after the level of an event and a space.
 func TestEvents(t *testing.T) {
 	long := strings.Repeat("0123456789", 1000)
 	var drawn bytes.Buffer
@@ -128,7 +128,7 @@ func TestTimers(t *testing.T) {
 	}
 }
 
-// A context that is used after End: the current span is the next one around it that is open.
+// A context that is used after End. The current span is the nearest ancestor that is open.
 func TestAContextOfASpanThatEnded(t *testing.T) {
 	var drawn bytes.Buffer
 	tree := newTree(t, &drawn)

@@ -1,8 +1,12 @@
 #!/usr/bin/env python3
-"""Draws the program's worked cases through the shared object, by ctypes, and compares the texts: cases.py SHARED_OBJECT FOLDER
+"""Draws the program's worked cases through the shared object with ctypes, and compares the
+drawings.
 
-A case is NAME.in, NAME.out and, where a call is refused, NAME.err. Cases whose lines spell no settings or no call are left out: C
-hands over no lines. Prints each case that differs, and at the end how many passed and failed."""
+usage: cases.py SHARED_OBJECT FOLDER
+
+A case is NAME.in, NAME.out and, if a call is refused, NAME.err. Cases with invalid lines are left
+out, since C callers don't pass lines. Prints each case that differs, and at the end how many passed
+and failed."""
 import ctypes
 import json
 import sys
@@ -54,7 +58,7 @@ TEXTS = {0: None, 2: "too wide", 3: "too many", 5: "timer", 6: "failed"}
 
 
 def present(value):
-    """An object without the keys whose value is null."""
+    """Returns an object without the keys whose value is null."""
     return {key: item for key, item in value.items() if item is not None}
 
 
@@ -109,7 +113,7 @@ def text_of(library, tree):
 
 
 def draw(library, lines):
-    """The text of a run, and where and why it ended early."""
+    """Returns the text of a run, and the line and the reason if it ended early."""
     tree = Tree()
     settings = settings_of(json.loads(lines[0]))
     status = library.tt_raw_new(byref(tree), byref(settings))
@@ -138,7 +142,7 @@ def main():
         if told.endswith(("settings", "not a call", "read")):
             continue
         drawn, end = draw(library, case.read_bytes().split(b"\n"))
-        # The number of the span isn't told to C, which has it.
+        # C doesn't get the span's id with the status, since the caller has it.
         if drawn == case.with_suffix(".out").read_bytes() and (told == end or end and told.startswith(f"{end} ")):
             passed += 1
         else:

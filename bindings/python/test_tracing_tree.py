@@ -1,7 +1,8 @@
 #!/usr/bin/env python3
 """Tests the Python module: TRACING_TREE_LIB=SHARED_OBJECT test_tracing_tree.py
 
-The trees are made by hand. Prints each test that fails, and at the end how many passed and failed."""
+The trees were written by hand. Prints each test that fails, and at the end how many passed and
+failed."""
 import asyncio
 import io
 import logging
@@ -180,7 +181,7 @@ class Threads(unittest.TestCase):
             thread.start()
         for thread in threads:
             thread.join()
-        # The last row that opens a root above an event is that of its own span.
+        # The last row before an event that opens a root is that of the event's span.
         opened, events = None, 0
         for row in shown().splitlines():
             if "┐" in row:

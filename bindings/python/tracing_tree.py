@@ -15,9 +15,10 @@ prints to standard error:
     ├─ WARN slow
     ┘
 
-The module needs no build step: it loads the shared object of the library (`libtracing_tree.so.1`) by ctypes. It looks for it at
-TRACING_TREE_LIB (a file or a folder), beside itself, in `lib/` beside itself, in the folder where it is installed or unpacked,
-in the `bin/` of a checkout, and where the system keeps libraries.
+The module needs no build step. It loads the library's shared object (`libtracing_tree.so.1`) with
+ctypes. If TRACING_TREE_LIB is set, that is the file or its folder. Otherwise the module looks next
+to itself, in `lib/` next to itself, in the `lib/` of its installation, in the `bin/` of a checkout,
+and in the system's folders of libraries.
 """
 import contextlib
 import contextvars
@@ -38,7 +39,7 @@ VERSION = 1
 TIMERS = {"none": 0, "uptime": 1, "utc": 2, "local": 3}
 CURRENT = 1
 
-# what the library's functions return, from TT_OK on
+# The messages for what the library's functions return, from TT_OK on.
 REFUSALS = [
     "", "the span isn't live", "a row is too wide", "no span or handle is left", "out of memory", "the timer has no text for this time",
     "the tree has failed earlier", "the tree was closed", "a string isn't UTF-8", "a level is unknown", "there is a tree already",
@@ -89,12 +90,13 @@ class _Event(Structure):
 
 
 def _places():
-    """Returns where the shared object may be, the likeliest first."""
+    """Returns the paths to try for the shared object, in order."""
     here = os.path.dirname(os.path.abspath(__file__))
     named = os.environ.get("TRACING_TREE_LIB")
     if named:
         return [os.path.join(named, LIBRARY) if os.path.isdir(named) else named]
-    # the third is the installed library's: `lib/` for a module in `lib/python3/dist-packages/`
+    # The third is that of an installed library: `lib/` for a module in
+    # `lib/python3/dist-packages/`.
     folders = [here, os.path.join(here, "lib"), os.path.join(here, "..", ".."), os.path.join(here, "..", "..", "bin")]
     return [path for path in (os.path.join(folder, LIBRARY) for folder in folders) if os.path.exists(path)] + [LIBRARY]
 
@@ -130,21 +132,25 @@ _library = _load()
 
 
 def _shown(value):
-    """Returns a field's value as it is drawn: a string as it is, anything else as `repr` prints it."""
+    """Returns a field's value as it is drawn: a string unchanged, anything else as `repr` returns
+    it."""
     return value if isinstance(value, str) else repr(value)
 
 
 def _list(fields):
-    """Returns an array of fields, and their count. A count of 0 has one empty field, since no pointer may be NULL."""
+    """Returns an array of fields, and their count. If there are no fields, the array has an empty
+    one, since no pointer may be NULL."""
     pairs = [_Field(_Text(name), _Text(_shown(value))) for name, value in fields.items()]
     return (_Field * max(len(pairs), 1))(*(pairs or [_Field(_Text(), _Text())])), len(pairs)
 
 
 class Tree:
-    """A tree that is drawn to a text stream. Threads and asyncio's tasks may share it: each has its own current span.
+    """A tree that is drawn to a text stream. Threads and asyncio's tasks may share it: each has its
+    own current span.
 
-    `timer` is one of "none", "uptime" (since the tree was made), "utc" and "local". The other settings are those of the library,
-    such as `ansi`, `targets`, `thread_names`, `span_retrace` and `deferred_spans`. Raises TreeError if they are invalid.
+    `timer` is one of "none", "uptime" (since the tree was made), "utc" and "local". The other
+    settings are those of the library, such as `ansi`, `targets`, `thread_names`, `span_retrace` and
+    `deferred_spans`. Raises TreeError if they are invalid, and TypeError if one is unknown.
     """
 
     def __init__(self, file=None, *, indent_amount=2, wraparound=2**64 - 1, timer="none", higher_precision=False, **switches):
@@ -164,11 +170,13 @@ class Tree:
         _check(_library.tt_raw_new(byref(self._tree), byref(settings)))
 
     def span(self, name, target="", **fields):
-        """Returns a context manager: the span opens when it is entered, and closes when it is left, also by an exception."""
+        """Returns a context manager. The span opens when it is entered. It closes when it is left,
+        also by an exception."""
         return Span(self, name, target, fields)
 
     def event(self, level, message, target="", **fields):
-        """Records an event in the current span. `level` is one of TRACE, DEBUG, INFO, WARN and ERROR. Raises TreeError."""
+        """Records an event in the current span. `level` is one of TRACE, DEBUG, INFO, WARN and
+        ERROR. Raises TreeError."""
         event = _Event(_Text(target), 0, CURRENT, level)
         pairs, count = _list({"message": message, **fields})
         with self._lock:
@@ -238,7 +246,8 @@ class Span:
         self._number = self._token = None
 
     def record(self, **fields):
-        """Adds fields to the span. They are drawn when the span is shown again. Raises TreeError."""
+        """Adds fields to the span. They are drawn when the span is shown again. Raises
+        TreeError."""
         if self._number is None:
             raise TreeError("the span isn't open")
         self._tree._record(self._number, fields)
@@ -255,19 +264,21 @@ class Span:
         self._tree._close(self._number)
 
 
-# attributes that each log record has
+# The attributes that each log record has.
 STANDARD = frozenset(vars(logging.makeLogRecord({}))) | {"message", "asctime", "taskName"}
 
 
 def level_of(number):
-    """Returns the level of a number of `logging`: TRACE below DEBUG, and ERROR for CRITICAL too."""
+    """Returns the level for a level of `logging`: TRACE below DEBUG, and ERROR also for
+    CRITICAL."""
     bounds = [(logging.ERROR, ERROR), (logging.WARNING, WARN), (logging.INFO, INFO), (logging.DEBUG, DEBUG)]
     return next((level for bound, level in bounds if number >= bound), TRACE)
 
 
 class Handler(logging.Handler):
-    """Records each log record as an event of a tree, in the current span. The logger's name is the target, and what `extra` adds are
-    fields. An exception's traceback comes after the message, on separate lines."""
+    """Records each log record as an event of a tree, in the current span. The logger's name is the
+    target, and the attributes in `extra` are fields. An exception's traceback comes after the
+    message, on separate lines."""
 
     def __init__(self, tree, level=logging.NOTSET):
         super().__init__(level)

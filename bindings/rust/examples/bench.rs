@@ -1,4 +1,5 @@
-//! The calls of `../c/bench.c` through `tracing`: `bench COUNT KIND LAYER`, where LAYER is `none` or `ours`.
+//! Makes the calls of `../c/bench.c` through `tracing`: `bench COUNT KIND LAYER`. LAYER is `none`
+//! or `ours`.
 
 use std::io;
 use tracing::{info, info_span, Subscriber};

@@ -1,4 +1,4 @@
-//! The calls of `../c/program.jsonl`, drawn under each of the settings that the arguments number: `program NUMBER..`
+//! Draws the calls of `../c/program.jsonl` with the settings of each number: `program NUMBER..`
 
 use std::io;
 use tracing::field::Empty;
@@ -7,7 +7,8 @@ use tracing_subscriber::prelude::*;
 use tracing_subscriber::Registry;
 use tracing_tree_proved::HierarchicalLayer;
 
-/// The settings with this number: each bit is a switch, and the number says amount and wraparound.
+/// Returns the settings with this number. Each bit is a switch, and the number determines the
+/// indent amount and the wraparound.
 fn numbered(number: usize) -> HierarchicalLayer {
     let switch = |bit: usize| number >> bit & 1 != 0;
     let layer = HierarchicalLayer::new(1 + number % 5)

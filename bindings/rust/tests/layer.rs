@@ -1,4 +1,5 @@
-//! What a service sees of the layer: the drawing, threads, and what goes wrong in the middle of a call.
+//! Tests what a service sees of the layer: the drawing, threads, and faults in the middle of a
+//! call.
 
 use std::cell::RefCell;
 use std::fmt::{self, Write as TextWrite};
@@ -14,7 +15,7 @@ use tracing_subscriber::Registry;
 use tracing_tree_proved::time::FormatTime;
 use tracing_tree_proved::{time, HierarchicalLayer};
 
-/// A writer into memory, which all its copies share.
+/// A writer to memory that all its copies share.
 #[derive(Clone, Default)]
 struct Sink(Arc<Mutex<Vec<u8>>>);
 
@@ -38,7 +39,7 @@ fn plain() -> HierarchicalLayer {
     HierarchicalLayer::new(2).with_ansi(false).with_indent_lines(true)
 }
 
-/// What is drawn while `then` runs.
+/// Returns what is drawn while `then` runs.
 fn drawn(layer: HierarchicalLayer, then: impl FnOnce()) -> String {
     let sink = Sink::default();
     let writer = sink.clone();
@@ -103,7 +104,7 @@ fn timers() {
     assert!(lines[2].ends_with(" +01:00:00 INFO x"), "{text}");
 }
 
-/// A timer of one's own, which logs besides.
+/// A custom timer, which also logs.
 struct Ticks;
 
 impl time::FormatTime for Ticks {
@@ -172,7 +173,7 @@ fn a_panic_in_a_field() {
     assert_eq!(text, "┐a \n├─ INFO next\n┘\n");
 }
 
-/// Logs, and lets go of a span, while it is formatted.
+/// Logs and drops a span while it is formatted.
 struct Logs(Mutex<Option<tracing::Span>>);
 
 impl fmt::Debug for Logs {
@@ -243,7 +244,7 @@ fn a_writer_that_opens_spans() {
     assert_eq!(sink.text(), "┐a \n┘\n");
 }
 
-/// Lets go of spans, one after another, while it is formatted.
+/// Drops spans, one after another, while it is formatted.
 struct LetsGo(Mutex<Vec<tracing::Span>>);
 
 impl fmt::Debug for LetsGo {
@@ -323,7 +324,7 @@ fn a_layer_that_goes_before_its_spans() {
     assert_eq!(sink.text(), "┐a \n┘\n");
 }
 
-/// Logs, and lets go of a span, at the end of its thread.
+/// Logs and drops a span at the end of its thread.
 struct AtEnd(tracing::Dispatch, Option<tracing::Span>);
 
 impl Drop for AtEnd {
@@ -336,7 +337,8 @@ impl Drop for AtEnd {
     }
 }
 
-/// What a thread keeps goes in the opposite order. So the layer's goes first here, and that of `tracing` last.
+/// A thread's locals are destroyed in reverse order of their creation. So the layer's is destroyed
+/// first here, and that of `tracing` last.
 #[test]
 fn a_thread_that_ends() {
     thread_local! {
@@ -371,7 +373,7 @@ fn two_layers() {
     assert_eq!(second.text(), "┐open: a \n└─┐open: b \n  ├─ INFO in b\n┌─┘close: \n┘close: \n");
 }
 
-/// Four threads on one layer: the lines of each are those of a thread that is alone.
+/// Four threads use one layer. The lines of each are those of a single thread.
 #[test]
 fn threads() {
     fn work() {
@@ -402,7 +404,7 @@ fn threads() {
     }
 }
 
-/// Each call shows the number and the name of its own thread.
+/// Each call shows the number and the name of its thread.
 #[test]
 fn numbers_of_threads() {
     let sink = Sink::default();
@@ -433,7 +435,7 @@ fn values() {
     for text in texts {
         assert_eq!(drawn(plain(), || info!(text)), format!("INFO text={text:?}\n"));
     }
-    // A byte that isn't shown as it is, at each place of short and longer texts.
+    // A byte that is escaped, at each place of short and longer strings.
     for length in [1, 7, 8, 9, 16, 17] {
         for place in 0..length {
             for other in ["\"", "\\", "\n", "\u{7f}", "é", "~", " "] {
@@ -455,15 +457,16 @@ fn values() {
     assert_eq!(text, format!("INFO yes=true, no=false, small=1, half=0.5, wide={}\n", i128::MIN));
 }
 
-/// More fields than are seen in one place elsewhere.
+/// An event with many fields.
 #[test]
 fn many_fields() {
     let text = drawn(plain(), || info!(a = 1, b = "2", c = 3, d = 4, e = 5, f = ?Some(6), g = 7, h = 8, i = 9, j = "", k = 11));
     assert_eq!(text, "INFO a=1, b=\"2\", c=3, d=4, e=5, f=Some(6), g=7, h=8, i=9, j=\"\", k=11\n");
 }
 
-/// What stands in a span that a filter hides from the layer stands in the next one around it. Another layer sees all of them, since
-/// `tracing` makes no span that none sees.
+/// If a filter hides a span from the layer, what is in that span is drawn in the nearest ancestor
+/// that isn't hidden. Another layer sees all spans, since `tracing` doesn't make a span that no
+/// layer sees.
 #[test]
 fn spans_that_a_filter_hides() {
     let sink = Sink::default();
@@ -485,7 +488,8 @@ fn spans_that_a_filter_hides() {
     assert_eq!(sink.text(), format!("INFO in no span\n┐a \n├─ INFO in a\n{b}{c}┘\n"));
 }
 
-/// The layer's current span is the registry's, also where a span is entered twice and left out of order.
+/// The layer's current span is the registry's, also if a span is entered twice and left out of
+/// order.
 #[test]
 fn spans_that_are_entered_again() {
     fn tell() {
@@ -510,7 +514,7 @@ fn spans_that_are_entered_again() {
     assert_eq!(text, shown);
 }
 
-/// `tracing` gives ids anew: far more spans than it has ids in one place.
+/// `tracing` reuses ids. The test makes far more spans than there are ids at a time.
 #[test]
 fn ids_that_are_given_anew() {
     let text = drawn(plain(), || {
