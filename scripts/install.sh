@@ -36,6 +36,7 @@ files() {
 644 docs/manual/json-lines.md share/doc/tracing_tree/docs/manual/json-lines.md
 644 docs/manual/json-logs.md share/doc/tracing_tree/docs/manual/json-logs.md
 644 docs/manual/junit.md share/doc/tracing_tree/docs/manual/junit.md
+644 docs/manual/many-services.md share/doc/tracing_tree/docs/manual/many-services.md
 644 docs/manual/pages.md share/doc/tracing_tree/docs/manual/pages.md
 644 docs/manual/read-back.md share/doc/tracing_tree/docs/manual/read-back.md
 644 docs/manual/rust-json.md share/doc/tracing_tree/docs/manual/rust-json.md
