@@ -1,4 +1,4 @@
-//! A thread's receiver over a layer that keeps the history of all threads.
+//! A thread's receiver over a layer with the history of all threads.
 
 ghost use Rattle.std.specs.Prelude.{◌≡◌};
 ghost use Rattle.tracing_tree_shared.specs.Kept.{answer_given};
@@ -59,7 +59,7 @@ impl<'a, R, FT: FormatTime, L: Ledger> SharedCalls<'a, R, FT, L> {
         &self.pass
     }
 
-    /// Returns the thread's pass, which `SharedLayer::finish` takes back.
+    /// Returns the thread's pass, for `SharedLayer::finish`.
     pub fn into_pass(self) -> Pass<L>
         ensures { result ≡ self.entry.receipts }
     {
@@ -117,11 +117,11 @@ impl<'a, R: Wait, FT: FormatTime + Drop, L: Ledger> Calls for SharedCalls<'a, R,
         Ok(was_removed)
     }
 
-    // A tape holds nothing back.
+    // A tape has no buffer to flush.
     fn flush(&mut self) {}
 }
 
-// The reply, or the cause for which the draft came back.
+// Returns the reply, or the cause of the refusal.
 fn answer(given: Result<Reply, Refused>) -> Result<Reply, Refusal>
     ensures { result ≡ answer_given given }
 {
