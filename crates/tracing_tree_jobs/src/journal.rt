@@ -1,4 +1,4 @@
-//! How a worker tells what it does.
+//! Records what a worker does.
 
 use jiff::Timestamp;
 use std::alloc::{AllocError, Global};
@@ -12,7 +12,7 @@ use tracing_tree::text::Text;
 use tracing_tree::time::Moment;
 use tracing_tree_shared::StreamingLayer;
 
-/// What came of the orders, and how many events were told of them.
+/// The results of the orders, and how many events were recorded for them.
 #[derive(Clone, Copy, Default)]
 pub struct Done {
     pub shipped: u64,
@@ -50,7 +50,7 @@ impl<R: Wait, W: Output> Journal<'_, R, W> {
         }
     }
 
-    /// Tells an event in a span, with these numbers.
+    /// Records an event in a span, with these numbers.
     pub fn tell(
         &mut self,
         level: Level,

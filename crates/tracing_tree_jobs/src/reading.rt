@@ -5,7 +5,7 @@ ghost use Rattle.std.specs.Prelude.{◌≤◌};
 use std::alloc::Global;
 use tracing_tree::rows::{EventPath, ReadFault, Row, read_paths, read_rows};
 
-/// How many events of a drawing stand under the order that they name.
+/// Returns how many events of a drawing are nested in the order that they name.
 pub fn events_under_their_orders(
     alloc: Global,
     text: &str,

@@ -8,10 +8,10 @@ const ORDERS: u64 = 12;
 
 const STOCK: u64 = 40;
 
-// The order that asks for more pieces than there ever were.
+// The order that needs more pieces than there ever were.
 const LARGE: u64 = 7;
 
-/// How many pieces are to be packed.
+/// How many pieces must be packed.
 #[derive(Clone, Copy)]
 pub struct Order {
     pub id: u64,

@@ -62,7 +62,7 @@ fn journal<'a, R: Wait, W: Output>(
     }
 }
 
-// What a worker does: it takes orders until none waits.
+// Takes orders until the queue is empty.
 fn serve_all<R: Wait + Clock, W: Output>(
     mut journal: Journal<'_, R, W>,
     warehouse: &Mutex<Warehouse>,

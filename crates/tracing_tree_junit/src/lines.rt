@@ -28,7 +28,7 @@ pub(crate) fn push_row(
     Ok(rows.push(Row { level, text })?)
 }
 
-// Appends the lines of a text that are shown. Each turn reads a byte or more.
+// Appends the lines of a string that are shown. Each turn reads at least one byte.
 pub(crate) fn push_lines(alloc: Global, rows: &mut Vec<Row>, text: &str) -> Result<(), AllocError>
     ensures { OnOk result (rows.new.items ≡ rows.old.items ++ printed_rows text.now) }
 {
@@ -71,7 +71,7 @@ fn push_line<'a>(
     Ok(None)
 }
 
-// The first line of a text, and what comes after it.
+// Returns the first line of a string, and what follows it.
 fn first_line(text: &str) -> (&str, &str)
     ensures line { result.0.now ≡ line_of text.now }
     ensures others { result.1.now ≡ after_line text.now }
@@ -107,7 +107,7 @@ pub(crate) fn head_of<'a>(message: &'a str, name: &'a str) -> &'a str
     if is_blank_text(line) { name } else { line }
 }
 
-// Why a case was skipped: the message, or otherwise the text of the element.
+// Returns why a case was skipped: the message, or otherwise the element's content.
 pub(crate) fn reason_of<'a>(message: &'a str, body: &'a str) -> &'a str
     ensures { result.now ≡ reason_of message.now body.now }
 {

@@ -1,4 +1,4 @@
-//! A document as far as it is read.
+//! The state after a part of a document.
 
 ghost use Rattle.std.specs.Prelude.{◌≡◌, ◌++◌, [], IfOk, OnOk, pos};
 ghost use Rattle.tracing_tree_spans.specs.Registry.Ids.{id_of};
@@ -52,8 +52,8 @@ pub struct Tally {
     pub skipped: u64,
 }
 
-// A document as far as it is read: the elements that are open, the suites among them and the case
-// and the part in which it is, each with the innermost last, and the calls.
+// The state after a part of a document: the open elements, suites, case and part, each with the
+// innermost last, and the calls.
 #[derive(Drop)]
 pub(crate) struct Junit {
     alloc: Global,
@@ -192,7 +192,7 @@ impl Junit {
         }
     }
 
-    // An element begins: that of the tag. In a part its text begins a line.
+    // Opens the element of the tag. The content of a part starts a line.
     fn begin(&mut self) -> Result<(), AllocError>
         ensures { OnOk result (self.new ≡ begun self.old) }
     {
@@ -252,7 +252,7 @@ impl Junit {
         }
     }
 
-    // The name of the innermost suite; empty if there is none.
+    // Returns the name of the innermost suite. It is empty if there isn't one.
     fn innermost_name(&self) -> &str
         ensures { result.now ≡ innermost_name self.now.suites }
     {
@@ -355,7 +355,7 @@ impl Junit {
         }
     }
 
-    // Comes to the span in which the case is.
+    // Enters the span that the case is nested in.
     fn enter_class(&mut self) -> Result<(), AllocError>
         ensures { OnOk result (self.new ≡ class_entered self.old) }
     {
@@ -388,7 +388,7 @@ impl Junit {
         }
     }
 
-    // The span in which cases are.
+    // Returns the span that cases are nested in.
     fn case_span(&self) -> Option<Id>
         ensures { result ≡ case_span self.now.class self.now.suites }
     {

@@ -32,8 +32,8 @@ use tracing_tree_time::Moment;
 
 /// The groups of a log: its traces and its requests.
 ///
-/// A line that is an object is an event in the span of its group, or at the root if it has none.
-/// Any other line is an event where the last object was.
+/// A line that is an object is an event in the span of its group, or at the root without a group.
+/// Any other line is an event in the same span as the last object.
 #[derive(Drop)]
 pub struct Logs {
     alloc: Global,

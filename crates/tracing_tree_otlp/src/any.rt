@@ -1,4 +1,4 @@
-//! A value of OTLP (`AnyValue`) as text.
+//! Shows a value of OTLP (`AnyValue`) as text.
 
 ghost use Rattle.std.specs.Prelude.{◌≡◌, ◌++◌, true, IfOk, OnOk, codes, option_map, string_bytes};
 ghost use Rattle.json.specs.Value.{items_view, members_view, value_view};
@@ -8,7 +8,7 @@ use json::Value;
 use std::alloc::{AllocError, Global};
 use tracing_tree_sources::values::text_at;
 
-// A value as text: a string by itself, and any other value as JSON.
+// Returns a value as text: a string unchanged, and any other value as JSON.
 pub(crate) fn any_text(alloc: Global, value: &Value<'_>) -> Result<String, AllocError>
     ensures { IfOk result (λ text. string_bytes text ≡ any_text (value_view value.now)) }
 {
@@ -20,7 +20,7 @@ pub(crate) fn any_text(alloc: Global, value: &Value<'_>) -> Result<String, Alloc
     Ok(out)
 }
 
-// The text of a string, or of bytes as base64.
+// Returns a string, or bytes as base64.
 fn raw_text<'v>(value: &'v Value<'_>) -> Option<&'v str>
     ensures { option_map (λ s. s.now) result ≡ raw_text (value_view value.now) }
 {

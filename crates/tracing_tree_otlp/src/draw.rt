@@ -81,7 +81,7 @@ fn step_count(rows: usize) -> u64
     (rows as u64).saturating_mul(4)
 }
 
-// Rows by the span in which they are nested.
+// Returns rows grouped by the span that they are nested in.
 fn grouped(alloc: Global, rows: Vec<Item>) -> Result<Groups, AllocError>
     ensures { IfOk result (λ groups. groups ≡ grouped rows.items) }
 {
@@ -143,7 +143,7 @@ impl Tree {
         Ok(())
     }
 
-    // Shows the next row of the innermost span, or closes it if it has none.
+    // Shows the next row of the innermost span, or closes it after its last row.
     fn step(&mut self) -> Result<(), AllocError>
         ensures { OnOk result (self.new ≡ stepped self.old) }
     {

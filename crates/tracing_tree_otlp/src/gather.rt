@@ -1,4 +1,4 @@
-//! What the lines of an input say together: rows, and where each is nested.
+//! Collects the lines of an input: rows, and the span that each is nested in.
 
 ghost use Rattle.std.specs.Prelude.{◌≡◌, IfOk, OnOk, IsPermutation, IsSorted, codes, map, option_map};
 ghost use Rattle.std.specs.Str.Lines.{lines};
@@ -48,7 +48,7 @@ impl Model for Gathered {
     } };
 }
 
-// What a text says.
+// Collects the rows of an input.
 pub(crate) fn gathered_in(alloc: Global, text: &str) -> Result<Gathered, AllocError>
     ensures { IfOk result (λ gathered. gathered ≡ gathered_in text.now) }
 {
@@ -227,7 +227,7 @@ impl Gathered {
         Ok(())
     }
 
-    // Takes a span, unless it has no id, or none of its trace.
+    // Takes a span, unless its id or the id of its trace is missing.
     fn take_span(&mut self, value: &Value<'_>) -> Result<(), AllocError>
         ensures { OnOk result (self.new ≡ span_taken (value_view value.now) self.old) }
     {

@@ -15,7 +15,7 @@ use tracing_tree_text::field::{Field, Fields};
 use tracing_tree_text::style::Level;
 use tracing_tree_text::text::Text;
 
-// A number as it is written, which may be in a string.
+// Returns a number as written, which may be in a string.
 fn word_of<'v>(value: &'v Value<'_>) -> Option<&'v str>
     ensures { option_map (λ w. w.now) result ≡ word_of (value_view value.now) }
 {
@@ -32,7 +32,7 @@ fn number_at(value: &Value<'_>, key: &str) -> Option<u64>
     whole_of(word_of(value.get(key)?)?)
 }
 
-// The count at a key, 0 if none is there.
+// Returns the count at a key, or 0 if there isn't one.
 pub(crate) fn count_at(value: &Value<'_>, key: &str) -> u64
     ensures { result ≡ count_at key.now (value_view value.now) }
 {
@@ -49,7 +49,7 @@ fn whole_of(text: &str) -> Option<u64>
     text.parse().ok()
 }
 
-// Whether a text is one digit or more, and nothing else.
+// Returns whether a string has only digits, and at least one.
 fn is_digits(text: &str) -> bool
     ensures { result ≡ is_digits text.now }
 {
@@ -69,7 +69,7 @@ fn all_digits(bytes: &[u8]) -> bool
     true
 }
 
-// The string at a key, empty if none is there.
+// Returns the string at a key. It is empty if there isn't one.
 pub(crate) fn string_at<'v>(value: &'v Value<'_>, key: &str) -> &'v str
     ensures { result.now ≡ string_at key.now (value_view value.now) }
 {
@@ -79,7 +79,7 @@ pub(crate) fn string_at<'v>(value: &'v Value<'_>, key: &str) -> &'v str
     }
 }
 
-// The id at a key, empty if none is there.
+// Returns the id at a key. It is empty if there isn't one.
 pub(crate) fn id_at(alloc: Global, value: &Value<'_>, key: &str) -> Result<Text, AllocError>
     ensures { IfOk result (λ id. id ≡ id_at key.now (value_view value.now)) }
 {
@@ -153,7 +153,7 @@ fn attribute_fields(alloc: Global, attributes: &Vec<Value<'_>>) -> Result<Fields
     Ok(Fields::from(fields))
 }
 
-// The value of the first of these attributes with this key, empty if there is none.
+// Returns the value of the first of these attributes with this key. It is empty if there isn't one.
 fn attribute_at(alloc: Global, key: &str, attributes: &Vec<Value<'_>>) -> Result<String, AllocError>
     ensures { IfOk result (λ text. string_bytes text
         ≡ attribute_at key.now (items_view attributes.now.items)) }
@@ -166,7 +166,7 @@ fn attribute_at(alloc: Global, key: &str, attributes: &Vec<Value<'_>>) -> Result
     Ok(String::new(alloc))
 }
 
-// The name of the service with this resource, empty if it has none.
+// Returns the name of the service with this resource. It is empty if there isn't one.
 fn service_of(alloc: Global, resource: &Value<'_>) -> Result<Text, AllocError>
     ensures { IfOk result (λ service. service ≡ service_of (value_view resource.now)) }
 {
@@ -186,7 +186,7 @@ pub(crate) fn service_in(alloc: Global, value: &Value<'_>) -> Result<Text, Alloc
     }
 }
 
-// The level of a log's severity number; INFO if it says none.
+// Returns the level of a log's severity number, or INFO without one.
 pub(crate) fn level_of(severity: u64) -> Level
     ensures { result ≡ level_of severity }
 {

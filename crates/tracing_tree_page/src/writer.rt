@@ -281,7 +281,7 @@ fn is_live(registry: &Registry, id: Id) -> bool
     registry.kept_path(id).is_some()
 }
 
-// Writes a text.
+// Writes a string.
 fn send<W: Output>(text: &mut String, writer: &mut W) -> Result<(), Refusal>
     requires { W.fault_count writer.old ≡ 0 }
     ensures written { Writes (string_bytes text.old) result

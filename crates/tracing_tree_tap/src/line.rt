@@ -80,7 +80,7 @@ fn is_frame(text: &str) -> bool
     begins("TAP version ", text) || begins("KTAP version ", text) || begins("pragma ", text)
 }
 
-// Whether a text is nothing, or a comment.
+// Returns whether a string is empty, or a comment.
 fn begins_note(text: &str) -> bool
     ensures { result ≡ begins_note text.now }
 {
@@ -171,8 +171,8 @@ pub(crate) fn described(rest: &str) -> &str
     }
 }
 
-// The place of the first `#` at the front or behind a space, with that space; the length if there is
-// none.
+// Returns the index of the first `#` at the start or after a space, with that space. If there isn't
+// one, returns the length.
 fn note_place(text: &str) -> usize
     ensures value { result ≡ note_place text.now }
 {

@@ -80,7 +80,7 @@ impl Tally {
         }
     }
 
-    // The fields that tell the counts.
+    // Returns the fields with the counts.
     pub(crate) fn fields(&self, alloc: Global) -> Result<Vec<Field>, AllocError>
         ensures { IfOk result (λ fields. fields.items ≡ tally_fields self.now) }
     {

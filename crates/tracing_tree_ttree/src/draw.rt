@@ -213,7 +213,7 @@ fn draw_failed<R: AllocGlobal + Eprint + Print, I: Read + Drop>(
     Ok(with_tests(status, source.into_source().into_source().has_failed()))
 }
 
-// The status of a run of tests, of which one may have failed.
+// Returns the status of a run of tests, given whether one has failed.
 fn with_tests(status: Status, has_failed: bool) -> Status {
     if has_failed {
         status.worse(Status::Failure)

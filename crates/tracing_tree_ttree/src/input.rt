@@ -119,8 +119,8 @@ impl Head {
         }
     }
 
-    // Sets where the lines of the format begin if the line at this place determined it. Lines of
-    // settings and calls may begin with an empty object before it.
+    // Sets the start of the format's lines, if the line at this place determined it. Lines of
+    // settings and calls may start with an empty object before it.
     fn begin(&mut self, format: Format, place: usize, number: u64) {
         match format {
             Format::Lines if self.start < place => {}
@@ -135,8 +135,8 @@ impl Head {
         }
     }
 
-    // Keeps where lines of settings and calls would begin: at an empty object, which may be settings,
-    // if only blank lines come after it.
+    // Records the possible start of lines of settings and calls: an empty object, which may be
+    // settings, if only blank lines follow it.
     fn hold(&mut self, place: usize, number: u64, line: &[u8]) {
         if is_empty_object(line) {
             self.start = place;
@@ -183,7 +183,7 @@ fn read_through<R: Read>(lines: &mut BufReader<R>, line: &mut Vec<u8>) -> Result
     }
 }
 
-// The marks, in the order in which they are tried.
+// The marks, in the order of the attempts.
 const MARKS: [Mark; 3] = [Mark::Bar, Mark::Bracket, Mark::Time];
 
 // The format of a line that has a prefix before an object, and the mark of the prefix.

@@ -37,7 +37,7 @@ fn main(rt: HostRuntime) -> ExitCode {
     }
 }
 
-// What standard output is. If it isn't a terminal, it has neither colours nor a width.
+// Returns what standard output is. If it isn't a terminal, it has no colours and no width.
 fn terminal(rt: &HostRuntime) -> Terminal {
     let is_terminal = rt.stdout().is_terminal();
     Terminal {

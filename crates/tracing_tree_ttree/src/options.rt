@@ -49,7 +49,7 @@ pub struct Options<'a> {
     // The inputs, one drawn after another; - is standard input.
     pub files: Vec<&'a str>,
 
-    // The options that not every format has, as far as they are given.
+    // The given options, of those that only some formats have.
     given: Vec<&'a str>,
 }
 
@@ -200,7 +200,7 @@ fn files<'a>(alloc: Global, matches: &ArgMatches<'a>) -> Result<Vec<&'a str>, Al
     Ok(files)
 }
 
-// The options that not every format has, as far as they are given.
+// Returns the given options, of those that only some formats have.
 fn given<'a>(alloc: Global, matches: &ArgMatches<'a>) -> Result<Vec<&'a str>, AllocError> {
     let mut given = Vec::new(alloc);
     for option in OPTIONS {
@@ -355,7 +355,7 @@ fn conflict(alloc: Global, message: &str) -> Result<Error, AllocError> {
     command(alloc)?.error(ErrorKind::ArgumentConflict, message)
 }
 
-// The nanoseconds of a length of time; none without a word.
+// Returns a duration in nanoseconds, or 0 without a word.
 fn shortest(alloc: Global, word: Option<&str>) -> Result<u64, Error> {
     let Some(word) = word else {
         return Ok(0);

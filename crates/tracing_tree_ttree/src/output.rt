@@ -60,7 +60,7 @@ pub enum Flush {
     Done,
     Failed,
 
-    // The output's reader has gone away.
+    // The output's reader has closed it.
     Closed,
 }
 

@@ -20,7 +20,7 @@ use tracing_tree_viewer::{HEAD, TAIL};
 // What writes the lines.
 type Steps<W> = StepWriter<Wrap<Output<W>>>;
 
-// Writes the lines of a source. `AllocError` if there is no memory for the buffers.
+// Writes the lines of a source. `AllocError` if the buffers can't be allocated.
 pub fn write_input<R: AllocGlobal + Eprint + Print, I: Read + Drop, S: Source>(
     rt: &R,
     origin: Origin<'_>,
@@ -154,8 +154,8 @@ fn ended(unknown: u64, cause: LineCause) -> SourceRun {
     }
 }
 
-// Writes the end after a whole run, and reports what went wrong. A page without an end shows that it
-// is cut short.
+// Writes the end after a complete run, and reports errors. A page without an end shows that it is
+// truncated.
 fn finish<R: Eprint, W: Write + Drop>(
     run: SourceRun,
     steps: Steps<W>,

@@ -28,7 +28,7 @@ pub enum Status {
     // The input, or an option, can't be used at all.
     Usage,
 
-    // The output's reader has gone away, so nothing more can be shown.
+    // The output's reader has closed it, so nothing more can be shown.
     Closed,
 }
 

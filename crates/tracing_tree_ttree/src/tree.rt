@@ -26,7 +26,7 @@ pub fn some_moment() -> Moment {
     }
 }
 
-// Draws the lines of a source, with this clock. `AllocError` if there is no memory for the buffers.
+// Draws the lines of a source, with this clock. `AllocError` if the buffers can't be allocated.
 pub fn draw_input<R: AllocGlobal + Eprint + Print, I: Read + Drop, S: Source>(
     rt: &R,
     origin: Origin<'_>,
@@ -61,7 +61,7 @@ pub fn draw_calls<R: AllocGlobal + Eprint + Print, I: Read + Drop>(
     Ok(report(rt, origin, &fault, flush_output(run.writer)))
 }
 
-// A fault by its line of the input, if so many lines come before those of the run.
+// Returns a fault with its line in the input, if `lines_before` lines come before those of the run.
 fn after_lines(fault: Option<LineFault>, lines_before: u64) -> Option<LineFault> {
     let fault = fault?;
     Some(LineFault {

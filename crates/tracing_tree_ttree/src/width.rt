@@ -91,7 +91,8 @@ fn write_cut<W: Write>(writer: &mut W, line: &str, width: usize) -> io::Result<(
     Ok(())
 }
 
-// The byte at which a line is cut, one column before `width`. None if the line isn't wider.
+// Returns the byte at which a line is cut, one column before `width`, or `None` if the line isn't
+// wider.
 fn place_of_cut(line: &str, width: usize) -> Option<usize> {
     let mut column = 0usize;
     let mut cut = 0;

@@ -32,7 +32,8 @@ pub(crate) enum Until {
     // What may come after a reference.
     Reference,
 
-    // What isn't read as it is written: a return, and in text and in attributes also a reference.
+    // Bytes that aren't read unchanged: a carriage return, and in content and in attributes also a
+    // reference.
     Verbatim,
 
     Content,
@@ -68,7 +69,7 @@ fn is_blank(byte: u8) -> bool
     byte == b' ' || byte == b'\t' || byte == b'\n' || byte == b'\r'
 }
 
-// Where the first piece of this kind ends.
+// Returns where the first piece of this kind ends.
 fn length_until(bytes: &[u8], until: Until) -> usize
     ensures { result ≡ position_or_len (ends_at until) bytes.now }
 {
@@ -84,7 +85,7 @@ fn length_until(bytes: &[u8], until: Until) -> usize
     count
 }
 
-// Splits a text where its first piece of this kind ends.
+// Splits a string where its first piece of this kind ends.
 pub(crate) fn cut(text: &str, until: Until) -> (&str, &str)
     ensures before { result.0.now ≡ take (position_or_len (ends_at until) text.now) text.now }
     ensures after { result.1.now ≡ drop (position_or_len (ends_at until) text.now) text.now }
@@ -116,14 +117,14 @@ pub(crate) fn after_blanks(text: &str) -> &str
     rest
 }
 
-// What comes after this mark at the front of a text.
+// Returns what follows this prefix of a string.
 pub(crate) fn after_mark<'a>(text: &'a str, mark: &str) -> Option<&'a str>
     ensures { option_map (λ s. s.now) result ≡ after_mark mark.now text.now }
 {
     text.strip_prefix(mark)
 }
 
-// A text without this mark at its end.
+// Removes this suffix from a string.
 pub(crate) fn without_end<'a>(text: &'a str, mark: &str) -> Option<&'a str>
     ensures { option_map (λ s. s.now) result ≡ without_end mark.now text.now }
 {

@@ -6,10 +6,10 @@ ghost use Rattle.tracing_tree_xml.specs.Decoded.{attribute_decoded, cdata_decode
 use crate::cut::{Until, after_mark, cut};
 use std::alloc::AllocError;
 
-/// Appends a run of text, decoded: its references are replaced, and its lines end with `\n`.
+/// Appends a run of content, decoded: its references are replaced, and its lines end with `\n`.
 ///
-/// A reference stays as it is written if XML doesn't define its entity, or if its number is that of
-/// no character.
+/// A reference is unchanged if XML doesn't define its entity, or if its number isn't that of a
+/// character.
 ///
 /// # Errors
 ///
@@ -21,7 +21,7 @@ pub fn push_text(out: &mut String, run: &str) -> Result<(), AllocError>
     push_decoded(out, Until::Content, run)
 }
 
-/// Appends the value of an attribute, decoded as text is. A tab or a line end is a space.
+/// Appends the value of an attribute, decoded like content. A tab or a line end is a space.
 ///
 /// # Errors
 ///
@@ -62,7 +62,7 @@ fn push_decoded(out: &mut String, until: Until, text: &str) -> Result<(), AllocE
     Ok(())
 }
 
-// Appends what the mark at the front stands for, and returns what comes after it.
+// Appends what the special characters at the start mean, and returns what follows them.
 fn push_special<'a>(out: &mut String, until: Until, text: &'a str) -> Result<&'a str, AllocError>
     ensures pushed { OnOk result
         (string_bytes out.new ≡ string_bytes out.old ++ (special until text.now).0) }
@@ -97,7 +97,7 @@ fn line_end(until: Until) -> &'static str
     }
 }
 
-// Appends what a reference stands for, whose `&` comes before this text.
+// Appends what a reference means, whose `&` comes before this string.
 fn push_reference<'a>(out: &mut String, text: &'a str) -> Result<&'a str, AllocError>
     ensures pushed { OnOk result
         (string_bytes out.new ≡ string_bytes out.old ++ (reference text.now).0) }
@@ -120,7 +120,7 @@ fn push_reference<'a>(out: &mut String, text: &'a str) -> Result<&'a str, AllocE
     }
 }
 
-// The character that a reference of this name stands for.
+// Returns the character of a reference with this name.
 fn entity(name: &str) -> Option<char>
     ensures { result ≡ entity name.now }
 {
@@ -174,7 +174,7 @@ fn number_of(radix: u32, digits: &[u8]) -> Option<u32>
     Some(number)
 }
 
-// What a digit counts; 16 if it is none.
+// Returns the value of a digit, or 16 if it isn't one.
 fn digit_of(byte: u8) -> u32
     ensures value { result ≡ digit_of byte }
     ensures small { result ≤ 16 }

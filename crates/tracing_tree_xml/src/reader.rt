@@ -8,7 +8,7 @@ use crate::cut::{Until, after_blanks, after_mark, cut, without_end};
 use std::marker::Model;
 use thiserror::Error;
 
-/// A token of a document. Its strings are as they are written: `push_text`, `push_attribute` and
+/// A token of a document. Its strings are not decoded: `push_text`, `push_attribute` and
 /// `push_cdata` of this crate decode them.
 #[derive(Clone, Copy, Debug)]
 pub enum Token<'a> {
@@ -33,8 +33,8 @@ pub enum Token<'a> {
     /// A part of a CDATA section.
     Cdata(&'a str),
 
-    /// A part of a comment, of a processing instruction or of a document type declaration, or a
-    /// mark at which such a thing begins.
+    /// A part of a comment, of a processing instruction or of a document type declaration, or the
+    /// mark that starts one.
     Skipped,
 }
 
@@ -253,7 +253,7 @@ fn end_tag_step(text: &str) -> Step<'_>
 
 // ---- tags
 
-// What comes in a tag, from its first byte on that is no blank.
+// Reads the next token in a tag, after its blanks.
 fn tag_step(text: &str) -> Result<Step<'_>, Unfinished>
     ensures { result ≡ tag_step text.now }
 {

@@ -40,7 +40,7 @@ pub(super) const GROUP_KEYS: [&str; 7] = [
     "correlation_id",
 ];
 
-// A string that isn't empty, or a number as it is written.
+// Returns a string that isn't empty, or a number as written.
 fn word_of<'v>(value: &'v Value<'_>) -> Option<&'v str>
     ensures { option_map (λ w. w.now) result ≡ word_of (value_view value.now) }
 {
@@ -58,7 +58,7 @@ pub(super) fn word_at<'v>(value: &'v Value<'_>, key: &str) -> Option<&'v str>
     word_of(value.get(key)?)
 }
 
-// The first of these keys at which a word is.
+// Returns the first of these keys that has a word.
 pub(super) fn first_key(keys: &[&'static str], value: &Value<'_>) -> Option<&'static str>
     ensures { option_map (λ k. k.now) result
         ≡ first_key (map (λ k. k.now) keys.now) (value_view value.now) }
@@ -87,7 +87,7 @@ fn level_at(value: &Value<'_>, key: &str) -> Option<Level>
     level_named(word_at(value, key)?)
 }
 
-// The key at which a line names its level.
+// Returns the key of a line's level.
 fn level_key(value: &Value<'_>) -> Option<&'static str>
     ensures { option_map (λ k. k.now) result ≡ level_key (value_view value.now) }
 {
@@ -99,7 +99,7 @@ fn level_key(value: &Value<'_>) -> Option<&'static str>
     }
 }
 
-// The level of a line; INFO if it names none.
+// Returns the level of a line, or INFO if the line doesn't name one.
 pub(super) fn level_in(value: &Value<'_>) -> Level
     ensures { result ≡ level_in (value_view value.now) }
 {
@@ -109,7 +109,7 @@ pub(super) fn level_in(value: &Value<'_>) -> Level
     }
 }
 
-// The key at which a line tells its time.
+// Returns the key of a line's time.
 fn time_key(value: &Value<'_>) -> Option<&'static str>
     ensures { option_map (λ k. k.now) result ≡ time_key (value_view value.now) }
 {
@@ -130,7 +130,7 @@ fn is_time_at(value: &Value<'_>, key: &str) -> bool
     }
 }
 
-// The moment of a line; that of the line before if it tells none.
+// Returns the moment of a line. Without a valid time, it is the moment of the line before.
 pub(super) fn moment_in(value: &Value<'_>, before: &Moment) -> Moment
     ensures { result ≡ moment_in (value_view value.now) before.now }
 {
@@ -158,7 +158,7 @@ pub(super) fn group_key(alloc: Global, name: &str, id: &str) -> Result<Vec<u8>, 
     Ok(key)
 }
 
-// The keys that are no fields: those of the level, the time, the message and the group.
+// Returns the keys that aren't fields: those of the level, the time, the message and the group.
 fn used_keys(value: &Value<'_>) -> UsedKeys
     ensures { result ≡ used_keys (value_view value.now) }
 {

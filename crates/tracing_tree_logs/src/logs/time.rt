@@ -9,7 +9,7 @@ use jiff::Timestamp;
 use tracing_tree_sources::moments::moment_after;
 use tracing_tree_time::Moment;
 
-// The moment that a word tells; that of the line before if it tells none.
+// Returns the moment of a time. If it is missing or invalid, this is the moment of the line before.
 pub(super) fn moment_of_word(word: Option<&str>, before: &Moment) -> Moment
     ensures { result ≡ moment_of_word (option_map (λ w. w.now) word.entry) before.now }
 {
@@ -22,21 +22,21 @@ pub(super) fn moment_of_word(word: Option<&str>, before: &Moment) -> Moment
     }
 }
 
-// Whether a word tells a moment.
+// Returns whether a word is a valid time.
 pub(super) fn is_time(word: &str) -> bool
     ensures { result ≡ is_time word.now }
 {
     nanoseconds_of(word).is_some() || is_instant(word)
 }
 
-// Whether a text is an instant as RFC 3339 writes it.
+// Returns whether a string is an instant in RFC 3339.
 fn is_instant(text: &str) -> bool
     ensures { result ≡ is_some (moment_of text.now) }
 {
     text.parse::<Timestamp>().is_ok()
 }
 
-// The moment that a number tells.
+// Returns the moment of a number.
 fn moment_of_number(text: &str) -> Option<Moment>
     ensures { result ≡ moment_of_number text.now }
 {
@@ -66,7 +66,7 @@ fn nanoseconds_of(text: &str) -> Option<u64>
     }
 }
 
-// The same of a number with a point, by what is before the point and after it.
+// Like `nanoseconds_of`, for a number with a point, given its parts before and after the point.
 fn decimal_of(before: &str, after: &str) -> Option<u64>
     ensures { result ≡ decimal_of before.now after.now }
 {
@@ -141,7 +141,7 @@ fn digit_in(byte: u8) -> u64
     u64::from(byte.saturating_sub(b'0'))
 }
 
-// Whether a text is one digit or more, and nothing else.
+// Returns whether a string has only digits, and at least one.
 fn is_digits(text: &str) -> bool
     ensures { result ≡ is_digits text.now }
 {

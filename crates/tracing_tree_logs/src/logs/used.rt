@@ -1,4 +1,4 @@
-//! The keys of a line that are no fields.
+//! The keys of a line that aren't fields.
 
 ghost use Rattle.std.specs.Prelude.{◌≡◌, bytes_eq, map, option_map};
 ghost use Rattle.std.specs.List.{list_any};

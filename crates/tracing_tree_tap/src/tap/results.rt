@@ -131,7 +131,8 @@ impl Tap {
         }
     }
 
-    // The number 1 begins anew, and numbers in between are missing.
+    // Takes a result with this number. The number 1 starts again, and numbers in between are
+    // missing.
     fn take_given(&mut self, number: u64) -> Result<(), AllocError>
         ensures { OnOk result (self.new ≡ given_taken number self.old) }
     {
@@ -205,7 +206,7 @@ impl Tap {
         Ok(())
     }
 
-    // A second plan begins anew.
+    // Sets the plan. A second plan starts again.
     #[tactic(auto, unfolding(crate::specs::Tap::plan_set))]
     fn set_plan(&mut self, count: u64) -> Result<(), AllocError>
         ensures { OnOk result (self.new ≡ plan_set count self.old) }

@@ -49,7 +49,7 @@ impl Tap {
         self.push(call)
     }
 
-    // An event that tells of a failure that isn't a result.
+    // Records a failure that isn't a result.
     pub(super) fn push_error(&mut self, text: &str, span: Option<Id>) -> Result<(), AllocError>
         ensures { OnOk result (self.new ≡ error_told text.now span self.old) }
     {
