@@ -1,12 +1,15 @@
 //! Times the library's works.
 //!
-//! Of calls, the arguments are a work, how many rounds of it, and optionally `idle`, with which the calls are made and dropped, or
-//! `marked`, with which a line `begin` stands before each batch of calls and a line `end` after it. It prints how many calls were
-//! timed, what one took, and how many bytes they wrote. Where the first argument is `retraced` or `deferred`, waves of calls are made
-//! under these settings, as many as the second says, and it prints what the calls of each wave took, and the longest of them.
+//! To time calls, the arguments are a work, the number of rounds, and optionally `idle` or
+//! `marked`. With `idle` the calls are made and dropped. With `marked` a line `begin` is printed
+//! before each batch of calls and a line `end` after it. It prints how many calls were timed, what
+//! one took, and how many bytes they wrote. If the first argument is `retraced` or `deferred`, it
+//! makes as many waves of calls as the second argument says, with these settings. It prints what
+//! the calls of each wave took, and the longest of them.
 //!
-//! `threads` and then a work times events through the layers for several threads, and `reading` the reading of a drawing: the
-//! modules of these names say how. Without arguments it prints the names of the works.
+//! `threads` and a work time events through the layers for several threads, and `reading` times the
+//! reading of a drawing. The modules of these names say how. Without arguments it prints the names
+//! of the works.
 #![tactic(auto)]
 
 mod calls;
@@ -125,7 +128,7 @@ struct Measured {
     refused: u64,
 }
 
-// Runs what has to stand first, and then times batches.
+// Makes the calls that come first, and then times batches.
 fn measure<R: AllocGlobal + MachineClock + Print>(
     rt: &R,
     work: Work,

@@ -13,7 +13,8 @@ const RUNS: u32 = 5;
 // The columns a level of the drawing.
 const AMOUNT: usize = 2;
 
-// How long a run took, in microseconds, and how many rows or events it read; none where the text is no drawing.
+// How long a run took, in microseconds, and how many rows or events it read. Zero if the text isn't
+// a drawing.
 #[derive(Clone, Copy)]
 struct Timing {
     micros: u64,

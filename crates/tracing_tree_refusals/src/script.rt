@@ -18,7 +18,7 @@ pub type Answer = Result<Reply, Refusal>;
 /// A list of calls.
 #[derive(Clone, Copy)]
 pub enum Script {
-    /// Deferred spans, of which the last is never shown.
+    /// Deferred spans. The last is never shown.
     Deferred,
 
     /// A span that waits for its child, and closes with it.
@@ -287,7 +287,7 @@ fn field(alloc: Global, name: &str, value: &str) -> Result<Fields, AllocError> {
     Ok(Fields::from(fields))
 }
 
-// The field `key`, or none.
+// Returns the field `key`, or an empty list.
 fn keyed(alloc: Global, value: &str) -> Result<Fields, AllocError> {
     if value.is_empty() {
         return Ok(Fields::new(alloc));
