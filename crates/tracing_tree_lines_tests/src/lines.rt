@@ -1,4 +1,4 @@
-//! What no contract says of lines: the texts of faults, and readers that fail.
+//! Properties of lines that aren't in a contract: faults as strings, and readers that fail.
 
 use std::alloc::{AllocError, Global};
 use std::io;
@@ -52,7 +52,7 @@ impl Read for Hesitant<'_> {
     }
 }
 
-// Three lines, of which the last two are skipped; the third begins after four bytes.
+// Three lines. The last two are skipped, and the third starts after four bytes.
 const THREE_LINES: &[u8] = b"{}\n\n \t\n";
 
 // The fault of a run over the three lines, by a reader that fails so.
@@ -106,7 +106,7 @@ fn errors(rt: HostRuntime) {
     assert_eq!(rt; fault_of(alloc, 5, 1, ErrorKind::BrokenPipe), read_fault(3));
 }
 
-// Settings, a line of so many spaces, and a line that spells no call.
+// Returns settings, a line of `spaces` spaces, and a line that isn't a call.
 fn long_line(alloc: Global, spaces: usize) -> Result<String, AllocError> {
     let mut text = String::new(alloc);
     text.push_str("{}\n")?;
@@ -132,7 +132,8 @@ fn long_lines(rt: HostRuntime) -> Result<(), Fail> {
     Ok(())
 }
 
-// What stands before and after 200,000 spaces in lines that spell no settings or no call, longer than the buffer of the input.
+// The parts before and after 200,000 spaces, in lines that aren't valid settings or calls and are
+// longer than the buffer of the input.
 const WRONG: [(&str, &str, u64, LineCause); 6] = [
     ("{", "\n", 1, LineCause::Settings),
     ("{\"ansi\":", "1}\n", 1, LineCause::Settings),
@@ -175,7 +176,7 @@ fn reads_no_further(rt: HostRuntime) {
     assert_eq!(rt; reader.rest, b"{}\n".as_slice());
 }
 
-// Compares the text of a fault in line 3.
+// Compares a fault in line 3 as a string.
 fn reads_as(rt: &(impl Abort + AllocGlobal), cause: LineCause, wanted: &str) -> Result<(), Fail> {
     let fault = LineFault { line: 3, cause };
     let text = format!(in rt.alloc(); "{fault}")?;

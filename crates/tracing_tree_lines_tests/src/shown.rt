@@ -1,4 +1,4 @@
-//! What is drawn is passed on before each read of the input, and not elsewhere.
+//! What was drawn is flushed before each read of the input, and not elsewhere.
 
 use std::alloc::Global;
 use std::cell::Cell;
@@ -9,7 +9,7 @@ use tracing_tree::format::{Refusal, Wrap};
 use tracing_tree::lines::run_lines;
 use tracing_tree_for_tests::{Step, lined_over};
 
-// How many bytes a writer has taken and passed on, and how often it was flushed.
+// How many bytes a writer has taken and flushed, and how often it was flushed.
 #[derive(Drop)]
 struct Counts {
     taken: Cell<usize>,
@@ -115,7 +115,7 @@ fn what_is_drawn_is_shown_before_each_read(rt: HostRuntime) -> Result<(), Fail> 
     Ok(())
 }
 
-// The bytes that were taken before a write was refused are passed on too.
+// The bytes that were taken before a refused write are flushed too.
 #[test]
 fn a_failed_layer_is_flushed(rt: HostRuntime) -> Result<(), Fail> {
     let alloc = rt.alloc();

@@ -33,7 +33,7 @@ const DEFERRED: Settings = Settings {
     ..RETRACED
 };
 
-// Spans, each the parent of the next, of which the first gets this id.
+// Opens spans, each the parent of the next. The first gets this id.
 fn push_chain(steps: &mut Vec<Step<'static>>, first: u64, depth: u64) -> Result<(), AllocError> {
     steps.push(Step::New("s", None))?;
     for place in 1..depth {

@@ -19,10 +19,10 @@ enum Way {
     // As one run.
     Run,
 
-    // On a layer alone, over a registry that keeps paths.
+    // On a layer without a registry, over a registry that stores paths.
     Kept,
 
-    // The same over one that walks them.
+    // Like `Kept`, over a registry that walks them.
     Walked,
 }
 
@@ -75,7 +75,7 @@ fn draw(alloc: Global, rows: &[Row]) -> Result<String, DrawFault> {
     draw_rows(alloc, rows, 2)
 }
 
-// Whether a text is read, and drawn again.
+// Returns whether a text is read, and drawn again.
 fn is_read_back(alloc: Global, bytes: &[u8]) -> bool {
     let Ok(text) = str::from_utf8(bytes) else {
         return false;
@@ -117,7 +117,7 @@ fn is_alike(
     Ok(tape.bytes() == wanted.bytes())
 }
 
-// A size in one way after another, under the settings of which the text is known and under others.
+// Tries a size in one way after another, with settings for which the text is known and with others.
 fn try_size(
     rt: &(impl Abort + AllocGlobal),
     quantity: Quantity,
