@@ -53,7 +53,7 @@ fn finds_what_paths_share(rt: HostRuntime) -> Result<(), Fail> {
     Ok(())
 }
 
-// A chain of so many spans, each with another child beside the next of the chain, and a root of its own.
+// Returns a chain of `count` spans, each with another child in addition to the next, and a root.
 fn comb(alloc: Global, count: u64) -> Result<Registry, Fail> {
     let mut spans = Registry::new(alloc);
     let mut above = None;
@@ -66,7 +66,7 @@ fn comb(alloc: Global, count: u64) -> Result<Registry, Fail> {
     Ok(spans)
 }
 
-// How many places two lists agree in before the first where they don't.
+// Returns the length of the common prefix of two lists.
 fn front(old: &[Id], new: &[Id]) -> usize {
     let mut length = 0usize;
     for (id, other) in old.iter().zip(new) {

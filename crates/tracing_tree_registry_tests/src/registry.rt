@@ -108,7 +108,7 @@ fn runs(
     Ok(())
 }
 
-// Each of these steps is answered as it stands beside it, and they draw this.
+// Checks the answer to each of these steps, and what they draw.
 fn answers(
     rt: &impl Abort,
     alloc: Global,

@@ -1,4 +1,5 @@
-//! A registry that lends its paths beside one that walks them: the same calls, the same answers.
+//! A registry that lends its paths, compared with one that walks them: the same calls get the same
+//! answers.
 
 use std::alloc::{AllocError, Global};
 use std::test::*;
@@ -117,7 +118,7 @@ impl Both {
     }
 }
 
-// Whether two looks show the same span, or both none.
+// Returns whether two views show the same span, or both are `None`.
 fn are_alike(look: Option<SpanRef<'_>>, other: Option<SpanRef<'_>>) -> bool {
     match (look, other) {
         (Some(look), Some(other)) => {

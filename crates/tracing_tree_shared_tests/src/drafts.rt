@@ -67,7 +67,8 @@ fn is_seen(flag: &AtomicBool) -> bool {
     false
 }
 
-// A timer that shows nothing. It tells that it is under the lock, and looks there for what another thread drafts.
+// A timer that shows nothing. It signals that it is under the lock, and waits there for a draft of
+// another thread.
 #[derive(Drop)]
 struct Watch<'a> {
     entered: &'a AtomicBool,

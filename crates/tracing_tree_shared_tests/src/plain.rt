@@ -24,7 +24,7 @@ pub fn text(book: &Book<()>) -> &[u8] {
     book.output().bytes()
 }
 
-/// A draft by a layer with a history. None where memory is refused.
+/// Returns a draft by a layer with a history, or `None` if memory runs out.
 pub fn draft<FT: FormatTime + Drop, L: Ledger>(
     alloc: Global,
     layer: &SharedLayer<FT, L>,
@@ -42,7 +42,7 @@ pub fn submit<FT: FormatTime + Drop, L: Ledger, R: Wait>(
     layer.submit(rt, pass, draft)
 }
 
-/// Drafts and submits a call. None where either is refused.
+/// Drafts and submits a call. Returns `None` if either is refused.
 pub fn make<FT: FormatTime + Drop, L: Ledger, R: Wait>(
     rt: &R,
     alloc: Global,
@@ -54,7 +54,7 @@ pub fn make<FT: FormatTime + Drop, L: Ledger, R: Wait>(
     submit(rt, layer, pass, draft).ok()
 }
 
-/// What all passes show. None where one is missing or strange.
+/// Returns what all passes show, or `None` if one is missing or strange.
 pub fn finish<FT: FormatTime + Drop, L: Ledger>(
     layer: SharedLayer<FT, L>,
     passes: Vec<Pass<L>>,
@@ -62,7 +62,8 @@ pub fn finish<FT: FormatTime + Drop, L: Ledger>(
     layer.finish(passes).ok()
 }
 
-/// Drafts and submits a call to a layer without a history, and returns its number. None where either is refused.
+/// Drafts and submits a call to a layer without a history, and returns its number. Returns `None`
+/// if either is refused.
 pub fn stream<W: Output, R: Wait>(
     rt: &R,
     alloc: Global,

@@ -1,4 +1,4 @@
-//! Refusals: the draft comes back, and the history and the text stay.
+//! Refusals: the draft is returned, and the history and the text are unchanged.
 
 ghost use Rattle.std.specs.Prelude.{◌≡◌};
 
@@ -98,7 +98,7 @@ fn is_applied(alloc: Global, book: &mut Book<()>, call: Call) -> Result<bool, Al
     Ok(apply(book, drafted(alloc, call)?).is_ok())
 }
 
-// Applies this call, and returns what comes back where it is refused.
+// Applies this call. If it is refused, returns the refusal with its draft.
 fn refused(
     alloc: Global,
     book: &mut Book<()>,
@@ -125,7 +125,7 @@ fn lined_book(alloc: Global) -> Result<Box<Book<()>>, AllocError> {
     boxed(alloc, Book::new(alloc, lined(alloc)))
 }
 
-// The same over one where a row at level 1 is past all memory.
+// Returns a book whose rows at level 1 exceed all memory.
 fn wide_book(alloc: Global) -> Result<Box<Book<()>>, AllocError> {
     boxed(alloc, Book::new(alloc, wide(alloc)))
 }
@@ -161,7 +161,7 @@ fn a_draft_that_memory_was_refused_to_is_applied_again(rt: HostRuntime) -> Resul
     Ok(())
 }
 
-// Submits a draft, once more where memory was refused. Nothing changes where it was.
+// Submits a draft, and again if memory ran out. Nothing changes if it did.
 fn submitted<L: Ledger, R: Wait>(
     rt: &R,
     layer: &SharedLayer<(), L>,
@@ -179,7 +179,7 @@ fn submitted<L: Ledger, R: Wait>(
     }
 }
 
-// A draft of a root or of an event. None where memory was refused.
+// Returns a draft of a root or of an event, or `None` if memory runs out.
 fn grown<L: Ledger>(alloc: Global, layer: &SharedLayer<(), L>, is_event: bool) -> Option<Draft> {
     let call = if is_event {
         told(alloc, Level::Info, "x", Some(1))
@@ -197,7 +197,7 @@ fn grow<L: Ledger, R: Wait>(
     pass: &mut Pass<L>,
 ) -> bool {
     for number in 0..21u64 {
-        // Once more where memory was refused.
+        // Again, if memory ran out.
         let draft = grown(alloc, layer, number > 0).or_else(|| grown(alloc, layer, number > 0));
         let Some(draft) = draft else {
             return false;

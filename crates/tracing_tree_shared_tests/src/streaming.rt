@@ -13,7 +13,7 @@ use tracing_tree_for_tests::{closed, made, told};
 use tracing_tree_layer::{HierarchicalLayer, Layered};
 use tracing_tree_shared::StreamingLayer;
 
-// Submits so many events, and gives out whether their numbers rise.
+// Submits `count` events, and returns whether their numbers rise.
 fn events<R: Wait>(rt: &R, alloc: Global, layer: &StreamingLayer<Tape, ()>, count: u64) -> bool {
     let mut least = 0;
     for _ in 0..count {

@@ -78,7 +78,7 @@ fn nested(alloc: Global) -> Result<String, AllocError> {
     Ok(input)
 }
 
-// A line by which a span opens.
+// Appends a line that opens a span.
 fn push_new(input: &mut String, number: u32) -> Result<(), AllocError> {
     input.push_str("{\"level\":\"INFO\",\"fields\":{\"message\":\"new\"},\"span\":{\"name\":\"a")?;
     let digits = number.to_string(*input.allocator())?;

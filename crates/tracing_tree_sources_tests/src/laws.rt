@@ -19,7 +19,7 @@ fn gives_the_fresh_spans_of_a_path(rt: HostRuntime) -> Result<(), Fail> {
     Ok(())
 }
 
-// Two spans, of which the inner one has an event and closes. One close is refused.
+// Two spans. The inner one has an event and closes. One close is refused.
 const STEPS: [Step<'static>; 5] = [
     Step::New("a", None),
     Step::Close(7),

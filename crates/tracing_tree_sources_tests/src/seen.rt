@@ -16,7 +16,7 @@ pub const START: Moment = Moment {
     wall: Timestamp::UNIX_EPOCH,
 };
 
-// Keeps what is skipped, and goes on.
+// Stores what is skipped, and continues.
 #[derive(Drop)]
 pub struct Skipped {
     pub lines: Vec<(u64, Lack)>,

@@ -32,7 +32,7 @@ const ROWS: [(&str, [u64; 6], bool); 9] = [
         [0, 0, 0, 1, 1, 1],
         true,
     ),
-    // The failure of a build is told by the package's end, which isn't there.
+    // The failure of a build is reported at the package's end, which is missing here.
     (
         "{\"Action\":\"build-fail\",\"ImportPath\":\"p\"}\n",
         [0, 0, 0, 0, 0, 0],

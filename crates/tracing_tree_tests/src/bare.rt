@@ -1,4 +1,4 @@
-//! Calls on a layer alone, over each kind of live spans.
+//! Calls on a layer without a registry, over each kind of live spans.
 
 use crate::calls::TREE;
 use crate::lone::Lone;
@@ -101,7 +101,7 @@ fn call_each<S: Keeps>(
     Ok(())
 }
 
-// The calls of a case, one after another, draw its text over these spans.
+// Checks that the calls of a case, made one after another, draw its text over these spans.
 fn draws_over<S: Keeps + Drop>(
     rt: &impl Abort,
     alloc: Global,
@@ -115,7 +115,7 @@ fn draws_over<S: Keeps + Drop>(
     Ok(())
 }
 
-// A registry with the layer of a case. None where that isn't fresh.
+// Returns a registry with the layer of a case, or `None` if that isn't fresh.
 fn layered(alloc: Global, case: Case) -> Result<Option<Box<Layered<Tape, ()>>>, AllocError> {
     let layer = case.layer(alloc);
     if layer.is_fresh() {
@@ -305,8 +305,8 @@ fn happened(alloc: Global, message: &str, current: u64) -> Result<Call, AllocErr
     ))
 }
 
-// The calls draw their text over a registry that keeps paths, over one that walks them, and as one
-// run.
+// Checks that the calls draw their text over a registry that stores paths, over one that walks
+// them, and as one run.
 fn draws_everywhere(rt: &impl Abort, alloc: Global, case: Case) -> Result<(), Fail> {
     draws_over(rt, alloc, Registry::new(alloc), case)?;
     draws_over(rt, alloc, Walked::new(alloc), case)?;
@@ -343,7 +343,7 @@ fn draws_concurrent_jobs(rt: HostRuntime) -> Result<(), Fail> {
     draws_everywhere(&rt, rt.alloc(), Case::Concurrent)
 }
 
-// A call on a layer alone, by the number of its span.
+// A call on a layer without a registry, by the number of its span.
 #[derive(Clone, Copy)]
 enum Told {
     New(u64),
@@ -351,7 +351,7 @@ enum Told {
     Close(u64),
 }
 
-// Tells it to a layer over these spans.
+// Makes it on a layer over these spans.
 fn tell<S: LookupSpan>(
     alloc: Global,
     layer: &mut HierarchicalLayer<Tape, ()>,
@@ -370,7 +370,7 @@ fn tell<S: LookupSpan>(
     }
 }
 
-// What is told in turn, and how it is answered.
+// Calls made in turn, and their answers.
 const OF_ONE_ROOT: [(Told, Result<(), Refusal>); 7] = [
     (Told::New(1), Ok(())),
     (Told::Record(1), Ok(())),
@@ -381,7 +381,7 @@ const OF_ONE_ROOT: [(Told, Result<(), Refusal>); 7] = [
     (Told::Close(1), Ok(())),
 ];
 
-// Tells each in turn, and compares its answer. After each the layer is no longer fresh.
+// Makes each call in turn, and compares its answer. After each call the layer is no longer fresh.
 fn tells_each<S: LookupSpan>(
     rt: &impl Abort,
     alloc: Global,

@@ -18,7 +18,7 @@ pub fn draws(
     Ok(())
 }
 
-/// Each of these steps is answered as it stands beside it, and all that was drawn by then is this.
+/// Checks the answer to each of these steps, and what has been drawn after them.
 pub fn answers(
     rt: &impl Abort,
     alloc: Global,

@@ -1,4 +1,4 @@
-//! Clocks: the texts that they append.
+//! The output of clocks.
 
 use jiff::Timestamp;
 use std::alloc::{AllocError, Global};
@@ -27,7 +27,8 @@ fn elapsed_text(alloc: Global, higher: bool, ansi: bool, nanos: u64) -> Result<S
     Ok(text)
 }
 
-// The instant that many nanoseconds after the start of 1970, or that start itself where there is none.
+// Returns the instant `nanosecond` after the start of 1970, or that start if the instant is out of
+// range.
 fn instant(nanosecond: i128) -> Timestamp {
     Timestamp::from_nanosecond(nanosecond).unwrap_or(Timestamp::UNIX_EPOCH)
 }
@@ -78,7 +79,8 @@ fn hundredths(alloc: Global, count: u64, unit: &str) -> Result<String, AllocErro
     format!(in alloc; " {whole}.{cents:02}{unit}")
 }
 
-// Whether the tie after this count goes to the even count, and its neighbours to the nearest.
+// Returns whether the tie after this count is rounded to the even count, and its neighbours to the
+// nearest.
 fn is_tie_even(alloc: Global, size: u64, unit: &str, count: u64) -> Result<bool, TimeFault> {
     let tie = count.wrapping_mul(size).wrapping_add(size / 2);
     let more = count.wrapping_add(1);

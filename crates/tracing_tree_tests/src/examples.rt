@@ -51,7 +51,7 @@ fn makes_calls(rt: HostRuntime) -> Result<(), Fail> {
     Ok(())
 }
 
-// The same with a registry and a layer apart.
+// Draws a root with a separate registry and layer.
 fn bare(
     alloc: Global,
     root: Attributes,

@@ -16,8 +16,8 @@ fn shown<F: FormatTime>(alloc: Global, timer: &F, wall: Timestamp) -> Result<Str
     Ok(text)
 }
 
-// What `jiff` prints of a date and a time, as a clock shows it. `jiff` writes a year below zero in six digits, an hour in two,
-// and no fraction where it is zero.
+// Returns a date and a time as printed by `jiff` in the form that a clock shows. `jiff` writes a
+// negative year in six digits, an hour in two, and no fraction if it is zero.
 fn as_shown(alloc: Global, printed: &str) -> Result<String, AllocError> {
     let (date, time) = printed.split_once('T').unwrap_or(("", ""));
     let (sign, date) = match date.strip_prefix("-00") {
@@ -105,7 +105,7 @@ fn shows_what_jiff_prints_at_offsets(rt: HostRuntime) -> Result<(), Fail> {
     Ok(())
 }
 
-// Whether the clock at this offset shows this text of this instant.
+// Checks what the clock at this offset shows for this instant.
 fn shows_at(
     rt: &impl Abort,
     alloc: Global,
@@ -119,8 +119,9 @@ fn shows_at(
     Ok(())
 }
 
-// The first instant of `jiff` and the last, where a year, a century, the era and a leap day turn, and an instant of a leap day: the
-// second, the nanosecond, the offset, and the text.
+// The first and the last instant of `jiff`; instants at which a year, a century, the era or a leap
+// day turns; and an instant of a leap day. Each has the second, the nanosecond, the offset, and the
+// text.
 const TURNS: [(i64, i32, i32, &str); 14] = [
     (
         -377_705_023_201,
@@ -176,7 +177,7 @@ fn shows_dates_and_times(rt: HostRuntime) -> Result<(), Fail> {
     Ok(())
 }
 
-// New York, where the clocks were put forward in March 2024, and back in November.
+// New York's clocks were put forward in March 2024, and back in November.
 #[test]
 fn shows_the_offset_of_a_zone_at_each_instant(rt: HostRuntime) -> Result<(), Fail> {
     let zone = TimeZone::posix("EST5EDT,M3.2.0,M11.1.0")?;

@@ -1,4 +1,4 @@
-//! A registry of one's own: a single root.
+//! A custom registry with a single root.
 
 use std::alloc::{AllocError, Global};
 use std::process::Abort;

@@ -51,7 +51,7 @@ fn draws<FT: FormatTime + Drop>(
     Ok(accepted && layered.writer().bytes() == wanted.as_bytes())
 }
 
-// These calls, each at a moment of the clock that only goes forward.
+// Returns these calls, each at a moment of the monotonic clock.
 fn calls_at(alloc: Global, steps: &[(Step<'_>, u64)]) -> Result<Vec<Call>, AllocError> {
     let mut calls = Vec::new(alloc);
     for (step, mono) in steps {
@@ -128,7 +128,7 @@ fn takes_a_timer_of_ones_own(rt: HostRuntime) -> Result<(), Fail> {
     Ok(())
 }
 
-// Calls, and how often a timer has been asked after each.
+// Calls, and how often a timer has been called after each.
 const ASKING: [(Step<'static>, u32); 14] = [
     (Step::New("a", None), 0),
     (Step::Told(Level::Info, "x", Some(1)), 1),

@@ -110,7 +110,7 @@ fn a_deferred_span_shows_what_was_recorded(rt: HostRuntime) -> Result<(), Fail> 
     Ok(())
 }
 
-// Three seconds later, by the clock that only goes forward.
+// Three seconds later, by the monotonic clock.
 const THIRD_SECOND: Moment = Moment {
     mono: 3_000_000_000,
     wall: Timestamp::UNIX_EPOCH,
@@ -151,13 +151,13 @@ fn shows_thread_target_and_moment(rt: HostRuntime) -> Result<(), Fail> {
     Ok(())
 }
 
-// Two moments, one after the other. None where one of them can't be told.
+// Returns two moments, one after the other, or `None` if one of them can't be read.
 fn moments(clock: &impl Now) -> Option<(Moment, Moment)> {
     let first = clock.now()?;
     Some((first, clock.now()?))
 }
 
-// Tells an event at a moment of this clock.
+// Records an event at a moment of this clock.
 fn tell_by(alloc: Global, clock: impl Now) -> Result<(), TraceFault> {
     let mut tracer = Tracer::new(alloc, lined(alloc), clock);
     tell(&mut tracer, Level::Info, "x", &[])

@@ -57,7 +57,7 @@ pub fn record<C: Calls, N: Now>(
     tracer.record(fields)
 }
 
-/// Tells an event by the method that is named after its level.
+/// Records an event by the method that is named after its level.
 pub fn tell<C: Calls, N: Now>(
     tracer: &mut Tracer<C, N>,
     level: Level,
