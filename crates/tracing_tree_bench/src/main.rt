@@ -29,7 +29,8 @@ use tracing_tree::layered::Layered;
 use tracing_tree::time::Clock;
 use works::{Batch, Work};
 
-// The rounds whose calls are made before they are timed. They are few, so that they stay near the processor.
+// The rounds whose calls are made before they are timed. They are few, so that they stay near the
+// processor.
 const BATCH: u32 = 64;
 
 fn main(rt: HostRuntime) -> anyhow::Result<()> {

@@ -1,5 +1,5 @@
-//! Times the reading of a drawing, which is read from standard input, whole: prints how many megabytes a second `read_rows` and
-//! `read_paths` take of it, the best of five runs each.
+//! Times the reading of a drawing, which is read from standard input, whole: prints how many
+//! megabytes a second `read_rows` and `read_paths` take of it, the best of five runs each.
 
 use std::alloc::Global;
 use std::io::Read;

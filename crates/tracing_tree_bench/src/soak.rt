@@ -154,8 +154,8 @@ fn chain(soak: &mut Soak, above: u64, depth: u64) -> anyhow::Result<u64> {
     Ok(last)
 }
 
-// Two branches below one root, with events in turn, so that each is shown again. The handles go from the root on, so each branch closes
-// at once.
+// Two branches below one root, with events in turn, so that each is shown again. The handles go
+// from the root on, so each branch closes at once.
 fn branches<R: AllocGlobal + MachineClock>(
     rt: &R,
     soak: &mut Soak,

@@ -93,7 +93,8 @@ impl Trouble {
     }
 }
 
-/// A writer that takes at most a piece of what it is given. It counts its writes, and notes how much it had taken at each flush.
+/// A writer that takes at most a piece of what it is given. It counts its writes, and notes how
+/// much it had taken at each flush.
 #[derive(Drop)]
 pub struct Choppy {
     pub taken: Vec<u8>,

@@ -65,7 +65,8 @@ fn reads(alloc: Global) -> Result<Vec<(usize, usize)>, AllocError> {
     Ok(reads)
 }
 
-// Over a reader that gives a byte a read, so that the reads of a line are known, and meets this trouble, the run ends so.
+// Over a reader that gives a byte a read, so that the reads of a line are known, and meets this
+// trouble, the run ends so.
 fn reads_end(rt: &(impl Abort + AllocGlobal), trouble: Trouble, wanted: End) {
     let end = read_by(rt.alloc(), Halting::new(INPUT.as_bytes(), 1, trouble));
     assert_eq!(rt; end, wanted, "{trouble:?}");
@@ -121,7 +122,8 @@ fn shown_by(alloc: Global, reader: Halting<'_>) -> Vec<usize> {
     run_lines(alloc, reader, writer).writer.into_inner().shown
 }
 
-// The lines up to a call, and as many bytes of the next line, come with the first read. How much is shown before each read after it.
+// The lines up to a call, and as many bytes of the next line, come with the first read. How much is
+// shown before each read after it.
 fn shown(alloc: Global, begun: usize) -> Result<Vec<usize>, AllocError> {
     let input = spaced(alloc, BEGINNING, begun.saturating_add(10))?;
     let mut reader = Halting::new(input.as_bytes(), usize::MAX, Trouble::NONE);

@@ -149,8 +149,8 @@ const MESSAGES: [(&str, &str, &str); 9] = [
     ),
 ];
 
-// A line end takes the carriage return right before it along. What follows the last one keeps its own without lines; with lines a line
-// end is put after it.
+// A line end takes the carriage return right before it along. What follows the last one keeps its
+// own without lines; with lines a line end is put after it.
 #[test]
 fn texts_with_line_ends_are_drawn(rt: HostRuntime) -> Result<(), Fail> {
     for (message, lined, plain) in MESSAGES {

@@ -234,7 +234,8 @@ fn fault_after(accepted: u64) -> Option<LineFault> {
     }
 }
 
-// The lines over such a writer: the fault, how many calls were accepted, whether the output has no fault, and what the writer took.
+// The lines over such a writer: the fault, how many calls were accepted, whether the output has no
+// fault, and what the writer took.
 fn run_of_lines(alloc: Global, writer: Choppy) -> (Option<LineFault>, u64, bool, Vec<u8>) {
     let ran = run_lines(alloc, LINES, Wrap::new(writer));
     let (fault, accepted, whole) = (ran.fault, ran.accepted, ran.writer.faults() == 0);

@@ -58,8 +58,8 @@ fn writes_are_interrupted(rt: HostRuntime) {
     writes_come_to(&rt, Trouble::interrupted(2, 9), wanted);
 }
 
-// A flush that is refused, and another one. Whether the output is stuck after each, how often the writer was flushed, and whether
-// the next write is taken.
+// A flush that is refused, and another one. Whether the output is stuck after each, how often the
+// writer was flushed, and whether the next write is taken.
 type TwoFlushes = (bool, bool, usize, bool);
 
 fn two_flushes(alloc: Global, trouble: Trouble) -> TwoFlushes {

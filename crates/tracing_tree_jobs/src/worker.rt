@@ -17,7 +17,8 @@ const WORKERS: usize = 4;
 // How many milliseconds a piece takes.
 const PIECE_MILLIS: u64 = 1;
 
-/// Has the workers serve all orders, and returns what came of them. A refusal is that of the first worker that met one.
+/// Has the workers serve all orders, and returns what came of them. A refusal is that of the first
+/// worker that met one.
 pub fn run_workers<W: Output + Send + Drop, R: Threads + Wait + Clock + Sync>(
     rt: &R,
     alloc: Global,

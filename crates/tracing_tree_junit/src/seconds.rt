@@ -5,7 +5,8 @@ ghost use Rattle.tracing_tree_junit.specs.Seconds.{after_three, all_digits, bill
 
 use tracing_tree_sources::marks::after_mark;
 
-// The nanoseconds of a number of seconds, as `0.25`, `1,234.5` or `6.2e-05`. A number below zero counts as zero.
+// The nanoseconds of a number of seconds, as `0.25`, `1,234.5` or `6.2e-05`. A number below zero
+// counts as zero.
 pub(crate) fn nanoseconds_of(text: &str) -> Option<u64>
     ensures { result ≡ nanoseconds_of text.now }
 {

@@ -81,7 +81,8 @@ impl<'a> Attempts<'a> {
     }
 }
 
-// A writer of these attempts. It counts the writes of no bytes, and notes how many bytes were taken at each flush.
+// A writer of these attempts. It counts the writes of no bytes, and notes how many bytes were taken
+// at each flush.
 #[derive(Drop)]
 struct Sink<'a> {
     attempts: Attempts<'a>,

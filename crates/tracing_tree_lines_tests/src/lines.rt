@@ -8,7 +8,8 @@ use std::test::*;
 use tracing_tree::format::{Id, Refusal, Tape};
 use tracing_tree::lines::{LineCause, LineFault, run_lines};
 
-// A reader that gives one byte at a time. After the first `calm` bytes it fails `times` times before each.
+// A reader that gives one byte at a time. After the first `calm` bytes it fails `times` times
+// before each.
 #[derive(Drop)]
 struct Hesitant<'a> {
     rest: &'a [u8],

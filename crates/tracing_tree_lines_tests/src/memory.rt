@@ -1,4 +1,5 @@
-//! Rows wider than any memory: which refusal a call gets, and whether the call or its line ran out of memory.
+//! Rows wider than any memory: which refusal a call gets, and whether the call or its line ran out
+//! of memory.
 
 use std::alloc::{AllocError, Global};
 use std::test::*;

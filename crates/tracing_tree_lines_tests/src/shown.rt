@@ -52,7 +52,8 @@ impl Write for Counting<'_> {
     }
 }
 
-// Gives this many bytes at first, and then a line a read. Notes how many bytes were shown before each read.
+// Gives this many bytes at first, and then a line a read. Notes how many bytes were shown before
+// each read.
 #[derive(Drop)]
 struct Looking<'a> {
     counts: &'a Counts,
@@ -77,7 +78,8 @@ impl Read for Looking<'_> {
     }
 }
 
-// Returns how many bytes were shown before each read of this input, and how often the writer was flushed.
+// Returns how many bytes were shown before each read of this input, and how often the writer was
+// flushed.
 fn shown_before_reads(alloc: Global, input: &str, first: usize) -> (Vec<usize>, usize) {
     let counts = Counts::new();
     let mut reader = Looking {

@@ -23,19 +23,20 @@ use tracing_tree_layer::told::ToldEvent;
 use tracing_tree_output::{Output, write_whole};
 use tracing_tree_spans::registry::{Attributes, LookupSpan, Record, Registry};
 
-/// A receiver of calls that writes a line for each step: for a new span, for fields that are recorded
-/// later, for an event, and for each span that closes.
+/// A receiver of calls that writes a line for each step: for a new span, for fields that are
+/// recorded later, for an event, and for each span that closes.
 ///
-/// Between calls it keeps only the live spans. A refused call leaves them unchanged. A call is refused
-/// with `NotHeld` or `TooMany` as by a layer, with `Memory` if an allocation fails, and with `Writer`
-/// if the output fails. After `Writer`, a prefix of the call's lines may have been written, and each
-/// later call is refused with `Failed`.
+/// Between calls it keeps only the live spans. A refused call leaves them unchanged. A call is
+/// refused with `NotHeld` or `TooMany` as by a layer, with `Memory` if an allocation fails, and
+/// with `Writer` if the output fails. After `Writer`, a prefix of the call's lines may have been
+/// written, and each later call is refused with `Failed`.
 #[derive(Drop)]
 pub struct StepWriter<W: Output> {
     form: LineForm,
     registry: Registry,
     writer: W,
-    // The spans that a close removes, and the lines of a call. Kept so that they are allocated once.
+    // The spans that a close removes, and the lines of a call. Kept so that they are allocated
+    // once.
     closing: Vec<Id>,
     text: String,
 }

@@ -25,7 +25,8 @@ pub enum Mark {
     /// `]`, as `kubectl logs --prefix` writes it.
     Bracket,
 
-    /// The blank after a time, as `kubectl logs --timestamps` writes it: the line begins with a digit.
+    /// The blank after a time, as `kubectl logs --timestamps` writes it: the line begins with a
+    /// digit.
     Time,
 }
 
@@ -42,8 +43,8 @@ impl Mark {
         }
     }
 
-    /// Returns the prefix of a line, and what comes after it, both without blanks at the mark. A prefix
-    /// in brackets is returned without them. None if the line has no such prefix.
+    /// Returns the prefix of a line, and what comes after it, both without blanks at the mark. A
+    /// prefix in brackets is returned without them. None if the line has no such prefix.
     pub fn split<'a>(self, line: &'a str) -> Option<(&'a str, &'a str)>
         ensures { option_map (λ parts. (parts.0.now, parts.1.now)) result ≡ split self line.now }
     {

@@ -86,8 +86,8 @@ impl Write for Board {
 // No work gives out a greater id.
 const LAST: u64 = 12;
 
-/// What can be seen of a layer without memory: the last span, whether it has failed, how many spans are live, how many of them were
-/// printed, and how many fields they have together.
+/// What can be seen of a layer without memory: the last span, whether it has failed, how many spans
+/// are live, how many of them were printed, and how many fields they have together.
 #[derive(Clone, Copy, PartialEq, Eq)]
 pub struct Seen {
     last: Option<Id>,

@@ -9,8 +9,8 @@ use tracing_tree::Layered;
 use tracing_tree::call::Call;
 use tracing_tree::format::{Output, Refusal, Tape};
 
-/// A call with a copy of it, and what it is answered. The calls are boxed, since each step of what moves them is proved over all that they
-/// hold.
+/// A call with a copy of it, and what it is answered. The calls are boxed, since each step of what
+/// moves them is proved over all that they hold.
 #[derive(Drop)]
 pub struct Trial {
     pub call: Box<Call>,
@@ -225,7 +225,8 @@ fn told_on_tape(layered: &mut Layered<Tape, ()>, trial: Trial) -> anyhow::Result
     judged(given, answer, stays, had_failed)
 }
 
-// Whether the output was refused memory, by the answer to a call. A layer that had failed before answers `Failed`.
+// Whether the output was refused memory, by the answer to a call. A layer that had failed before
+// answers `Failed`.
 fn judged(given: Answer, wanted: Answer, stays: bool, had_failed: bool) -> anyhow::Result<bool> {
     match given {
         Err(Refusal::Writer) => {

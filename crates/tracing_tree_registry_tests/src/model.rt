@@ -234,7 +234,8 @@ impl Trial {
         )
     }
 
-    // A random call, with more new spans than closes while the forest is to grow. Whether all answer it alike.
+    // A random call, with more new spans than closes while the forest is to grow. Whether all
+    // answer it alike.
     fn call(&mut self, alloc: Global, grows: bool) -> Result<bool, AllocError> {
         let id = self.any_id();
         match (self.random() % 16, grows) {

@@ -78,7 +78,8 @@ fn front(old: &[Id], new: &[Id]) -> usize {
     length
 }
 
-// Whether what two paths share is what their fronts share, found in at most one look more than the new path has past it.
+// Whether what two paths share is what their fronts share, found in at most one look more than the
+// new path has past it.
 fn is_found_soon(alloc: Global, spans: &Registry, old: u64, new: u64) -> Result<bool, AllocError> {
     let Common { length, compared } = shared(alloc, spans, old, new)?;
     let old = spans.path(alloc, Id(old))?;

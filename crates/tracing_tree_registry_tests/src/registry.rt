@@ -9,7 +9,8 @@ use tracing_tree::registry::{Data, LookupSpan, Parent, Registry};
 use tracing_tree_for_tests::tree::{LINED, Settings, Tree};
 use tracing_tree_for_tests::{Answer, Step, at, attributes, recorded};
 
-// A root `a` and its child `b`, with the ids 1 and 2. A child of a span that isn't there is refused.
+// A root `a` and its child `b`, with the ids 1 and 2. A child of a span that isn't there is
+// refused.
 fn root_and_child(alloc: Global) -> Result<Registry, Fail> {
     let mut registry = Registry::new(alloc);
     for (name, parent, wanted) in [

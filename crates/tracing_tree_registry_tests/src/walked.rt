@@ -8,7 +8,8 @@ use tracing_tree::registry::{Attributes, Data, LookupSpan, Parent, Registry, Spa
 use tracing_tree::style::Level;
 use tracing_tree_for_tests::{Step, at, attributes, recorded};
 
-/// Two registries that are called alike. They are boxed, since each step of a test is proved over all that its own values hold.
+/// Two registries that are called alike. They are boxed, since each step of a test is proved over
+/// all that its own values hold.
 #[derive(Drop)]
 pub struct Both {
     pub lent: Box<Registry>,

@@ -1,4 +1,5 @@
-//! Calls of the crate in functions that promise nothing, so that a test that makes them is soon proved.
+//! Calls of the crate in functions that promise nothing, so that a test that makes them is soon
+//! proved.
 
 use std::alloc::{AllocError, Global};
 use std::sync::Wait;

@@ -1,5 +1,5 @@
-//! Calls of the laws that run something: the fresh spans of a path, the events that are read back of a
-//! run, and whether Go's tests have failed.
+//! Calls of the laws that run something: the fresh spans of a path, the events that are read back
+//! of a run, and whether Go's tests have failed.
 
 use super::seen::{START, Skipped, drawn};
 use std::alloc::{AllocError, Global};

@@ -115,7 +115,8 @@ fn push_fields(input: &mut String, size: u32) -> Result<(), AllocError> {
     input.push_str("\"message\":\"x\"}}\n")
 }
 
-// Elements that begin one after another. Each lasts until after the end of the next if they are nested.
+// Elements that begin one after another. Each lasts until after the end of the next if they are
+// nested.
 fn push_trace(input: &mut String, size: u32, nested: bool) -> Result<(), AllocError> {
     input.push_str("[")?;
     for number in 0..size {

@@ -16,8 +16,8 @@ use tracing_tree_shared::{Draft, Receipt, Refused};
 // How often a draft is submitted that is refused because memory ran out.
 const TRIES: u64 = 8;
 
-/// An accepted call, with its place among all accepted calls, and its reply. A call is boxed, since each step of what moves it is proved
-/// over all that it holds.
+/// An accepted call, with its place among all accepted calls, and its reply. A call is boxed, since
+/// each step of what moves it is proved over all that it holds.
 #[derive(Drop)]
 pub struct Told {
     pub place: usize,

@@ -114,8 +114,8 @@ impl Tap {
         })
     }
 
-    /// Returns whether a test failed, or anything else that must not: a plan that isn't met, a missing
-    /// number, a subtest without a result, `Bail out!`, or a verdict of prove.
+    /// Returns whether a test failed, or anything else that must not: a plan that isn't met, a
+    /// missing number, a subtest without a result, `Bail out!`, or a verdict of prove.
     pub fn has_failed(&self) -> bool
         ensures { result ≡ has_failed self.now.tally }
     {

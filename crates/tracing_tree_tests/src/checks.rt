@@ -1,4 +1,5 @@
-//! What a test asserts of a tree, in functions that promise nothing: a test that is one call of them is soon proved.
+//! What a test asserts of a tree, in functions that promise nothing: a test that is one call of
+//! them is soon proved.
 
 use std::alloc::Global;
 use std::process::Abort;

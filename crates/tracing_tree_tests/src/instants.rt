@@ -43,7 +43,8 @@ fn instant(number: i64) -> Result<Timestamp, jiff::Error> {
     Timestamp::new(second, nanosecond as i32)
 }
 
-// Whether the clock at offset zero shows what `jiff` prints of this instant, from which `jiff` reads the instant again.
+// Whether the clock at offset zero shows what `jiff` prints of this instant, from which `jiff`
+// reads the instant again.
 fn is_shown_in_utc(alloc: Global, wall: Timestamp) -> Result<bool, Fail> {
     let printed = wall.to_string(alloc)?;
     let read: Timestamp = printed.as_str().parse()?;
@@ -52,8 +53,8 @@ fn is_shown_in_utc(alloc: Global, wall: Timestamp) -> Result<bool, Fail> {
     Ok(read == wall && text.as_str() == wanted.as_str())
 }
 
-// Whether the clock at this offset shows what `jiff` prints of this instant there, and then the offset, which `jiff` prints in
-// six characters.
+// Whether the clock at this offset shows what `jiff` prints of this instant there, and then the
+// offset, which `jiff` prints in six characters.
 fn is_shown_at(alloc: Global, wall: Timestamp, offset: Offset, name: &str) -> Result<bool, Fail> {
     let printed = wall.display_with_offset(offset);
     let length = printed.as_str().len().saturating_sub(6);

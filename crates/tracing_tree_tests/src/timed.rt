@@ -103,7 +103,8 @@ fn times_an_event_in_a_span(rt: HostRuntime) -> Result<(), Fail> {
     Ok(())
 }
 
-// A root, its child, which begins after the event in it, and an event of a current span that isn't live.
+// A root, its child, which begins after the event in it, and an event of a current span that isn't
+// live.
 const EARLY_EVENT: [(Step<'static>, u64); 4] = [
     (Step::New("a", None), 1_000_000_000),
     (Step::New("b", Some(1)), 5_000_000_000),
@@ -196,7 +197,8 @@ const TIMED_OUT_ANSWERS: [Answer; 3] = [
     Err(Refusal::Failed),
 ];
 
-// Whether an event at 7 in a span that began at 2 is the fault of this timer, which leaves nothing but a failed layer.
+// Whether an event at 7 in a span that began at 2 is the fault of this timer, which leaves nothing
+// but a failed layer.
 fn fails(alloc: Global, timer: StopAt) -> Result<bool, AllocError> {
     let mut layered = timed(alloc, timer)?;
     let calls = calls_at(alloc, TIMED_OUT.as_slice())?;

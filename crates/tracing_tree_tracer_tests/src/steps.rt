@@ -1,5 +1,5 @@
-//! What is done with a tracer, by functions and as lines of a table. The functions have no clauses, so that a test that calls them is soon
-//! proved.
+//! What is done with a tracer, by functions and as lines of a table. The functions have no clauses,
+//! so that a test that calls them is soon proved.
 
 use tracing_tree_core::format::{Id, Tape};
 use tracing_tree_core::style::Level;
@@ -101,8 +101,8 @@ fn take<C: Calls, N: Now>(tracer: &mut Tracer<C, N>, step: Step<'_>) -> Answer {
     }
 }
 
-/// Makes the calls up to the first that is answered, or leaves open, otherwise than its line says: returns that line's place, with what it
-/// was answered and how many spans were open.
+/// Makes the calls up to the first that is answered, or leaves open, otherwise than its line says:
+/// returns that line's place, with what it was answered and how many spans were open.
 pub fn first_unlike<C: Calls, N: Now>(
     tracer: &mut Tracer<C, N>,
     lines: &[Line<'_>],

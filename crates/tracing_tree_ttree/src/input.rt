@@ -24,7 +24,8 @@ pub enum Detected {
     Fault(LineFault),
 }
 
-// The lines that were read to detect the format, with their line ends and without a byte order mark.
+// The lines that were read to detect the format, with their line ends and without a byte order
+// mark.
 #[derive(Drop)]
 pub struct Head {
     bytes: Vec<u8>,
@@ -37,7 +38,8 @@ pub struct Head {
 }
 
 impl Head {
-    // Reads lines until one determines the format. If an option names it, only the first line is read.
+    // Reads lines until one determines the format. If an option names it, only the first line is
+    // read.
     pub fn read<R: Read>(
         alloc: Global,
         lines: &mut BufReader<R>,

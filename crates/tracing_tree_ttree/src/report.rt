@@ -248,8 +248,8 @@ impl<'a, R: Eprint> Reporter<'a, R> {
         };
     }
 
-    // Reports how a run ended. A line that may not be skipped was reported before. A fault of a trace
-    // has no line.
+    // Reports how a run ended. A line that may not be skipped was reported before. A fault of a
+    // trace has no line.
     fn report_end(&self, fault: Option<LineFault>, flush: Flush) -> Status {
         match (self.unit, fault) {
             (

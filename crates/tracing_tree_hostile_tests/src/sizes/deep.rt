@@ -63,7 +63,8 @@ fn a_long_chain_closes_at_once(rt: HostRuntime) -> Result<(), Fail> {
     Ok(())
 }
 
-// Two chains, with an event in the last span of each by turns. Returns whether each call is accepted.
+// Two chains, with an event in the last span of each by turns. Returns whether each call is
+// accepted.
 fn alternates(alloc: Global, settings: Settings, depth: u64) -> Result<bool, AllocError> {
     let mut steps = Vec::new(alloc);
     push_chain(&mut steps, 1, depth)?;

@@ -1,4 +1,5 @@
-//! Each quantity at each size: what is drawn is what it must be, over each kind of live spans, and it is read back.
+//! Each quantity at each size: what is drawn is what it must be, over each kind of live spans, and
+//! it is read back.
 
 use crate::sizes::bare::{Keeps, make_all};
 use crate::sizes::quantity::Quantity;

@@ -75,7 +75,8 @@ impl Tap {
         Ok(())
     }
 
-    // Takes a line that isn't as deep as the block: the block is truncated, unless the line is blank.
+    // Takes a line that isn't as deep as the block: the block is truncated, unless the line is
+    // blank.
     #[tactic(auto, unfolding(crate::specs::Tap::outside_taken))]
     fn take_outside(&mut self, waiting: Waiting, text: &str) -> Result<(), AllocError>
         ensures { OnOk result (self.new ≡ outside_taken waiting text.now self.old) }

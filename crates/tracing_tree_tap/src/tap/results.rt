@@ -74,8 +74,8 @@ impl Tap {
         self.wait_for(subtest.span, subtest.name.as_str(), mark, rest)
     }
 
-    // Counts a result of the subtest that runs, and waits for its block. It ends the subtest with this
-    // span and this name, if there is one.
+    // Counts a result of the subtest that runs, and waits for its block. It ends the subtest with
+    // this span and this name, if there is one.
     #[tactic(auto, unfolding(crate::specs::Tap::result_in))]
     fn wait_for(
         &mut self,
