@@ -45,7 +45,7 @@ fn main(rt: HostRuntime) -> anyhow::Result<()> {
     }
 }
 
-// The words after the program's name.
+// Returns the words after the program's name.
 fn words<R: AllocGlobal + Env>(rt: &R) -> anyhow::Result<Vec<String>> {
     let mut words = Vec::new(rt.alloc());
     for word in std::env::args(rt)?.skip(1) {
@@ -158,7 +158,7 @@ fn measure<R: AllocGlobal + MachineClock + Print>(
     )
 }
 
-// The batch that begins with this round.
+// Returns the batch that begins with this round.
 fn batch_at(from: u32, of: u32) -> Batch {
     Batch {
         from,

@@ -22,7 +22,7 @@ struct Timing {
 }
 
 impl Timing {
-    // The shorter of both.
+    // Returns the shorter of both.
     fn or_shorter(self, other: Timing) -> Timing {
         if other.micros < self.micros {
             other

@@ -155,7 +155,7 @@ impl Work {
         Work::ALL.iter().copied().find(|work| work.name() == name)
     }
 
-    // A layer with the work's settings, over memory.
+    // Returns a layer with the work's settings, over memory.
     pub fn layer(self, alloc: Global) -> HierarchicalLayer<Sink, Clock<'static>>
         ensures last { result.last ≡ None }
         ensures sound { result.failed ≡ false }
@@ -296,7 +296,7 @@ fn few_old(calls: &mut Calls, spans: u32) -> Result<(), AllocError> {
     roots(calls, spans / 2)
 }
 
-// The oldest spans that stay there, from 1.
+// Returns the oldest spans that stay there, from 1.
 fn old(place: u64) -> u64 {
     place.wrapping_mul(10)
 }

@@ -14,7 +14,7 @@ use tracing_tree_for_tests::Step;
 
 type Counted = Layered<Wrap<Choppy>, ()>;
 
-// A layer that shows all that it can, over a writer that takes all.
+// Returns a layer that shows all that it can, over a writer that takes all.
 fn counted(alloc: Global, retrace: bool) -> Result<Box<Counted>, AllocError> {
     let writer = Wrap::new(Choppy::new(alloc, usize::MAX, Trouble::NONE));
     let layer = HierarchicalLayer::new(alloc, 2, false, writer)

@@ -36,7 +36,7 @@ fn read_by(alloc: Global, reader: Halting<'_>) -> End {
     (ran.fault, ran.accepted, ran.writer.bytes().len())
 }
 
-// A run that ends at this line, from 1 on, for this cause, after all calls before it.
+// Returns a run that ends at this line, from 1 on, for this cause, after all calls before it.
 fn ended(line: usize, cause: LineCause) -> End {
     let calls = line.saturating_sub(2);
     let fault = LineFault {
@@ -116,7 +116,7 @@ fn a_line_comes_in_many_parts(rt: HostRuntime) -> Result<(), Fail> {
 // The lines up to a call.
 const BEGINNING: &str = "{\"indent_lines\":true}\n{\"call\":\"new\",\"name\":\"a\"}\n";
 
-// How much is shown at each flush of a run over this reader.
+// Returns how much is shown at each flush of a run over this reader.
 fn shown_by(alloc: Global, reader: Halting<'_>) -> Vec<usize> {
     let writer = Wrap::new(Choppy::new(alloc, usize::MAX, Trouble::NONE));
     run_lines(alloc, reader, writer).writer.into_inner().shown
@@ -144,7 +144,7 @@ fn a_line_that_has_begun_holds_nothing_back(rt: HostRuntime) -> Result<(), Fail>
 // A call, and the line that it is.
 const CALLS: [(usize, usize); 3] = [(1, 2), (2, 3), (3, 4)];
 
-// A run whose writer refuses what the call in this line draws.
+// Returns a run whose writer refuses what the call in this line draws.
 fn refused(line: usize) -> End {
     ended(line, LineCause::Refused(Refusal::Writer))
 }

@@ -234,7 +234,7 @@ fn ends(alloc: Global, input: &[u8]) -> Result<(String, u8), AllocError> {
     }
 }
 
-// How a run over this input after that one ends.
+// Returns how a run over this input after that one ends.
 fn ends_after(alloc: Global, before: &[u8], input: &[u8]) -> Result<(String, u8), AllocError> {
     let mut whole = before.to_vec(alloc)?;
     whole.extend_from_slice(input)?;

@@ -23,7 +23,7 @@ const PRINTED: &str = concat!(
 // How a reading ends.
 type Ended = Result<(), RowFault>;
 
-// What this writer took of the rows that this reader gives, and how the reading ended.
+// Returns what this writer took of the rows that this reader gives, and how the reading ended.
 fn printed(alloc: Global, reader: Halting<'_>, mut writer: Choppy) -> (Vec<u8>, Ended) {
     let ended = rows_to_json(alloc, reader, &mut writer, 2);
     (writer.taken, ended)
@@ -88,7 +88,7 @@ fn writes_fail_in_each_way(rt: HostRuntime) {
     }
 }
 
-// How many lines these bytes end.
+// Returns how many lines these bytes end.
 fn line_ends(bytes: &[u8]) -> usize {
     bytes.iter().filter(|byte| **byte == b'\n').count()
 }

@@ -134,7 +134,7 @@ fn last(layered: &Stopping) -> Option<Id> {
     layered.layer().last_span()
 }
 
-// Whether these spans live, and this one is the last.
+// Returns whether these spans live, and this one is the last.
 fn is_left(layered: &Stopping, left: Left) -> bool {
     lives(layered, 1) == left.first
         && lives(layered, 2) == left.second
@@ -161,7 +161,7 @@ fn accepted(rt: &(impl Abort + AllocGlobal), layered: &mut Stopping) -> usize {
     STEPS.len()
 }
 
-// Whether every later call is refused, whatever it is.
+// Returns whether every later call is refused, whatever it is.
 fn has_failed(alloc: Global, layered: &mut Stopping) -> bool {
     for step in LATER {
         if answer(alloc, layered, step) != Err(Refusal::Failed) {

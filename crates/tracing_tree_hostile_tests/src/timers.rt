@@ -67,7 +67,7 @@ fn answer(alloc: Global, layered: &mut Stopping, step: Step<'_>, mono: u64) -> A
     layered.call(call)
 }
 
-// Whether a span lives that wasn't printed.
+// Returns whether a span lives that wasn't printed.
 fn is_unprinted(layered: &Stopping, id: u64) -> bool {
     match layered.registry().data(Id(id)) {
         Some(data) => !data.written,

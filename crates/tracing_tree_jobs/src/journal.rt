@@ -98,7 +98,7 @@ impl<R: Wait, W: Output> Journal<'_, R, W> {
     }
 }
 
-// A message, if there is one, and numbers.
+// Returns a message, if there is one, and numbers.
 fn fields(
     alloc: Global,
     message: Option<&str>,

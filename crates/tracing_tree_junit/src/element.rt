@@ -66,7 +66,7 @@ pub(crate) fn attribute_in<'a>(name: &str, attributes: &'a [Field]) -> &'a str
     ""
 }
 
-// Whether a case of this status wasn't run.
+// Returns whether a case of this status wasn't run.
 pub(crate) fn is_off(status: &str) -> bool
     ensures { result ≡ is_off status.now }
 {

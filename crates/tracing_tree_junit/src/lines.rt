@@ -88,7 +88,7 @@ fn is_blank_text(text: &str) -> bool
     first_byte(text.as_bytes()).is_none()
 }
 
-// Whether pytest writes this line before what it captured.
+// Returns whether pytest writes this line before what it captured.
 fn is_separator(line: &str) -> bool
     ensures { result ≡ is_separator line.now }
 {
@@ -99,7 +99,7 @@ fn is_separator(line: &str) -> bool
             == "--------------------------------- Captured Err ---------------------------------"
 }
 
-// What a failure is drawn as: the first line of its message, or the name of its element.
+// Returns what a failure is drawn as: the first line of its message, or the name of its element.
 pub(crate) fn head_of<'a>(message: &'a str, name: &'a str) -> &'a str
     ensures { result.now ≡ head_of message.now name.now }
 {

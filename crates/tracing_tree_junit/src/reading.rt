@@ -128,7 +128,7 @@ impl Junit {
         self.tally
     }
 
-    // Whether an element is open.
+    // Returns whether an element is open.
     pub(crate) fn is_open(&self) -> bool
         ensures { result ≡ is_open self.now }
     {
@@ -209,7 +209,7 @@ impl Junit {
         }
     }
 
-    // What the element of the tag is here.
+    // Returns what the element of the tag is here.
     fn element(&self) -> Element
         ensures { result ≡ element_of self.now }
     {
@@ -242,7 +242,7 @@ impl Junit {
 
     // ---- suites
 
-    // The span of the innermost suite.
+    // Returns the span of the innermost suite.
     fn innermost_span(&self) -> Option<Id>
         ensures { result ≡ innermost_span self.now.suites }
     {
@@ -334,7 +334,7 @@ impl Junit {
 
     // ---- classes
 
-    // Whether the case is in a span of its class.
+    // Returns whether the case is in a span of its class.
     fn wants_class(&self) -> bool
         ensures { result ≡ wants_class self.now }
     {
@@ -345,7 +345,7 @@ impl Junit {
             || classname == self.innermost_name())
     }
 
-    // Whether the span of the case's class is open.
+    // Returns whether the span of the case's class is open.
     fn is_in_class(&self) -> bool
         ensures { result ≡ is_in_class self.now.class self.now.case.classname }
     {
@@ -602,7 +602,7 @@ fn property_of(alloc: Global, tag: &Tag) -> Result<Field, AllocError>
     })
 }
 
-// The last event.
+// Returns the last event.
 fn tally_fields(alloc: Global, tally: &Tally) -> Result<Fields, AllocError>
     ensures { IfOk result (λ fields. fields ≡ tally_fields tally.now) }
 {

@@ -148,8 +148,8 @@ const TREE: &str = "┐a \n└─┐b \n  ├─ INFO x\n";
 // How many bytes the first calls draw: 0, 1, 2 and 3 of them.
 const DRAWN: [usize; 4] = [0, 6, 18, 34];
 
-// The answers to the three calls if this many are accepted, and the next one is refused because of
-// the writer.
+// Returns the answers to the three calls if this many are accepted, and the next one is refused
+// because of the writer.
 fn answers(alloc: Global, accepted: usize) -> Result<Vec<Result<Reply, Refusal>>, AllocError> {
     let replies = [Reply::Span(Id(1)), Reply::Span(Id(2)), Reply::Done];
     let mut answers = Vec::new(alloc);

@@ -56,7 +56,7 @@ impl Read for Hesitant<'_> {
 // Three lines. The last two are skipped, and the third starts after four bytes.
 const THREE_LINES: &[u8] = b"{}\n\n \t\n";
 
-// The fault of a run over the three lines, by a reader that fails so.
+// Returns the fault of a run over the three lines, by a reader that fails so.
 fn fault_of(alloc: Global, calm: u32, times: u32, kind: ErrorKind) -> Option<LineFault> {
     let reader = Hesitant::new(THREE_LINES, calm, times, kind);
     run_lines(alloc, reader, Tape::new(alloc)).fault

@@ -61,7 +61,7 @@ const STEPS: [Step<'static>; 5] = [
     Step::Close(2),
 ];
 
-// What is read back of them. It promises nothing, so that the test is soon proved.
+// Returns what is read back of them. It promises nothing, so that the test is soon proved.
 fn steps_read_back(alloc: Global) -> Result<Option<ReadBack>, AllocError> {
     let calls = calls(alloc, STEPS.as_slice())?;
     let mut layered = lined(alloc)?;

@@ -20,7 +20,7 @@ const TREE: &str = "┐a \n└─┐b \n  ├─ WARN x\n┌─┘\n┘\n";
 const TREE_ROWS: &str =
     "OpenRoot 0|a \nOpen(false) 1|b \nEvent 2| WARN x\nClose(false) 1|\nCloseRoot 0|\n";
 
-// A row of these lines, if there is one.
+// Returns a row of these lines, if there is one.
 fn row(
     alloc: Global,
     shape: Shape,
@@ -44,7 +44,7 @@ fn push_row(out: &mut String, row: &Row) -> Result<(), AllocError> {
     out.push_str("\n")
 }
 
-// The rows, a line each.
+// Returns the rows, a line each.
 fn shown(alloc: Global, rows: &[Row]) -> Result<String, AllocError> {
     let mut out = String::new(alloc);
     for row in rows {
@@ -66,7 +66,7 @@ fn push_path(out: &mut String, path: &EventPath) -> Result<(), AllocError> {
     out.push_str("\n")
 }
 
-// The paths, a line each.
+// Returns the paths, a line each.
 fn shown_paths(alloc: Global, paths: &[EventPath]) -> Result<String, AllocError> {
     let mut out = String::new(alloc);
     for path in paths {
@@ -81,12 +81,12 @@ fn read(alloc: Global, text: &str) -> Result<Vec<Row>, ReadFault> {
     read_rows(alloc, text, 2)
 }
 
-// The paths of its events.
+// Returns the paths of its events.
 fn paths(alloc: Global, text: &str) -> Result<Vec<EventPath>, ReadFault> {
     read_paths(alloc, text, 2)
 }
 
-// What the rows are drawn as with amount 2, or nothing and why not.
+// Returns what the rows are drawn as with amount 2, or nothing and why not.
 fn redrawn(alloc: Global, rows: &[Row]) -> (String, Option<DrawFault>) {
     match draw_rows(alloc, rows, 2) {
         Ok(text) => (text, None),

@@ -230,7 +230,7 @@ impl Source for Logs {
     }
 }
 
-// The close of the last line's group.
+// Returns the close of the last line's group.
 fn close_of(alloc: Global, moment: Moment, at: Option<Id>) -> Result<Vec<Call>, AllocError>
     ensures { IfOk result (λ calls. calls.items ≡ close_of moment at) }
 {

@@ -147,7 +147,7 @@ fn is_text_key(key: &str) -> bool
     key == "stringValue" || key == "bytesValue"
 }
 
-// Whether a value at this key isn't a list.
+// Returns whether a value at this key isn't a list.
 fn is_scalar_key(key: &str) -> bool
     ensures { result ≡ is_scalar_key key.now }
 {

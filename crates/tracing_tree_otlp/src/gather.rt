@@ -84,7 +84,7 @@ impl Gathered {
         })
     }
 
-    // The rows, and the traces and spans that there are.
+    // Returns the rows, and the traces and spans that there are.
     pub(crate) fn into_rows(self) -> (Vec<Item>, Known)
         ensures items { result.0.items ≡ self.items }
         ensures known { result.1 ≡ self.known }
@@ -424,8 +424,8 @@ fn place_of(order: u64, shape: &Shape, index: usize) -> Place
     }
 }
 
-// A trace at its earliest time, and any other row in its span, or in its trace if the span is
-// unknown.
+// Returns a trace at its earliest time, and any other row in its span, or in its trace if the span
+// is unknown.
 fn resolved(alloc: Global, known: &Known, item: Item) -> Result<Item, AllocError>
     ensures { IfOk result (λ row. row ≡ resolved known.now item) }
 {

@@ -88,7 +88,7 @@ fn has_members(members: &Vec<(&str, Value<'_>)>) -> bool
     }
 }
 
-// Whether a body says something.
+// Returns whether a body says something.
 fn has_body(value: &Value<'_>) -> bool
     ensures { result ≡ has_body (value_view value.now) }
 {
@@ -151,7 +151,7 @@ pub(crate) fn event_note(alloc: Global, value: &Value<'_>) -> Result<Note, Alloc
     })
 }
 
-// A link to another span.
+// Returns a link to another span.
 pub(crate) fn link_note(alloc: Global, value: &Value<'_>) -> Result<Note, AllocError>
     ensures { IfOk result (λ note. note ≡ link_note (value_view value.now)) }
 {
@@ -238,7 +238,7 @@ fn digit_added(number: u64, byte: u8) -> u64
     number.wrapping_mul(16).wrapping_add(hex_digit(byte))
 }
 
-// The number that an id's hexadecimal digits write.
+// Returns the number that an id's hexadecimal digits write.
 pub(crate) fn number_of(id: &[u8]) -> u64
     ensures { result ≡ number_of id.now }
 {

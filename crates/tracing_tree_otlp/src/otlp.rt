@@ -151,7 +151,7 @@ fn draw<W: Output, FT: FormatTime>(
     }
 }
 
-// The calls that draw what was gathered.
+// Returns the calls that draw what was gathered.
 fn calls_of(
     alloc: Global,
     next: u64,

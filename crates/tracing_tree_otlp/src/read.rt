@@ -39,7 +39,7 @@ pub(crate) fn count_at(value: &Value<'_>, key: &str) -> u64
     number_at(value, key).unwrap_or(0)
 }
 
-// The number that digits write, if a u64 holds it.
+// Returns the number that digits write, if a u64 holds it.
 fn whole_of(text: &str) -> Option<u64>
     ensures { result ≡ whole_of text.now }
 {
@@ -101,7 +101,7 @@ fn are_zeros(bytes: &[u8]) -> bool
     bytes.iter().all(|byte| *byte == b'0')
 }
 
-// An attribute's value.
+// Returns an attribute's value.
 fn attribute_text(alloc: Global, attribute: &Value<'_>) -> Result<String, AllocError>
     ensures { IfOk result (λ text. string_bytes text ≡ attribute_text (value_view attribute.now)) }
 {
@@ -111,7 +111,8 @@ fn attribute_text(alloc: Global, attribute: &Value<'_>) -> Result<String, AllocE
     }
 }
 
-// A field. One called `message` would be drawn without its name, so its value begins with it.
+// Returns a field. One called `message` would be drawn without its name, so its value begins with
+// it.
 pub(crate) fn field_of(alloc: Global, name: &str, text: &str) -> Result<Field, AllocError>
     ensures { IfOk result (λ field. field ≡ field_of name.now text.now) }
 {
@@ -133,7 +134,7 @@ fn attribute_field(alloc: Global, attribute: &Value<'_>) -> Result<Field, AllocE
     field_of(alloc, string_at(attribute, "key"), text.as_str())
 }
 
-// The attributes of an object as fields.
+// Returns the attributes of an object as fields.
 pub(crate) fn attributes_in(alloc: Global, value: &Value<'_>) -> Result<Fields, AllocError>
     ensures { IfOk result (λ fields. fields ≡ attributes_in (value_view value.now)) }
 {
@@ -176,7 +177,7 @@ fn service_of(alloc: Global, resource: &Value<'_>) -> Result<Text, AllocError>
     }
 }
 
-// The service whose resource an object has.
+// Returns the service whose resource an object has.
 pub(crate) fn service_in(alloc: Global, value: &Value<'_>) -> Result<Text, AllocError>
     ensures { IfOk result (λ service. service ≡ service_in (value_view value.now)) }
 {

@@ -57,7 +57,7 @@ impl Mark {
         }
     }
 
-    // A prefix without the blanks at its end, or without the bracket at its front.
+    // Returns a prefix without the blanks at its end, or without the bracket at its front.
     fn trimmed<'a>(self, prefix: &'a str) -> &'a str
         ensures { result.now ≡ trimmed self prefix.now }
     {
@@ -67,7 +67,7 @@ impl Mark {
         }
     }
 
-    // Whether a prefix may begin as this line does.
+    // Returns whether a prefix may begin as this line does.
     fn may_begin(self, line: &str) -> bool
         ensures { result ≡ may_begin self line.now }
     {
@@ -150,7 +150,7 @@ impl<S: Source> Source for Prefixed<S> {
     }
 }
 
-// A line at its first mark: what comes before it and after it.
+// Returns a line at its first mark: what comes before it and after it.
 fn at_mark(line: &str, mark: char) -> Option<(&str, &str)>
     requires { mark < 128 }
     ensures { option_map (λ parts. (parts.0.now, parts.1.now)) result ≡ at_mark mark line.now }
@@ -167,7 +167,8 @@ fn without_bracket(prefix: &str) -> &str
     }
 }
 
-// The prefix of a line, and what comes after it. None if the line is JSON, or has no prefix.
+// Returns the prefix of a line, and what comes after it. None if the line is JSON, or has no
+// prefix.
 fn parts_of<'a>(
     mark: Option<Mark>,
     line: &'a str,
@@ -182,7 +183,7 @@ fn parts_of<'a>(
     }
 }
 
-// These calls, with a prefix in each event.
+// Returns these calls, with a prefix in each event.
 fn with_prefixes(alloc: Global, prefix: &str, calls: Vec<Call>) -> Result<Vec<Call>, AllocError>
     ensures { IfOk result (λ made. made.items ≡ map (with_prefix prefix.now) calls.items) }
 {
@@ -193,7 +194,7 @@ fn with_prefixes(alloc: Global, prefix: &str, calls: Vec<Call>) -> Result<Vec<Ca
     Ok(made)
 }
 
-// A call, with a prefix last among its fields if it is an event.
+// Returns a call, with a prefix last among its fields if it is an event.
 fn with_prefix(alloc: Global, prefix: &str, call: Call) -> Result<Call, AllocError>
     ensures { IfOk result (λ made. made ≡ with_prefix prefix.now call) }
 {

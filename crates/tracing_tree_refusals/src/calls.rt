@@ -18,7 +18,7 @@ pub struct Trial {
     pub answer: Answer,
 }
 
-/// The calls of a script.
+/// Returns the calls of a script.
 pub fn trials(alloc: Global, script: Script) -> Result<Vec<Trial>, AllocError> {
     let mut trials = Vec::new(alloc);
     for (step, answer) in script.steps() {
@@ -31,7 +31,7 @@ pub fn trials(alloc: Global, script: Script) -> Result<Vec<Trial>, AllocError> {
     Ok(trials)
 }
 
-/// The calls of a script, twice.
+/// Returns the calls of a script, twice.
 pub fn both(alloc: Global, script: Script) -> Result<(Vec<Call>, Vec<Call>), AllocError> {
     let mut first = Vec::new(alloc);
     let mut second = Vec::new(alloc);
@@ -106,7 +106,8 @@ impl Prepared {
     }
 }
 
-// How many of the answers are `Memory`. Those before the first must be as with ample memory.
+// Returns how many of the answers are `Memory`. Those before the first must be as with ample
+// memory.
 fn refused_in(answers: &[Answer], trials: &[Trial]) -> anyhow::Result<u32> {
     anyhow::ensure!(answers.len() == trials.len(), "an answer is missing");
     let mut refused = 0u32;
@@ -225,8 +226,8 @@ fn told_on_tape(layered: &mut Layered<Tape, ()>, trial: Trial) -> anyhow::Result
     judged(given, answer, stays, had_failed)
 }
 
-// Whether the output was refused memory, by the answer to a call. A layer that had failed before
-// answers `Failed`.
+// Returns whether the output was refused memory, by the answer to a call. A layer that had failed
+// before answers `Failed`.
 fn judged(given: Answer, wanted: Answer, stays: bool, had_failed: bool) -> anyhow::Result<bool> {
     match given {
         Err(Refusal::Writer) => {

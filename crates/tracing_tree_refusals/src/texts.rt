@@ -182,7 +182,7 @@ pub fn run_by_lines(alloc: Global, board: Board, again: Board) -> anyhow::Result
     Ok(1)
 }
 
-// The lines before the one of this number, from 1.
+// Returns the lines before the one of this number, from 1.
 fn lines_before(lines: &[u8], number: u64) -> &[u8] {
     let mut left = number;
     let mut end = 0usize;

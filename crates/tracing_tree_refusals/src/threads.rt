@@ -15,7 +15,7 @@ use tracing_tree_shared::{Draft, Finished, Pass, Refused, SharedLayer};
 // The calls on the layer are in separate functions, whose contracts say only what their callers
 // need: only what they return is tested.
 
-// A layer with one pass.
+// Returns a layer with one pass.
 fn opened<L: Ledger>(alloc: Global, blank: Blank) -> Option<(SharedLayer<(), L>, Vec<Pass<L>>)>
     requires name { blank.name ≡ L.name }
     requires parts { blank.parts ≡ L.parts }

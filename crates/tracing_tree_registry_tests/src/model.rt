@@ -39,7 +39,7 @@ impl List {
         }
     }
 
-    // The id that a new span below this parent has, if it may be made.
+    // Returns the id that a new span below this parent has, if it may be made.
     fn next_below(&self, parent: Option<Id>) -> Result<Id, Refusal> {
         if let Some(id) = parent {
             if self.get(id).is_none() {
@@ -71,7 +71,7 @@ impl List {
         }
     }
 
-    // The span, its parent, and so on upward: a parent is older than its children.
+    // Returns the span, its parent, and so on upward: a parent is older than its children.
     fn scope(&self, alloc: Global, id: Id) -> Result<Vec<Id>, AllocError> {
         let mut scope = Vec::new(alloc);
         let mut above = Some(id);
@@ -254,7 +254,7 @@ impl Trial {
         }
     }
 
-    // Whether the registries show of a span what the list has.
+    // Returns whether the registries show of a span what the list has.
     fn shows(&self, alloc: Global, id: Id) -> Result<bool, AllocError> {
         let shown = match (self.both.lent.span(id), self.list.get(id)) {
             (Some(look), Some(span)) => {

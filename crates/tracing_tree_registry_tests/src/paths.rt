@@ -24,7 +24,7 @@ fn spans(alloc: Global, parents: &[Option<u64>]) -> Result<Registry, Fail> {
     Ok(spans)
 }
 
-// What the paths of two spans share.
+// Returns what the paths of two spans share.
 fn shared(alloc: Global, spans: &Registry, old: u64, new: u64) -> Result<Common, AllocError> {
     let old = spans.path(alloc, Id(old))?;
     let new = spans.path(alloc, Id(new))?;
@@ -78,8 +78,8 @@ fn front(old: &[Id], new: &[Id]) -> usize {
     length
 }
 
-// Whether what two paths share is what their fronts share, found in at most one look more than the
-// new path has past it.
+// Returns whether what two paths share is what their fronts share, found in at most one look more
+// than the new path has past it.
 fn is_found_soon(alloc: Global, spans: &Registry, old: u64, new: u64) -> Result<bool, AllocError> {
     let Common { length, compared } = shared(alloc, spans, old, new)?;
     let old = spans.path(alloc, Id(old))?;
@@ -107,7 +107,7 @@ fn finds_it_from_the_end(rt: HostRuntime) -> Result<(), Fail> {
     Ok(())
 }
 
-// A chain of this many spans.
+// Returns a chain of this many spans.
 fn chain(alloc: Global, count: u64) -> Result<Registry, Fail> {
     let mut spans = Registry::new(alloc);
     let mut parent = None;

@@ -77,7 +77,7 @@ fn takes_a_span_back(rt: HostRuntime) -> Result<(), Fail> {
     Ok(())
 }
 
-// What is kept with a new span that has one field.
+// Returns what is kept with a new span that has one field.
 fn data(alloc: Global) -> Result<Data, AllocError> {
     let mut made = attributes(alloc, "a", Parent::Root)?;
     made.fields = recorded(alloc, "k", "1")?;
@@ -224,7 +224,7 @@ fn steps_on(id: u64) -> [(Step<'static>, Answer); 5] {
     ]
 }
 
-// A span that closes, calls on ids that aren't live, and another span.
+// Returns a span that closes, calls on ids that aren't live, and another span.
 fn odd_steps(alloc: Global) -> Result<Vec<(Step<'static>, Answer)>, AllocError> {
     let mut steps = Vec::new(alloc);
     steps.push((Step::New("a", None), Ok(Reply::Span(Id(1)))))?;

@@ -34,7 +34,7 @@ fn walked_span(
     walked.new_span(attributes, context)
 }
 
-// What a span of this name is made of, with a field that says its name.
+// Returns what a span of this name is made of, with a field that says its name.
 fn named(alloc: Global, name: &str, parent: Parent) -> Result<Attributes, AllocError> {
     let mut made = attributes(alloc, name, parent)?;
     made.fields = recorded(alloc, "key", name)?;
@@ -50,7 +50,7 @@ impl Both {
         })
     }
 
-    /// Whether both show the same of this id.
+    /// Returns whether both show the same of this id.
     pub fn agree_on(&self, alloc: Global, id: Id) -> Result<bool, AllocError> {
         let path = self.walked.path(alloc, id)?;
         let scope = self.walked.scope(alloc, id)?;
@@ -68,7 +68,7 @@ impl Both {
         )
     }
 
-    // Whether both answer this step alike. An event only looks at its current span.
+    // Returns whether both answer this step alike. An event only looks at its current span.
     fn agree(&mut self, alloc: Global, step: Step<'_>) -> Result<bool, AllocError> {
         match step {
             Step::New(name, current) => self.agree_on_new(alloc, name, Parent::Current, current),
@@ -86,7 +86,7 @@ impl Both {
         }
     }
 
-    // Whether both make this span, and give it the same id.
+    // Returns whether both make this span, and give it the same id.
     fn agree_on_new(
         &mut self,
         alloc: Global,
@@ -111,7 +111,7 @@ impl Both {
         self.walked.record(id, recorded(alloc, "k", value)?)
     }
 
-    // Whether both show the same of this span, and let go of it alike.
+    // Returns whether both show the same of this span, and let go of it alike.
     fn agree_on_close(&mut self, alloc: Global, id: Id) -> Result<bool, AllocError> {
         let same = self.agree_on(alloc, id)?;
         let closed = self.lent.try_close(id);
@@ -138,7 +138,8 @@ fn is_same(data: &Data, other: &Data) -> bool {
     data.start == other.start && data.written == other.written && data.fields == other.fields
 }
 
-// Whether both registries answer these steps alike, and show the same of the first ids after each.
+// Returns whether both registries answer these steps alike, and show the same of the first ids
+// after each.
 fn all_agree(alloc: Global, steps: &[Step<'_>]) -> Result<bool, AllocError> {
     let mut both = Both::starting_at(alloc, 1)?;
     for step in steps {
@@ -149,7 +150,7 @@ fn all_agree(alloc: Global, steps: &[Step<'_>]) -> Result<bool, AllocError> {
     Ok(true)
 }
 
-// Whether both show the same of the ids from 0 to 6.
+// Returns whether both show the same of the ids from 0 to 6.
 fn agree_on_first(alloc: Global, both: &Both) -> Result<bool, AllocError> {
     for id in 0..7 {
         if !both.agree_on(alloc, Id(id))? {

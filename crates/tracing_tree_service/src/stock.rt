@@ -25,7 +25,7 @@ impl Stock {
         }
     }
 
-    /// How many there are of an item.
+    /// Returns how many there are of an item.
     pub fn count(&self, name: &str) -> u64 {
         let found = self
             .items

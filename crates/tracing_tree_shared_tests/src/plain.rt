@@ -11,7 +11,7 @@ use tracing_tree_shared::{
     Book, Draft, Finished, Pass, Receipt, Refused, SharedLayer, StreamingLayer,
 };
 
-/// A draft of a call, under settings with an amount of 2 and no colours.
+/// Returns a draft of a call, under settings with an amount of 2 and no colours.
 pub fn drafted(alloc: Global, call: Call) -> Result<Draft, AllocError> {
     Draft::new(alloc, &Config::new(2, false), call)
 }
@@ -20,7 +20,7 @@ pub fn apply(book: &mut Book<()>, draft: Draft) -> Result<Receipt, Refused> {
     book.apply(draft)
 }
 
-/// What was written.
+/// Returns what was written.
 pub fn text(book: &Book<()>) -> &[u8] {
     book.output().bytes()
 }

@@ -47,7 +47,7 @@ impl FormatTime for StopAt {
     }
 }
 
-// An event outside every span, at this moment.
+// Returns an event outside every span, at this moment.
 fn event_at(alloc: Global, mono: u64) -> Result<Call, AllocError> {
     let mut call = told(alloc, Level::Info, "x", None)?;
     if let Call::Event(_, context) = &mut call {
@@ -56,7 +56,8 @@ fn event_at(alloc: Global, mono: u64) -> Result<Call, AllocError> {
     Ok(call)
 }
 
-// What was answered to events at these moments, and how many calls were accepted in the end.
+// Returns what was answered to events at these moments, and how many calls were accepted in the
+// end.
 fn stopped_with<L: Ledger, R: Wait>(
     rt: &R,
     alloc: Global,
@@ -115,12 +116,12 @@ fn is_applied_again(book: &mut Book<()>, refused: Box<Refused>) -> bool {
     apply(book, Box::into_inner(refused).draft).is_ok()
 }
 
-// A book in a box, since each step of a test is proved over all that its own values hold.
+// Returns a book in a box, since each step of a test is proved over all that its own values hold.
 fn boxed(alloc: Global, book: Book<()>) -> Result<Box<Book<()>>, AllocError> {
     Ok(Box::new(alloc, book)?)
 }
 
-// A book over a layer with lines.
+// Returns a book over a layer with lines.
 fn lined_book(alloc: Global) -> Result<Box<Book<()>>, AllocError> {
     boxed(alloc, Book::new(alloc, lined(alloc)))
 }

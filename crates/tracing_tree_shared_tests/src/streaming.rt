@@ -82,7 +82,7 @@ impl Write for Noting {
     }
 }
 
-// A layer without lines over such a writer.
+// Returns a layer without lines over such a writer.
 fn over_noting(alloc: Global) -> StreamingLayer<Wrap<Noting>, ()> {
     let writer = Wrap::new(Noting {
         taken: 0,
@@ -110,7 +110,7 @@ fn flush_each<R: Wait>(
     true
 }
 
-// The count of the accepted calls, and what the writer noted.
+// Returns the count of the accepted calls, and what the writer noted.
 fn noted(layer: StreamingLayer<Wrap<Noting>, ()>) -> (u64, Vec<usize>) {
     let counted = layer.into_counted();
     let accepted = counted.accepted();

@@ -59,7 +59,7 @@ fn tree<L: Ledger, R: Wait>(
     make(rt, alloc, layer, pass, closed(root));
 }
 
-// The name of a thread's root.
+// Returns the name of a thread's root.
 fn name_of(thread: usize) -> &'static str {
     match thread {
         0 => "t1",
@@ -155,7 +155,7 @@ fn under_their_roots(alloc: Global, text: &str) -> Result<usize, Fail> {
     Ok(count)
 }
 
-// Whether an event's message is the name of a root.
+// Returns whether an event's message is the name of a root.
 fn is_named(event: &Row, root: &Row) -> bool {
     let (Some(message), Some(name)) = (
         event.lines().as_slice().first(),

@@ -73,7 +73,7 @@ fn query<C: Calls>(tracer: &mut Tracer<C, Moment>, at: u8) -> Result<(), TraceFa
     )
 }
 
-// A tracer of this thread over what takes its calls.
+// Returns a tracer of this thread over what takes its calls.
 fn tracer_of<C: Calls>(alloc: Global, thread: u64, calls: C) -> Tracer<C, Moment> {
     Tracer::new(alloc, calls, START).with_thread(thread, None)
 }
@@ -86,7 +86,7 @@ fn serve_over<C: Calls>(alloc: Global, thread: u64, calls: C) -> (Result<(), Tra
     (served, tracer.into_layered())
 }
 
-// What a thread draws that has the layer to itself.
+// Returns what a thread draws that has the layer to itself.
 fn alone(alloc: Global, thread: u64) -> Result<Layered<Tape, ()>, TraceFault> {
     let (served, layered) = serve_over(alloc, thread, telling(alloc, NARROW));
     served?;
@@ -235,7 +235,7 @@ fn a_refusal_of_a_streaming_layer_leaves_the_open_spans(rt: HostRuntime) -> Resu
     Ok(())
 }
 
-// What `open_two` gives over a pass, and how many receipts the pass has then.
+// Returns what `open_two` gives over a pass, and how many receipts the pass has then.
 fn refused_with<L: Ledger, R: Wait>(
     rt: &R,
     alloc: Global,

@@ -28,7 +28,8 @@ const STEPS: [Step<'static>; 5] = [
     Step::Close(2),
 ];
 
-// The events that are read back of them. It promises nothing, so that the test is soon proved.
+// Returns the events that are read back of them. It promises nothing, so that the test is soon
+// proved.
 fn events_read(alloc: Global) -> Result<Option<EventsRead>, AllocError> {
     let calls = calls(alloc, STEPS.as_slice())?;
     let mut layered = lined(alloc)?;

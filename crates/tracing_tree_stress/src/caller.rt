@@ -129,7 +129,7 @@ impl Caller {
         }
     }
 
-    /// Whether the places of the calls rise.
+    /// Returns whether the places of the calls rise.
     pub fn is_in_order(&self) -> bool {
         let mut least = 0;
         for told in &self.told {
@@ -141,7 +141,7 @@ impl Caller {
         true
     }
 
-    /// Whether these are the receipts of the accepted calls, each in its turn.
+    /// Returns whether these are the receipts of the accepted calls, each in its turn.
     pub fn has(&self, receipts: &[Receipt]) -> bool {
         receipts.len() == self.told.len()
             && receipts.iter().zip(&self.told).all(|(receipt, told)| {

@@ -48,7 +48,7 @@ fn main(rt: HostRuntime) -> anyhow::Result<()> {
     Ok(())
 }
 
-// How many rounds, and the seed.
+// Returns how many rounds, and the seed.
 fn asked(rt: &(impl AllocGlobal + Env)) -> anyhow::Result<(u64, u64)> {
     let mut words = std::env::args(rt)?.skip(1);
     let rounds = match words.next() {

@@ -76,7 +76,7 @@ impl Plan {
         (self.random.next_word() % 7) as usize + 2
     }
 
-    // A layer on which no call was made yet. It is the same each time.
+    // Returns a layer on which no call was made yet. It is the same each time.
     fn layered(&self) -> Layered<Tape, ()>
         ensures spans { result.forest.spans ≡ [] }
         ensures last { result.layer.last ≡ None }

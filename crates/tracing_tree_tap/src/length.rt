@@ -41,7 +41,7 @@ fn push_thousandths(out: &mut String, count: u64) -> Result<(), AllocError>
     write!(out, "{whole}.{hundreds}{tens}{ones}")
 }
 
-// The nanoseconds of a number of milliseconds, without a sign or an exponent.
+// Returns the nanoseconds of a number of milliseconds, without a sign or an exponent.
 pub(crate) fn milliseconds(text: &str) -> Option<u64>
     ensures { result ≡ milliseconds text.now }
 {
@@ -61,14 +61,14 @@ fn decimal_milliseconds(whole: &str, part: &str) -> Option<u64>
     nanoseconds(whole_of(whole)?, millionths(part.as_bytes()))
 }
 
-// The nanoseconds of milliseconds and of millionths of one, if a u64 holds them.
+// Returns the nanoseconds of milliseconds and of millionths of one, if a u64 holds them.
 fn nanoseconds(whole: u64, part: u64) -> Option<u64>
     ensures { result ≡ nanoseconds whole part }
 {
     whole.checked_mul(1_000_000)?.checked_add(part)
 }
 
-// The millionths that the digits after a point write; those after the sixth are cut off.
+// Returns the millionths that the digits after a point write; those after the sixth are cut off.
 fn millionths(digits: &[u8]) -> u64
     ensures value { result ≡ millionths digits.now }
     ensures small { result ≤ 40_000_000 }
@@ -76,7 +76,7 @@ fn millionths(digits: &[u8]) -> u64
     thousandths(digits) * 1000 + thousandths(after_three(digits))
 }
 
-// The thousandths that the first three digits after a point write.
+// Returns the thousandths that the first three digits after a point write.
 fn thousandths(digits: &[u8]) -> u64
     ensures value { result ≡ thousandths digits.now }
     ensures small { result ≤ 30_000 }
@@ -89,7 +89,7 @@ fn thousandths(digits: &[u8]) -> u64
     }
 }
 
-// The digits after the first three.
+// Returns the digits after the first three.
 fn after_three(digits: &[u8]) -> &[u8]
     ensures { result.now ≡ after_three digits.now }
 {
@@ -99,7 +99,7 @@ fn after_three(digits: &[u8]) -> &[u8]
     }
 }
 
-// What a digit counts.
+// Returns what a digit counts.
 fn digit_in(byte: u8) -> u64
     ensures value { result ≡ digit_in byte }
     ensures small { result ≤ 255 }

@@ -16,7 +16,7 @@ pub(crate) fn begins(mark: &str, text: &str) -> bool
     after_mark(text, mark).is_some()
 }
 
-// What follows this mark at the front, or nothing.
+// Returns what follows this mark at the front, or nothing.
 pub(crate) fn rest_after<'a>(mark: &str, text: &'a str) -> &'a str
     ensures { result.now ≡ rest_after mark.now text.now }
 {
@@ -26,7 +26,7 @@ pub(crate) fn rest_after<'a>(mark: &str, text: &'a str) -> &'a str
     }
 }
 
-// What comes before this mark at the end.
+// Returns what comes before this mark at the end.
 pub(crate) fn before_mark<'a>(mark: &str, text: &'a str) -> Option<&'a str>
     ensures { option_map (λ s. s.now) result ≡ before_mark mark.now text.now }
 {
@@ -71,7 +71,7 @@ pub(crate) fn without_margin(limit: usize, text: &str) -> &str
     rest
 }
 
-// What comes before the first space.
+// Returns what comes before the first space.
 pub(crate) fn first_word(text: &str) -> &str
     ensures { result.now ≡ first_word text.now }
 {
@@ -81,7 +81,7 @@ pub(crate) fn first_word(text: &str) -> &str
     }
 }
 
-// What comes after the first space and those that follow it.
+// Returns what comes after the first space and those that follow it.
 pub(crate) fn after_word(text: &str) -> &str
     ensures { result.now ≡ after_word text.now }
 {
@@ -98,7 +98,7 @@ pub(crate) fn same_word(word: &str, other: &str) -> bool
     word.eq_ignore_ascii_case(other)
 }
 
-// The number that digits write, if a u64 holds it.
+// Returns the number that digits write, if a u64 holds it.
 pub(crate) fn whole_of(text: &str) -> Option<u64>
     ensures { result ≡ whole_of text.now }
 {
@@ -159,7 +159,7 @@ fn push_last(out: &mut String, is_escaped: bool) -> Result<(), AllocError>
     }
 }
 
-// Whether the next character is behind a backslash that may escape it.
+// Returns whether the next character is behind a backslash that may escape it.
 fn past_escape(is_escaped: bool, c: char) -> bool
     ensures { result ≡ past_escape is_escaped c }
 {
@@ -191,7 +191,7 @@ fn is_escape(c: char) -> bool
     c == '#' || c == '\\'
 }
 
-// A description without the dash before it.
+// Returns a description without the dash before it.
 pub(crate) fn dashless(text: &str) -> &str
     ensures { result.now ≡ dashless text.now }
 {
@@ -208,7 +208,7 @@ pub(crate) fn column_of(text: &str, rest: &str) -> usize
     text.len().saturating_sub(rest.len())
 }
 
-// What comes before the first of these characters.
+// Returns what comes before the first of these characters.
 pub(crate) fn first_part(mark: char, text: &str) -> &str
     requires { mark < 128 }
     ensures { result.now ≡ first_part mark text.now }

@@ -249,7 +249,7 @@ impl Tap {
         self.push_line(Level::Info, text.as_str(), self.subtest.span)
     }
 
-    // Whether a reporter's summary may come.
+    // Returns whether a reporter's summary may come.
     fn is_counting(&self) -> bool
         ensures { result ≡ reporter_counts self.now }
     {
@@ -303,7 +303,7 @@ impl Tap {
         }
     }
 
-    // The event that counts the results.
+    // Returns the event that counts the results.
     fn tally_call(&self, alloc: Global) -> Result<Call, AllocError>
         ensures { IfOk result (λ call. call ≡ tally_call self.now) }
     {

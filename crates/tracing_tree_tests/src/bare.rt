@@ -53,12 +53,12 @@ impl Keeps for Walked {
     }
 }
 
-// A layer over memory, with lines, of this amount.
+// Returns a layer over memory, with lines, of this amount.
 fn layer(alloc: Global, amount: usize) -> HierarchicalLayer<Tape, ()> {
     HierarchicalLayer::new(alloc, amount, false, Tape::new(alloc)).with_indent_lines(true)
 }
 
-// What was written.
+// Returns what was written.
 fn text(layer: &HierarchicalLayer<Tape, ()>) -> &[u8] {
     layer.writer().bytes()
 }
@@ -252,13 +252,13 @@ impl JobStep {
     }
 }
 
-// A new root for a job.
+// Returns a new root for a job.
 fn job(alloc: Global, key: Field) -> Result<Call, AllocError> {
     let fields = vec![in alloc; key]?;
     spawned(alloc, "spawn_fut", Fields::from(fields), None)
 }
 
-// The calls of the Rust crate's example `concurrent_eager`.
+// Returns the calls of the Rust crate's example `concurrent_eager`.
 fn concurrent(alloc: Global) -> Result<Vec<Call>, AllocError> {
     let mut calls = Vec::new(alloc);
     calls.push(job(alloc, Field::text(alloc, "key", "a")?)?)?;
@@ -269,7 +269,7 @@ fn concurrent(alloc: Global) -> Result<Vec<Call>, AllocError> {
     Ok(calls)
 }
 
-// The context of the thread main.
+// Returns the context of the thread main.
 fn on_main(alloc: Global, current: Option<u64>) -> Result<Context, AllocError> {
     let mut context = at(current);
     context.thread_name = Some(Text::from_str(alloc, "main")?);
@@ -394,7 +394,7 @@ fn tells_each<S: LookupSpan>(
     }
 }
 
-// A registry with a root that no layer has drawn.
+// Returns a registry with a root that no layer has drawn.
 fn rooted(alloc: Global) -> Result<Registry, Fail> {
     let mut registry = Registry::new(alloc);
     let root = attributes(alloc, "a", Parent::Root)?;

@@ -5,7 +5,7 @@ use std::alloc::{AllocError, Global};
 use std::test::*;
 use tracing_tree::time::{FormatTime, Moment, TimeFault, Uptime, UtcDateTime};
 
-// What a timer shows of a moment.
+// Returns what a timer shows of a moment.
 fn moment_text<F: FormatTime>(
     alloc: Global,
     timer: &F,
@@ -17,7 +17,7 @@ fn moment_text<F: FormatTime>(
     Ok(text)
 }
 
-// What a clock shows of an elapsed time.
+// Returns what a clock shows of an elapsed time.
 fn elapsed_text(alloc: Global, higher: bool, ansi: bool, nanos: u64) -> Result<String, TimeFault> {
     let mut text = String::new(alloc);
     let clock = UtcDateTime {
@@ -72,7 +72,7 @@ fn shows_elapsed_times(rt: HostRuntime) -> Result<(), TimeFault> {
     Ok(())
 }
 
-// A count of hundredths of a unit.
+// Returns a count of hundredths of a unit.
 fn hundredths(alloc: Global, count: u64, unit: &str) -> Result<String, AllocError> {
     let whole = count / 100;
     let cents = count % 100;
@@ -100,7 +100,7 @@ fn is_tie_even(alloc: Global, size: u64, unit: &str, count: u64) -> Result<bool,
     Ok(true)
 }
 
-// Whether it does so after each of these counts.
+// Returns whether it does so after each of these counts.
 fn are_ties_even(
     alloc: Global,
     size: u64,

@@ -7,7 +7,7 @@ use std::alloc::{AllocError, Global};
 use std::test::*;
 use tracing_tree::DifferenceIter;
 
-// The items of `right` that differ from those of `left`, by their values.
+// Returns the items of `right` that differ from those of `left`, by their values.
 fn differences<L: Iterator<Item = u32>>(
     alloc: Global,
     left: L,

@@ -9,7 +9,7 @@ use tracing_tree::time::{
     Clock, FormatTime, LocalDateTime, Moment, TimeFault, Uptime, UtcDateTime,
 };
 
-// What a timer shows of an instant.
+// Returns what a timer shows of an instant.
 fn shown<F: FormatTime>(alloc: Global, timer: &F, wall: Timestamp) -> Result<String, TimeFault> {
     let mut text = String::new(alloc);
     timer.format_time(&Moment { mono: 0, wall }, &mut text)?;
@@ -29,7 +29,7 @@ fn as_shown(alloc: Global, printed: &str) -> Result<String, AllocError> {
     format!(in alloc; "{sign}{date} {time}{fraction}")
 }
 
-// The instant of this number among 10,000 from the first of `jiff` to the last.
+// Returns the instant of this number among 10,000 from the first of `jiff` to the last.
 fn instant(number: i64) -> Result<Timestamp, jiff::Error> {
     let second = number
         .wrapping_mul(63_110_723)
@@ -43,8 +43,8 @@ fn instant(number: i64) -> Result<Timestamp, jiff::Error> {
     Timestamp::new(second, nanosecond as i32)
 }
 
-// Whether the clock at offset zero shows what `jiff` prints of this instant, from which `jiff`
-// reads the instant again.
+// Returns whether the clock at offset zero shows what `jiff` prints of this instant, from which
+// `jiff` reads the instant again.
 fn is_shown_in_utc(alloc: Global, wall: Timestamp) -> Result<bool, Fail> {
     let printed = wall.to_string(alloc)?;
     let read: Timestamp = printed.as_str().parse()?;
@@ -53,8 +53,8 @@ fn is_shown_in_utc(alloc: Global, wall: Timestamp) -> Result<bool, Fail> {
     Ok(read == wall && text.as_str() == wanted.as_str())
 }
 
-// Whether the clock at this offset shows what `jiff` prints of this instant there, and then the
-// offset, which `jiff` prints in six characters.
+// Returns whether the clock at this offset shows what `jiff` prints of this instant there, and then
+// the offset, which `jiff` prints in six characters.
 fn is_shown_at(alloc: Global, wall: Timestamp, offset: Offset, name: &str) -> Result<bool, Fail> {
     let printed = wall.display_with_offset(offset);
     let length = printed.as_str().len().saturating_sub(6);
@@ -75,7 +75,7 @@ fn shows_what_jiff_prints(rt: HostRuntime) -> Result<(), Fail> {
     Ok(())
 }
 
-// Whether the clock at this offset shows these instants as `jiff` does.
+// Returns whether the clock at this offset shows these instants as `jiff` does.
 fn are_shown_at(alloc: Global, seconds: i32, name: &str) -> Result<bool, Fail> {
     let offset = Offset::from_seconds(seconds)?;
     for number in 0..10_000 {

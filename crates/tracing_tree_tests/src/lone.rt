@@ -18,7 +18,7 @@ pub struct Lone {
 }
 
 impl Lone {
-    /// A root of this name, without fields.
+    /// Returns a root of this name, without fields.
     pub fn new(alloc: Global, name: &str) -> Result<Lone, AllocError> {
         Ok(Lone {
             name: Text::from_str(alloc, name)?,

@@ -181,7 +181,7 @@ fn indented(
     Ok(Rows { answer, bufs })
 }
 
-// Whether the rows are written, and nothing is left of them.
+// Returns whether the rows are written, and nothing is left of them.
 fn is_flushed(alloc: Global, bufs: &mut Buffers, rows: &str) -> bool {
     let mut tape = Tape::new(alloc);
     bufs.flush_current_buf(&mut tape).is_ok()
@@ -235,7 +235,7 @@ fn refuses_what_is_too_wide(rt: HostRuntime) -> Result<(), Fail> {
     Ok(())
 }
 
-// What a timer appends at the start of 1970, and for an elapsed nanosecond.
+// Returns what a timer appends at the start of 1970, and for an elapsed nanosecond.
 fn texts_of_timer<F: FormatTime>(alloc: Global, timer: &F) -> Result<String, TimeFault> {
     let mut text = String::new(alloc);
     timer.format_time(&at(None).moment, &mut text)?;

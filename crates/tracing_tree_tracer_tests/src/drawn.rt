@@ -34,7 +34,7 @@ fn serve(tracer: &mut Tracer<Layered<Tape, ()>, Moment>) -> Result<(), TraceFaul
     Ok(())
 }
 
-// The registry and the layer, once the tracer is done with.
+// Returns the registry and the layer, once the tracer is done with.
 fn into_layered(tracer: Tracer<Layered<Tape, ()>, Moment>) -> Layered<Tape, ()> {
     tracer.into_layered()
 }
@@ -116,7 +116,7 @@ const THIRD_SECOND: Moment = Moment {
     wall: Timestamp::UNIX_EPOCH,
 };
 
-// A layer that shows threads, targets and the time.
+// Returns a layer that shows threads, targets and the time.
 fn telling(alloc: Global) -> Layered<Tape, Uptime> {
     let layer = HierarchicalLayer::new(alloc, 2, false, Tape::new(alloc))
         .with_indent_lines(true)
@@ -127,7 +127,7 @@ fn telling(alloc: Global) -> Layered<Tape, Uptime> {
     Layered::new(alloc, layer)
 }
 
-// A tracer of the thread 7, main, in its third second.
+// Returns a tracer of the thread 7, main, in its third second.
 fn in_thread(alloc: Global) -> Result<Tracer<Layered<Tape, Uptime>, Moment>, AllocError> {
     let target = Text::from_str(alloc, "web")?;
     let name = Text::from_str(alloc, "main")?;

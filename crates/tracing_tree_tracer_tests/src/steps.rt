@@ -81,12 +81,12 @@ fn event<C: Calls, N: Now>(
     tracer.event(level, message, &[])
 }
 
-/// How many spans are open.
+/// Returns how many spans are open.
 pub fn depth<C: Calls, N: Now>(tracer: &Tracer<C, N>) -> usize {
     tracer.depth()
 }
 
-/// What was written.
+/// Returns what was written.
 pub fn text<N: Now>(tracer: &Tracer<Layered<Tape, ()>, N>) -> &[u8] {
     tracer.layered().writer().bytes()
 }

@@ -310,7 +310,7 @@ fn draw_document<R: AllocGlobal + Eprint + Print, I: Read + Drop>(
     }
 }
 
-// The format of a document. What looks like a trace line by line may be an object of OTLP.
+// Returns the format of a document. What looks like a trace line by line may be an object of OTLP.
 fn format_of_document(format: Format, text: &str, options: &Options<'_>) -> Format {
     match format {
         Format::Chrome if options.from.is_none() && is_otlp(text.as_bytes()) => Format::Otlp,

@@ -154,7 +154,7 @@ impl Head {
         self.bytes.as_slice()
     }
 
-    // The lines before those of the format.
+    // Returns the lines before those of the format.
     pub fn preamble(&self) -> &[u8] {
         match self.bytes.as_slice().get(..self.start) {
             Some(bytes) => bytes,
@@ -162,7 +162,7 @@ impl Head {
         }
     }
 
-    // The lines of the format.
+    // Returns the lines of the format.
     pub fn body(&self) -> &[u8] {
         match self.bytes.as_slice().get(self.start..) {
             Some(bytes) => bytes,
@@ -170,7 +170,7 @@ impl Head {
         }
     }
 
-    // Whether all lines are blank.
+    // Returns whether all lines are blank.
     pub fn is_blank(&self) -> bool {
         is_blank(self.bytes.as_slice())
     }
@@ -188,7 +188,7 @@ fn read_through<R: Read>(lines: &mut BufReader<R>, line: &mut Vec<u8>) -> Result
 // The marks, in the order of the attempts.
 const MARKS: [Mark; 3] = [Mark::Bar, Mark::Bracket, Mark::Time];
 
-// The format of a line that has a prefix before an object, and the mark of the prefix.
+// Returns the format of a line that has a prefix before an object, and the mark of the prefix.
 fn prefixed_format(alloc: Global, line: &[u8]) -> Result<Option<(Format, Mark)>, AllocError> {
     let Ok(line) = from_utf8(line) else {
         return Ok(None);
@@ -201,7 +201,7 @@ fn prefixed_format(alloc: Global, line: &[u8]) -> Result<Option<(Format, Mark)>,
     Ok(None)
 }
 
-// The format of the object after a prefix.
+// Returns the format of the object after a prefix.
 fn format_after(alloc: Global, mark: Mark, line: &str) -> Result<Option<Format>, AllocError> {
     let Some((_, rest)) = mark.split(line) else {
         return Ok(None);
@@ -212,7 +212,7 @@ fn format_after(alloc: Global, mark: Mark, line: &str) -> Result<Option<Format>,
     }
 }
 
-// Whether the lines of a format may have prefixes.
+// Returns whether the lines of a format may have prefixes.
 fn has_prefixes(format: Format) -> bool {
     matches!(format, Format::GoTest | Format::Tracing | Format::Logs)
 }
@@ -224,18 +224,18 @@ fn without_line_end(line: &[u8]) -> &[u8] {
     }
 }
 
-// Whether these bytes are blanks and line ends.
+// Returns whether these bytes are blanks and line ends.
 fn is_blank(bytes: &[u8]) -> bool {
     bytes.iter().all(|byte| *byte == b' ' || *byte == b'\t' || *byte == b'\r' || *byte == b'\n')
 }
 
-// Whether gzip compressed these bytes (RFC 1952).
+// Returns whether gzip compressed these bytes (RFC 1952).
 pub fn is_gzip(bytes: &[u8]) -> bool {
     matches!(bytes, [0x1f, 0x8b, ..])
 }
 
-// The string of these bytes, without an unfinished character at their end. A line end there, which
-// the first line gets, doesn't count.
+// Returns the string of these bytes, without an unfinished character at their end. A line end
+// there, which the first line gets, doesn't count.
 pub fn whole_characters(bytes: &[u8]) -> Option<&str>
     ensures { option_map (λ t. t.now) result ≡ whole_characters bytes.now }
 {

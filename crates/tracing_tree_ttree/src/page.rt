@@ -172,7 +172,7 @@ fn finish<R: Eprint, W: Write + Drop>(
     report_written(&run, steps.into_writer(), reporter)
 }
 
-// What comes before the data: the beginning of a page.
+// Returns what comes before the data: the beginning of a page.
 fn before_data(form: LineForm) -> &'static str {
     match form {
         LineForm::Arrays => HEAD,
@@ -180,7 +180,7 @@ fn before_data(form: LineForm) -> &'static str {
     }
 }
 
-// What comes after the data.
+// Returns what comes after the data.
 fn after_data(form: LineForm) -> &'static str {
     match form {
         LineForm::Arrays => TAIL,
@@ -188,7 +188,7 @@ fn after_data(form: LineForm) -> &'static str {
     }
 }
 
-// The title: that of the command line, or the name of the file.
+// Returns the title: that of the command line, or the name of the file.
 fn title<'a>(origin: Origin<'a>, options: &Options<'a>) -> &'a str {
     match (options.title, origin.file) {
         (Some(title), _) => title,
@@ -197,7 +197,7 @@ fn title<'a>(origin: Origin<'a>, options: &Options<'a>) -> &'a str {
     }
 }
 
-// The part of a path after its last slash.
+// Returns the part of a path after its last slash.
 fn file_name(path: &str) -> &str {
     match path.rsplit_once('/') {
         Some((_, name)) => name,

@@ -33,7 +33,7 @@ pub enum Status {
 }
 
 impl Status {
-    // The worse of two inputs' statuses.
+    // Returns the worse of two inputs' statuses.
     pub fn worse(self, other: Status) -> Status {
         match (self, other) {
             (Status::Closed, _) | (_, Status::Closed) => Status::Closed,
@@ -43,7 +43,7 @@ impl Status {
         }
     }
 
-    // The program's exit status: 0, 1 or 2.
+    // Returns the program's exit status: 0, 1 or 2.
     pub fn exit_code(self) -> ExitCode {
         match self {
             Status::Success | Status::Closed => ExitCode::SUCCESS,

@@ -18,7 +18,7 @@ use tracing_tree_chrome::run_trace;
 use tracing_tree_otlp::run_otlp;
 use tracing_tree_sources::{Source, draw_source};
 
-// The moment of the calls before a source knows one.
+// Returns the moment of the calls before a source knows one.
 pub fn some_moment() -> Moment {
     Moment {
         mono: 0,
@@ -110,7 +110,7 @@ pub fn draw_otlp<R: AllocGlobal + Eprint + Print>(
     Ok(report_run(&run, layered, &reporter))
 }
 
-// What events show of time.
+// Returns what events show of time.
 pub fn clock(is_timed: bool) -> Clock<'static> {
     if is_timed {
         Clock::Utc(UtcDateTime {
@@ -121,7 +121,7 @@ pub fn clock(is_timed: bool) -> Clock<'static> {
     }
 }
 
-// What events of a trace show of time: that on the trace's clock.
+// Returns what events of a trace show of time: that on the trace's clock.
 fn trace_clock(is_timed: bool) -> Clock<'static> {
     if !is_timed {
         return Clock::None;

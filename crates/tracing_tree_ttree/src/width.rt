@@ -115,7 +115,7 @@ fn place_of_cut(line: &str, width: usize) -> Option<usize> {
     None
 }
 
-// How many columns a character takes at this column. A tab reaches the next multiple of 8.
+// Returns how many columns a character takes at this column. A tab reaches the next multiple of 8.
 fn columns(c: char, column: usize) -> usize {
     match c {
         '\t' => 8 - column % 8,

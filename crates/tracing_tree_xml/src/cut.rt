@@ -42,7 +42,7 @@ pub(crate) enum Until {
     Value,
 }
 
-// Whether such a piece ends at this byte.
+// Returns whether such a piece ends at this byte.
 fn ends_at(until: Until, byte: u8) -> bool
     ensures value { result ≡ ends_at until byte }
 {
@@ -62,7 +62,7 @@ fn ends_at(until: Until, byte: u8) -> bool
     }
 }
 
-// Whether XML has a byte as a blank.
+// Returns whether XML has a byte as a blank.
 fn is_blank(byte: u8) -> bool
     ensures { result ≡ is_blank byte }
 {
@@ -93,7 +93,7 @@ pub(crate) fn cut(text: &str, until: Until) -> (&str, &str)
     text.split_at(length_until(text.as_bytes(), until))
 }
 
-// How many blanks come first.
+// Returns how many blanks come first.
 fn blank_count(bytes: &[u8]) -> usize
     ensures { result ≡ blank_count bytes.now }
 {
@@ -109,7 +109,7 @@ fn blank_count(bytes: &[u8]) -> usize
     count
 }
 
-// What comes after the blanks at the front.
+// Returns what comes after the blanks at the front.
 pub(crate) fn after_blanks(text: &str) -> &str
     ensures { result.now ≡ after_blanks text.now }
 {

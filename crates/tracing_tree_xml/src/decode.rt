@@ -87,7 +87,7 @@ fn push_special<'a>(out: &mut String, until: Until, text: &'a str) -> Result<&'a
     }
 }
 
-// What a line end is read as.
+// Returns what a line end is read as.
 fn line_end(until: Until) -> &'static str
     ensures { result.now ≡ line_end until }
 {
@@ -134,7 +134,7 @@ fn entity(name: &str) -> Option<char>
     }
 }
 
-// The character of a number, as `#65` or `#x41`.
+// Returns the character of a number, as `#65` or `#x41`.
 fn numbered(name: &str) -> Option<char>
     ensures { result ≡ numbered name.now }
 {
@@ -153,7 +153,7 @@ fn char_of(number: u32) -> Option<char>
     char::from_u32(number)
 }
 
-// The number that digits write, if a character may have it.
+// Returns the number that digits write, if a character may have it.
 fn number_of(radix: u32, digits: &[u8]) -> Option<u32>
     requires { radix ≤ 16 }
     ensures { result ≡ number_of radix digits.now }

@@ -164,7 +164,7 @@ impl<'a> Reader<'a> {
     }
 }
 
-// The step at a place.
+// Returns the step at a place.
 fn step_in(place: Place, rest: &str) -> Result<Step<'_>, Unfinished>
     ensures { result ≡ step_in place rest.now }
 {
@@ -209,7 +209,7 @@ fn text_step(text: &str) -> Step<'_>
     step_to(Token::Text(run), Place::Content, rest)
 }
 
-// What comes after a `<`.
+// Returns what comes after a `<`.
 fn markup_step(text: &str) -> Step<'_>
     ensures { result ≡ markup_step text.now }
 {
@@ -224,7 +224,7 @@ fn markup_step(text: &str) -> Step<'_>
     }
 }
 
-// What comes after a `<!`.
+// Returns what comes after a `<!`.
 fn declaration_step(text: &str) -> Step<'_>
     ensures { result ≡ declaration_step text.now }
 {
@@ -305,7 +305,7 @@ fn quoted_step<'a>(
     }
 }
 
-// The end of an end tag.
+// Returns the end of an end tag.
 fn end_tag_end_step(text: &str) -> Result<Step<'_>, Unfinished>
     ensures { result ≡ end_tag_end_step text.now }
 {
@@ -318,7 +318,7 @@ fn end_tag_end_step(text: &str) -> Result<Step<'_>, Unfinished>
 
 // ---- what is skipped
 
-// A part of a comment, up to its next `>`.
+// Returns a part of a comment, up to its next `>`.
 fn comment_step(inside: Place, outside: Place, text: &str) -> Result<Step<'_>, Unfinished>
     ensures { result ≡ comment_step inside outside text.now }
 {
@@ -358,7 +358,7 @@ fn doctype_step(text: &str) -> Result<Step<'_>, Unfinished>
     }
 }
 
-// A part of the internal subset, up to what comes next of a literal, a comment and the end.
+// Returns a part of the internal subset, up to what comes next of a literal, a comment and the end.
 fn subset_step(text: &str) -> Result<Step<'_>, Unfinished>
     ensures { result ≡ subset_step text.now }
 {
@@ -374,7 +374,7 @@ fn subset_step(text: &str) -> Result<Step<'_>, Unfinished>
     }
 }
 
-// A literal between quotes in a document type declaration.
+// Returns a literal between quotes in a document type declaration.
 fn literal_step(place: Place, text: &str) -> Result<Step<'_>, Unfinished>
     ensures { result ≡ literal_step place text.now }
 {
@@ -404,7 +404,7 @@ fn literal_end_step<'a>(
 
 // ---- CDATA
 
-// A part of a CDATA section, up to its next `>`.
+// Returns a part of a CDATA section, up to its next `>`.
 fn cdata_step(text: &str) -> Result<Step<'_>, Unfinished>
     ensures { result ≡ cdata_step text.now }
 {
@@ -418,7 +418,7 @@ fn cdata_step(text: &str) -> Result<Step<'_>, Unfinished>
     }
 }
 
-// A `>` in a CDATA section.
+// Returns a `>` in a CDATA section.
 fn greater_step(text: &str) -> Result<Step<'_>, Unfinished>
     ensures { result ≡ greater_step text.now }
 {

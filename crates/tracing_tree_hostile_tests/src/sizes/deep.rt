@@ -132,7 +132,7 @@ fn a_wrap_mark_is_wide(rt: HostRuntime) -> Result<(), Fail> {
     Ok(())
 }
 
-// How many calls of these lines are accepted, and what ends the run.
+// Returns how many calls of these lines are accepted, and what ends the run.
 fn ran(alloc: Global, input: &str) -> (u64, Option<LineFault>) {
     let run = run_lines(alloc, input.as_bytes(), Tape::new(alloc));
     (run.accepted, run.fault)

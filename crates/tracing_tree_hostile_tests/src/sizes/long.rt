@@ -101,7 +101,7 @@ fn times_are_appended_to_long_texts(rt: HostRuntime) -> Result<(), Fail> {
     Ok(())
 }
 
-// A layer over memory without lines.
+// Returns a layer over memory without lines.
 fn spaced(alloc: Global, amount: usize) -> Result<Box<Layered<Tape, ()>>, AllocError> {
     let layer = HierarchicalLayer::new(alloc, amount, false, Tape::new(alloc));
     Ok(Box::new(alloc, Layered::new(alloc, layer))?)

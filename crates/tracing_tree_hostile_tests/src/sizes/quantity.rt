@@ -46,7 +46,7 @@ pub enum Quantity {
 }
 
 impl Quantity {
-    /// A run of this size.
+    /// Returns a run of this size.
     pub fn run(self, alloc: Global, size: u64) -> Result<Run, AllocError> {
         let mut run = Run::new(alloc);
         self.fill(&mut run, size)?;
@@ -96,7 +96,7 @@ fn unwind(run: &mut Run, size: u64, first: u64, level: u64) -> Result<(), AllocE
     Ok(())
 }
 
-// The span of this number, if there is one.
+// Returns the span of this number, if there is one.
 fn numbered_span(number: u64) -> Option<u64> {
     if number == 0 { None } else { Some(number) }
 }

@@ -114,7 +114,7 @@ pub fn numbered(alloc: Global, count: u64) -> Result<Vec<Field>, AllocError> {
     Ok(fields)
 }
 
-/// How they are shown, with commas between them.
+/// Returns how they are shown, with commas between them.
 pub fn shown(alloc: Global, count: u64) -> Result<String, AllocError> {
     let mut text = String::new(alloc);
     for place in 0..count {

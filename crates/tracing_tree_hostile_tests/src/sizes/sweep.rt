@@ -27,7 +27,7 @@ enum Way {
     Walked,
 }
 
-// What is drawn, or the first refusal.
+// Returns what is drawn, or the first refusal.
 fn text(
     alloc: Global,
     way: Way,
@@ -90,7 +90,7 @@ fn is_read_back(alloc: Global, bytes: &[u8]) -> bool {
     }
 }
 
-// Whether a run of this size draws what it must in this way.
+// Returns whether a run of this size draws what it must in this way.
 fn is_drawn(alloc: Global, quantity: Quantity, size: u64, way: Way) -> Result<bool, AllocError> {
     let run = quantity.run(alloc, size)?;
     let Ok(tape) = text(alloc, way, Settings::Plain, run.calls) else {
@@ -99,7 +99,7 @@ fn is_drawn(alloc: Global, quantity: Quantity, size: u64, way: Way) -> Result<bo
     Ok(tape.bytes() == run.wanted.as_bytes() && is_read_back(alloc, tape.bytes()))
 }
 
-// Whether a run of this size draws under these settings in this way what it draws as a run.
+// Returns whether a run of this size draws under these settings in this way what it draws as a run.
 fn is_alike(
     alloc: Global,
     quantity: Quantity,

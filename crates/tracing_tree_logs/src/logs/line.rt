@@ -51,7 +51,7 @@ fn word_of<'v>(value: &'v Value<'_>) -> Option<&'v str>
     }
 }
 
-// The word at a key.
+// Returns the word at a key.
 pub(super) fn word_at<'v>(value: &'v Value<'_>, key: &str) -> Option<&'v str>
     ensures { option_map (λ w. w.now) result ≡ word_at key.now (value_view value.now) }
 {
@@ -73,7 +73,7 @@ pub(super) fn first_key(keys: &[&'static str], value: &Value<'_>) -> Option<&'st
     None
 }
 
-// The word at the first of these keys that has one.
+// Returns the word at the first of these keys that has one.
 fn first_word<'v>(keys: &[&'static str], value: &'v Value<'_>) -> Option<&'v str>
     ensures { option_map (λ w. w.now) result
         ≡ first_word (map (λ k. k.now) keys.now) (value_view value.now) }
@@ -137,7 +137,7 @@ pub(super) fn moment_in(value: &Value<'_>, before: &Moment) -> Moment
     moment_of_word(first_word(&TIME_KEYS, value), before)
 }
 
-// The name of a group's span by the key of its id.
+// Returns the name of a group's span by the key of its id.
 pub(super) fn group_name(key: &str) -> &'static str
     ensures { result.now ≡ group_name key.now }
 {
@@ -148,7 +148,7 @@ pub(super) fn group_name(key: &str) -> &'static str
     }
 }
 
-// What identifies a group.
+// Returns what identifies a group.
 pub(super) fn group_key(alloc: Global, name: &str, id: &str) -> Result<Vec<u8>, AllocError>
     ensures { IfOk result (λ key. key.items ≡ group_key name.now id.now) }
 {
@@ -170,7 +170,7 @@ fn used_keys(value: &Value<'_>) -> UsedKeys
     }
 }
 
-// The fields of a line's event: its message, and what else it has.
+// Returns the fields of a line's event: its message, and what else it has.
 pub(super) fn event_fields(alloc: Global, value: &Value<'_>) -> Result<Fields, AllocError>
     ensures { IfOk result (λ fields. fields ≡ event_fields (value_view value.now)) }
 {

@@ -43,7 +43,7 @@ fn moment_of_number(text: &str) -> Option<Moment>
     moment_at(nanoseconds_of(text)?)
 }
 
-// The moment this many nanoseconds after 1970.
+// Returns the moment this many nanoseconds after 1970.
 fn moment_at(nanosecond: u64) -> Option<Moment>
     ensures { result ≡ Some (moment_at (pos nanosecond)) }
 {
@@ -56,7 +56,7 @@ fn moment_at(nanosecond: u64) -> Option<Moment>
     }
 }
 
-// The nanoseconds since 1970 of a number, without a sign or an exponent.
+// Returns the nanoseconds since 1970 of a number, without a sign or an exponent.
 fn nanoseconds_of(text: &str) -> Option<u64>
     ensures { result ≡ nanoseconds_of text.now }
 {
@@ -76,8 +76,8 @@ fn decimal_of(before: &str, after: &str) -> Option<u64>
     nanoseconds(whole_of(before)?, billionths(after.as_bytes()))
 }
 
-// The nanoseconds of a number and this many billionths, if a u64 holds them: the number's size says
-// whether it counts seconds, milliseconds, microseconds or nanoseconds.
+// Returns the nanoseconds of a number and this many billionths, if a u64 holds them: the number's
+// size says whether it counts seconds, milliseconds, microseconds or nanoseconds.
 fn nanoseconds(whole: u64, part: u64) -> Option<u64>
     ensures { result ≡ nanoseconds whole part }
 {
@@ -92,7 +92,7 @@ fn nanoseconds(whole: u64, part: u64) -> Option<u64>
     }
 }
 
-// The number that digits write, if a u64 holds it.
+// Returns the number that digits write, if a u64 holds it.
 fn whole_of(text: &str) -> Option<u64>
     ensures { result ≡ whole_of text.now }
 {
@@ -102,7 +102,7 @@ fn whole_of(text: &str) -> Option<u64>
     text.parse().ok()
 }
 
-// The billionths that the digits after a point write.
+// Returns the billionths that the digits after a point write.
 fn billionths(digits: &[u8]) -> u64
     ensures { result ≡ billionths digits.now }
 {
@@ -110,7 +110,7 @@ fn billionths(digits: &[u8]) -> u64
     thousandths(digits) * 1_000_000 + thousandths(more) * 1000 + thousandths(after_three(more))
 }
 
-// The thousandths that the first three digits after a point write.
+// Returns the thousandths that the first three digits after a point write.
 fn thousandths(digits: &[u8]) -> u64
     ensures value { result ≡ thousandths digits.now }
     ensures small { result ≤ 30_000 }
@@ -123,7 +123,7 @@ fn thousandths(digits: &[u8]) -> u64
     }
 }
 
-// The digits after the first three.
+// Returns the digits after the first three.
 fn after_three(digits: &[u8]) -> &[u8]
     ensures { result.now ≡ after_three digits.now }
 {
@@ -133,7 +133,7 @@ fn after_three(digits: &[u8]) -> &[u8]
     }
 }
 
-// What a digit counts.
+// Returns what a digit counts.
 fn digit_in(byte: u8) -> u64
     ensures value { result ≡ digit_in byte }
     ensures small { result ≤ 255 }

@@ -117,7 +117,7 @@ impl Tap {
     }
 }
 
-// Whether the block of a result in this column begins.
+// Returns whether the block of a result in this column begins.
 fn begins_block(column: usize, text: &str) -> bool
     ensures { result ≡ begins_block column text.now }
 {
@@ -125,7 +125,7 @@ fn begins_block(column: usize, text: &str) -> bool
     inner == "---" && column_of(text, inner) == column.saturating_add(2)
 }
 
-// The nanoseconds that a line of a block says, if it says how long its test took.
+// Returns the nanoseconds that a line of a block says, if it says how long its test took.
 fn duration_of(rest: &str) -> Option<u64>
     ensures { result ≡ duration_of rest.now }
 {

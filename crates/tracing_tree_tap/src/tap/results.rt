@@ -248,14 +248,14 @@ impl Tap {
     }
 }
 
-// What the note of a result says of it.
+// Returns what the note of a result says of it.
 fn directive_in(rest: &str) -> Directive
     ensures { result ≡ directive_in rest.now }
 {
     directive_of(tail_of(described(rest)))
 }
 
-// The description of a result, without its note.
+// Returns the description of a result, without its note.
 fn name_in(rest: &str) -> &str
     ensures { result.now ≡ name_in rest.now }
 {
@@ -274,7 +274,7 @@ fn reason_in(rest: &str) -> &str
     }
 }
 
-// How long a test took, by the note of its result.
+// Returns how long a test took, by the note of its result.
 fn elapsed_text(alloc: Global, rest: &str) -> Result<Text, AllocError>
     ensures { IfOk result (λ text. text ≡ elapsed_text rest.now) }
 {
@@ -284,8 +284,8 @@ fn elapsed_text(alloc: Global, rest: &str) -> Result<Text, AllocError>
     }
 }
 
-// What is shown behind the verdict of a result with this description: nothing if its subtest has
-// this name.
+// Returns what is shown behind the verdict of a result with this description: nothing if its
+// subtest has this name.
 fn label_of(
     alloc: Global,
     span: Option<Id>,

@@ -32,7 +32,7 @@ pub(crate) struct Heading {
 }
 
 impl Subtest {
-    // A script without a span.
+    // Returns a script without a span.
     pub(crate) fn script(alloc: Global) -> Result<Subtest, AllocError>
         ensures { IfOk result (λ made. made ≡ script) }
     {
@@ -153,7 +153,7 @@ impl Tap {
     }
 }
 
-// The column of a subtest's lines, by its name and its first line.
+// Returns the column of a subtest's lines, by its name and its first line.
 fn inner_column(heading: &Heading, column: usize) -> usize
     ensures { result ≡ inner_column heading.now column }
 {
