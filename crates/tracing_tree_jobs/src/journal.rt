@@ -75,7 +75,7 @@ impl<R: Wait, W: Output> Journal<'_, R, W> {
         Ok(())
     }
 
-    // An event is drawn by its thread before it waits for the layer.
+    // Submits a call. An event is drawn by its thread before it waits for the layer.
     fn submit(&self, call: Call) -> Result<Reply, Refusal> {
         let draft = self.layer.draft(self.alloc, call)?;
         match self.layer.submit(self.rt, draft) {
@@ -84,7 +84,7 @@ impl<R: Wait, W: Output> Journal<'_, R, W> {
         }
     }
 
-    // The layer shows no time, so that each moment is the same.
+    // Returns the context of a call. The layer doesn't show times, so each moment is the same.
     fn context(&self, current: Option<Id>) -> Context {
         Context {
             current,

@@ -26,7 +26,7 @@ pub struct Warehouse {
 }
 
 impl Warehouse {
-    /// All orders wait.
+    /// Opens a warehouse in which all orders wait.
     pub fn open(alloc: Global) -> Result<Warehouse, AllocError> {
         let mut queue = VecDeque::new(alloc);
         for id in 1..=ORDERS {
@@ -39,7 +39,7 @@ impl Warehouse {
         })
     }
 
-    /// The order that has waited longest, which then no other worker gets.
+    /// Returns the order that has waited longest, and removes it from the queue.
     pub fn next_order(&mut self) -> Option<Order> {
         self.queue.pop_front()
     }

@@ -95,7 +95,7 @@ impl Model for Junit {
 }
 
 impl Junit {
-    // Nothing is read yet. The first span gets the id `next`.
+    // Returns the state before the first token. The first span gets the id `next`.
     pub(crate) fn new(alloc: Global, next: u64, moment: Moment) -> Result<Junit, AllocError>
         ensures { IfOk result (λ junit. junit ≡ at_start next moment) }
     {
@@ -216,7 +216,7 @@ impl Junit {
         role_of(element_named(self.tag.name()), self.in_case, self.in_part)
     }
 
-    // The innermost element ends.
+    // Ends the innermost element.
     fn end(&mut self) -> Result<(), AllocError>
         ensures { OnOk result (self.new ≡ ended self.old) }
     {
@@ -320,7 +320,7 @@ impl Junit {
         }
     }
 
-    // A suite with a time ends with an event.
+    // Ends a suite. A suite with a time ends with an event.
     fn end_with(&mut self, suite: &Suite) -> Result<(), AllocError>
         ensures { OnOk result (self.new ≡ ended_with suite.now self.old) }
     {
@@ -525,7 +525,7 @@ impl Junit {
         )
     }
 
-    // The property of the tag is a field of the case or of the suite.
+    // Adds the property of the tag as a field to the case or the suite.
     fn add_property(&mut self) -> Result<(), AllocError>
         ensures { OnOk result (self.new ≡ property_added self.old) }
     {

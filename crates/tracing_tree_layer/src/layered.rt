@@ -257,7 +257,7 @@ impl<W: Output, FT: FormatTime> Layered<W, FT> {
         }
     }
 
-    // If the layer refuses, the new span and its id are taken back.
+    // Makes a span. If the layer refuses, the span and its id are taken back.
     pub(crate) fn add_span(
         &mut self,
         attributes: Attributes,
@@ -276,7 +276,7 @@ impl<W: Output, FT: FormatTime> Layered<W, FT> {
         Ok(id)
     }
 
-    // The rows of all spans that close are written before any span is removed.
+    // Drops a handle. The rows of all spans that close are written before any span is removed.
     pub(crate) fn close_handle(&mut self, id: Id, context: &Context) -> Result<bool, Refusal>
         requires { self.old.layer.failed ≡ false }
         ensures { Changes (seen FT.FormatTime W.Output)
@@ -288,7 +288,7 @@ impl<W: Output, FT: FormatTime> Layered<W, FT> {
         Ok(self.registry.close_listed(id, ids))
     }
 
-    // Nothing is drawn.
+    // Adds a handle. Nothing is drawn.
     pub(crate) fn add_handle(&mut self, id: Id) -> Result<Id, Refusal>
         requires { self.old.layer.failed ≡ false }
         ensures { Changes (seen FT.FormatTime W.Output)
@@ -297,7 +297,7 @@ impl<W: Output, FT: FormatTime> Layered<W, FT> {
         self.registry.clone_span(id)
     }
 
-    // Nothing is drawn.
+    // Records fields. Nothing is drawn.
     pub(crate) fn add_fields(&mut self, id: Id, fields: Fields) -> Result<(), Refusal>
         requires { self.old.layer.failed ≡ false }
         ensures { Changes (seen FT.FormatTime W.Output)
@@ -308,7 +308,8 @@ impl<W: Output, FT: FormatTime> Layered<W, FT> {
         Ok(())
     }
 
-    // No span is added or removed. Retracing may mark spans as printed and change the last span.
+    // Draws an event. No span is added or removed. Retracing may mark spans as printed and change
+    // the last span.
     pub(crate) fn draw_event<E: ToldEvent>(
         &mut self,
         event: &E,

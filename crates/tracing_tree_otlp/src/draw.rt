@@ -366,7 +366,7 @@ fn moment_at(nanosecond: u64, before: Moment) -> Moment
     }
 }
 
-// A service is shown if it isn't that of the span above.
+// Returns the field with the service, if it isn't that of the parent.
 fn service_fields(alloc: Global, above: &str, service: &str) -> Result<Fields, AllocError>
     ensures { IfOk result (λ fields. fields ≡ service_fields above.now service.now) }
 {

@@ -254,7 +254,7 @@ impl Gathered {
         self.add(trace, above.as_str(), start, start, Shape::Span(span))
     }
 
-    // Something happened in a trace at a time.
+    // Records that something happened in a trace at this time.
     fn see_trace(&mut self, trace: &str, time: u64) -> Result<(), AllocError>
         ensures { OnOk result (self.new ≡ trace_seen trace.now time self.old) }
     {
@@ -330,7 +330,7 @@ impl Gathered {
         self.add(trace, span, time, time, Shape::Note(note))
     }
 
-    // A failure comes after all else in a span.
+    // Takes a failure, which comes after everything else in a span.
     fn take_status(
         &mut self,
         trace: &str,
@@ -458,7 +458,8 @@ fn resolved_all(alloc: Global, known: &Known, items: Vec<Item>) -> Result<Vec<It
     Ok(rows)
 }
 
-// All rows in their order: by the time, events and logs first, by the id, and then as they came.
+// Returns all rows in their order: by time, events and logs first, then by id, then in the order of
+// the input.
 pub(crate) fn in_order(
     alloc: Global,
     known: &Known,

@@ -178,7 +178,7 @@ fn reason_fields(alloc: Global, text: &str) -> Result<Fields, AllocError>
     Ok(Fields::one(alloc, field_of(alloc, "message", text)?))
 }
 
-// What a span ends with whose status is that it failed.
+// Returns the event that ends a span whose status is an error.
 pub(crate) fn failed_note(alloc: Global, status: &Value<'_>) -> Result<Note, AllocError>
     ensures { IfOk result (λ note. note ≡ failed_note (value_view status.now)) }
 {

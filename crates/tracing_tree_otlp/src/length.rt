@@ -29,7 +29,7 @@ fn unit_text(alloc: Global, count: u64, unit: &str) -> Result<Text, AllocError>
     Ok(Text::from(out))
 }
 
-// `count` thousandths of a unit.
+// Appends `count` thousandths of a unit.
 fn push_thousandths(out: &mut String, count: u64) -> Result<(), AllocError>
     ensures { OnOk result (string_bytes out.new ≡ string_bytes out.old ++ thousandths_text count) }
 {

@@ -98,7 +98,7 @@ impl<S> Model for Prefixed<S> {
 }
 
 impl<S> Prefixed<S> {
-    /// Lines of this source, with prefixes that end at this mark, if there are prefixes.
+    /// Returns a source for lines of `source` with prefixes that end at this mark, if there is one.
     pub fn new(source: S, mark: Option<Mark>) -> Prefixed<S>
         ensures { result ≡ record { source = source; mark = mark } }
     {

@@ -17,7 +17,7 @@ pub struct Stock {
 }
 
 impl Stock {
-    /// Nothing.
+    /// Returns an empty stock.
     pub fn new(alloc: Global) -> Stock {
         Stock {
             alloc,

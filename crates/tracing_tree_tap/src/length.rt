@@ -30,7 +30,7 @@ fn unit_text(alloc: Global, count: u64, unit: &str) -> Result<Text, AllocError>
     Ok(Text::from(out))
 }
 
-// `count` thousandths of a unit.
+// Appends `count` thousandths of a unit.
 fn push_thousandths(out: &mut String, count: u64) -> Result<(), AllocError>
     ensures { OnOk result (string_bytes out.new ≡ string_bytes out.old ++ thousandths_text count) }
 {
@@ -51,7 +51,7 @@ pub(crate) fn milliseconds(text: &str) -> Option<u64>
     }
 }
 
-// The same of a number with a point, by what is before the point and after it.
+// Like `milliseconds`, for a number with a point, given its parts before and after the point.
 fn decimal_milliseconds(whole: &str, part: &str) -> Option<u64>
     ensures { result ≡ decimal_milliseconds whole.now part.now }
 {

@@ -175,7 +175,7 @@ fn push_char(out: &mut String, is_escaped: bool, c: char) -> Result<(), AllocErr
     if c == '\\' { Ok(()) } else { out.push(c) }
 }
 
-// A character behind a backslash.
+// Appends a character after a backslash.
 fn push_escaped(out: &mut String, c: char) -> Result<(), AllocError>
     ensures { OnOk result (string_bytes out.new ≡ string_bytes out.old ++ end_of_escape c) }
 {

@@ -25,7 +25,7 @@ pub struct Tally {
 }
 
 impl Tally {
-    // Nothing is counted yet.
+    // Returns counts of 0.
     pub(crate) fn new() -> Tally
         ensures { result ≡ no_counts }
     {

@@ -212,7 +212,7 @@ impl Tap {
         }
     }
 
-    // A script begins with its first line of TAP.
+    // Starts a script, at its first line of TAP.
     #[tactic(auto, unfolding(crate::specs::Tap::begun))]
     fn begin(&mut self, kind: Kind)
         ensures { self.new ≡ begun kind self.old }
@@ -237,7 +237,7 @@ impl Tap {
         Ok(())
     }
 
-    // A comment is an event, unless it is a count of the reporter's summary behind the plan.
+    // Takes a comment as an event, unless it is a count of the reporter's summary after the plan.
     #[tactic(auto, unfolding(crate::specs::Tap::comment_taken))]
     fn take_comment(&mut self, comment: &str) -> Result<(), AllocError>
         ensures { OnOk result (self.new ≡ comment_taken comment.now self.old) }
@@ -256,7 +256,7 @@ impl Tap {
         self.outer.is_empty() && self.subtest.planned.is_some()
     }
 
-    // What a test printed is an event.
+    // Takes a line that a test printed, as an event.
     #[tactic(auto, unfolding(crate::specs::Tap::output_taken))]
     fn take_output(&mut self, text: &str) -> Result<(), AllocError>
         ensures { OnOk result (self.new ≡ output_taken text.now self.old) }
@@ -265,7 +265,7 @@ impl Tap {
         self.push_line(Level::Info, shown, self.subtest.span)
     }
 
-    // Everything ends.
+    // Ends everything.
     #[tactic(auto, unfolding(crate::specs::Tap::bailed_out))]
     fn bail_out(&mut self, text: &str) -> Result<(), AllocError>
         ensures { OnOk result (self.new ≡ bailed_out text.now self.old) }
@@ -289,7 +289,7 @@ impl Tap {
         self.close_script()
     }
 
-    // A test whose name was the last line has no result.
+    // Ends a heading. A test whose name was the last line has no result.
     #[tactic(auto, unfolding(crate::specs::Tap::heading_ended))]
     fn end_heading(&mut self) -> Result<(), AllocError>
         ensures { OnOk result (self.new ≡ heading_ended self.old) }

@@ -149,7 +149,7 @@ impl Head {
         }
     }
 
-    // All lines.
+    // Returns all lines.
     pub fn whole(&self) -> &[u8] {
         self.bytes.as_slice()
     }

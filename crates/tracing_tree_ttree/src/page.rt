@@ -146,7 +146,7 @@ fn write_calls<W: Write + Drop>(read: TraceCalls, steps: &mut Steps<W>) -> Sourc
     }
 }
 
-// What a run leaves that this ended.
+// Returns the result of a run that ended with this cause.
 fn ended(unknown: u64, cause: LineCause) -> SourceRun {
     SourceRun {
         unknown,

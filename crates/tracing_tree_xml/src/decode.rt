@@ -45,7 +45,8 @@ pub fn push_cdata(out: &mut String, part: &str) -> Result<(), AllocError>
     push_decoded(out, Until::Verbatim, part)
 }
 
-// Each turn reads a byte or more, so that as many turns as bytes are enough.
+// Appends a string, decoded. Each turn reads at least one byte, so as many turns as bytes are
+// enough.
 fn push_decoded(out: &mut String, until: Until, text: &str) -> Result<(), AllocError>
     ensures { OnOk result
         (string_bytes out.new ≡ string_bytes out.old ++ decoded until text.now) }

@@ -137,7 +137,8 @@ impl Nodes {
         }
     }
 
-    // If an allocation fails, nothing has changed. An id that isn't live never allocates.
+    // Appends fields to those of a span. If an allocation fails, nothing has changed. An id that
+    // isn't live never allocates.
     pub(crate) fn record(&mut self, id: Id, fields: Fields) -> Result<(), AllocError>
         ensures ok { OnOk result (self.new ≡ change_kept (fields_more fields) id self.old) }
         ensures err { OnErr result (self.new ≡ self.old) }

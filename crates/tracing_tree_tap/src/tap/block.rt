@@ -88,7 +88,7 @@ impl Tap {
         self.take_next(text)
     }
 
-    // A line of a block is an event in the span of its result.
+    // Adds a line of a block, as an event in the span of its result.
     #[tactic(auto, unfolding(crate::specs::Tap::detail_taken))]
     fn push_detail(&mut self, waiting: Waiting, text: &str) -> Result<(), AllocError>
         ensures { OnOk result (self.new ≡ detail_taken waiting text.now self.old) }

@@ -151,7 +151,7 @@ impl Tap {
         self.subtest.last = number;
     }
 
-    // The numbers from `first` up to this one are missing.
+    // Reports the numbers from `first` up to this one as missing.
     fn miss(&mut self, first: u64, number: u64) -> Result<(), AllocError>
         ensures { OnOk result (self.new ≡ missed first number self.old) }
     {
@@ -174,7 +174,7 @@ impl Tap {
         Ok(())
     }
 
-    // A plan that isn't met is an error.
+    // Checks the plan. If it isn't met, that is an error.
     pub(super) fn check_plan(
         &mut self,
         planned: Option<u64>,
@@ -236,7 +236,7 @@ impl Tap {
         }
     }
 
-    // Everything is skipped.
+    // Reports that everything is skipped.
     #[tactic(auto, unfolding(crate::specs::Tap::skip_told))]
     fn push_skip(&mut self, reason: &str) -> Result<(), AllocError>
         ensures { OnOk result (self.new ≡ skip_told reason.now self.old) }
@@ -310,7 +310,7 @@ fn subtest_label(alloc: Global, name: &str, description: Text) -> Result<Text, A
     Ok(description)
 }
 
-// A test without a description is shown by its number.
+// Returns the label of a result. Without a description it is the number.
 fn leaf_label(alloc: Global, description: Text, number: u64) -> Result<Text, AllocError>
     ensures { IfOk result (λ label. label ≡ leaf_label description number) }
 {
