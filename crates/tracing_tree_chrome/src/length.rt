@@ -1,4 +1,4 @@
-//! Durations as they are shown.
+//! Durations, as shown.
 
 ghost use Rattle.std.specs.Prelude.{◌≡◌, ◌++◌, IfOk, OnOk, string_bytes};
 ghost use Rattle.tracing_tree_chrome.specs.Length.{length_text, thousandths_text};

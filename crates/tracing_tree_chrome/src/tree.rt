@@ -84,7 +84,7 @@ impl Model for Tree {
 }
 
 impl Tree {
-    // Returns a tree in which only the root is open.
+    // Returns a tree with only the root open.
     pub(crate) fn new(
         alloc: Global,
         next: u64,
@@ -164,7 +164,7 @@ impl Tree {
         Ok(())
     }
 
-    // Returns the lane in which a span that is too short is counted: its thread if that is drawn,
+    // Returns the lane that counts a span that is too short. This is its thread if that is drawn,
     // otherwise its process if that is drawn, otherwise the root.
     fn shown_lane(&self, item: &Item) -> Lane
         ensures { result ≡ shown_lane item.now self.now }

@@ -42,8 +42,8 @@ pub enum Refusal {
     #[error("not held {}", .0.0)]
     NotHeld(Id),
 
-    /// A row of this call is too wide: its level after the wraparound times the amount exceeds
-    /// `usize::MAX` columns.
+    /// A row of this call is too wide: the level used (after the wraparound) times the amount
+    /// exceeds `usize::MAX` columns.
     #[error("too wide")]
     TooWide,
 

@@ -203,8 +203,7 @@ impl<W: Output, FT: FormatTime> HierarchicalLayer<W, FT> {
     }
 
     /// Replaces the writer, and returns the previous one. A layer that has failed continues, as if
-    /// the call at which it failed had not been made. The caller must ensure that the new writer
-    /// has no faults.
+    /// the failed call had not been made. The caller must ensure that the new writer has no faults.
     pub fn recover(&mut self, writer: W) -> W
         requires { W.fault_count writer ≡ 0 }
         ensures before { result ≡ self.old.writer }

@@ -300,16 +300,16 @@ impl Progress {
 
 // The result of a line.
 enum Judged {
-    // There was no line.
+    // The input ended.
     End,
     Skipped,
     // Its call was accepted.
     Accepted,
 }
 
-// Makes the calls of all complete lines in the reader's buffer. If there are no such lines, makes
-// the call of the next line. Returns whether there was a line. A line that ends the run isn't
-// counted: its number is that of the next line.
+// Makes the calls of all complete lines in the reader's buffer. Without a complete line, makes the
+// call of the next line. Returns whether there was a line. A line that ends the run isn't counted:
+// its number is that of the next line.
 fn run_some<L: LineInput, W: Output, FT: FormatTime>(
     alloc: Global,
     lines: &mut L,

@@ -161,8 +161,8 @@ impl Output for Tape {
 }
 
 /// An output over a writer of std. An interrupted write or flush is tried again at most 8 times. A
-/// write that is still interrupted, a count of 0 and another error are faults. After a refused
-/// flush each write is a fault.
+/// write that is still interrupted, a count of 0 for a nonempty slice and another error are faults.
+/// After a refused flush each write is a fault.
 #[derive(Drop)]
 pub struct Wrap<W: Write> {
     writer: W,

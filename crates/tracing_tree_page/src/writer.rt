@@ -64,7 +64,7 @@ impl<W: Output> StepWriter<W> {
         }
     }
 
-    /// Writes the first bytes of a run, before any call: the head, as it is, and the line with the
+    /// Writes the first bytes of a run, before any call: the head, unchanged, and the line with the
     /// title.
     ///
     /// # Errors
@@ -87,8 +87,8 @@ impl<W: Output> StepWriter<W> {
         send(&mut self.text, &mut self.writer)
     }
 
-    /// Writes the last bytes of a run, after all calls: the last line, and the tail as it is. With
-    /// what was written since [`StepWriter::begin`], they are a page.
+    /// Writes the last bytes of a run, after all calls: the last line, and the tail, unchanged.
+    /// With what was written since [`StepWriter::begin`], they are a page.
     ///
     /// # Errors
     ///

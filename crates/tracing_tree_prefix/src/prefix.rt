@@ -79,10 +79,10 @@ impl Mark {
     }
 }
 
-/// A source whose lines may begin with a prefix.
+/// A source whose lines may start with a prefix.
 ///
 /// A line that isn't JSON and has the mark is taken without its prefix, which comes last among the
-/// fields of the line's events. Every other line is taken as it is.
+/// fields of the line's events. Every other line is taken unchanged.
 #[derive(Drop)]
 pub struct Prefixed<S> {
     source: S,

@@ -54,8 +54,8 @@ impl Receipt {
 }
 
 /// A registry with a layer over a tape, and the history of the accepted calls. It matches the
-/// replay of that history: it has the same spans, the same last span and the same replies, and the
-/// tape is the drawing of the replay's rows.
+/// replay of that history: it has the same spans, last span and replies. The tape is the drawing of
+/// the replay's rows.
 #[derive(Drop)]
 pub struct Book<FT: FormatTime> {
     layered: Layered<Tape, FT>,

@@ -147,9 +147,9 @@ impl<FT: FormatTime, L: Ledger> Model for SharedLayer<FT, L> {
 }
 
 impl<FT: FormatTime + Drop, L: Ledger> SharedLayer<FT, L> {
-    /// Opens a layer with `passes` passes, which have no receipts. The caller must ensure that the
-    /// ledger has one part more than there are passes, that no span is live, that the layer is
-    /// fresh, and that the tape is empty.
+    /// Opens a layer with `passes` passes, which have no receipts. The caller must ensure that no
+    /// span is live, that the layer is fresh, and that the tape is empty. The ledger must have one
+    /// part more than there are passes.
     ///
     /// # Errors
     ///

@@ -16,23 +16,23 @@ pub enum Lack {
     #[error("not a JSON object")]
     Object,
 
-    /// There is no string at `Action`.
+    /// `Action` is missing or isn't a string.
     #[error("\"Action\" must be a string")]
     Action,
 
-    /// There is no string at `Package` or `ImportPath`.
+    /// `Package` and `ImportPath` are missing or aren't strings.
     #[error("\"Package\" must be a string")]
     Package,
 
-    /// There is no string at `Output`, which the line's action needs.
+    /// `Output`, which the line's action needs, is missing or isn't a string.
     #[error("\"Output\" must be a string")]
     Output,
 
-    /// There is no valid level at `level`.
+    /// `level` is missing or isn't a valid level.
     #[error("\"level\" must be one of TRACE, DEBUG, INFO, WARN, ERROR")]
     Level,
 
-    /// There is no string at `ph`.
+    /// `ph` is missing or isn't a string.
     #[error("\"ph\" must be a string")]
     Phase,
 
@@ -44,11 +44,11 @@ pub enum Lack {
     #[error("\"tid\" must be a whole number")]
     Thread,
 
-    /// There is no number of microseconds at `ts`.
+    /// `ts` is missing or isn't a number of microseconds.
     #[error("\"ts\" must be a number of microseconds")]
     Start,
 
-    /// There is no number of microseconds at `dur`, which a span needs.
+    /// `dur`, which a span needs, is missing or isn't a number of microseconds.
     #[error("\"dur\" must be a number of microseconds")]
     Duration,
 

@@ -172,7 +172,7 @@ fn lack_of_text<S: Source>(
 
 // The result of a line.
 enum Judged {
-    // There was no line, and the calls of the end were made.
+    // The input ended, and the calls of its end were made.
     End,
     Known,
     Unknown,

@@ -35,9 +35,9 @@ struct Live {
     id: Id,
     // The parent's span, when it opened.
     above: Option<Id>,
-    // The span as it was first listed.
+    // The span as first listed.
     first: Listed,
-    // The fields that were recorded later, in the order in which lines listed them.
+    // The fields that were recorded later, in the order of the lines that listed them.
     late: Fields,
     // The thread of the line that opened it. Empty if the line doesn't have one.
     thread: Text,

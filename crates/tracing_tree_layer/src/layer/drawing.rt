@@ -79,7 +79,7 @@ impl<'a, S: LookupSpan> CallDrawing<'a, S> {
         self.rows(page, plan.rows())
     }
 
-    // Draws an event that is nested in `depth` spans, after the rows of those that are to be shown.
+    // Draws an event that is nested in `depth` spans, after the rows of the spans that it shows.
     // Its own width is checked before any allocation. Uses the tail, if it was drawn before.
     pub(super) fn event<FT: FormatTime, E: ToldEvent>(
         &self,

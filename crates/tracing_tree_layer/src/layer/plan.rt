@@ -350,7 +350,7 @@ impl<S: LookupSpan> Planner<'_, S> {
         self.row(plan, mode, id)
     }
 
-    // Plans the row of a span's parent, if it is to be shown and there is one.
+    // Plans the row of a span's parent, if `shown` is on and there is one.
     #[inline(always)]
     fn parent(&self, plan: &mut Plan, shown: bool, mode: SpanMode, id: Id) -> Result<(), AllocError>
         ensures { let rows = planned_parent shown (S.forest self.now.spans.now) mode id in
