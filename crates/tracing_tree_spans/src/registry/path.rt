@@ -1,4 +1,4 @@
-//! The path of a span, as it is stored with the span.
+//! The path of a span, as stored with the span.
 
 ghost use Rattle.std.specs.Prelude.{◌≡◌, ◌++◌, ◌∷◌, [], IfOk, IfSome};
 ghost use Rattle.tracing_tree_spans.specs.Registry.Spans.{path_ids};

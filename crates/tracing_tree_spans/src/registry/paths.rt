@@ -8,11 +8,12 @@ ghost use Rattle.tracing_tree_spans.specs.Registry.Paths.{PartOnce, looks_back};
 use super::prefix::Common;
 use tracing_tree_context::Id;
 
-/// Returns the length of the common prefix of two paths of one forest. Never allocates.
+/// Returns the length of the common prefix of two paths of one forest, and how many places were
+/// compared. Never allocates.
 ///
-/// It starts at the last place that both have, and goes back to the first place at which they
-/// agree. So it compares as many places as the shorter path has after the common prefix, and one
-/// more unless that prefix is empty.
+/// It starts at the last place that both have, and steps back until they agree. So it compares as
+/// many places as the shorter path has after the common prefix, and one more unless that prefix is
+/// empty.
 ///
 /// The caller must ensure that the paths part once: if two places agree, all places before them
 /// agree. Paths of one forest do.

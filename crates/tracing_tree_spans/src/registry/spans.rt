@@ -190,10 +190,10 @@ impl Registry {
         count > 0
     }
 
-    /// Replaces the content of the list by the ids that `try_close` would remove, in order: the
-    /// span, its parent, and so on upward, as long as each has no handle and no other child. The
-    /// list is empty if the span keeps a handle or a child. It allocates only if the list's
-    /// capacity is too small.
+    /// Replaces the content of the list by the ids that `try_close` would remove, in order. They
+    /// are the span, its parent, and so on upward, as long as each has no other handle and no other
+    /// child. The list is empty if the span keeps a handle or a child. It allocates only if the
+    /// list's capacity is too small.
     ///
     /// # Errors
     ///
@@ -273,8 +273,7 @@ fn push_below(nodes: &mut Nodes, parent: Option<Id>, node: Node) -> Result<(), A
 }
 
 // Returns the end of a span's path that closes when a handle of the span is dropped. It has the
-// span itself if it keeps neither a handle nor a child, its parent if that has no handle and no
-// other child, and so on upward.
+// span, its parent, and so on upward, as long as each has no other handle and no other child.
 fn closing_part<'a>(nodes: &Nodes, node: &'a Node) -> &'a [Id]
     requires kept { IsKept (spans_of nodes.now) None }
     requires tied { IsTied nodes.now }
