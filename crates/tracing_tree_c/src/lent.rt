@@ -63,7 +63,7 @@ impl Output for Lent {
 
     const WHOLE: bool = true;
 
-    // Strings that aren't UTF-8 are refused. The layer never writes one.
+    // Bytes that aren't UTF-8 are refused. The layer never writes such bytes.
     fn write(&mut self, bytes: &[u8]) -> Result<usize, OutputFault> {
         let written = match str::from_utf8(bytes) {
             Ok(text) => self.text.push_str(text).is_ok(),

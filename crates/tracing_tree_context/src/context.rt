@@ -19,7 +19,7 @@ pub struct Moment {
     pub wall: Timestamp,
 }
 
-/// What the caller passes with a call. The library doesn't read it from the system.
+/// A call's context, which the caller passes. The library doesn't read it from the system.
 #[derive(Debug, Drop, PartialEq, Eq)]
 pub struct Context {
     /// The current span. For an event, an id that isn't live counts as `None`.

@@ -72,8 +72,8 @@ impl Lines {
     }
 }
 
-/// Reports only the failed tests of `go test -json`. Tests that passed or were skipped are left
-/// out, and so are packages without a failure.
+/// A source that reports only the failed tests of `go test -json`. Tests that passed or were
+/// skipped are left out, and so are packages without a failure.
 ///
 /// A line is held until its top-level test ends, or its package. So the lines of a failed test are
 /// reported together. If a part of a test or package was reported, the rest of it is reported too.

@@ -11,7 +11,7 @@ const STOCK: u64 = 40;
 // The order that needs more pieces than there ever were.
 const LARGE: u64 = 7;
 
-/// How many pieces must be packed.
+/// An order, and how many pieces must be packed for it.
 #[derive(Clone, Copy)]
 pub struct Order {
     pub id: u64,

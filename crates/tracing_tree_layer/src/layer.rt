@@ -30,7 +30,8 @@ use tracing_tree_output::{Output, write_whole};
 use tracing_tree_spans::registry::LookupSpan;
 use tracing_tree_time::FormatTime;
 
-/// Draws spans and events as a tree into a writer. (`HierarchicalLayer` of the Rust crate.)
+/// A layer that draws spans and events as a tree into a writer. (`HierarchicalLayer` of the Rust
+/// crate.)
 ///
 /// The text of a call is built whole and then written. After a fault of the timer or the writer,
 /// the layer has failed. It refuses every further call until `recover`.

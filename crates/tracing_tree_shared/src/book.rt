@@ -14,7 +14,7 @@ use tracing_tree_layer::call::{Call, Reply};
 use tracing_tree_output::Tape;
 use tracing_tree_time::FormatTime;
 
-/// Proves the place of a call in the history, with its reply. Only `Book::apply` makes one.
+/// A call's place in the history, with its reply. Only `Book::apply` makes one.
 #[derive(Debug, Drop)]
 pub struct Receipt {
     place: usize,

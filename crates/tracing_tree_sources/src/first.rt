@@ -82,7 +82,7 @@ pub enum Detection {
     Full,
 }
 
-/// Detects the format of an input from its lines, one after another.
+/// A detector of an input's format, from its lines one after another.
 ///
 /// The first line that determines a format counts. At most 1,000 lines, or 1 MiB with their line
 /// ends, are held before it.

@@ -9,8 +9,8 @@ use super::short::ShortText;
 use super::{FormatTime, Moment, TimeFault};
 use jiff::tz::{Offset, TimeZone};
 
-/// Shows the date and the time at an offset or in a zone, and the offset, as `2000-02-29
-/// 18:04:56.05 +05:30:00`.
+/// A timer that shows the date and the time at an offset or in a zone, and the offset, as
+/// `2000-02-29 18:04:56.05 +05:30:00`.
 ///
 /// `jiff` has a date and a time for each of its instants at each of its offsets, so it never
 /// returns `Fault`.

@@ -6,8 +6,8 @@ use super::elapsed::style_timestamp;
 use super::pieces::{Piece, append};
 use super::{FormatTime, Moment, TimeFault};
 
-/// Shows the time since an epoch, as `   3.000042s`: seconds in four places with six decimals, and
-/// zero before the epoch. It never returns `Fault`.
+/// A timer that shows the time since an epoch, as `   3.000042s`: seconds in four places with six
+/// decimals, and zero before the epoch. It never returns `Fault`.
 #[derive(Clone, Copy, PartialEq, Eq)]
 pub struct Uptime {
     /// Whether an elapsed time is shown with two decimals.

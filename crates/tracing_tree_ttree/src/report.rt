@@ -196,7 +196,8 @@ impl fmt::Display for Unit {
     }
 }
 
-// Reports on standard error what is skipped. A fault of standard error itself changes nothing.
+// A reporter on standard error of what is skipped. A fault of standard error itself changes
+// nothing.
 #[derive(Drop)]
 pub struct Reporter<'a, R> {
     rt: &'a R,

@@ -80,7 +80,7 @@ enum Place {
     SubsetComment,
 }
 
-/// Reads a document token by token.
+/// A reader of a document, token by token.
 ///
 /// After an error it is unchanged, so that it returns the error again.
 #[derive(Debug, Drop)]

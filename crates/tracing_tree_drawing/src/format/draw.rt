@@ -32,13 +32,13 @@ pub struct RowDrawing<'a> {
     pub level: usize,
 }
 
-/// Where a row begins in the output, in bytes.
+/// The place of a row in the output, in bytes.
 #[derive(Clone, Copy)]
 pub struct RowPlace {
-    /// Where the row begins.
+    /// The start of the row.
     pub start: usize,
 
-    /// Where its block begins.
+    /// The start of its block.
     pub block: usize,
 }
 

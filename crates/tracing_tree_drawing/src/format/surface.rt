@@ -125,8 +125,8 @@ impl Buffers {
     }
 }
 
-/// Appends the fields of an event to the block of its row, in the order of the calls. (`FmtEvent`
-/// of the Rust crate.)
+/// A writer of an event's fields to the block of its row, in the order of the calls. (`FmtEvent` of
+/// the Rust crate.)
 #[derive(Drop)]
 pub struct FmtEvent<'a> {
     /// The buffers. Fields are appended to `current_buf`.

@@ -191,7 +191,7 @@ fn read_later(line: &str, amount: usize, shape: Shape, level: usize) -> Option<&
     after_repeated(text, " ", amount)
 }
 
-/// What a line is after the rows before it.
+/// The kind of a line, given the rows before it.
 #[derive(Drop)]
 pub enum Taken {
     /// The first line of a row. Has the row before it, if there is one, which is now complete.
@@ -204,7 +204,7 @@ pub enum Taken {
     Neither,
 }
 
-/// Reads rows line by line. It holds the last row, which may get more lines.
+/// A reader of rows, line by line. It holds the last row, which may get more lines.
 #[derive(Drop)]
 pub struct Reader {
     amount: usize,

@@ -115,8 +115,8 @@ impl Plan {
     }
 }
 
-// Plans calls from the settings and the live spans. After an error only `begin` may be called on
-// the plan.
+// A planner of calls, from the settings and the live spans. After an error only `begin` may be
+// called on the plan.
 #[derive(Drop)]
 pub(super) struct Planner<'a, S: LookupSpan> {
     pub(super) config: &'a Config,

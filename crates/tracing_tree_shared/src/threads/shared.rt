@@ -16,8 +16,8 @@ use tracing_tree_layer::told::ToldEvent;
 use tracing_tree_spans::registry::{Attributes, Record};
 use tracing_tree_time::FormatTime;
 
-/// Makes the calls of one thread on a [`SharedLayer`], with the thread's pass. It drafts each call
-/// before it waits for the lock. The pass gains the receipt of each accepted call.
+/// A receiver of one thread's calls over a [`SharedLayer`], with the thread's pass. It drafts each
+/// call before it waits for the lock. The pass gains the receipt of each accepted call.
 #[derive(Drop)]
 pub struct SharedCalls<'a, R, FT: FormatTime, L: Ledger> {
     rt: &'a R,

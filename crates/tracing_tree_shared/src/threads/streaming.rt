@@ -16,8 +16,8 @@ use tracing_tree_output::Output;
 use tracing_tree_spans::registry::{Attributes, Record};
 use tracing_tree_time::FormatTime;
 
-/// Makes the calls of one thread on a [`StreamingLayer`]. It drafts each call before it waits for
-/// the lock.
+/// A receiver of one thread's calls over a [`StreamingLayer`]. It drafts each call before it waits
+/// for the lock.
 #[derive(Drop)]
 pub struct StreamingCalls<'a, R, W: Output, FT: FormatTime> {
     rt: &'a R,

@@ -3,7 +3,8 @@
 use super::{Level, painted};
 use std::fmt;
 
-/// Displays a level in its colour, right-aligned in five columns. (`ColorLevel` of the Rust crate.)
+/// A level that is displayed in its colour, right-aligned in five columns. (`ColorLevel` of the
+/// Rust crate.)
 #[derive(Drop)]
 pub struct ColorLevel<'a>(pub &'a Level);
 
