@@ -175,8 +175,8 @@ pub struct LinesRun<W: Output> {
 /// - `Memory` if an allocation fails before a line's call is made. If the buffer of the input can't
 ///   be allocated, this is at line 1.
 /// - `Read` if a read is interrupted for the ninth time in a row, or fails with another error. It
-///   is also the cause after 2^64 - 1 reads of a line that doesn't end, and at line number 2^64 -
-///   1, which isn't judged.
+///   is also the cause after 2^64 - 1 reads of a line that doesn't end, and at line 2^64 - 1, which
+///   isn't judged.
 ///
 /// If a contract can name the reader's bytes, as for a slice, it states what was run and written.
 /// For any reader it states that the cause is `Refused(Writer)` exactly if the writer counted a

@@ -144,8 +144,8 @@ pub fn without_mark(line: &[u8]) -> &[u8]
 ///
 /// - A line that starts with `[` after its blanks is Chrome's if nothing, `{` or `]` follows.
 /// - A line that only OTLP, JUnit XML or TAP has is theirs ([`markers`](crate::markers)).
-/// - A line that starts with `{`, followed by `"` or nothing, and isn't a complete JSON value is
-///   Chrome's.
+/// - A line that starts with `{` after its blanks, followed by `"` or nothing, and isn't a complete
+///   JSON value is Chrome's.
 /// - An object with a string at `Action` is Go's.
 /// - An object with an array at `traceEvents` is Chrome's.
 /// - An object with an array at `resourceSpans`, `resourceLogs` or `resourceMetrics` is OTLP's.
