@@ -2,15 +2,19 @@
 //!
 //! Which type to pick:
 //!
-//! - [`tracer::Tracer`] for a service that opens spans and tells events in them. It knows the current span, the thread, the clock and
-//!   the target.
-//! - [`Layered`] for calls by hand: each names its span and its moment, and is drawn whole or refused with a reason.
-//! - [`shared::StreamingLayer`] for several threads that write one tree, and [`shared::SharedLayer`] where their history is wanted too. Each
-//!   thread has a tracer of its own over [`tracer::StreamingCalls`] or [`tracer::SharedCalls`], its way to the layer.
-//! - [`HierarchicalLayer`] alone for a service that keeps its spans itself, over any [`registry::LookupSpan`].
-//! - [`run_lines`] for calls that are spelled as lines of JSON, and [`rows::read_rows`] for the text of a drawing.
+//! - [`tracer::Tracer`] for a service that opens spans and records events in them. It knows the
+//!   current span, the thread, the clock and the target.
+//! - [`Layered`] for calls by hand. Each names its span and its moment, and is drawn whole or
+//!   refused with a reason.
+//! - [`shared::StreamingLayer`] for several threads that write one tree, and
+//!   [`shared::SharedLayer`] if their history is needed too. Each thread has its own tracer over
+//!   [`tracer::StreamingCalls`] or [`tracer::SharedCalls`], its receiver over the layer.
+//! - [`HierarchicalLayer`] without a registry for a service that stores its spans itself, over any
+//!   [`registry::LookupSpan`].
+//! - [`run_lines`] for calls in lines of JSON, and [`rows::read_rows`] for the text of a drawing.
 //!
-//! [`format::Tape`] keeps what is drawn in memory, and [`format::Wrap`] writes it to any `std::io::Write`.
+//! [`format::Tape`] keeps the drawing in memory, and [`format::Wrap`] writes it to any
+//! `std::io::Write`.
 #![tactic(auto)]
 
 pub mod rows;

@@ -35,7 +35,7 @@ impl Calls {
         self.alloc
     }
 
-    // The id that the next span will have.
+    // Returns the id that the next span will have.
     pub fn next(&self) -> u64 {
         self.next
     }

@@ -1,12 +1,15 @@
 //! Times the library's works.
 //!
-//! Of calls, the arguments are a work, how many rounds of it, and optionally `idle`, with which the calls are made and dropped, or
-//! `marked`, with which a line `begin` stands before each batch of calls and a line `end` after it. It prints how many calls were
-//! timed, what one took, and how many bytes they wrote. Where the first argument is `retraced` or `deferred`, waves of calls are made
-//! under these settings, as many as the second says, and it prints what the calls of each wave took, and the longest of them.
+//! To time calls, the arguments are a work, the number of rounds, and optionally `idle` or
+//! `marked`. With `idle` the calls are made and dropped. With `marked` a line `begin` is printed
+//! before each batch of calls and a line `end` after it. It prints how many calls were timed, what
+//! one took, and how many bytes they wrote. If the first argument is `retraced` or `deferred`, it
+//! makes as many waves of calls as the second argument says, with these settings. It prints what
+//! the calls of each wave took, and the longest of them.
 //!
-//! `threads` and then a work times events through the layers for several threads, and `reading` the reading of a drawing: the
-//! modules of these names say how. Without arguments it prints the names of the works.
+//! `threads` and a work time events through the layers for several threads, and `reading` times the
+//! reading of a drawing. The modules of these names say how. Without arguments it prints the names
+//! of the works.
 #![tactic(auto)]
 
 mod calls;
@@ -26,7 +29,8 @@ use tracing_tree::layered::Layered;
 use tracing_tree::time::Clock;
 use works::{Batch, Work};
 
-// The rounds whose calls are made before they are timed. They are few, so that they stay near the processor.
+// The rounds whose calls are made before they are timed. They are few, so that they stay near the
+// processor.
 const BATCH: u32 = 64;
 
 fn main(rt: HostRuntime) -> anyhow::Result<()> {
@@ -41,7 +45,7 @@ fn main(rt: HostRuntime) -> anyhow::Result<()> {
     }
 }
 
-// The words after the program's name.
+// Returns the words after the program's name.
 fn words<R: AllocGlobal + Env>(rt: &R) -> anyhow::Result<Vec<String>> {
     let mut words = Vec::new(rt.alloc());
     for word in std::env::args(rt)?.skip(1) {
@@ -125,7 +129,7 @@ struct Measured {
     refused: u64,
 }
 
-// Runs what has to stand first, and then times batches.
+// Makes the calls that come first, and then times batches.
 fn measure<R: AllocGlobal + MachineClock + Print>(
     rt: &R,
     work: Work,
@@ -154,7 +158,7 @@ fn measure<R: AllocGlobal + MachineClock + Print>(
     )
 }
 
-// The batch that begins with this round.
+// Returns the batch that begins with this round.
 fn batch_at(from: u32, of: u32) -> Batch {
     Batch {
         from,

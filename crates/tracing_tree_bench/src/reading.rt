@@ -1,5 +1,5 @@
-//! Times the reading of a drawing, which is read from standard input, whole: prints how many megabytes a second `read_rows` and
-//! `read_paths` take of it, the best of five runs each.
+//! Times the reading of a drawing, which is read from standard input, whole: prints how many
+//! megabytes a second `read_rows` and `read_paths` take of it, the best of five runs each.
 
 use std::alloc::Global;
 use std::io::Read;
@@ -13,7 +13,8 @@ const RUNS: u32 = 5;
 // The columns a level of the drawing.
 const AMOUNT: usize = 2;
 
-// How long a run took, in microseconds, and how many rows or events it read; none where the text is no drawing.
+// How long a run took, in microseconds, and how many rows or events it read. Zero if the text isn't
+// a drawing.
 #[derive(Clone, Copy)]
 struct Timing {
     micros: u64,
@@ -21,7 +22,7 @@ struct Timing {
 }
 
 impl Timing {
-    // The shorter of both.
+    // Returns the shorter of both.
     fn or_shorter(self, other: Timing) -> Timing {
         if other.micros < self.micros {
             other

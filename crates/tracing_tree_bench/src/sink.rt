@@ -1,4 +1,4 @@
-//! An output that counts bytes and keeps none.
+//! An output that counts bytes and doesn't store them.
 
 use tracing_tree::format::{Output, OutputFault};
 

@@ -47,7 +47,7 @@ impl Wave {
     }
 }
 
-// A layer that is to be called, the calls that are made next, and what the wave took so far.
+// A layer, its next calls, and what the wave took so far.
 #[derive(Drop)]
 struct Soak {
     layered: Layered<Sink, ()>,
@@ -117,7 +117,7 @@ fn told(layered: &mut Layered<Sink, ()>, call: Call) -> Result<Reply, Refusal> {
     layered.call(call)
 }
 
-// Roots that all live at once, some with an event, and close in the order in which they were opened.
+// Roots that are all live at once, some with an event, and close in the order of their opening.
 fn roots<R: AllocGlobal + MachineClock>(rt: &R, soak: &mut Soak) -> anyhow::Result<()> {
     let first = soak.calls.next();
     for _row in 0..ROOTS / ROW {
@@ -134,7 +134,7 @@ fn roots<R: AllocGlobal + MachineClock>(rt: &R, soak: &mut Soak) -> anyhow::Resu
     Ok(())
 }
 
-// Roots of which each tenth has an event.
+// Opens roots. Each tenth has an event.
 fn open_row(soak: &mut Soak) -> anyhow::Result<()> {
     for place in 0..ROW {
         let id = soak.calls.open(None)?;
@@ -154,8 +154,8 @@ fn chain(soak: &mut Soak, above: u64, depth: u64) -> anyhow::Result<u64> {
     Ok(last)
 }
 
-// Two branches below one root, with events in turn, so that each is shown again. The handles go from the root on, so each branch closes
-// at once.
+// Two branches below one root, with events in turn, so that each is shown again. The handles go
+// from the root on, so each branch closes at once.
 fn branches<R: AllocGlobal + MachineClock>(
     rt: &R,
     soak: &mut Soak,
@@ -174,7 +174,7 @@ fn branches<R: AllocGlobal + MachineClock>(
     make(rt, soak)
 }
 
-// A span whose fields and handles grow, and an event with a long text.
+// A span whose fields and handles grow, and an event with a long message.
 fn grown<R: AllocGlobal + MachineClock>(rt: &R, soak: &mut Soak) -> anyhow::Result<()> {
     let id = soak.calls.open(None)?;
     for _time in 0..ROW {

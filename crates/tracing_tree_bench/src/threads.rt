@@ -1,7 +1,9 @@
-//! Times events through the layers for several threads, beside a layer of one thread and a plain lock round it.
+//! Times events through the layers for several threads, compared with a layer of one thread and a
+//! plain lock around it.
 //!
-//! The arguments are a work, how many threads, how many events each of them tells, and how many fields an event has. It prints what
-//! an event took, by the time in which all threads were done.
+//! The arguments are a work, the number of threads, the number of events of each thread, and the
+//! number of fields of an event. It prints what an event took, by the time until all threads were
+//! done.
 
 ghost use Rattle.std.specs.Prelude.{◌≡◌, ◌<◌, ◌≤◌};
 
@@ -20,7 +22,7 @@ use works::{Size, Timed, alone, counted, idle, locked, shared, streaming};
 // How many threads there are at most.
 const MOST: usize = 64;
 
-/// Times a work with these numbers, of which each counts as one where it is missing, and prints what an event took.
+/// Times a work with these numbers, and prints what an event took. A missing number is one.
 pub fn run<R: AllocGlobal + Threads + Wait + Clock + Print + Sync>(
     rt: &R,
     work: Work,

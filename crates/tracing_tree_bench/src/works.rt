@@ -22,28 +22,28 @@ pub enum Work {
     // Spans five deep with an event in the lowest, closed again: eleven calls a round.
     Nested,
 
-    // The same with every setting but those that retrace.
+    // Like `Nested`, with every setting except those that retrace.
     NestedStyled,
 
-    // The same with every setting.
+    // Like `Nested`, with every setting.
     NestedRetraced,
 
     // Events in two leaves in turn, ten deep.
     Alternating10,
 
-    // The same a hundred deep.
+    // Like `Alternating10`, a hundred deep.
     Alternating100,
 
-    // The same a thousand deep.
+    // Like `Alternating10`, a thousand deep.
     Alternating1000,
 
     // Roots that all live at once, and close oldest first: the closes.
     CloseOldest,
 
-    // The same newest first.
+    // Like `CloseOldest`, newest first.
     CloseNewest,
 
-    // The same in a shuffled order.
+    // Like `CloseOldest`, in a shuffled order.
     CloseShuffled,
 
     // A span and its close, below ten others.
@@ -55,13 +55,13 @@ pub enum Work {
     // Clones and records in turn, spread over a thousand live spans.
     Spread1000,
 
-    // The same over a million.
+    // Like `Spread1000`, over a million.
     Spread1000000,
 
     // Events in one span.
     Event,
 
-    // The same with each of the clocks.
+    // Like `Event`, with each of the clocks.
     EventUtc,
     EventLocal,
     EventUptime,
@@ -75,19 +75,20 @@ pub enum Work {
     // Records onto one span.
     Records,
 
-    // A thousand roots, of which four hundred close, oldest first, and roots that open then.
+    // A thousand roots. Four hundred of them close, oldest first, and then new roots open.
     Gaps,
 
     // Clones spread over ten live spans.
     Clone10,
 
-    // The same over a hundred thousand.
+    // Like `Clone10`, over a hundred thousand.
     Clone100000,
 
-    // Clones spread over the oldest spans, where of a thousand one in ten was left, and as many opened as close the gaps.
+    // Clones spread over the oldest spans. Of a thousand one in ten was left, and enough new ones
+    // open to close the gaps.
     CloneOld1000,
 
-    // The same of a hundred thousand.
+    // Like `CloneOld1000`, over a hundred thousand.
     CloneOld100000,
 }
 
@@ -154,7 +155,7 @@ impl Work {
         Work::ALL.iter().copied().find(|work| work.name() == name)
     }
 
-    // A layer with the work's settings, over memory.
+    // Returns a layer with the work's settings, over memory.
     pub fn layer(self, alloc: Global) -> HierarchicalLayer<Sink, Clock<'static>>
         ensures last { result.last ≡ None }
         ensures sound { result.failed ≡ false }
@@ -184,7 +185,7 @@ impl Work {
         }
     }
 
-    // What has to stand before these rounds.
+    // Makes the calls that come before these rounds.
     pub fn prepare(self, calls: &mut Calls, rounds: u32) -> Result<(), AllocError> {
         match self {
             Work::Alternating10 => leaves(calls, 10),
@@ -218,7 +219,7 @@ impl Work {
         Ok(())
     }
 
-    // The calls of a round, of which there are `of`.
+    // Makes the calls of one of `of` rounds.
     fn round(self, calls: &mut Calls, round: u64, of: u64) -> Result<(), AllocError> {
         match self {
             Work::Nested | Work::NestedStyled | Work::NestedRetraced => nested(calls),
@@ -283,7 +284,8 @@ fn roots(calls: &mut Calls, spans: u32) -> Result<(), AllocError> {
     Ok(())
 }
 
-// Roots, of which one in ten stays, and half as many again. Among these the list of spans is full once, which closes the gaps.
+// Opens roots, closes all but one in ten, and opens half as many again. Meanwhile the list of spans
+// is full once, which removes the gaps.
 fn few_old(calls: &mut Calls, spans: u32) -> Result<(), AllocError> {
     roots(calls, spans)?;
     for id in 1..=u64::from(spans) {
@@ -294,7 +296,7 @@ fn few_old(calls: &mut Calls, spans: u32) -> Result<(), AllocError> {
     roots(calls, spans / 2)
 }
 
-// The oldest spans that stay there, from 1.
+// Returns the oldest spans that stay there, from 1.
 fn old(place: u64) -> u64 {
     place.wrapping_mul(10)
 }

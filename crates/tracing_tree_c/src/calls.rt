@@ -1,4 +1,5 @@
-//! The functions that C calls. Each answers a status: 0 where it was done, and else why not.
+//! The functions that C calls. Each returns a status: 0 on success, otherwise the reason (see the
+//! header).
 
 ghost use Rattle.std.specs.Prelude.{◌≡◌, ◌<◌, ◌≤◌, ◌++◌, ⊤, None, drop, length};
 ghost use Rattle.tracing_tree_spans.specs.Registry.Ids.{id_of};
@@ -18,7 +19,7 @@ use tracing_tree_layer::call::Call;
 // The version of these functions and structs.
 const VERSION: u32 = 1;
 
-/// The version of these functions and structs.
+/// Returns the version of these functions and structs.
 #[unsafe(no_mangle)]
 pub extern "C" fn tt_version() -> u32
     ensures { result ≡ 1 }
@@ -26,7 +27,7 @@ pub extern "C" fn tt_version() -> u32
     VERSION
 }
 
-/// Makes a tree where there is none.
+/// Makes a tree, unless there is one already. Returns a status.
 #[unsafe(no_mangle)]
 pub extern "C" fn tt_raw_new(alloc: Global, tree: &mut Tree, settings: &SettingsRef) -> u32
     ensures { AnswersOpening settings.now result tree.old.inner.kept tree.new.inner.kept }
@@ -34,7 +35,7 @@ pub extern "C" fn tt_raw_new(alloc: Global, tree: &mut Tree, settings: &Settings
     tree.open(alloc, settings).status()
 }
 
-/// Makes a span, and hands out its id.
+/// Makes a span, and stores its id in `id`. Returns a status. If it isn't 0, `id` is unchanged.
 #[unsafe(no_mangle)]
 pub extern "C" fn tt_raw_new_span(
     alloc: Global,
@@ -56,7 +57,7 @@ pub extern "C" fn tt_raw_new_span(
     outcome.status()
 }
 
-/// Tells of an event.
+/// Records an event. Returns a status.
 #[unsafe(no_mangle)]
 pub extern "C" fn tt_raw_event(
     alloc: Global,
@@ -74,7 +75,8 @@ pub extern "C" fn tt_raw_event(
     tree.perform(alloc, read).status()
 }
 
-/// Makes a span whose texts are UTF-8, as `tt_raw_new_span` does. The caller must ensure that they are.
+/// Makes a span like `tt_raw_new_span`, without a check that its strings are UTF-8. The caller must
+/// ensure that they are.
 #[unsafe(no_mangle)]
 pub extern "C" fn tt_utf8_new_span(
     alloc: Global,
@@ -97,7 +99,8 @@ pub extern "C" fn tt_utf8_new_span(
     made.status()
 }
 
-/// Tells of an event whose texts are UTF-8, as `tt_raw_event` does. The caller must ensure that they are.
+/// Records an event like `tt_raw_event`, without a check that its strings are UTF-8. The caller
+/// must ensure that they are.
 #[unsafe(no_mangle)]
 pub extern "C" fn tt_utf8_event(
     alloc: Global,
@@ -116,7 +119,7 @@ pub extern "C" fn tt_utf8_event(
     tree.perform(alloc, read).status()
 }
 
-/// Puts fields at the end of a span's.
+/// Appends fields to those of a span. Returns a status.
 #[unsafe(no_mangle)]
 pub extern "C" fn tt_raw_record(alloc: Global, tree: &mut Tree, id: u64, fields: &[FieldRef]) -> u32
     ensures { Answers ⊤ (IsUtf8Fields fields.now) (HasNoFields fields.now)
@@ -127,7 +130,7 @@ pub extern "C" fn tt_raw_record(alloc: Global, tree: &mut Tree, id: u64, fields:
     tree.perform(alloc, read).status()
 }
 
-/// Adds a handle to a span.
+/// Adds a handle to a span. Returns a status.
 #[unsafe(no_mangle)]
 pub extern "C" fn tt_raw_clone_span(alloc: Global, tree: &mut Tree, id: u64) -> u32
     ensures { Answers ⊤ ⊤ ⊤ (λ call. call ≡ Clone (id_of id)) result
@@ -136,7 +139,8 @@ pub extern "C" fn tt_raw_clone_span(alloc: Global, tree: &mut Tree, id: u64) -> 
     tree.perform(alloc, Ok(Call::Clone(Id(id)))).status()
 }
 
-/// Takes a handle of a span away, and says whether the span went.
+/// Drops a handle of a span, and stores in `went` whether the span was removed. Returns a status.
+/// If it isn't 0, `went` is unchanged.
 #[unsafe(no_mangle)]
 pub extern "C" fn tt_raw_close(
     alloc: Global,
@@ -155,7 +159,8 @@ pub extern "C" fn tt_raw_close(
     outcome.status()
 }
 
-/// Shows these texts as the time of each event from now on, in place of what the timer showed before.
+/// Sets the strings that are shown as the time of each event from now on. They replace the timer.
+/// Returns a status.
 #[unsafe(no_mangle)]
 pub extern "C" fn tt_raw_set_time(alloc: Global, tree: &mut Tree, time: &TimeRef) -> u32
     ensures { AnswersTime time.now result tree.old.inner.kept tree.new.inner.kept }
@@ -163,7 +168,7 @@ pub extern "C" fn tt_raw_set_time(alloc: Global, tree: &mut Tree, time: &TimeRef
     tree.set_time(alloc, time).status()
 }
 
-/// Frees a tree. Where there is none, nothing happens.
+/// Frees a tree. Does nothing if there isn't one.
 #[unsafe(no_mangle)]
 pub extern "C" fn tt_raw_free(alloc: Global, tree: &mut Tree)
     ensures { tree.new.inner.kept ≡ None }
@@ -171,7 +176,8 @@ pub extern "C" fn tt_raw_free(alloc: Global, tree: &mut Tree)
     drop(tree.lift(alloc));
 }
 
-/// Copies the text of the last call, if there is room for all of it, and says how long it is; 0 where there is no tree.
+/// Copies the text of the last call to `room`, if it fits. Returns the length of the text in bytes,
+/// or 0 if there isn't a tree.
 #[unsafe(no_mangle)]
 pub extern "C" fn tt_raw_text(alloc: Global, tree: &mut Tree, room: &mut [u8]) -> usize
     ensures { Copies result room.old room.new tree.old.inner.kept tree.new.inner.kept }
@@ -184,7 +190,7 @@ pub extern "C" fn tt_raw_text(alloc: Global, tree: &mut Tree, room: &mut [u8]) -
     length
 }
 
-// Copies a text where there is room for all of it, and says how long it is.
+// Copies a string if it fits, and returns its length in bytes.
 fn copy(text: &[u8], room: &mut [u8]) -> usize
     ensures length { result ≡ length text.now }
     ensures fits { length text.now ≤ length room.old

@@ -1,4 +1,4 @@
-//! What C hands over, and how it is read.
+//! The values that C passes, and how they are read.
 
 ghost use Rattle.std.specs.Prelude.{◌≡◌, ◌∷◌, [], ◌↔◌, ⊤, IsTrue, IsUtf8};
 ghost use Rattle.tracing_tree_c.specs.Parts.{call_of_close, call_of_event, call_of_new};
@@ -20,16 +20,16 @@ use tracing_tree_text::style::Level;
 use tracing_tree_text::text::Text;
 use tracing_tree_time::Moment;
 
-/// Why what C handed over was not read.
+/// Why a value that C passed could not be read.
 #[derive(Clone, Copy, Debug, PartialEq, Eq)]
 pub enum Unreadable {
     /// A kind of parent or a level is unknown.
     Unknown,
 
-    /// A text isn't UTF-8.
+    /// A string isn't UTF-8.
     NotUtf8,
 
-    /// Memory was refused.
+    /// An allocation failed.
     Starved,
 }
 
@@ -53,7 +53,7 @@ impl<T: Drop> From<AllocFailed<T>> for Unreadable {
     }
 }
 
-/// A field: its name, and the text of its value.
+/// A field: its name, and its value as a string.
 #[repr(C)]
 #[derive(Clone, Copy)]
 pub struct FieldRef<'a> {
@@ -61,20 +61,20 @@ pub struct FieldRef<'a> {
     pub value: &'a [u8],
 }
 
-/// What goes with a call.
+/// The context of a call.
 #[repr(C)]
 #[derive(Clone, Copy)]
 pub struct ContextRef<'a> {
-    /// The current span, or 0.
+    /// The current span's id, or 0.
     pub current: u64,
 
     /// The number of the thread.
     pub thread_id: u64,
 
-    /// The name of the thread, where `has_thread_name` says that it has one.
+    /// The name of the thread, if `has_thread_name` is on.
     pub thread_name: &'a [u8],
 
-    /// Nanoseconds on a clock that only goes forward.
+    /// Nanoseconds on the monotonic clock.
     pub mono: u64,
 
     /// Nanoseconds since 1970.
@@ -83,17 +83,17 @@ pub struct ContextRef<'a> {
     pub has_thread_name: bool,
 }
 
-/// What a new span is made of.
+/// The parts of a new span.
 #[repr(C)]
 #[derive(Clone, Copy)]
 pub struct AttributesRef<'a> {
     pub name: &'a [u8],
     pub target: &'a [u8],
 
-    /// The parent's id, where `parent_kind` is 2.
+    /// The parent's id, if `parent_kind` is 2.
     pub parent: u64,
 
-    /// 0: none, 1: the current span, 2: `parent`.
+    /// 0: a root, 1: the current span, 2: `parent`.
     pub parent_kind: u32,
 }
 
@@ -103,17 +103,17 @@ pub struct AttributesRef<'a> {
 pub struct EventRef<'a> {
     pub target: &'a [u8],
 
-    /// The parent's id, where `parent_kind` is 2.
+    /// The parent's id, if `parent_kind` is 2.
     pub parent: u64,
 
-    /// 0: none, 1: the current span, 2: `parent`.
+    /// 0: a root, 1: the current span, 2: `parent`.
     pub parent_kind: u32,
 
     /// 0: trace, 1: debug, 2: info, 3: warn, 4: error.
     pub level: u32,
 }
 
-/// The texts of the time, as the caller's own timer wrote them.
+/// The strings of the time, as the caller's own timer wrote them.
 #[repr(C)]
 #[derive(Clone, Copy)]
 pub struct TimeRef<'a> {
@@ -124,8 +124,8 @@ pub struct TimeRef<'a> {
     pub elapsed: &'a [u8],
 }
 
-// A text that stays where C has it. `NotUtf8` exactly where it isn't UTF-8. A trusted one isn't looked at: the caller must ensure
-// that it is UTF-8.
+// Returns a string that stays in C's memory. `NotUtf8` exactly if it isn't UTF-8. A trusted string
+// isn't checked: the caller must ensure that it is UTF-8.
 #[inline(always)]
 fn str_in<'a>(bytes: &'a [u8], trusted: bool) -> Result<&'a str, Unreadable>
     requires { IsTrue trusted → IsUtf8 bytes.now }
@@ -140,7 +140,7 @@ fn str_in<'a>(bytes: &'a [u8], trusted: bool) -> Result<&'a str, Unreadable>
     }
 }
 
-// A copy of a text, as `str_in` reads it.
+// Returns a copy of a string, read like `str_in`.
 #[inline(always)]
 fn text_in(alloc: Global, bytes: &[u8], trusted: bool) -> Result<Text, Unreadable>
     requires { IsTrue trusted → IsUtf8 bytes.now }
@@ -173,7 +173,7 @@ fn fields_in(alloc: Global, given: &[FieldRef], trusted: bool) -> Result<Fields,
     many_fields_in(alloc, given, trusted)
 }
 
-// One field alone, which takes no list.
+// Reads a single field, which needs no list.
 #[inline(always)]
 fn field_alone_in(alloc: Global, given: &FieldRef, trusted: bool) -> Result<Fields, Unreadable>
     requires { IsTrue trusted → IsUtf8Field given.now }
@@ -270,7 +270,7 @@ pub(crate) fn context_in(
     })
 }
 
-// A new span. The caller must ensure that trusted texts are UTF-8.
+// Reads a new span. The caller must ensure that trusted strings are UTF-8.
 #[inline(always)]
 pub(crate) fn new_in(
     alloc: Global,
@@ -301,7 +301,7 @@ pub(crate) fn new_in(
     })
 }
 
-/// An event whose texts lie where C has them, since nothing of it is kept.
+/// An event whose strings stay in C's memory. The registry stores no part of an event.
 #[derive(Drop)]
 pub struct EventTexts<'a> {
     level: Level,
@@ -364,7 +364,7 @@ impl ToldEvent for EventTexts<'_> {
 }
 
 impl FieldRef<'_> {
-    // Name and value. The caller must ensure that they are UTF-8.
+    // Returns the name and the value. The caller must ensure that they are UTF-8.
     #[inline(always)]
     fn texts(&self) -> (&str, &str)
         requires { IsUtf8Field self.now }
@@ -379,7 +379,7 @@ impl FieldRef<'_> {
         }
     }
 
-    // Whether name and value are UTF-8.
+    // Returns whether the name and the value are UTF-8.
     fn is_text(&self) -> bool
         ensures { IsTrue result ↔ IsUtf8Field self.now }
     {
@@ -387,7 +387,7 @@ impl FieldRef<'_> {
     }
 }
 
-// Whether all fields are UTF-8.
+// Returns whether all fields are UTF-8.
 fn are_texts(fields: &[FieldRef]) -> bool
     ensures { IsTrue result ↔ IsUtf8Fields fields.now }
 {
@@ -399,7 +399,7 @@ fn are_texts(fields: &[FieldRef]) -> bool
     true
 }
 
-// An event. The caller must ensure that trusted texts are UTF-8.
+// Reads an event. The caller must ensure that trusted strings are UTF-8.
 #[inline(always)]
 pub(crate) fn event_in<'a>(
     alloc: Global,
@@ -429,7 +429,7 @@ pub(crate) fn event_in<'a>(
     Ok(LentEvent { event, context })
 }
 
-// A close.
+// Reads a close.
 #[inline(always)]
 pub(crate) fn close_in(alloc: Global, id: u64, when: &ContextRef) -> Result<Close, Unreadable>
     ensures { Reads ⊤ (IsUtf8Context when.now) (IsSmallContext when.now)
@@ -442,7 +442,7 @@ pub(crate) fn close_in(alloc: Global, id: u64, when: &ContextRef) -> Result<Clos
     })
 }
 
-// Fields that come later.
+// Reads fields that are recorded later.
 pub(crate) fn record_in(alloc: Global, id: u64, fields: &[FieldRef]) -> Result<Call, Unreadable>
     ensures { Reads ⊤ (IsUtf8Fields fields.now) (HasNoFields fields.now)
         (IsRecordOf id fields.now) result }
@@ -451,7 +451,7 @@ pub(crate) fn record_in(alloc: Global, id: u64, fields: &[FieldRef]) -> Result<C
     Ok(Call::Record(Id(id), Record { fields }))
 }
 
-// Texts of the time.
+// Reads the strings of the time.
 pub(crate) fn time_in(alloc: Global, given: &TimeRef) -> Result<Written, Unreadable>
     ensures { Reads ⊤ (IsUtf8Time given.now) (IsSmallTime given.now)
         (λ written. written ≡ written_of given.now) result }

@@ -1,4 +1,4 @@
-// What C holds of a tree.
+// The pointer to a tree that C holds.
 ghost use Rattle.std.specs.Prelude.{◌≡◌, ◌≢◌, None, Some};
 ghost use Rattle.tracing_tree_c.specs.Owned.{Kept, kept_coded, owned};
 
@@ -19,7 +19,7 @@ impl Model for Handle {
     ghost also_owns = { λ l. owned l.at l.kept };
 }
 
-// What it points to is no other thread's, and any thread may free it.
+// No other thread has the pointer, and any thread may free it.
 unsafe impl Send for Handle {}
 
 impl Handle {

@@ -1,4 +1,5 @@
-// The sizes of the structs that cross. `bindings/layouts.py` compares each field's place with the header.
+// The sizes of the structs that C and Rust share. `bindings/layouts.py` compares each field's
+// offset with the header.
 
 use crate::foreign::{AttributesRef, ContextRef, EventRef, FieldRef, TimeRef};
 use crate::settings::{SIZE, SettingsRef};

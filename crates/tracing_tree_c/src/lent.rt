@@ -1,4 +1,4 @@
-//! An output that keeps the text of one call, to lend it.
+//! An output that holds the text of one call, and lends it.
 
 ghost use Rattle.std.specs.Prelude.{◌≡◌, []};
 
@@ -7,7 +7,8 @@ use std::marker::Model;
 use std::mem;
 use tracing_tree_output::{Output, OutputFault};
 
-/// An output that keeps the text of a call as the layer built it, without a copy and without memory, if it holds nothing yet.
+/// An output that holds the text of a call. If it is empty, it takes the layer's string without a
+/// copy or an allocation.
 #[derive(Drop)]
 pub struct Lent {
     text: String,
@@ -24,7 +25,7 @@ impl Model for Lent {
 }
 
 impl Lent {
-    /// An output that holds nothing. Takes no memory.
+    /// Returns an empty output. Never allocates.
     pub fn new(alloc: Global) -> Lent
         ensures { result ≡ record { bytes = []; faults = 0 } }
     {
@@ -34,14 +35,14 @@ impl Lent {
         }
     }
 
-    /// The text.
+    /// Returns the text.
     pub fn bytes(&self) -> &[u8]
         ensures { result.now ≡ self.now.bytes }
     {
         self.text.as_bytes()
     }
 
-    /// The same room, without the text and without faults.
+    /// Returns the output with the same capacity, without its text and faults.
     pub fn emptied(self) -> Lent
         ensures { result ≡ record { bytes = []; faults = 0 } }
     {
@@ -62,7 +63,7 @@ impl Output for Lent {
 
     const WHOLE: bool = true;
 
-    // Texts that aren't UTF-8 are refused; the layer writes none.
+    // Bytes that aren't UTF-8 are refused. The layer never writes such bytes.
     fn write(&mut self, bytes: &[u8]) -> Result<usize, OutputFault> {
         let written = match str::from_utf8(bytes) {
             Ok(text) => self.text.push_str(text).is_ok(),

@@ -1,6 +1,7 @@
-//! What C calls: a tree behind a handle, with one function for each call.
+//! The functions that C calls: a tree behind a handle, with one function for each call.
 //!
-//! The header `tracing_tree.h` says what a caller owes. The contracts here say what each function answers and leaves.
+//! The header `tracing_tree.h` says what a caller must ensure. The contracts here say what each
+//! function returns and changes.
 #![tactic(auto)]
 
 pub mod calls;

@@ -1,4 +1,4 @@
-//! Calls that were read from C's values. Each is made by its parts.
+//! Calls that were read from C's values. Each is made from its parts.
 
 ghost use Rattle.tracing_tree_c.specs.Parts.{call_of_close, call_of_event, call_of_new};
 
@@ -13,7 +13,7 @@ pub trait ReadCall {
     ghost use Rattle.std.specs.Prelude.{◌≡◌};
     ghost use Rattle.tracing_tree_layer.specs.declared.call.Call.{Call};
 
-    /// The call that its parts mean.
+    /// The call that its parts encode.
     ghost call: { Self → Call };
 
     /// Makes the call.
@@ -49,7 +49,7 @@ impl ReadCall for NewSpan {
     }
 }
 
-/// An event whose strings stay C's.
+/// An event whose strings stay in C's memory.
 #[derive(Drop)]
 pub struct LentEvent<'a> {
     pub event: EventTexts<'a>,

@@ -1,4 +1,4 @@
-//! Settings as C writes them.
+//! Settings, as C passes them.
 
 ghost use Rattle.std.specs.Prelude.{◌≡◌, ◌<◌, option_map};
 ghost use Rattle.tracing_tree_time.specs.Clock.{clock_timer};
@@ -8,22 +8,22 @@ use jiff::tz::Offset;
 use tracing_tree_drawing::format::Config;
 use tracing_tree_time::{Clock, LocalDateTime, Uptime, UtcDateTime};
 
-/// How many bytes `SettingsRef` has.
+/// The size of `SettingsRef` in bytes.
 pub const SIZE: u64 = 56;
 
-/// Settings, and which timer shows the time.
+/// Settings, and the timer that shows the time.
 #[repr(C)]
 #[derive(Clone, Copy)]
 pub struct SettingsRef {
-    /// How many bytes this struct has.
+    /// The size of this struct in bytes.
     pub size: u64,
     pub indent_amount: u64,
     pub wraparound: u64,
 
-    /// Where the uptime begins, in nanoseconds on the clock that only goes forward.
+    /// The start of the uptime, in nanoseconds on the monotonic clock.
     pub epoch: u64,
 
-    /// 0: none, 1: uptime, 2: UTC, 3: local.
+    /// 0: no timer, 1: uptime, 2: UTC, 3: local.
     pub timer: u32,
 
     /// The offset of a local timer, in seconds east.
@@ -44,7 +44,7 @@ pub struct SettingsRef {
 }
 
 impl SettingsRef {
-    // The settings of a layer. The caller must ensure that the wraparound isn't 0.
+    // Returns the settings of a layer. The caller must ensure that the wraparound isn't 0.
     pub(crate) fn config(&self) -> Config
         requires { 0 < self.now.wraparound }
         ensures { result ≡ settings_of self.now }
@@ -64,7 +64,7 @@ impl SettingsRef {
             .with_bracketed_fields(self.bracketed_fields)
     }
 
-    // The timer that is asked for. None where there is none such.
+    // Returns the timer, or `None` if it is invalid.
     pub(crate) fn clock(&self) -> Option<Clock<'static>>
         ensures { option_map clock_timer result ≡ timer_of self.now }
     {
@@ -83,7 +83,7 @@ impl SettingsRef {
     }
 }
 
-// An offset in seconds. None where it is none.
+// Returns an offset in seconds, or `None` if it is invalid.
 fn offset_in(seconds: i32) -> Option<Offset>
     ensures { option_map (λ offset. offset.seconds) result ≡ offset_of seconds }
 {

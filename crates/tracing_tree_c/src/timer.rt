@@ -1,4 +1,4 @@
-//! The timer of a tree: one of the library's, or texts that the caller's own timer wrote.
+//! The timer of a tree: one of the library's, or strings that the caller's own timer wrote.
 
 ghost use Rattle.std.specs.Prelude.{Some, string_bytes};
 ghost use Rattle.tracing_tree_time.specs.Timers.{AppendsStated, AsksForText};
@@ -7,7 +7,7 @@ use std::alloc::AllocError;
 use tracing_tree_text::text::Text;
 use tracing_tree_time::{Clock, FormatTime, Moment, TimeFault};
 
-/// The texts of the next events' time.
+/// The strings of the next events' time.
 #[derive(Drop)]
 pub struct Written {
     /// The moment.
@@ -20,14 +20,14 @@ pub struct Written {
 /// The timer of a tree.
 #[derive(Drop)]
 pub enum TreeTimer {
-    /// One of the library's.
+    /// One of the library's timers.
     Library(Clock<'static>),
 
-    /// What the caller's own wrote.
+    /// The strings that the caller's own timer wrote.
     Own(Written),
 }
 
-// Appends a text.
+// Appends a string.
 fn append(text: &str, out: &mut String) -> Result<(), TimeFault>
     ensures stated { AppendsStated (Some text.now) (string_bytes out.old) (string_bytes out.new)
         result }

@@ -1,4 +1,4 @@
-//! The tree that a handle holds.
+//! The tree behind a handle.
 
 ghost use Rattle.std.specs.Prelude.{◌≡◌, ◌<◌, Some, None, option_map};
 ghost use Rattle.std.specs.Option.{is_some};
@@ -23,21 +23,21 @@ use tracing_tree_layer::layer::HierarchicalLayer;
 use tracing_tree_layer::layered::Layered;
 use tracing_tree_time::Clock;
 
-/// A registry with a layer that keeps the text of the last call.
+/// A registry with a layer whose output holds the text of the last call.
 #[derive(Drop)]
 pub struct Drawing {
     pub layered: Layered<Lent, TreeTimer>,
 }
 
 impl Drawing {
-    // The text of the last call.
+    // Returns the text of the last call.
     pub(crate) fn text(&self) -> &[u8]
         ensures { result.now ≡ self.now.layered.layer.writer.bytes }
     {
         self.layered.writer().bytes()
     }
 
-    // Lets the text of the last call go, and keeps its room.
+    // Clears the text of the last call, and keeps its capacity.
     #[inline(always)]
     fn clear(&mut self, alloc: Global)
         ensures { self.new ≡ blank self.old }
@@ -46,7 +46,7 @@ impl Drawing {
         drop(self.layered.replace_writer(before.emptied()));
     }
 
-    // Shows these texts as the time from now on.
+    // Sets the strings that are shown as the time from now on.
     fn set_time(&mut self, alloc: Global, written: Written)
         ensures { self.new ≡ timed written self.old }
     {
@@ -54,8 +54,8 @@ impl Drawing {
         drop(self.layered.replace_timer(TreeTimer::Own(written)));
     }
 
-    // Makes a call. The text of the call before is gone then. If the text of this one can't be kept,
-    // memory has run out, and the tree is as if the call had not been made.
+    // Makes a call, after clearing the text of the last one. If the text of this call can't be
+    // stored, memory has run out, and the tree is as if the call had not been made.
     #[inline(always)]
     #[tactic(auto, using(crate::proofs::Makes::lost_is))]
     fn call<T: ReadCall>(&mut self, alloc: Global, call: T) -> Result<Reply, Refusal>
@@ -71,14 +71,14 @@ impl Drawing {
     }
 }
 
-// Whether the text of a call couldn't be kept.
+// Returns whether the text of a call could not be stored.
 fn is_lost(answer: Result<Reply, Refusal>) -> bool
     ensures { result ≡ is_lost answer }
 {
     matches!(answer, Err(Refusal::Writer))
 }
 
-/// What C holds: a tree, or none. `there` is false where there is none, as in zeroed memory.
+/// A tree as C holds it, or no tree. `there` is false if there isn't one, as in zeroed memory.
 #[repr(C)]
 #[derive(Drop)]
 pub struct Tree {
@@ -87,21 +87,21 @@ pub struct Tree {
     ghost tied: { there ≡ is_some inner.kept },
 }
 
-/// What became of a call.
+/// The outcome of a call.
 #[derive(Clone, Copy, Debug, PartialEq, Eq)]
 pub enum Outcome {
-    /// There is no tree.
+    /// There isn't a tree.
     Missing,
 
-    /// What C handed over was not read.
+    /// A value that C passed could not be read.
     NotRead(Unreadable),
 
-    /// The call was answered.
+    /// The call was accepted or refused.
     Answered(Result<Reply, Refusal>),
 }
 
 impl Outcome {
-    /// The number of an outcome; 0 where a call was accepted.
+    /// Returns the status of an outcome: 0 if a call was accepted.
     pub fn status(self) -> u32
         ensures { result ≡ status_of self }
     {
@@ -131,7 +131,7 @@ fn refusal_status(refusal: Refusal) -> u32
 }
 
 impl Outcome {
-    // The id of a new span, or what stood there.
+    // Returns the id of a new span, otherwise `before`.
     pub(crate) fn id_or(self, before: u64) -> u64
         ensures { result ≡ id_after self before }
     {
@@ -141,7 +141,7 @@ impl Outcome {
         }
     }
 
-    // Whether a span went, or what stood there.
+    // Returns whether a span was removed, or `before` if the call wasn't an accepted close.
     pub(crate) fn went_or(self, before: bool) -> bool
         ensures { result ≡ went_after self before }
     {
@@ -152,27 +152,27 @@ impl Outcome {
     }
 }
 
-/// What became of settings.
+/// The outcome of making a tree.
 #[derive(Clone, Copy, Debug, PartialEq, Eq)]
 pub enum Opening {
     /// A tree was made.
     Opened,
 
-    /// There is one already.
+    /// There is a tree already.
     There,
 
-    /// The settings have another size.
+    /// The settings struct has a different size.
     OtherSize,
 
-    /// There are no such settings.
+    /// The settings are invalid.
     Unknown,
 
-    /// Memory was refused.
+    /// An allocation failed.
     Starved,
 }
 
 impl Opening {
-    /// Its number; 0 where a tree was made.
+    /// Returns its status: 0 if a tree was made.
     pub fn status(self) -> u32
         ensures { result ≡ opening_status self }
     {
@@ -186,7 +186,7 @@ impl Opening {
     }
 }
 
-// A tree without spans.
+// Returns a tree without spans.
 fn fresh(alloc: Global, settings: &SettingsRef, clock: Clock<'static>) -> Drawing
     requires { 0 < settings.now.wraparound }
     ensures { seen_tree result ≡ opened settings.now (clock_timer clock.entry) }
@@ -197,7 +197,7 @@ fn fresh(alloc: Global, settings: &SettingsRef, clock: Clock<'static>) -> Drawin
     }
 }
 
-// C may pass a tree from one thread to another.
+// Checks that a value is `Send`, since C may pass a tree from one thread to another.
 fn sent<T: Send>(value: T) -> T
     ensures { result ≡ value }
 {
@@ -205,7 +205,7 @@ fn sent<T: Send>(value: T) -> T
 }
 
 impl Tree {
-    // Whether a tree is there.
+    // Returns whether there is a tree.
     fn is_there(&mut self, alloc: Global) -> bool
         ensures there { result ≡ is_some self.old.inner.kept }
         ensures same { self.new.inner.kept ≡ self.old.inner.kept }
@@ -219,7 +219,7 @@ impl Tree {
         }
     }
 
-    // Makes a tree where there is none.
+    // Makes a tree, unless there is one already.
     pub(crate) fn open(&mut self, alloc: Global, settings: &SettingsRef) -> Opening
         ensures { Opens settings.now result self.old.inner.kept self.new.inner.kept }
     {
@@ -273,7 +273,7 @@ impl Tree {
         });
     }
 
-    // Makes a call if it was read. The text of the call before is gone then.
+    // Makes a call, if it could be read. Clears the text of the last call first.
     #[inline(always)]
     pub(crate) fn perform<T: ReadCall + Drop>(
         &mut self,
@@ -297,7 +297,8 @@ impl Tree {
         outcome
     }
 
-    // Shows these texts as the time from now on, if they are texts. The text of the call before is gone then.
+    // Sets the strings that are shown as the time from now on, if they are UTF-8. Clears the text
+    // of the last call.
     pub(crate) fn set_time(&mut self, alloc: Global, time: &TimeRef) -> Outcome
         ensures { SetsTime time.now result self.old.inner.kept self.new.inner.kept }
     {

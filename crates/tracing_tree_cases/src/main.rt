@@ -1,7 +1,8 @@
-//! Runs the worked cases that lie where it runs, and tells how many of each folder passed.
+//! Runs the worked cases in the current folder, and prints how many of each folder passed.
 //!
-//! `NAME.in` is what the program reads in a case, `NAME.out` and `NAME.err` are what it writes on standard output and standard
-//! error, and `NAME.status` is its exit status. Without the last two it writes no error and ends with status 0.
+//! `NAME.in` is the program's input in a case. `NAME.out` and `NAME.err` are its standard output
+//! and standard error, and `NAME.status` is its exit status. The last two may be missing: then it
+//! writes no error, and its status is 0.
 #![tactic(auto)]
 
 use std::alloc::{AllocError, Global};
@@ -23,7 +24,7 @@ const FOLDERS: [&str; 7] = [
     "retracing",
 ];
 
-// How many cases there are, and how many of them passed.
+// The number of cases, and how many of them passed.
 #[derive(Clone, Copy)]
 struct Tally {
     cases: u64,
@@ -37,7 +38,7 @@ impl Tally {
         passed: 0,
     };
 
-    // One more case.
+    // Adds one case.
     fn counted(self, passed: bool) -> Tally {
         Tally {
             cases: self.cases.saturating_add(1),
@@ -45,7 +46,7 @@ impl Tally {
         }
     }
 
-    // The cases of both.
+    // Adds the cases of another tally.
     fn with(self, other: Tally) -> Tally {
         Tally {
             cases: self.cases.saturating_add(other.cases),
@@ -70,7 +71,7 @@ fn tell(rt: &impl Print, name: &str, tally: Tally) -> io::Result<()> {
     println!(rt; "{name}: {passed} of {cases}")
 }
 
-// Runs the cases of a folder. Those that fail are named on standard error.
+// Runs the cases of a folder. Prints those that fail on standard error.
 fn run_folder<R: AllocGlobal + Clone + Drop + Eprint + Files>(
     rt: &R,
     folder: &str,
@@ -90,12 +91,12 @@ fn run_folder<R: AllocGlobal + Clone + Drop + Eprint + Files>(
     Ok(tally)
 }
 
-// The name of the case whose input lies there, if it is an input.
+// Returns the name of the case whose input this is, if it is an input.
 fn input_name(path: Path<'_>) -> Option<&str> {
     path.to_str()?.strip_suffix(".in")
 }
 
-// Whether a run of the case writes what its files say.
+// Returns whether a run of the case writes what its files say.
 fn passes<R: AllocGlobal + Files>(rt: &R, case: &str) -> io::Result<bool> {
     let alloc = rt.alloc();
     let input = read_part(rt, case, "in")?;
@@ -110,13 +111,13 @@ fn passes<R: AllocGlobal + Files>(rt: &R, case: &str) -> io::Result<bool> {
     Ok(drawn && blamed && ended.as_bytes() == wanted.trim_ascii())
 }
 
-// One file of a case.
+// Reads one file of a case.
 fn read_part<R: AllocGlobal + Files>(rt: &R, case: &str, part: &str) -> io::Result<Vec<u8>> {
     let path = format!(in rt.alloc(); "{case}.{part}")?;
     fs::read(rt, path.as_str())
 }
 
-// One file of a case, or this text where the case doesn't have it.
+// Reads one file of a case, or returns `absent` if the case doesn't have it.
 fn read_part_or<R: AllocGlobal + Files>(
     rt: &R,
     case: &str,
@@ -131,7 +132,7 @@ fn read_part_or<R: AllocGlobal + Files>(
     }
 }
 
-// What the program writes on standard error.
+// Returns what the program writes on standard error.
 fn fault_line(alloc: Global, fault: &Option<LineFault>) -> Result<String, AllocError> {
     match fault {
         Some(fault) => format!(in alloc; "{fault}\n"),

@@ -1,4 +1,4 @@
-//! What one element of a trace says.
+//! Reads one element of a trace.
 
 ghost use Rattle.std.specs.Prelude.{◌≡◌, IfOk, option_map};
 ghost use Rattle.std.specs.Str.{all_ascii_digits};
@@ -14,8 +14,8 @@ use tracing_tree_sources::values::text_at;
 use tracing_tree_text::field::{Field, Fields};
 use tracing_tree_text::text::Text;
 
-// The process and the thread of an element, as far as it tells them, or its process and the number of
-// its asynchronous track.
+// The process and the thread of an element, if they are known, or its process and the number of its
+// asynchronous track.
 #[derive(Clone, Copy, PartialEq, Eq, PartialOrd, Ord)]
 pub(crate) struct Lane {
     pub(crate) process: Option<i128>,
@@ -23,7 +23,7 @@ pub(crate) struct Lane {
     pub(crate) track: Option<u64>,
 }
 
-// What most elements say.
+// The parts that most elements have.
 #[derive(Drop)]
 pub(crate) struct Entry {
     pub(crate) lane: Lane,
@@ -33,25 +33,25 @@ pub(crate) struct Entry {
     pub(crate) fields: Fields,
 }
 
-// What one element of a trace says.
+// What one element of a trace means.
 #[derive(Drop)]
 pub(crate) enum Element {
-    // A span, and when it ends.
+    // A span, and its end in nanoseconds.
     Span(Entry, u64),
-    // A span begins.
+    // A span that begins.
     Begin(Entry),
-    // The span of the lane that began last ends.
+    // The end of the lane's span that began last.
     End(Entry),
     Instant(Entry),
-    // What an element of an asynchronous track says, by the track's key.
+    // An element of an asynchronous track, with the track's key.
     Async(Track, Entry, Text),
     ProcessName(Lane, Text),
     ThreadName(Lane, Text),
-    // It draws nothing.
+    // It isn't drawn.
     Other,
 }
 
-// What an element at a time tells.
+// The phase of an element that has a time.
 #[derive(Clone, Copy)]
 enum Phase {
     Complete,
@@ -60,7 +60,7 @@ enum Phase {
     Instant,
 }
 
-// What an element says about its asynchronous track.
+// The role of an element in its asynchronous track.
 #[derive(Clone, Copy)]
 pub(crate) enum Track {
     Begin,
@@ -75,7 +75,7 @@ enum Naming {
     Thread,
 }
 
-// What an element says, or what it lacks.
+// Returns what an element means, or what is missing.
 pub(crate) fn element_of(
     alloc: Global,
     value: &Value<'_>,
@@ -97,8 +97,8 @@ pub(crate) fn element_of(
     }
 }
 
-// What an element of this phase says about its asynchronous track, if it has one. `S`, `T`, `p` and `F`
-// are the phases of older traces.
+// Returns the role of an element in its asynchronous track, if this phase has one. `S`, `T`, `p`
+// and `F` are the phases of older traces.
 fn async_of(text: &str) -> Option<Track>
     ensures { result ≡ async_of text.now }
 {
@@ -113,7 +113,7 @@ fn async_of(text: &str) -> Option<Track>
     }
 }
 
-// An element of an asynchronous track.
+// Reads an element of an asynchronous track.
 fn async_in(
     alloc: Global,
     track: Track,
@@ -130,7 +130,7 @@ fn async_in(
     }
 }
 
-// The span of an asynchronous track shows the track's id.
+// Adds the track's id as a field to the span of an asynchronous track.
 fn with_id(
     alloc: Global,
     track: Track,
@@ -153,7 +153,7 @@ fn with_id(
     Ok(entry)
 }
 
-// The key of an element's asynchronous track: its category, its scope and its id.
+// Returns the key of an element's asynchronous track: its category, its scope and its id.
 fn track_in(alloc: Global, value: &Value<'_>) -> Result<Text, AllocError>
     ensures { IfOk result (λ key. key ≡ track_in (value_view value.now)) }
 {
@@ -166,7 +166,7 @@ fn track_in(alloc: Global, value: &Value<'_>) -> Result<Text, AllocError>
     Ok(Text::from(key))
 }
 
-// The id of an element's asynchronous track, empty if it has none.
+// Returns the id of an element's asynchronous track. It is empty if the element doesn't have one.
 fn id_in<'v>(value: &'v Value<'_>) -> &'v str
     ensures { result.now ≡ id_in (value_view value.now) }
 {
@@ -179,7 +179,7 @@ fn id_in<'v>(value: &'v Value<'_>) -> &'v str
     }
 }
 
-// A string or a number as it is written, empty for any other value.
+// Returns a string, or a number as written. It is empty for any other value.
 fn text_of<'v>(value: Option<&'v Value<'_>>) -> &'v str
     ensures { result.now ≡ text_of (option_map (λ v. value_view v.now) value.entry) }
 {
@@ -190,7 +190,7 @@ fn text_of<'v>(value: Option<&'v Value<'_>>) -> &'v str
     }
 }
 
-// The phase that a text tells, of an element at a time.
+// Returns the phase of an element that has a time.
 fn phase_of(text: &str) -> Option<Phase>
     ensures { result ≡ phase_of text.now }
 {
@@ -207,7 +207,7 @@ fn phase_of(text: &str) -> Option<Phase>
     }
 }
 
-// An element of this phase.
+// Reads an element of this phase.
 fn timed_in(
     alloc: Global,
     phase: Phase,
@@ -232,7 +232,7 @@ fn phased(phase: Phase, entry: Entry, value: &Value<'_>) -> Result<Element, Lack
     }
 }
 
-// A span by how long it takes.
+// Returns a span with this duration in nanoseconds.
 fn span_of(entry: Entry, duration: Option<u64>) -> Result<Element, Lack>
     ensures { result ≡ span_of entry duration }
 {
@@ -261,7 +261,7 @@ fn entry_in(alloc: Global, value: &Value<'_>) -> Result<Result<Entry, Lack>, All
     }))
 }
 
-// An element of metadata: it may name its process or its thread.
+// Reads an element of metadata, which may name its process or its thread.
 fn named_in(alloc: Global, value: &Value<'_>) -> Result<Result<Element, Lack>, AllocError>
     ensures { IfOk result (λ element. element ≡ named_in (value_view value.now)) }
 {
@@ -298,14 +298,14 @@ fn named_as(naming: Naming, lane: Lane, text: Text) -> Element
     }
 }
 
-// The text at `args`.`name`.
+// Returns the string at `args`.`name`.
 fn given_name<'v>(value: &'v Value<'_>) -> Option<&'v str>
     ensures { option_map (λ s. s.now) result ≡ given_name (value_view value.now) }
 {
     text_at(value.get("args")?, "name")
 }
 
-// The name of an element, empty where it has none.
+// Returns the name of an element. It is empty if the element doesn't have one.
 fn name_in<'v>(value: &'v Value<'_>) -> &'v str
     ensures { result.now ≡ name_in (value_view value.now) }
 {
@@ -315,7 +315,7 @@ fn name_in<'v>(value: &'v Value<'_>) -> &'v str
     }
 }
 
-// The members of the object at `args` as fields.
+// Returns the members of the object at `args` as fields.
 fn fields_in(alloc: Global, value: &Value<'_>) -> Result<Fields, AllocError>
     ensures { IfOk result (λ fields. fields ≡ fields_in (value_view value.now)) }
 {
@@ -325,7 +325,7 @@ fn fields_in(alloc: Global, value: &Value<'_>) -> Result<Fields, AllocError>
     }
 }
 
-// The process and the thread of an element.
+// Returns the process and the thread of an element.
 fn lane_in(value: &Value<'_>) -> Result<Lane, Lack>
     ensures { result ≡ lane_in (value_view value.now) }
 {
@@ -338,7 +338,7 @@ fn lane_in(value: &Value<'_>) -> Result<Lane, Lack>
     })
 }
 
-// The whole number at a key, none where the key is absent or its value is null.
+// Reads the whole number at a key. `None` if the key is absent or its value is null.
 fn integer_at(value: &Value<'_>, key: &str, lack: Lack) -> Result<Option<i128>, Lack>
     ensures { result ≡ integer_at key.now lack (value_view value.now) }
 {
@@ -348,7 +348,7 @@ fn integer_at(value: &Value<'_>, key: &str, lack: Lack) -> Result<Option<i128>, 
     }
 }
 
-// A whole number, or null for none.
+// Reads a whole number, or `None` for a null.
 fn integer_in(value: &Value<'_>, lack: Lack) -> Result<Option<i128>, Lack>
     ensures { result ≡ integer_in lack (value_view value.now) }
 {
@@ -368,14 +368,14 @@ fn integer_of(text: &str) -> Option<i128>
     text.parse().ok()
 }
 
-// The time at a key, in nanoseconds.
+// Returns the time at a key, in nanoseconds.
 fn time_at(value: &Value<'_>, key: &str) -> Option<u64>
     ensures { result ≡ time_at key.now (value_view value.now) }
 {
     nanoseconds_of(value.get(key)?.as_number()?)
 }
 
-// The nanoseconds of a number of microseconds, without a sign or an exponent.
+// Returns the nanoseconds for a number of microseconds, which has neither a sign nor an exponent.
 fn nanoseconds_of(text: &str) -> Option<u64>
     ensures { result ≡ nanoseconds_of text.now }
 {
@@ -385,7 +385,8 @@ fn nanoseconds_of(text: &str) -> Option<u64>
     }
 }
 
-// The same of a number with a point, by what stands before the point and after it.
+// Returns the nanoseconds for a number of microseconds with a point, given its parts before and
+// after the point.
 fn decimal_of(before: &str, after: &str) -> Option<u64>
     ensures { result ≡ decimal_of before.now after.now }
 {
@@ -395,14 +396,14 @@ fn decimal_of(before: &str, after: &str) -> Option<u64>
     nanoseconds(whole_of(before)?, thousandths(after.as_bytes()))
 }
 
-// The nanoseconds of these microseconds and this many thousandths of one, if a u64 holds them.
+// Returns the nanoseconds for these microseconds and thousandths, if they fit `u64`.
 fn nanoseconds(whole: u64, part: u64) -> Option<u64>
     ensures { result ≡ nanoseconds whole part }
 {
     whole.checked_mul(1000)?.checked_add(part)
 }
 
-// The number that digits write, if a u64 holds it.
+// Returns the number that digits encode, if it fits `u64`.
 fn whole_of(text: &str) -> Option<u64>
     ensures { result ≡ whole_of text.now }
 {
@@ -412,7 +413,7 @@ fn whole_of(text: &str) -> Option<u64>
     text.parse().ok()
 }
 
-// The thousandths that the digits after a point write. Those after the third are cut off.
+// Returns the thousandths that the digits after a point encode. Digits after the third are cut off.
 fn thousandths(digits: &[u8]) -> u64
     ensures { result ≡ thousandths digits.now }
 {
@@ -424,14 +425,14 @@ fn thousandths(digits: &[u8]) -> u64
     }
 }
 
-// What a digit counts.
+// Returns the value of a digit.
 fn digit_in(byte: u8) -> u64
     ensures { result ≡ digit_in byte }
 {
     u64::from(byte.saturating_sub(b'0'))
 }
 
-// Whether a text is one digit or more, and nothing else.
+// Returns whether a string has only digits, and at least one.
 fn is_digits(text: &str) -> bool
     ensures { result ≡ is_digits text.now }
 {

@@ -1,4 +1,4 @@
-//! What the elements of a trace say together.
+//! Collects the elements of a trace.
 
 ghost use Rattle.std.specs.Prelude.{◌≡◌, ◌∷◌, ◌++◌, [], ◌<◌, length, IfOk, IfSome, OnOk, IsPermutation, IsSorted};
 ghost use Rattle.tracing_tree_chrome.specs.Gather.{ended, gathered_one, item_cmp, item_of, last_in, none_later, nothing_gathered, on_track, process_of, same_lane, tracked, tracked_as, whole};
@@ -11,13 +11,13 @@ use std::marker::Model;
 use tracing_tree_text::field::Fields;
 use tracing_tree_text::text::Text;
 
-// What an item of the drawing is.
+// The kind of an item of the drawing.
 #[derive(Clone, Copy)]
 pub(crate) enum Shape {
     Event,
-    // A span whose end is known.
+    // A span with a known end.
     Whole,
-    // A span that began, and whose end no element tells.
+    // A span that began, and has no end.
     Unended,
 }
 
@@ -42,7 +42,8 @@ pub(crate) struct Later {
 pub(crate) struct Item {
     pub(crate) lane: Lane,
     pub(crate) start: Point,
-    // The end of an `X` stands before all elements at its time. A span without an end lasts to the last time that there is.
+    // The end of an `X` comes before all elements at its time. A span without an end has the
+    // greatest possible time.
     pub(crate) end: Point,
     pub(crate) name: Text,
     pub(crate) fields: Fields,
@@ -50,24 +51,24 @@ pub(crate) struct Item {
     pub(crate) later: Later,
 }
 
-// How a process or a thread is called.
+// The name of a process or a thread.
 #[derive(Drop)]
 pub(crate) struct Name {
     pub(crate) lane: Lane,
     pub(crate) text: Text,
 }
 
-// What elements said so far.
+// The elements so far.
 #[derive(Drop)]
 pub(crate) struct Gathered {
-    // What is drawn, without the spans that began and haven't ended.
+    // The items to draw, without the spans that began and haven't ended.
     pub(crate) items: Vec<Item>,
     // The spans that began and haven't ended, the newest last.
     pub(crate) begun: Vec<Item>,
     pub(crate) processes: Vec<Name>,
     pub(crate) threads: Vec<Name>,
     pub(crate) tracks: Tracks,
-    // How many elements there were.
+    // The number of elements.
     pub(crate) count: u64,
 }
 
@@ -100,7 +101,7 @@ impl Gathered {
         }
     }
 
-    // Takes an element.
+    // Adds an element.
     pub(crate) fn take(&mut self, element: Element) -> Result<(), AllocError>
         ensures { OnOk result (self.new ≡ gathered_one element self.old) }
     {
@@ -133,7 +134,7 @@ impl Gathered {
         }
     }
 
-    // Takes an element of the asynchronous track with this key.
+    // Adds an element of the asynchronous track with this key.
     fn take_tracked(
         &mut self,
         track: Track,
@@ -165,7 +166,8 @@ impl Gathered {
         }
     }
 
-    // Ends the span of the lane that began last, at the element at place `index`; nothing where there is none.
+    // Ends the lane's span that began last, with the element at `index`. Does nothing if the lane
+    // has no open span.
     fn end(&mut self, entry: Entry, index: u64) -> Result<(), AllocError>
         ensures { OnOk result (self.new ≡ ended entry index self.old) }
     {
@@ -179,8 +181,8 @@ impl Gathered {
     }
 }
 
-// All that is drawn, in its order: by process, thread and track, by the start, the longer first, and then as it came. A span without an end
-// is drawn, too.
+// Returns all items to draw, in order: by process, thread and track, then by start, the longer
+// first, then in the order of the elements. Spans without an end are included.
 pub(crate) fn in_order(items: Vec<Item>, begun: Vec<Item>) -> Result<Vec<Item>, AllocError>
     ensures same { IfOk result (λ ordered. IsPermutation (items.items ++ begun.items) ordered.items) }
     ensures sorted { IfOk result (λ ordered. IsSorted item_cmp ordered.items) }
@@ -227,7 +229,7 @@ fn item_of(entry: Entry, end: u64, shape: Shape, index: u64) -> Item
     }
 }
 
-// A span that began, with what the element of its end says, which stands at place `index`.
+// Returns a span that began, with the time and the fields of its end at `index`.
 fn whole(one: Item, end: Entry, index: u64) -> Result<Item, AllocError>
     ensures { IfOk result (λ item. item ≡ whole one end index) }
 {
@@ -241,7 +243,7 @@ fn whole(one: Item, end: Entry, index: u64) -> Result<Item, AllocError>
     Ok(one)
 }
 
-// Where the last of these in the lane stands.
+// Returns the index of the last of these in the lane.
 fn last_in(begun: &[Item], lane: Lane) -> Option<usize>
     ensures last { result ≡ last_in begun.now lane }
     ensures within { IfSome result (λ at. at < length begun.now) }
@@ -262,7 +264,7 @@ pub(crate) fn same_lane(one: Lane, other: Lane) -> bool
     one.process == other.process && one.thread == other.thread && one.track == other.track
 }
 
-// The entry of an element in the asynchronous track with this number.
+// Returns the entry of an element in the asynchronous track with this number.
 fn on_track(entry: Entry, number: u64) -> Entry
     ensures { result ≡ on_track number entry }
 {
@@ -274,7 +276,7 @@ fn on_track(entry: Entry, number: u64) -> Entry
     Entry { lane, ..entry }
 }
 
-// The lane of a process, in which items stand that tell no thread.
+// Returns the lane of a process, for items without a thread.
 pub(crate) fn process_of(lane: Lane) -> Lane
     ensures { result ≡ process_of lane }
 {

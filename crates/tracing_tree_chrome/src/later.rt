@@ -1,4 +1,4 @@
-//! Which items of a trace are drawn, and after which of them others of their thread and their process are.
+//! Which items of a trace are drawn, and whether others of their thread and their process follow.
 
 ghost use Rattle.std.specs.Prelude.{◌≡◌, IfOk, reverse};
 ghost use Rattle.tracing_tree_chrome.specs.Later.{first_of, is_long, later_by, marked, noted};
@@ -6,7 +6,7 @@ ghost use Rattle.tracing_tree_chrome.specs.Later.{first_of, is_long, later_by, m
 use crate::gather::{Item, Later, Shape, none_later, same_lane};
 use std::alloc::{AllocError, Global};
 
-// Whether an item is drawn, where shorter spans are left out.
+// Returns whether an item is drawn, given the shortest span that is drawn.
 pub(crate) fn is_long(item: &Item, least: u64) -> bool
     ensures { result ≡ is_long item.now least }
 {
@@ -16,7 +16,7 @@ pub(crate) fn is_long(item: &Item, least: u64) -> bool
     }
 }
 
-// Notes in each item whether one of those after it is drawn. The last of them comes first.
+// Sets in each item whether one of those after it is drawn. Returns the items in reverse order.
 pub(crate) fn marked(alloc: Global, items: Vec<Item>, least: u64) -> Result<Vec<Item>, AllocError>
     ensures { IfOk result (λ all. reverse all.items ≡ marked least items.items) }
 {
@@ -37,7 +37,7 @@ fn noted(item: Item, later: Later) -> Item
     item
 }
 
-// What comes after an item, by the last of these.
+// Returns what comes after an item, given those after it in reverse order.
 fn later_by(item: &Item, all: &[Item], least: u64) -> Later
     ensures { result ≡ later_by least item.now (first_of (reverse all.now)) }
 {

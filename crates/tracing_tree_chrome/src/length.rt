@@ -1,4 +1,4 @@
-//! A length of time as it is shown.
+//! Durations, as shown.
 
 ghost use Rattle.std.specs.Prelude.{◌≡◌, ◌++◌, IfOk, OnOk, string_bytes};
 ghost use Rattle.tracing_tree_chrome.specs.Length.{length_text, thousandths_text};
@@ -6,8 +6,8 @@ ghost use Rattle.tracing_tree_chrome.specs.Length.{length_text, thousandths_text
 use std::alloc::{AllocError, Global};
 use tracing_tree_text::text::Text;
 
-// A length of time, in nanoseconds, as the largest unit of which it has one or more, with three digits after the point. What is
-// below them is cut.
+// Returns a duration in nanoseconds as text: in seconds or milliseconds if it has at least one of
+// them, otherwise in microseconds. It has three digits after the point. Further digits are cut off.
 pub(crate) fn length_text(alloc: Global, nanoseconds: u64) -> Result<Text, AllocError>
     ensures { IfOk result (λ text. text ≡ length_text nanoseconds) }
 {
@@ -29,7 +29,7 @@ fn unit_text(alloc: Global, count: u64, unit: &str) -> Result<Text, AllocError>
     Ok(Text::from(out))
 }
 
-// `count` thousandths of a unit.
+// Appends `count` thousandths of a unit.
 fn push_thousandths(out: &mut String, count: u64) -> Result<(), AllocError>
     ensures { OnOk result (string_bytes out.new ≡ string_bytes out.old ++ thousandths_text count) }
 {

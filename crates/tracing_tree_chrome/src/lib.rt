@@ -1,7 +1,8 @@
-//! Traces in Chrome's trace event format drawn as a tree.
+//! Draws traces in Chrome's trace event format as a tree.
 //!
-//! [`run_trace`] draws a whole trace: its processes and threads are spans, and in each thread its spans stand nested by time.
-//! [`trace_calls`] returns the calls that it makes. [`Cut`] says which spans are left out.
+//! [`run_trace`] draws a whole trace: its processes and threads are spans, and each thread's spans
+//! are nested by time. [`trace_calls`] returns the calls that it makes. [`Cut`] says which spans
+//! are left out.
 #![tactic(auto)]
 
 mod element;

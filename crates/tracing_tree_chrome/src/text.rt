@@ -1,4 +1,4 @@
-//! The elements that a text has as a trace.
+//! The elements of a trace's JSON.
 
 ghost use Rattle.std.specs.Prelude.{◌≡◌, ◌++◌, IfOk, OnOk, flat_map, option_map, reverse, string_bytes};
 ghost use Rattle.json.specs.Value.{items_view, value_view};
@@ -11,7 +11,7 @@ use tracing_tree_sources::blanks::{first_byte, is_blank};
 use tracing_tree_sources::values::array_at;
 use tracing_tree_text::text::Text;
 
-// The elements that a value lists.
+// Returns the elements that a value lists.
 pub(crate) fn elements_in<'v, 'a>(value: &'v Value<'a>) -> Option<&'v Vec<Value<'a>>>
     ensures { option_map (λ items. items_view items.now.items) result
         ≡ elements_in (value_view value.now) }
@@ -22,15 +22,15 @@ pub(crate) fn elements_in<'v, 'a>(value: &'v Value<'a>) -> Option<&'v Vec<Value<
     }
 }
 
-// A text that ends early, with its end made up.
+// A truncated trace, with its end added.
 #[derive(Drop)]
 pub(crate) struct MendedText {
     pub(crate) text: Text,
-    // Whether more than its end is lost.
+    // Whether an element was lost, and not only the end of the list.
     pub(crate) is_cut: bool,
 }
 
-// The text up to the last place between two elements, with what is open there closed.
+// Returns the input up to the last place between two elements, and closes what is open there.
 pub(crate) fn mended(alloc: Global, text: &str) -> Result<MendedText, AllocError>
     ensures { IfOk result (λ made. made ≡ record { text = mended text.now; is_cut = is_cut text.now }) }
 {
@@ -45,14 +45,14 @@ pub(crate) fn mended(alloc: Global, text: &str) -> Result<MendedText, AllocError
     })
 }
 
-// A bracket that opens.
+// An opening bracket.
 #[derive(Clone, Copy)]
 enum Bracket {
     Square,
     Curly,
 }
 
-// What closes a bracket.
+// Returns what closes a bracket.
 fn closer(bracket: Bracket) -> &'static str
     ensures { result.now ≡ closer bracket }
 {
@@ -73,16 +73,16 @@ fn push_closers(out: &mut String, brackets: Vec<Bracket>) -> Result<(), AllocErr
     Ok(())
 }
 
-// What is known of a text as far as it is read.
+// The state after a part of the input.
 #[derive(Drop)]
 struct Scan {
-    // The innermost last.
+    // The open brackets, innermost last.
     brackets: Vec<Bracket>,
     in_text: bool,
     is_escaped: bool,
-    // How many bytes stand up to the last place between two elements.
+    // The number of bytes up to the last place between two elements.
     place: usize,
-    // What was open there, the innermost last.
+    // The open brackets at that place, innermost last.
     left_open: Vec<Bracket>,
 }
 
@@ -166,7 +166,7 @@ impl Scan {
         self.brackets.pop();
     }
 
-    // Keeps a place between two elements, where just the list and what is around it is open.
+    // Records a place between two elements, at which only the list and what contains it are open.
     fn note(&mut self, level: usize, at: usize) -> Result<(), AllocError>
         ensures { OnOk result (self.new ≡ noted level at self.old) }
     {
@@ -194,7 +194,8 @@ fn scan_of(alloc: Global, text: &[u8]) -> Result<Scan, AllocError>
     Ok(scan)
 }
 
-// How many brackets stay open where the elements stand: the list's, and that of an object around it.
+// Returns how many brackets are open between two elements: the list's, and that of an object that
+// contains it.
 fn level_of(text: &[u8]) -> usize
     ensures { result ≡ level_of text.now }
 {
@@ -204,7 +205,7 @@ fn level_of(text: &[u8]) -> usize
     }
 }
 
-// Whether a byte may stand after the last element of a list.
+// Returns whether a byte may come after the last element of a list.
 fn is_closing(byte: u8) -> bool
     ensures { result ≡ is_closing byte }
 {
@@ -214,7 +215,7 @@ fn is_closing(byte: u8) -> bool
     }
 }
 
-// Whether anything else stands there.
+// Returns whether any other byte comes there.
 fn has_more(bytes: &[u8]) -> bool
     ensures { result ≡ has_more bytes.now }
 {

@@ -27,32 +27,39 @@ use tracing_tree_time::{FormatTime, Moment};
 /// Which spans of a trace are left out.
 #[derive(Clone, Copy, Debug, PartialEq, Eq)]
 pub struct Cut {
-    /// Those that took fewer nanoseconds.
+    /// Spans that took fewer nanoseconds are left out.
     pub least: u64,
 
-    /// Those that stand in `depth` others or more, their process and their thread among these. None where it is none.
+    /// Spans nested in `depth` or more spans are left out, counting their process and their thread.
+    /// `None` keeps spans of any depth.
     pub depth: Option<usize>,
 }
 
-// What elements said so far.
+// What was read of a trace so far.
 #[derive(Drop)]
 struct Heard {
     gathered: Gathered,
-    // How many said nothing that is known.
+    // The number of unknown elements.
     unknown: u64,
 }
 
-/// Draws a trace: a JSON array of elements, or an object with such an array at `traceEvents`. One that ends early is drawn up to its
-/// last whole element.
+/// Draws a trace: a JSON array of elements, or an object with such an array at `traceEvents`. A
+/// truncated trace is drawn up to its last complete element.
 ///
-/// Each process is a span, and each of its threads a span in it. In a thread spans stand nested by time, and an event in the
-/// innermost span that hasn't ended. A span shows how long it took. Spans that are left out are counted in the span that they stand
-/// in, which tells them before it closes. Times are nanoseconds on the trace's clock; the first span gets the id `next`, and
-/// moments are `moment` with these times.
+/// Each process is a span, and each of its threads is a span in it. In a thread, spans are nested
+/// by time, and an event is in the innermost span that hasn't ended. A span shows how long it took.
+/// A span records how many spans were left out in it, before it closes. Times are nanoseconds on
+/// the trace's clock. The first span gets the id `next`. The moment of a call is `moment` with the
+/// element's time.
 ///
-/// An element of which nothing is known is counted and left out, and what it lacks is noted by its number from 1 on; so is an
-/// element in which the text ends, and a text that is no trace. Nothing is drawn where memory is refused, and where the notes end
-/// the run: `NotACall` is the cause then. The drawing ends at the first call that is refused. The line of a fault is 1.
+/// An unknown element is counted and left out, and what is missing is noted with its number from 1.
+/// A truncated element, or an input that isn't a trace, is counted and noted too.
+///
+/// # Errors
+///
+/// The fault is at line 1. Its cause is `Memory` if an allocation fails before the first call, and
+/// `NotACall` if the notes end the run. Nothing is drawn then. It is `Refused` if a call is
+/// refused. The drawing ends at that call.
 #[tactic(auto, using(crate::proofs::Noting::noted_less))]
 pub fn run_trace<W: Output, FT: FormatTime, N: Notes>(
     alloc: Global,
@@ -82,18 +89,18 @@ pub fn run_trace<W: Output, FT: FormatTime, N: Notes>(
     }
 }
 
-/// What was read of a trace.
+/// The result of reading a trace.
 #[derive(Drop)]
 pub struct TraceCalls {
-    /// The calls that draw it, or what ended the reading.
+    /// The calls that draw it, or why the reading ended.
     pub calls: Result<Vec<Call>, LineCause>,
 
-    /// How many of its elements were unknown.
+    /// The number of unknown elements.
     pub unknown: u64,
 }
 
-/// Reads a trace, and returns the calls that [`run_trace`] makes on its receiver. The arguments are
-/// those of `run_trace`, and so are the notes.
+/// Reads a trace, and returns the calls that [`run_trace`] makes on its receiver. The arguments and
+/// the notes are those of `run_trace`.
 #[tactic(auto, using(crate::proofs::Noting::noted_less))]
 pub fn trace_calls<N: Notes>(
     alloc: Global,
@@ -161,7 +168,7 @@ fn draw<W: Output, FT: FormatTime>(
     }
 }
 
-// The calls that draw what was gathered.
+// Returns the calls that draw what was gathered.
 fn calls_of(
     alloc: Global,
     next: u64,
@@ -185,7 +192,7 @@ fn calls_of(
     Ok(tree.into_calls())
 }
 
-// Takes what a text says as a trace.
+// Reads the elements of a trace.
 #[tactic(auto, using(crate::proofs::Noting::noted_not_yet))]
 fn hear<N: Notes>(
     alloc: Global,
@@ -205,7 +212,7 @@ fn hear<N: Notes>(
     }
 }
 
-// Takes what a text says that ends early.
+// Reads the elements of a truncated trace.
 #[tactic(auto, using(crate::proofs::Noting::noted_less, crate::proofs::Noting::noted_not_yet))]
 fn hear_mended<N: Notes>(
     alloc: Global,
@@ -236,7 +243,7 @@ impl Heard {
         }
     }
 
-    // Takes what a value says as a trace, of which one more element is lost where it was cut.
+    // Reads the elements of a value. If it was truncated, one more element is lost.
     #[tactic(auto, using(crate::proofs::Hearing::ends_before_cut, crate::proofs::Noting::noted_among, crate::proofs::Noting::noted_one, crate::proofs::Noting::noted_then))]
     fn take_value<N: Notes>(
         &mut self,
@@ -279,7 +286,7 @@ impl Heard {
         Ok(())
     }
 
-    // Takes what one element says.
+    // Reads one element.
     #[tactic(auto, using(crate::proofs::Noting::noted_less, crate::proofs::Noting::noted_none, crate::proofs::Noting::noted_not_yet))]
     fn take<N: Notes>(
         &mut self,
@@ -301,7 +308,7 @@ impl Heard {
         }
     }
 
-    // Counts the element in which a text was cut, after so many whole ones.
+    // Counts the truncated element, after `count` complete ones.
     #[tactic(auto, using(crate::proofs::Noting::noted_less, crate::proofs::Noting::noted_none))]
     fn lose_cut<N: Notes>(
         &mut self,
@@ -321,7 +328,7 @@ impl Heard {
         self.lose(last, Lack::Object, notes)
     }
 
-    // Counts an element that says nothing that is known, and has it noted. An error ends the run.
+    // Counts and notes an unknown element. An error ends the run.
     #[tactic(auto, using(crate::proofs::Hearing::ends_unknown, crate::proofs::Noting::noted_one))]
     fn lose<N: Notes>(&mut self, number: u64, lack: Lack, notes: &mut N) -> Result<(), LineCause>
         ensures heard { self.new ≡ heard_unknown self.old }

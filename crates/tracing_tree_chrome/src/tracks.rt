@@ -34,7 +34,7 @@ impl Tracks {
         }
     }
 
-    // Returns the number of the track with this key, which is a new one if the key is new.
+    // Returns the number of the track with this key. A new key gets a new number.
     pub(crate) fn take(&mut self, key: &str) -> Result<u64, AllocError>
         ensures number { IfOk result (λ number. number ≡ track_number key.now self.old) }
         ensures tracks { OnOk result (self.new ≡ with_track key.now self.old) }

@@ -1,4 +1,4 @@
-//! The spans of a trace nested by time, and its events in them, as calls.
+//! Turns the spans of a trace, nested by time, and its events into calls.
 
 ghost use Rattle.std.specs.Prelude.{◌≡◌, ◌∷◌, [], drop, IfOk, None, OnOk, option_map, reverse};
 ghost use Rattle.tracing_tree_chrome.specs.Later.{marked};
@@ -24,41 +24,41 @@ use tracing_tree_time::Moment;
 struct Left {
     spans: u64,
     time: u64,
-    // The thread of the last, and up to which time it is counted.
+    // The thread of the last one, and the time up to which it is counted.
     lane: Option<Lane>,
     until: u64,
 }
 
-// An open span, or the root that all stand in.
+// An open span, or the root that contains all of them.
 #[derive(Clone, Copy)]
 struct Frame {
     id: Option<Id>,
     above: Option<Id>,
-    // Where it has none, it lasts as long as its thread or its process.
+    // `None` if it lasts as long as its thread or its process.
     end: Option<Point>,
     left: Left,
 }
 
-// Which open spans are left.
+// Which open spans to close.
 #[derive(Clone, Copy)]
 enum Until {
-    // Those with this count of spans below them, or more.
+    // Those with at least this many frames before them.
     Depth(usize),
-    // Those that ended by then.
+    // Those that have ended by then.
     Ended(Point),
 }
 
-// The calls so far, and what is open.
+// The calls so far, and the open spans.
 #[derive(Drop)]
 pub(crate) struct Tree {
     alloc: Global,
-    // The id that the next span gets.
+    // The id of the next span.
     next: u64,
     moment: Moment,
     cut: Cut,
-    // That of the last item.
+    // The lane of the last item.
     lane: Option<Lane>,
-    // The root first.
+    // The open spans, root first.
     frames: Vec<Frame>,
     processes: Vec<Name>,
     threads: Vec<Name>,
@@ -84,7 +84,7 @@ impl Model for Tree {
 }
 
 impl Tree {
-    // Nothing is open but the root.
+    // Returns a tree with only the root open.
     pub(crate) fn new(
         alloc: Global,
         next: u64,
@@ -111,7 +111,7 @@ impl Tree {
         })
     }
 
-    // Draws these items, one after another, and closes what is open then.
+    // Draws these items one after another, then closes all open spans.
     pub(crate) fn draw(&mut self, items: Vec<Item>) -> Result<(), AllocError>
         ensures { OnOk result (self.new
             ≡ finished (stepped_all (marked self.old.cut.least items.items) self.old)) }
@@ -132,14 +132,15 @@ impl Tree {
         Ok(())
     }
 
-    // Hands out the calls.
+    // Returns the calls.
     pub(crate) fn into_calls(self) -> Vec<Call>
         ensures { result.items ≡ self.calls }
     {
         self.calls
     }
 
-    // Draws an item in the innermost span of its thread that hasn't ended, or counts a span that is too short.
+    // Draws an item in the innermost span of its thread that hasn't ended, or counts a span that is
+    // too short.
     fn step(&mut self, item: Item) -> Result<(), AllocError>
         ensures { OnOk result (self.new ≡ stepped item self.old) }
     {
@@ -163,7 +164,8 @@ impl Tree {
         Ok(())
     }
 
-    // Where a span that is too short counts: in its thread if that is drawn, else in its process if that is, else at the root.
+    // Returns the lane that counts a span that is too short. This is its thread if that is drawn,
+    // otherwise its process if that is drawn, otherwise the root.
     fn shown_lane(&self, item: &Item) -> Lane
         ensures { result ≡ shown_lane item.now self.now }
     {
@@ -186,7 +188,7 @@ impl Tree {
         self.moment.mono = time;
     }
 
-    // Leaves the thread before for this one.
+    // Leaves the current thread for this one.
     fn enter(&mut self, lane: Lane, time: u64) -> Result<(), AllocError>
         ensures { OnOk result (self.new ≡ entered lane time self.old) }
     {
@@ -247,7 +249,7 @@ impl Tree {
         self.open(name.as_str(), Fields::from(fields), None)
     }
 
-    // Opens a span in the innermost that is open.
+    // Opens a span in the innermost open one.
     fn open(&mut self, name: &str, fields: Fields, end: Option<Point>) -> Result<(), AllocError>
         ensures { OnOk result (self.new ≡ opened name.now fields end self.old) }
     {
@@ -265,14 +267,14 @@ impl Tree {
         Ok(self.frames.push(frame)?)
     }
 
-    // The innermost span that is open.
+    // Returns the innermost open span.
     fn current(&self) -> Option<Id>
         ensures { result ≡ current self.now }
     {
         self.frames.as_slice().last()?.id
     }
 
-    // Where the innermost span ends.
+    // Returns the end of the innermost span.
     fn current_end(&self) -> Option<Point>
         ensures { result ≡ current_end self.now }
     {
@@ -289,7 +291,7 @@ impl Tree {
         Ok(())
     }
 
-    // Takes the innermost span off, if it is left.
+    // Removes the innermost span, if it is to close.
     fn leaving(&mut self, until: Until) -> Option<Frame>
         ensures frame { result ≡ leaving until self.old.frames }
         ensures rest { self.new ≡ record self.old {
@@ -304,7 +306,7 @@ impl Tree {
         self.frames.pop()
     }
 
-    // Closes a span that was taken off, and tells what it lost.
+    // Closes a span that was removed, and records what was left out in it.
     fn leave(&mut self, frame: Frame) -> Result<(), AllocError>
         ensures { OnOk result (self.new ≡ left frame self.old) }
     {
@@ -318,7 +320,7 @@ impl Tree {
         Ok(())
     }
 
-    // Tells how many spans were left out, if any was.
+    // Records how many spans were left out, if there are any.
     fn tell_left_out(&mut self, frame: &Frame) -> Result<(), AllocError>
         ensures { OnOk result (self.new ≡ left_out_told frame.now self.old) }
     {
@@ -371,7 +373,7 @@ impl Tree {
         Ok(())
     }
 
-    // Whether one more span isn't too deep.
+    // Returns whether one more span isn't too deep.
     fn fits(&self) -> bool
         ensures { result ≡ fits self.now }
     {
@@ -390,7 +392,7 @@ impl Tree {
         self.open(item.name.as_str(), fields, end)
     }
 
-    // Counts a span as left out in the innermost.
+    // Counts a span as left out in the innermost one.
     fn leave_out(&mut self, item: &Item)
         ensures { self.new ≡ left_out item.now self.old }
     {
@@ -416,7 +418,7 @@ fn frame_of(id: Option<Id>, above: Option<Id>, end: Option<Point>) -> Frame
     }
 }
 
-// Whether an open span is left, with `below` spans below it.
+// Returns whether to close an open span that has `below` frames before it.
 fn is_left(until: Until, frame: &Frame, below: usize) -> bool
     ensures { result ≡ is_left until frame.now below }
 {
@@ -429,7 +431,7 @@ fn is_left(until: Until, frame: &Frame, below: usize) -> bool
     }
 }
 
-// Whether a point comes before another, or is the same.
+// Returns whether a point comes before another, or is equal.
 fn is_by(point: Point, other: Point) -> bool
     ensures { result ≡ is_by point other }
 {
@@ -458,7 +460,7 @@ fn is_in_process(lane: Lane, before: Option<Lane>) -> bool
     }
 }
 
-// How many levels stand above the threads of a process.
+// Returns how many frames come before the threads of a process.
 fn process_depth(lane: Lane) -> usize
     ensures { result ≡ process_depth lane }
 {
@@ -468,7 +470,7 @@ fn process_depth(lane: Lane) -> usize
     }
 }
 
-// How a process or a thread is called, by the last element that says it.
+// Returns the name of a process or a thread, from the last element that has it.
 fn name_in<'n>(names: &'n [Name], lane: Lane, unnamed: &'n str) -> &'n str
     ensures { result.now ≡ name_in names.now lane unnamed.now }
 {
@@ -494,7 +496,7 @@ fn is_of_lane(name: &Name, lane: Lane) -> bool
     same_lane(name.lane, lane)
 }
 
-// Where a span ends: at the latest where the one above does.
+// Returns the end of a span, which is never after its parent's.
 fn span_end(item: &Item, above: Option<Point>) -> Option<Point>
     ensures { result ≡ span_end item.now above }
 {
@@ -513,7 +515,7 @@ fn within(end: Point, above: Option<Point>) -> Point
     }
 }
 
-// How long a span took, where that is known.
+// Returns how long a span took, if known, as a field.
 fn span_fields(alloc: Global, item: &Item) -> Result<Fields, AllocError>
     ensures { IfOk result (λ fields. fields ≡ span_fields item.now) }
 {
@@ -534,7 +536,8 @@ fn length_field(alloc: Global, nanoseconds: u64) -> Result<Field, AllocError>
     })
 }
 
-// What was left out, and this span too. The time of a thread in which another span was left out already isn't counted again.
+// Adds a span to those left out. Time in which another span of its thread was left out isn't
+// counted again.
 fn added(item: &Item, left: Left) -> Left
     ensures { result ≡ added item.now left }
 {
@@ -550,7 +553,7 @@ fn added(item: &Item, left: Left) -> Left
     }
 }
 
-// Up to which time what was left out is counted in the thread of this span.
+// Returns the time up to which left-out spans are counted in the thread of this span.
 fn counted_until(item: &Item, left: &Left) -> u64
     ensures { result ≡ counted_until item.now left.now }
 {
@@ -561,7 +564,7 @@ fn counted_until(item: &Item, left: &Left) -> u64
     }
 }
 
-// Up to when a span is known to last.
+// Returns the time up to which a span is known to last.
 fn extent(item: &Item) -> u64
     ensures { result ≡ extent item.now }
 {

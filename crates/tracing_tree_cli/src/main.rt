@@ -1,4 +1,4 @@
-//! The program: draws the calls that standard input spells, as a tree on standard output.
+//! The program: draws the calls on standard input as a tree on standard output.
 #![tactic(auto)]
 
 use std::io;
@@ -14,8 +14,8 @@ fn main(rt: HostRuntime) -> ExitCode {
     ExitCode::from(status(&fault, flushed))
 }
 
-// Draws the tree. Returns the fault that ended the run, if one did, and whether the last text went out
-// and no flush was refused before.
+// Draws the tree. Returns the fault that ended the run, if there was one, and whether everything
+// was flushed: the last text, and all texts before it.
 fn draw<R: AllocGlobal + Input + Print>(rt: &R) -> (Option<LineFault>, bool) {
     let alloc = rt.alloc();
     let Ok(writer) = BufWriter::with_capacity(alloc, BLOCK, io::writer(rt)) else {
@@ -35,7 +35,7 @@ fn draw<R: AllocGlobal + Input + Print>(rt: &R) -> (Option<LineFault>, bool) {
     (fault, flushed && !stuck)
 }
 
-// Puts the fault on standard error. A fault of standard error itself changes nothing.
+// Prints the fault on standard error. A fault of standard error itself changes nothing.
 fn tell(rt: &impl Eprint, fault: &Option<LineFault>, flushed: bool) {
     let told = match fault {
         Some(fault) => eprintln!(rt; "{fault}"),

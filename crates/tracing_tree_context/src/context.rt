@@ -1,28 +1,28 @@
-//! What a call is handed, and why it may be refused.
+//! The context of a call, and why a call may be refused.
 
 use jiff::Timestamp;
 use std::alloc::{AllocError, AllocFailed};
 use thiserror::Error;
 use tracing_tree_text::text::Text;
 
-/// The number of a span. Ids rise by one and are never used again; one that is taken back counts as never given out.
+/// The number of a span. Ids rise by one and are never reused, except for an id that is taken back.
 #[derive(Clone, Copy, Debug, PartialEq, Eq, PartialOrd, Ord, Hash)]
 pub struct Id(pub u64);
 
 /// A moment on two clocks.
 #[derive(Clone, Copy, Debug, PartialEq, Eq)]
 pub struct Moment {
-    /// On a clock that only goes forward, in nanoseconds.
+    /// The monotonic clock, in nanoseconds.
     pub mono: u64,
 
-    /// On the wall.
+    /// The wall clock.
     pub wall: Timestamp,
 }
 
-/// What the caller hands in with a call: nothing of it is asked of the machine.
+/// A call's context, which the caller passes. The library doesn't read it from the system.
 #[derive(Debug, Drop, PartialEq, Eq)]
 pub struct Context {
-    /// The current span. An id that isn't live counts as none where an event happens.
+    /// The current span. For an event, an id that isn't live counts as `None`.
     pub current: Option<Id>,
 
     /// The number of the thread, for the prefix of each line.
@@ -31,30 +31,31 @@ pub struct Context {
     /// The name of the thread, if it has one. An empty name is a name.
     pub thread_name: Option<Text>,
 
-    /// When the call happens.
+    /// The time of the call.
     pub moment: Moment,
 }
 
-/// Why a call was refused. After the first four, and after `Failed`, nothing has changed.
+/// Why a call was refused. After the first four causes, and after `Failed`, nothing has changed.
 #[derive(Clone, Copy, Debug, PartialEq, Eq, Error)]
 pub enum Refusal {
-    /// The span isn't live where a live one is needed, or has no handle left to close.
+    /// The span isn't live although the call needs a live one, or it has no handle left to close.
     #[error("not held {}", .0.0)]
     NotHeld(Id),
 
-    /// For a row of this call, the level used (after the wraparound) times the amount passes `usize`.
+    /// A row of this call is too wide: the level used (after the wraparound) times the amount
+    /// exceeds `usize::MAX` columns.
     #[error("too wide")]
     TooWide,
 
-    /// No id is left for a new span, or no further handle can be counted.
+    /// All ids are used, or a span can't have more handles.
     #[error("too many")]
     TooMany,
 
-    /// Memory was refused.
+    /// An allocation failed.
     #[error("memory")]
     Memory,
 
-    /// The timer has no text for this moment or elapsed time.
+    /// The timer can't show this moment or elapsed time.
     #[error("timer")]
     Timer,
 

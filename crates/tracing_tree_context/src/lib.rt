@@ -1,4 +1,5 @@
-//! What a call is handed, and why it may be refused: ids of spans, moments, contexts and refusals.
+//! The context of a call, and why a call may be refused: ids of spans, moments, contexts and
+//! refusals.
 #![tactic(auto)]
 
 mod context;

@@ -1,3 +1,3 @@
-//! What a call is handed, and why it may be refused.
+//! The context of a call, and why a call may be refused.
 
 pub use tracing_tree_context::{Context, Id, Moment, Refusal};

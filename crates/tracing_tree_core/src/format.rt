@@ -1,4 +1,4 @@
-//! Settings, the drawing of a row, and where it goes.
+//! Settings, the drawing of a row, and outputs.
 
 pub use tracing_tree_context::{Context, Id, Refusal};
 pub use tracing_tree_drawing::format::{

@@ -1,8 +1,9 @@
-//! Live spans, what a call is made of, and the drawing of a row: the base of `tracing_tree`, under the module names of the Rust crate.
+//! Live spans, the parts of a call, and the drawing of a row: the base of `tracing_tree`, with the
+//! module names of the Rust crate.
 //!
-//! [`registry::Registry`] keeps spans with their paths, so that a path is there at once.
-//! [`registry::Walked`] is such a registry that lends no path: a layer over it walks up to the root
-//! for each one. Both have the same calls and answers. A layer without a `Layered` works over any
+//! [`registry::Registry`] stores each span with its path, so a path is available at once.
+//! [`registry::Walked`] is a registry that doesn't lend paths: a layer over it walks up to the root
+//! for each one. Both have the same calls and results. A layer without a `Layered` works over any
 //! other [`registry::LookupSpan`] too.
 #![tactic(auto)]
 

@@ -1,4 +1,4 @@
-//! Settings, and the drawing of a row: its texts, its frame and its width.
+//! The settings, and the drawing of a row: its texts, its frame and its width.
 
 ghost use Rattle.std.specs.Prelude.{◌≡◌, ◌++◌, OnOk, OnErr, string_bytes};
 ghost use Rattle.tracing_tree_drawing.specs.Format.Texts.{label};
@@ -17,7 +17,7 @@ pub use surface::{Buffers, FmtEvent};
 /// The mode of a row: what it shows. (`SpanMode` of the Rust crate.)
 #[derive(Clone, Copy, Debug, PartialEq, Eq)]
 pub enum SpanMode {
-    /// The parent, before a child is entered.
+    /// The parent, shown again before a child is entered.
     PreOpen,
 
     /// A span that opens.
@@ -26,18 +26,21 @@ pub enum SpanMode {
     /// A span that closes.
     Close { verbose: bool },
 
-    /// A span that was opened before and is entered again.
+    /// A span that was opened before and is shown again.
     Retrace { verbose: bool },
 
-    /// The parent, after a child has closed.
+    /// The parent, shown again after a child has closed.
     PostClose,
 
     /// An event.
     Event,
 }
 
-/// Appends the label of a mode, that of an event too. On `AllocError` nothing is appended.
-/// (`write_span_mode` of the Rust crate.)
+/// Appends the label of a mode (`write_span_mode` of the Rust crate). Events have one too.
+///
+/// # Errors
+///
+/// `AllocError` if an allocation fails. Nothing is appended then.
 pub fn write_span_mode(out: &mut String, mode: SpanMode) -> Result<(), AllocError>
     ensures ok { OnOk result (string_bytes out.new ≡ string_bytes out.old ++ label mode) }
     ensures err { OnErr result (string_bytes out.new ≡ string_bytes out.old) }

@@ -1,7 +1,8 @@
-//! The drawing of rows, and its reading back: each rule of a column in one crate.
+//! Draws rows and reads them back. Every rule about columns is in this crate.
 //!
-//! [`format`] has the settings, and draws the row of a span or an event. [`rows`] makes rows without a layer, draws them, reads them back
-//! from the text of a drawing, and finds the ancestors of each event there.
+//! [`format`] has the settings and draws the row of a span or an event. [`rows`] makes rows without
+//! a layer, draws them, parses them from the text of a drawing, and finds each event's ancestors in
+//! it.
 #![tactic(auto)]
 
 pub mod format;

@@ -1,7 +1,8 @@
-//! Rows of a drawing: made one by one, drawn, and read back from the text of a drawing.
+//! Makes the rows of a drawing one by one, draws them, and parses them from the text of a drawing.
 //!
-//! What a row may be, how it is drawn and which line is read as what is in docs/FORMATS.md, 'Rows and their reader'. Where
-//! `read_rows` returns rows, drawing them gives the text again, and no other rows have that text.
+//! docs/FORMATS.md, 'Rows and their reader', says which rows exist, how they are drawn and how a
+//! line is read. If `read_rows` returns rows, drawing them yields the same text, and no other rows
+//! have that text.
 
 pub mod draw;
 pub mod paths;

@@ -1,4 +1,4 @@
-//! Short names for what the tests hand in.
+//! Short names for the values that the tests pass.
 #![tactic(auto)]
 
 pub mod tree;
@@ -17,8 +17,8 @@ use tracing_tree::style::Level;
 use tracing_tree::text::Text;
 use tracing_tree::time::{FormatTime, Moment};
 
-/// A layered over this writer, with lines and an amount of 2. It is boxed, since each step of a test is proved over all that its own
-/// values hold.
+/// Returns a layered over this writer, with lines and an amount of 2. It is boxed, since each step
+/// of a test is proved over everything that its values contain.
 pub fn lined_over<W: Output + Drop>(
     alloc: Global,
     writer: W,
@@ -29,12 +29,12 @@ pub fn lined_over<W: Output + Drop>(
     Ok(Box::new(alloc, Layered::new(alloc, layer))?)
 }
 
-/// The same over memory.
+/// Returns a layered over memory, like `lined_over`.
 pub fn lined(alloc: Global) -> Result<Box<Layered<Tape, ()>>, AllocError> {
     lined_over(alloc, Tape::new(alloc))
 }
 
-/// The context of thread 1 at the start of 1970, with this current span.
+/// Returns the context of thread 1 at the start of 1970, with this current span.
 pub fn at(current: Option<u64>) -> Context {
     Context {
         current: match current {
@@ -50,12 +50,12 @@ pub fn at(current: Option<u64>) -> Context {
     }
 }
 
-/// A new span below the current one.
+/// Makes a new span below the current one.
 pub fn made(alloc: Global, name: &str, current: Option<u64>) -> Result<Call, AllocError> {
     made_in(alloc, name, Parent::Current, current)
 }
 
-/// A new span below this parent.
+/// Makes a new span below this parent.
 pub fn made_in(
     alloc: Global,
     name: &str,
@@ -73,14 +73,14 @@ pub fn made_in(
     ))
 }
 
-/// A list of one field.
+/// Returns a list of one field.
 pub fn recorded(alloc: Global, name: &str, value: &str) -> Result<Fields, AllocError> {
     let mut fields = Vec::new(alloc);
     fields.push(Field::rendered(alloc, name, value)?)?;
     Ok(Fields::from(fields))
 }
 
-/// An event with a message, in the current span.
+/// Records an event with a message in the current span.
 pub fn told(
     alloc: Global,
     level: Level,
@@ -98,7 +98,7 @@ pub fn told(
     ))
 }
 
-/// An INFO event with a message, in this parent.
+/// Records an INFO event with a message in this parent.
 pub fn told_in(
     alloc: Global,
     message: &str,
@@ -116,12 +116,12 @@ pub fn told_in(
     ))
 }
 
-/// A close of a span.
+/// Closes a span.
 pub fn closed(id: u64) -> Call {
     Call::Close(Id(id), at(None))
 }
 
-/// What a new span of this name, without fields, is made of.
+/// Returns the attributes of a new span with this name and without fields.
 pub fn attributes(alloc: Global, name: &str, parent: Parent) -> Result<Attributes, AllocError> {
     Ok(Attributes {
         name: Text::from_str(alloc, name)?,
@@ -146,7 +146,7 @@ pub enum Step<'a> {
     /// An INFO event with a message, in this parent, with this current span.
     ToldIn(&'a str, Parent, Option<u64>),
 
-    /// A value of the field `k`.
+    /// A record of a value of the field `k`.
     Record(u64, &'a str),
 
     /// One more handle.
@@ -157,7 +157,7 @@ pub enum Step<'a> {
 }
 
 impl Step<'_> {
-    /// The call itself.
+    /// Returns the call.
     pub fn call(self, alloc: Global) -> Result<Call, AllocError> {
         Ok(match self {
             Step::New(name, current) => made(alloc, name, current)?,
@@ -174,7 +174,7 @@ impl Step<'_> {
     }
 }
 
-/// The calls of these steps.
+/// Returns the calls of these steps.
 pub fn calls(alloc: Global, steps: &[Step<'_>]) -> Result<Vec<Call>, AllocError> {
     let mut calls = Vec::new(alloc);
     for step in steps {
@@ -183,10 +183,10 @@ pub fn calls(alloc: Global, steps: &[Step<'_>]) -> Result<Vec<Call>, AllocError>
     Ok(calls)
 }
 
-/// What a call is answered.
+/// The answer to a call.
 pub type Answer = Result<Reply, Refusal>;
 
-/// Runs the calls. It has no clause, so that a test that runs some is soon proved.
+/// Runs the calls. It has no contract, so a test that calls it is proved quickly.
 pub fn run<W: Output, FT: FormatTime>(
     alloc: Global,
     layered: &mut Layered<W, FT>,
@@ -195,7 +195,8 @@ pub fn run<W: Output, FT: FormatTime>(
     layered.run(alloc, calls)
 }
 
-/// Makes the calls up to the first that is not answered as it stands beside it: returns that call's place and its answer.
+/// Makes the calls up to the first whose answer isn't the expected one. Returns that call's index
+/// and its answer.
 pub fn first_unlike(
     alloc: Global,
     layered: &mut Layered<Tape, ()>,

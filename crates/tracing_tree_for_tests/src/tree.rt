@@ -1,4 +1,5 @@
-//! A tree drawn into memory, by functions that promise nothing: a test that calls them is soon proved.
+//! A tree drawn into memory, by functions without contracts: a test that calls them is proved
+//! quickly.
 
 use crate::{Answer, Step, calls, first_unlike};
 use std::alloc::{AllocError, Global};
@@ -7,7 +8,7 @@ use tracing_tree::format::{Id, Tape};
 use tracing_tree::layer::HierarchicalLayer;
 use tracing_tree::layered::Layered;
 
-/// What a layer has set.
+/// The settings of a layer.
 #[derive(Clone, Copy)]
 pub struct Settings {
     pub amount: usize,
@@ -32,19 +33,20 @@ pub const LINED: Settings = Settings {
     close_retrace: false,
 };
 
-/// A layered over memory. It is boxed, since each step of a test is proved over all that its own values hold.
+/// A layered over memory. It is boxed, since each step of a test is proved over everything that its
+/// values contain.
 #[derive(Drop)]
 pub struct Tree {
     layered: Box<Layered<Tape, ()>>,
 }
 
 impl Tree {
-    /// No calls yet; the first id is 1.
+    /// Returns a tree without calls. The first id is 1.
     pub fn new(alloc: Global, settings: Settings) -> Result<Tree, AllocError> {
         Tree::starting_at(alloc, 1, settings)
     }
 
-    /// No calls yet; the first id is this.
+    /// Returns a tree without calls. The first id is `first`.
     pub fn starting_at(alloc: Global, first: u64, settings: Settings) -> Result<Tree, AllocError> {
         let layer = HierarchicalLayer::new(alloc, settings.amount, false, Tape::new(alloc))
             .with_indent_lines(settings.lines)
@@ -63,7 +65,8 @@ impl Tree {
         self.layered.run(alloc, calls(alloc, steps)?)
     }
 
-    /// Makes the calls up to the first that is not answered as it stands beside it: returns that call's place and its answer.
+    /// Makes the calls up to the first whose answer isn't the expected one. Returns that call's
+    /// index and its answer.
     pub fn first_unlike(
         &mut self,
         alloc: Global,
@@ -72,23 +75,24 @@ impl Tree {
         first_unlike(alloc, &mut self.layered, steps)
     }
 
-    /// What was written.
+    /// Returns what was written.
     pub fn text(&self) -> &[u8] {
         self.layered.writer().bytes()
     }
 
-    /// The last span.
+    /// Returns the last span.
     pub fn last_span(&self) -> Option<Id> {
         self.layered.layer().last_span()
     }
 
-    /// Whether the layer has failed.
+    /// Returns whether the layer has failed.
     pub fn failed(&self) -> bool {
         self.layered.layer().failed()
     }
 }
 
-/// What is drawn of these steps, all of which are to be accepted. Where one is refused, a text that says so.
+/// Returns the drawing of these steps, which must all be accepted. If one is refused, returns a
+/// string that says so.
 pub fn drawn(alloc: Global, settings: Settings, steps: &[Step<'_>]) -> Result<String, AllocError> {
     let mut tree = Tree::new(alloc, settings)?;
     let answers = tree.run(alloc, steps)?;

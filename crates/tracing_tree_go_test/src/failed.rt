@@ -1,4 +1,4 @@
-//! What failed of Go's tests.
+//! Only the failed tests of `go test -json`.
 
 ghost use Rattle.std.specs.Prelude.{◌≡◌, ◌++◌, ◌∷◌, ◌&&◌, ◌||◌, ℕ, List, [], not, IfOk, OnOk, option_map};
 ghost use Rattle.std.specs.BTreeSet.{contains_text};
@@ -21,7 +21,7 @@ use tracing_tree_sources::values::{text_at, value_of};
 use tracing_tree_text::text::Text;
 use tracing_tree_time::Moment;
 
-// What a line says of the end of its test or its package.
+// What a line says about the end of its test or package.
 #[derive(Clone, Copy)]
 enum Verdict {
     Open,
@@ -31,17 +31,17 @@ enum Verdict {
     Bad,
 }
 
-// A line that isn't told yet.
+// A line that hasn't been reported yet.
 #[derive(Drop)]
 struct Kept {
-    // Empty where the line is the package's.
+    // Empty if the line is the package's.
     test: Text,
-    // What it says of that test's end.
+    // What the line says about the end of that test.
     verdict: Verdict,
     line: Text,
 }
 
-// Lines that aren't told yet, in the order in which they came.
+// Lines that haven't been reported yet, in their order.
 #[derive(Drop)]
 struct Lines {
     kept: Vec<Kept>,
@@ -72,18 +72,22 @@ impl Lines {
     }
 }
 
-/// Go's tests without those that passed or were skipped, and without packages in which nothing failed. A line is kept until the
-/// outermost test that it belongs to ends, or its package, so that what failed of a test is told in one piece. What was told in
-/// part is told to its end. A line that isn't JSON is told at once. A line takes time for the length of its names, and hardly
-/// more where many tests run.
+/// A source that reports only the failed tests of `go test -json`. Tests that passed or were
+/// skipped are left out, and so are packages without a failure.
+///
+/// A line is held until its top-level test ends, or its package. So the lines of a failed test are
+/// reported together. If a part of a test or package was reported, the rest of it is reported too.
+/// A line that isn't JSON is reported at once. The time for a line grows with the length of its
+/// names, and hardly with the number of running tests.
 #[derive(Drop)]
 pub struct Failed {
     alloc: Global,
-    // Takes each line.
+    // Takes every line.
     whole: GoTest,
-    // Takes the lines that are told.
+    // Takes the lines that are reported.
     shown: GoTest,
-    // What is kept, by the packages' paths, and of each by the names of the outermost tests. The package's own lines have the empty name.
+    // The held lines, by the packages' paths, then by the names of the top-level tests. A package's
+    // own lines have the empty name.
     packages: Named<Named<Lines>>,
 }
 
@@ -100,7 +104,12 @@ impl Model for Failed {
 }
 
 impl Failed {
-    /// No test runs yet. The next span gets this id, and calls are made at this moment until a line tells a time.
+    /// Returns the state before the first line. The next span gets the id `next`, and calls are
+    /// made at `moment` until a line has a time.
+    ///
+    /// # Errors
+    ///
+    /// `AllocError` if an allocation fails.
     pub fn new(alloc: Global, next: u64, moment: Moment) -> Result<Failed, AllocError>
         ensures { IfOk result (λ source. source ≡ none_failed next moment) }
     {
@@ -112,14 +121,14 @@ impl Failed {
         })
     }
 
-    /// Whether something has failed.
+    /// Returns whether a test or a package has failed, or a package didn't end.
     pub fn has_failed(&self) -> bool
         ensures { result ≡ has_failed self.now.whole }
     {
         self.whole.has_failed()
     }
 
-    // Hands out the calls.
+    // Returns the calls, and empties the list.
     fn told(&mut self) -> Vec<Call>
         ensures told { result.items ≡ self.old.shown.calls }
         ensures rest { self.new ≡ record self.old { shown = record self.old.shown { calls = [] } } }
@@ -127,7 +136,7 @@ impl Failed {
         self.shown.told()
     }
 
-    // Counts what a line tells. Returns whether it is known.
+    // Counts a line. Returns whether it is known.
     fn knows(
         &mut self,
         alloc: Global,
@@ -153,7 +162,8 @@ impl Failed {
         }
     }
 
-    // Keeps a line, or tells or forgets what is kept where it ends an outermost test or a package.
+    // Holds a line. If it ends a top-level test or a package, reports or drops the held lines
+    // instead.
     fn take_value(&mut self, line: &str, value: &Value<'_>) -> Result<(), AllocError>
         ensures { OnOk result (self.new ≡ value_taken line.now (value_view value.now) self.old) }
     {
@@ -170,7 +180,7 @@ impl Failed {
         show(&mut self.shown, line, Some(value))
     }
 
-    // Keeps a line of this test.
+    // Holds a line of this test.
     fn keep(
         &mut self,
         path: &str,
@@ -190,7 +200,7 @@ impl Failed {
         self.put_untold(path, untold)
     }
 
-    // Forgets what is kept of an outermost test, or of a package where the name is empty.
+    // Drops the held lines of a top-level test, or of a package if the name is empty.
     fn forget(&mut self, path: &str, test: &str) -> Result<(), AllocError>
         ensures { OnOk result (self.new ≡ forgotten path.now test.now self.old) }
     {
@@ -202,7 +212,7 @@ impl Failed {
         self.put_untold(path, untold)
     }
 
-    // Tells what is kept of an outermost test, or of a package where the name is empty.
+    // Reports the held lines of a top-level test, or of a package if the name is empty.
     fn tell(&mut self, path: &str, test: &str) -> Result<(), AllocError>
         ensures { OnOk result (self.new ≡ told_of path.now test.now self.old) }
     {
@@ -215,7 +225,7 @@ impl Failed {
         release(&mut self.shown, self.alloc, path.as_bytes(), lines)
     }
 
-    // Takes out what is kept of a package.
+    // Takes out the held lines of a package.
     fn take_untold(&mut self, path: &str) -> Named<Lines>
         ensures untold { result ≡ untold_of path.now self.old }
         ensures rest { self.new ≡ without_untold path.now self.old }
@@ -224,7 +234,7 @@ impl Failed {
         untold.unwrap_or(Named::new(self.alloc))
     }
 
-    // Puts back what is kept of a package.
+    // Puts back the held lines of a package.
     fn put_untold(&mut self, path: &str, untold: Named<Lines>) -> Result<(), AllocError>
         ensures { OnOk result (self.new ≡ with_untold path.now untold self.old) }
     {
@@ -273,7 +283,7 @@ impl Source for Failed {
     }
 }
 
-// Takes out the lines of an outermost test, or with an empty name the package's own.
+// Takes out the lines of a top-level test, or the package's own lines if the name is empty.
 fn take_lines(alloc: Global, untold: &mut Named<Lines>, test: &str) -> Lines
     ensures lines { result ≡ kept_in test.now untold.old }
     ensures rest { untold.new ≡ without test.now untold.old }
@@ -282,7 +292,7 @@ fn take_lines(alloc: Global, untold: &mut Named<Lines>, test: &str) -> Lines
     lines.unwrap_or(Lines::new(alloc))
 }
 
-// Adds a line to those of an outermost test, or with an empty name to the package's own.
+// Adds a line to those of a top-level test, or to the package's own lines if the name is empty.
 fn add_line(
     alloc: Global,
     untold: &mut Named<Lines>,
@@ -296,7 +306,7 @@ fn add_line(
     untold.put(key(alloc, test)?, lines)
 }
 
-// Tells what is kept of packages that didn't end.
+// Reports the held lines of packages that didn't end.
 fn release_all(
     shown: &mut GoTest,
     alloc: Global,
@@ -311,7 +321,7 @@ fn release_all(
     Ok(())
 }
 
-// Tells what is kept of a package: one outermost test after the other, and then its own lines.
+// Reports the held lines of a package: one top-level test after the other, then its own lines.
 fn release_package(
     shown: &mut GoTest,
     alloc: Global,
@@ -341,7 +351,7 @@ fn release_tests(
     Ok(())
 }
 
-// Tells lines of a package, without those of tests that passed or were skipped.
+// Reports lines of a package, without those of tests that passed or were skipped.
 fn release(shown: &mut GoTest, alloc: Global, path: &[u8], lines: Lines) -> Result<(), AllocError>
     ensures { OnOk result (shown.new ≡ released path.now lines shown.old) }
 {
@@ -352,7 +362,7 @@ fn release(shown: &mut GoTest, alloc: Global, path: &[u8], lines: Lines) -> Resu
     Ok(())
 }
 
-// Tells a line, unless its test is over and was not told in part.
+// Reports a line, unless its test passed or was skipped and no part of it was reported.
 fn release_one(
     shown: &mut GoTest,
     alloc: Global,
@@ -370,7 +380,7 @@ fn release_one(
     show_kept(shown, alloc, one)
 }
 
-// Tells a line.
+// Reports a line.
 fn show(shown: &mut GoTest, line: &str, value: Option<&Value<'_>>) -> Result<(), AllocError>
     ensures { OnOk result (shown.new
         ≡ line_shown line.now (option_map (λ v. value_view v.now) value.entry) shown.old) }
@@ -384,7 +394,7 @@ fn show(shown: &mut GoTest, line: &str, value: Option<&Value<'_>>) -> Result<(),
     }
 }
 
-// Tells a line that was kept.
+// Reports a line that was held.
 fn show_kept(shown: &mut GoTest, alloc: Global, one: &Kept) -> Result<(), AllocError>
     ensures { OnOk result (shown.new ≡ kept_shown one.now shown.old) }
 {
@@ -394,7 +404,8 @@ fn show_kept(shown: &mut GoTest, alloc: Global, one: &Kept) -> Result<(), AllocE
     show(shown, line, value.as_ref())
 }
 
-// The tests that passed or were skipped, as these lines say, and of which none says that they failed.
+// Returns the tests that passed or were skipped according to these lines, unless another line says
+// that they failed.
 fn tests_over(alloc: Global, kept: &[Kept]) -> Result<BTreeSet<String>, AllocError>
     ensures { IfOk result (λ over. contains_text over ≡ is_over kept.now) }
 {
@@ -407,7 +418,7 @@ fn tests_over(alloc: Global, kept: &[Kept]) -> Result<BTreeSet<String>, AllocErr
     Ok(over)
 }
 
-// The tests of which a line says that they passed or were skipped.
+// Returns the tests that passed or were skipped according to a line.
 fn good_tests(alloc: Global, kept: &[Kept]) -> Result<BTreeSet<String>, AllocError>
     ensures { IfOk result (λ good. contains_text good ≡ someone_says is_good kept.now) }
 {
@@ -420,7 +431,7 @@ fn good_tests(alloc: Global, kept: &[Kept]) -> Result<BTreeSet<String>, AllocErr
     Ok(good)
 }
 
-// Adds the test of a line that says that it passed or was skipped.
+// Adds the test of a line if the line says that it passed or was skipped.
 fn note_good(alloc: Global, good: &mut BTreeSet<String>, one: &Kept) -> Result<(), AllocError>
     ensures { OnOk result ((test : List ℕ) → contains_text good.new test
         ≡ (contains_text good.old test || says is_good one.now test)) }
@@ -431,7 +442,7 @@ fn note_good(alloc: Global, good: &mut BTreeSet<String>, one: &Kept) -> Result<(
     Ok(())
 }
 
-// Takes out the test of a line that says that it failed.
+// Removes the test of a line if the line says that it failed.
 fn forget_bad(over: &mut BTreeSet<String>, one: &Kept)
     ensures { (test : List ℕ) → contains_text over.new test
         ≡ (contains_text over.old test && not (says is_bad one.now test)) }
@@ -480,14 +491,14 @@ fn is_bad(verdict: Verdict) -> bool
     matches!(verdict, Verdict::Bad)
 }
 
-// Whether this is the name of a test in another.
+// Returns whether this is the name of a subtest.
 fn is_inner(test: &str) -> bool
     ensures { result ≡ is_inner test.now }
 {
     test.as_bytes().contains(&b'/')
 }
 
-// The name of the outermost test in which a test stands.
+// Returns the name of a test's top-level test.
 fn outermost(test: &str) -> &str
     ensures { result.now ≡ outermost test.now }
 {
@@ -497,7 +508,7 @@ fn outermost(test: &str) -> &str
     }
 }
 
-// The package of a line that is known.
+// Returns the package of a line that is known.
 fn path_of<'v>(value: &'v Value<'_>) -> &'v str
     ensures { result.now ≡ path_of (value_view value.now) }
 {

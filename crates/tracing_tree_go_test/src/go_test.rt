@@ -1,4 +1,4 @@
-//! Go's tests: the lines of `go test -json`.
+//! The tests in the lines of `go test -json`.
 
 ghost use Rattle.std.specs.Prelude.{◌≡◌, ◌++◌, ◌∷◌, [], IfOk, OnOk, Option, None, Some, option_map};
 ghost use Rattle.tracing_tree_go_test.specs.Names.{without};
@@ -36,24 +36,29 @@ use tracing_tree_text::style::Level;
 use tracing_tree_text::text::Text;
 use tracing_tree_time::Moment;
 
-/// What is known of the tests that run. A test's parent is the longest beginning of its name, at a `/`, that runs, or its
-/// package. A test that tells nothing before its end is one event in the span above it. A test that runs when its package passes has
-/// passed. If a test begins while one of its name runs, that one ends as unfinished first, and so does at the end of the input what
-/// still runs. What a build prints is told when it fails or another line of its package comes. A line takes time for the length of its
-/// names, and hardly more where many tests run.
+/// The state of the running tests.
+///
+/// A test is nested in its nearest running ancestor (names split at `/`), otherwise in its package.
+/// A test that prints nothing before its end is one event in its parent's span. A test that is
+/// still running when its package passes has passed. If a test starts while one with its name is
+/// running, that one ends as unfinished first. At the end of the input, everything still running
+/// ends as unfinished too. A build's output is reported when the build fails or another line of its
+/// package comes. The time for a line grows with the length of its names, and hardly with the
+/// number of running tests.
 #[derive(Drop)]
 pub struct GoTest {
     alloc: Global,
-    // The id that the next span gets.
+    // The id of the next span.
     next: u64,
     moment: Moment,
-    // What runs by the packages' paths, and of each by the tests' names. The package itself has the empty name.
+    // What is running, by the packages' paths, then by the tests' names. The package itself has the
+    // empty name.
     packages: Named<Named<Running>>,
-    // What builds printed, by the packages' paths.
+    // The output of builds, by the packages' paths.
     builds: Named<Build>,
     tally: Tally,
     failing: Failing,
-    // The package whose build tells lines that aren't JSON.
+    // The package whose build prints the lines that aren't JSON. Empty if there isn't one.
     building: Text,
     // The span of the last call.
     last: Option<Id>,
@@ -79,7 +84,12 @@ impl Model for GoTest {
 }
 
 impl GoTest {
-    /// No test runs yet. The next span gets this id, and calls are made at this moment until a line tells a time.
+    /// Returns the state before the first line. The next span gets the id `next`, and calls are
+    /// made at `moment` until a line has a time.
+    ///
+    /// # Errors
+    ///
+    /// `AllocError` if an allocation fails.
     pub fn new(alloc: Global, next: u64, moment: Moment) -> Result<GoTest, AllocError>
         ensures { IfOk result (λ source. source ≡ nothing_run next moment) }
     {
@@ -100,21 +110,21 @@ impl GoTest {
         })
     }
 
-    /// Whether a test or a package has failed, or a package didn't end.
+    /// Returns whether a test or a package has failed, or a package didn't end.
     pub fn has_failed(&self) -> bool
         ensures { result ≡ has_failed self.now }
     {
         self.tally.has_failed()
     }
 
-    /// How many tests came to which end.
+    /// Returns the counts of tests and packages, by how they ended.
     pub fn tally(&self) -> Tally
         ensures { result ≡ self.now.tally }
     {
         self.tally
     }
 
-    // Whether this test runs, or with an empty name its package.
+    // Returns whether this test is running, or the package if the name is empty.
     pub(crate) fn runs(&self, path: &[u8], test: &[u8]) -> bool
         ensures { result ≡ runs path.now test.now self.now }
     {
@@ -124,7 +134,7 @@ impl GoTest {
         }
     }
 
-    // Hands out the calls.
+    // Returns the calls, and empties the list.
     pub(crate) fn told(&mut self) -> Vec<Call>
         ensures told { result.items ≡ self.old.calls }
         ensures rest { self.new ≡ record self.old { calls = [] } }
@@ -132,7 +142,7 @@ impl GoTest {
         mem::replace(&mut self.calls, Vec::new(self.alloc))
     }
 
-    // A line of text: of a build that fails, or of anything else that prints.
+    // Takes a line that isn't JSON: from a failing build, or from anything else that prints.
     pub(crate) fn take_text(&mut self, line: &str) -> Result<(), AllocError>
         ensures { OnOk result (self.new ≡ takes_text line.now self.old) }
     {
@@ -146,7 +156,7 @@ impl GoTest {
         self.take_plain(line)
     }
 
-    // The package whose build prints from here on; none where the name is empty.
+    // Sets the package whose build prints the next lines. If the path is empty, there isn't one.
     fn set_building(&mut self, path: &str) -> Result<(), AllocError>
         ensures { OnOk result (self.new ≡ record self.old { building = path.now }) }
     {
@@ -154,7 +164,7 @@ impl GoTest {
         Ok(())
     }
 
-    // A line that a build prints, or anything else.
+    // Takes a line that a build or anything else prints.
     fn take_plain(&mut self, line: &str) -> Result<(), AllocError>
         ensures { OnOk result (self.new ≡ takes_plain line.now self.old) }
     {
@@ -171,7 +181,7 @@ impl GoTest {
         self.keep(owner)
     }
 
-    // Whether no build is known to print, or `go` says what it does.
+    // Returns whether no build is known to print, or the line is a download message of `go`.
     fn is_aside(&self, line: &str) -> bool
         ensures { result ≡ is_aside line.now self.now }
     {
@@ -179,7 +189,7 @@ impl GoTest {
             || line.as_bytes().starts_with("go: downloading ".as_bytes())
     }
 
-    // A line that is a JSON value. Returns whether it is known.
+    // Takes a line that is a JSON value. Returns whether it is known.
     pub(crate) fn take_value(&mut self, value: &Value<'_>) -> Result<bool, AllocError>
         ensures { IfOk result (takes_value (value_view value.now) self.old self.new) }
     {
@@ -192,14 +202,14 @@ impl GoTest {
         Ok(is_known)
     }
 
-    // The moment of the last line.
+    // Returns the moment of the last line.
     fn moment(&self) -> Moment
         ensures { result ≡ self.now.moment }
     {
         self.moment
     }
 
-    // Goes on to the moment of a line.
+    // Advances to the moment of a line.
     fn go_on(&mut self, value: &Value<'_>)
         ensures { self.new ≡ timed (value_view value.now) self.old }
     {
@@ -212,7 +222,7 @@ impl GoTest {
         self.moment = moment;
     }
 
-    // A line that is a JSON value, at the moment that it tells. Returns whether it is known.
+    // Takes a line that is a JSON value, at the moment of that line. Returns whether it is known.
     fn take_timed(&mut self, value: &Value<'_>) -> Result<bool, AllocError>
         ensures { IfOk result (takes_timed (value_view value.now) self.old self.new) }
     {
@@ -225,7 +235,7 @@ impl GoTest {
         self.act(action, path, test_of(value), value)
     }
 
-    // A line of this action.
+    // Takes a line with this action. Returns whether it is known.
     fn act(
         &mut self,
         action: &str,
@@ -252,7 +262,7 @@ impl GoTest {
         Ok(true)
     }
 
-    // A build prints. Returns whether the line has a text.
+    // Takes a line of a build's output. Returns whether it has a string.
     fn take_build_output(&mut self, path: &str, text: Option<&str>) -> Result<bool, AllocError>
         ensures { IfOk result (takes_value_as
             (build_printed_if path.now (option_map (λ t. t.now) text.entry) self.old) self.old
@@ -265,7 +275,7 @@ impl GoTest {
         Ok(true)
     }
 
-    // A test prints, or a package. Returns whether the line has a text.
+    // Takes a line of output of a test or a package. Returns whether it has a string.
     fn take_output(
         &mut self,
         kind: Kind,
@@ -285,7 +295,7 @@ impl GoTest {
         Ok(true)
     }
 
-    // A test begins or ends, or its package.
+    // Starts or ends a test or a package.
     fn step(
         &mut self,
         action: &str,
@@ -309,7 +319,7 @@ impl GoTest {
         }
     }
 
-    // A test begins, or its package.
+    // Starts a test or a package.
     fn run(&mut self, path: &str, test: &str) -> Result<(), AllocError>
         ensures { OnOk result (self.new ≡ ran path.now test.now self.old) }
     {
@@ -325,7 +335,8 @@ impl GoTest {
         self.keep(begun)
     }
 
-    // What a test stands in that begins. If one of its name runs already, that one ends.
+    // Takes out the parent of a test that starts. If a test with this name is running, it ends as
+    // unfinished first.
     fn take_above(&mut self, path: &str, test: &str) -> Result<Running, AllocError>
         ensures { IfOk result (λ one. holds one self.new ≡ above_held path.now test.now self.old) }
     {
@@ -337,7 +348,7 @@ impl GoTest {
         self.take_owner(path, test)
     }
 
-    // A test prints, or a package.
+    // Takes output of a test or a package.
     fn output(&mut self, kind: Kind, path: &str, test: &str, text: &str) -> Result<(), AllocError>
         ensures { OnOk result (self.new ≡ printed kind path.now test.now text.now self.old) }
     {
@@ -347,7 +358,7 @@ impl GoTest {
         self.keep(owner)
     }
 
-    // A test ends, or a package.
+    // Ends a test or a package.
     fn end(
         &mut self,
         ending: Ending,
@@ -366,7 +377,7 @@ impl GoTest {
         self.end_test(owner, ending, test, elapsed)
     }
 
-    // The test of this name ends, or one in it that didn't run.
+    // Ends the test with this name, or a subtest that wasn't running.
     fn end_test(
         &mut self,
         owner: Running,
@@ -404,7 +415,8 @@ impl GoTest {
         self.finish(package, ending, elapsed)
     }
 
-    // Ends what still runs of a package with this span, from the last name on, so that a test ends after those in it.
+    // Ends everything still running in a package with this span. It starts at the last name, so a
+    // test ends after its subtests.
     fn leave_over(
         &mut self,
         ending: Ending,
@@ -420,7 +432,7 @@ impl GoTest {
         Ok(())
     }
 
-    // Ends one test, which stands in these others.
+    // Ends one test, whose ancestors are among `others`.
     fn leave_placed(
         &mut self,
         ending: Ending,
@@ -446,7 +458,7 @@ impl GoTest {
         self.finish(one, ending, None)
     }
 
-    // Counts what doesn't tell of its end.
+    // Counts a test or a package that had no end.
     fn note_left(&mut self, ending: Ending, one: &Running) -> Result<(), AllocError>
         ensures { OnOk result (self.new ≡ noted_left ending one.now self.old) }
     {
@@ -457,7 +469,7 @@ impl GoTest {
         }
     }
 
-    // Ends what still runs, and tells what builds printed.
+    // Ends everything still running, and reports the output of builds.
     pub(crate) fn leave_all(&mut self) -> Result<(), AllocError>
         ensures { OnOk result (self.new ≡ all_ended self.old) }
     {
@@ -466,7 +478,7 @@ impl GoTest {
         self.tell_builds(builds)
     }
 
-    // Ends what still runs, one package after the other.
+    // Ends everything still running, one package after the other.
     fn end_packages(&mut self) -> Result<(), AllocError>
         ensures { OnOk result (self.new ≡ packages_ended self.old) }
     {
@@ -484,7 +496,7 @@ impl GoTest {
         Ok(())
     }
 
-    // Ends what still runs of a package, and the package after it.
+    // Ends everything still running in a package, then the package.
     fn leave_package(&mut self, tests: Named<Running>) -> Result<(), AllocError>
         ensures { OnOk result (self.new ≡ package_left tests self.old) }
     {
@@ -498,7 +510,7 @@ impl GoTest {
         }
     }
 
-    // The line that counts tests and packages, and names those that failed.
+    // Returns the call with the counts of tests and packages, and the names of those that failed.
     pub(crate) fn tally_call(&self, alloc: Global) -> Result<Call, AllocError>
         ensures { IfOk result (λ call. call ≡ tally_call self.now) }
     {
@@ -512,7 +524,7 @@ impl GoTest {
         event_call(alloc, self.moment, level, Fields::from(fields), None)
     }
 
-    // Counts a test that came to this end.
+    // Counts a test that ended like this.
     fn count(&mut self, ending: Ending, path: &str, test: &str) -> Result<(), AllocError>
         ensures { OnOk result (self.new ≡ counted ending path.now test.now self.old) }
     {
@@ -537,7 +549,7 @@ impl GoTest {
         Ok(())
     }
 
-    // Counts a package that came to this end.
+    // Counts a package that ended like this.
     fn count_package(&mut self, ending: Ending, path: &str) -> Result<(), AllocError>
         ensures { OnOk result (self.new ≡ package_counted ending path.now self.old) }
     {
@@ -563,7 +575,7 @@ impl GoTest {
         Ok(())
     }
 
-    // Takes out what runs under the longest beginning of this name.
+    // Takes out what is running under the longest prefix of this name, split at a `/`.
     fn take_owner(&mut self, path: &str, test: &str) -> Result<Running, AllocError>
         ensures { IfOk result (λ one. holds one self.new ≡ held path.now test.now self.old) }
     {
@@ -575,7 +587,7 @@ impl GoTest {
         Ok(one)
     }
 
-    // Puts back what runs.
+    // Puts back a test or a package that is running.
     fn keep(&mut self, one: Running) -> Result<(), AllocError>
         ensures { OnOk result (self.new ≡ kept (holds one self.old)) }
     {
@@ -586,7 +598,7 @@ impl GoTest {
         self.put_package(path.as_str(), tests)
     }
 
-    // Puts back what runs of a package.
+    // Puts back what is running in a package.
     fn put_package(&mut self, path: &str, tests: Named<Running>) -> Result<(), AllocError>
         ensures { OnOk result (self.new ≡ with_package path.now tests self.old) }
     {
@@ -594,7 +606,7 @@ impl GoTest {
         self.packages.put(path, tests)
     }
 
-    // Takes out what runs of a package.
+    // Takes out what is running in a package.
     fn take_package(&mut self, path: &str) -> Named<Running>
         ensures tests { result ≡ tests_of path.now self.old }
         ensures rest { self.new ≡ without_package path.now self.old }
@@ -603,7 +615,7 @@ impl GoTest {
         tests.unwrap_or(Named::new(self.alloc))
     }
 
-    // Takes out what runs under this name. A package that isn't known yet begins.
+    // Takes out what is running under this name. If there is nothing, the package starts.
     fn take_running(
         &self,
         tests: &mut Named<Running>,
@@ -663,7 +675,7 @@ impl Source for GoTest {
     }
 }
 
-// The first key that a line lacks of which nothing is known.
+// Returns the first missing key of an unknown line.
 fn lack_in(value: &Value<'_>) -> Lack
     ensures { result ≡ lack_in (value_view value.now) }
 {
@@ -676,7 +688,7 @@ fn lack_in(value: &Value<'_>) -> Lack
     }
 }
 
-// The level of a line that no build prints.
+// Returns the level of a line that isn't printed by a build.
 fn level_of_text(line: &str) -> Level
     ensures { result ≡ level_of_text line.now }
 {
@@ -687,7 +699,7 @@ fn level_of_text(line: &str) -> Level
     }
 }
 
-// What a line says that its string is.
+// Returns the kind of a line's output.
 fn kind_in(value: &Value<'_>) -> Kind
     ensures { result ≡ kind_in (value_view value.now) }
 {
@@ -697,7 +709,7 @@ fn kind_in(value: &Value<'_>) -> Kind
     }
 }
 
-// The test of a line; a package's line has none.
+// Returns the test of a line. It is empty for a package's line.
 pub(crate) fn test_of<'v>(value: &'v Value<'_>) -> &'v str
     ensures { result.now ≡ test_of (value_view value.now) }
 {
@@ -707,14 +719,14 @@ pub(crate) fn test_of<'v>(value: &'v Value<'_>) -> &'v str
     }
 }
 
-// How long a test took, as the line's number reads.
+// Returns how long a test took, as the number is written in the line.
 fn elapsed_in<'v>(value: &'v Value<'_>) -> Option<&'v str>
     ensures { option_map (λ s. s.now) result ≡ elapsed_in (value_view value.now) }
 {
     value.get("Elapsed")?.as_number()
 }
 
-// The package of a line; that of a build's line is the beginning of its import path.
+// Returns the package of a line. For a build's line it is the first word of the import path.
 pub(crate) fn package_of<'v>(value: &'v Value<'_>) -> Option<&'v str>
     ensures { option_map (λ s. s.now) result ≡ package_of (value_view value.now) }
 {

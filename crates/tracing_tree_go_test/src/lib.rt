@@ -1,6 +1,7 @@
-//! What `go test -json` prints, drawn as a tree.
+//! Draws the output of `go test -json` as a tree.
 //!
-//! [`GoTest`] tells all tests, and [`Failed`] what failed of them alone. `tracing_tree_sources::draw_source` draws either.
+//! [`GoTest`] reports all tests, and [`Failed`] only those that failed.
+//! `tracing_tree_sources::draw_source` draws either.
 #![tactic(auto)]
 
 pub mod failed;

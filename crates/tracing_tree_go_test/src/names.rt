@@ -1,4 +1,4 @@
-//! What has a name: tests by their names, and packages by their paths.
+//! Values with names: tests by their names, and packages by their paths.
 
 ghost use Rattle.std.specs.Prelude.{◌≡◌, ◌++◌, ◌∷◌, ℕ, List, [], IfNone, IfOk, IfSome, OnOk, is_some, option_map};
 ghost use Rattle.tracing_tree_go_test.specs.Names.{named, put, without};
@@ -7,7 +7,7 @@ use std::alloc::{AllocError, Global};
 use std::collections::BTreeMap;
 use std::marker::Model;
 
-// What has a name, in the order of the names' bytes.
+// Values by their names, in the order of the names' bytes.
 #[derive(Drop)]
 pub(crate) struct Named<X> {
     entries: BTreeMap<Vec<u8>, X>,
@@ -31,21 +31,21 @@ impl<X: Drop> Named<X> {
         }
     }
 
-    // Whether something has this name.
+    // Returns whether there is a value with this name.
     pub(crate) fn has(&self, name: &[u8]) -> bool
         ensures { result ≡ is_some (named name.now self.now) }
     {
         self.entries.contains_key(name)
     }
 
-    // What has this name.
+    // Returns the value with this name.
     pub(crate) fn get(&self, name: &[u8]) -> Option<&X>
         ensures { option_map (λ one. one.now) result ≡ named name.now self.now }
     {
         self.entries.get(name)
     }
 
-    // Takes out what has this name.
+    // Takes out the value with this name.
     pub(crate) fn take(&mut self, name: &[u8]) -> Option<X>
         ensures one { result ≡ named name.now self.old }
         ensures rest { self.new ≡ without name.now self.old }
@@ -53,7 +53,7 @@ impl<X: Drop> Named<X> {
         self.entries.remove(name)
     }
 
-    // Takes out what has the last name.
+    // Takes out the value with the last name.
     pub(crate) fn take_last(&mut self) -> Option<X>
         ensures none { IfNone result (self.old ≡ []) }
         ensures one { IfSome result (λ one. (name : List ℕ) × (self.old ≡ self.new ++ (name, one) ∷ [])) }
@@ -62,7 +62,7 @@ impl<X: Drop> Named<X> {
         Some(one)
     }
 
-    // Takes out what has the first name, with its name.
+    // Takes out the value with the first name, and the name.
     pub(crate) fn take_first(&mut self) -> Option<(Vec<u8>, X)>
         ensures none { IfNone result (self.old ≡ []) }
         ensures one { IfSome result (λ first. self.old ≡ (first.0.items, first.1) ∷ self.new) }
@@ -70,7 +70,7 @@ impl<X: Drop> Named<X> {
         self.entries.pop_first()
     }
 
-    // Puts something under this name.
+    // Stores a value under this name.
     pub(crate) fn put(&mut self, name: Vec<u8>, one: X) -> Result<(), AllocError>
         ensures { OnOk result (self.new ≡ put name.items one self.old) }
     {
@@ -79,7 +79,7 @@ impl<X: Drop> Named<X> {
     }
 }
 
-// The bytes of a name.
+// Returns the bytes of a name.
 pub(crate) fn key(alloc: Global, name: &str) -> Result<Vec<u8>, AllocError>
     ensures { IfOk result (λ key. key.items ≡ name.now) }
 {

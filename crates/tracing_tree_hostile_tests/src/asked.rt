@@ -1,4 +1,4 @@
-//! How often a writer and a timer are asked.
+//! How often a writer and a timer are called.
 
 use crate::fakes::{Choppy, Trouble};
 use std::alloc::{AllocError, Global};
@@ -14,7 +14,7 @@ use tracing_tree_for_tests::Step;
 
 type Counted = Layered<Wrap<Choppy>, ()>;
 
-// A layer that shows all that it can, over a writer that takes all.
+// Returns a layer that shows all that it can, over a writer that takes all.
 fn counted(alloc: Global, retrace: bool) -> Result<Box<Counted>, AllocError> {
     let writer = Wrap::new(Choppy::new(alloc, usize::MAX, Trouble::NONE));
     let layer = HierarchicalLayer::new(alloc, 2, false, writer)
@@ -42,7 +42,7 @@ fn into_writes(layered: Box<Counted>) -> usize {
     layer.into_writer().into_inner().writes
 }
 
-// How many writes these calls need, of which each is accepted.
+// Returns how many writes these calls need. Each call must be accepted.
 fn writes(
     rt: &(impl Abort + AllocGlobal),
     retrace: bool,
@@ -54,7 +54,8 @@ fn writes(
     Ok(into_writes(layered))
 }
 
-// Two branches, events in both by turns, a record and clones, which draw nothing, and closes of which the last draws four spans.
+// Two branches, events in both in turn, a record and clones, which draw nothing, and closes. The
+// last one draws four spans.
 const STEPS: [Step<'static>; 15] = [
     Step::New("a", None),
     Step::New("b", Some(1)),
@@ -83,7 +84,7 @@ fn a_call_is_one_write_or_none(rt: HostRuntime) -> Result<(), Fail> {
     Ok(())
 }
 
-// How many writes a root with a name of so many bytes needs.
+// Returns how many writes a root with a name of `bytes` bytes needs.
 fn writes_of(rt: &(impl Abort + AllocGlobal), bytes: usize) -> Result<usize, AllocError> {
     let name = "n".repeat(rt.alloc(), bytes)?;
     writes(rt, false, [Step::New(name.as_str(), None)].as_slice())
@@ -100,7 +101,8 @@ fn a_text_is_one_write(rt: HostRuntime) -> Result<(), Fail> {
     Ok(())
 }
 
-// Shows nothing, and counts how often it is asked for a moment and for an elapsed time.
+// A timer that shows nothing, and counts how often it is called for a moment and for an elapsed
+// time.
 #[derive(Drop)]
 struct Asked {
     moments: Cell<u32>,
@@ -128,7 +130,7 @@ impl FormatTime for Asked {
     }
 }
 
-// A layer that asks this timer.
+// Returns a layer that calls this timer.
 fn asking(alloc: Global, asked: &Asked) -> Result<Box<Layered<Tape, &Asked>>, AllocError> {
     let layer = HierarchicalLayer::new(alloc, 2, false, Tape::new(alloc))
         .with_indent_lines(true)
@@ -149,7 +151,7 @@ fn make(
     Ok(())
 }
 
-// How often a timer is asked for a moment and for an elapsed time while these calls are made.
+// Returns how often a timer is called for a moment and for an elapsed time by these calls.
 fn times_asked(alloc: Global, steps: &[Step<'_>]) -> Result<(u32, u32), AllocError> {
     let asked = Asked {
         moments: Cell::new(0),
@@ -159,7 +161,7 @@ fn times_asked(alloc: Global, steps: &[Step<'_>]) -> Result<(u32, u32), AllocErr
     Ok((asked.moments.get(), asked.elapsed.get()))
 }
 
-// These calls ask a timer so often.
+// Checks how often these calls call a timer.
 fn asks(
     rt: &(impl Abort + AllocGlobal),
     steps: &[Step<'_>],
@@ -170,7 +172,7 @@ fn asks(
     Ok(())
 }
 
-// An event outside every span has no elapsed time, and neither has one whose current span is gone.
+// An event outside all spans has no elapsed time. Neither has one whose current span isn't live.
 const OUTSIDE: [Step<'static>; 4] = [
     Step::New("a", None),
     Step::Close(1),

@@ -4,7 +4,7 @@ use std::alloc::Global;
 use std::io;
 use std::io::{ErrorKind, Read, Write};
 
-/// Each kind of error after which nothing is tried again.
+/// The kinds of errors that aren't retried.
 pub const ERRORS: [ErrorKind; 41] = [
     ErrorKind::NotFound,
     ErrorKind::PermissionDenied,
@@ -49,7 +49,8 @@ pub const ERRORS: [ErrorKind; 41] = [
     ErrorKind::Uncategorized,
 ];
 
-/// Attempts from the first one's number, counted from 1, that fail with this kind, so many of them.
+/// A fault of attempts: `times` attempts fail with this kind, from number `first` on, counted from
+/// 1.
 #[derive(Clone, Copy, Debug)]
 pub struct Trouble {
     pub first: usize,
@@ -74,7 +75,7 @@ impl Trouble {
         }
     }
 
-    /// So many attempts from this one on are interrupted.
+    /// Interrupts `times` attempts from number `first` on.
     pub fn interrupted(first: usize, times: usize) -> Trouble {
         Trouble {
             first,
@@ -92,7 +93,8 @@ impl Trouble {
     }
 }
 
-/// A writer that takes at most a piece of what it is given. It counts its writes, and notes how much it had taken at each flush.
+/// A writer that takes at most a piece of what it is given. It counts its writes, and notes how
+/// much it had taken at each flush.
 #[derive(Drop)]
 pub struct Choppy {
     pub taken: Vec<u8>,
@@ -115,7 +117,7 @@ impl Choppy {
         }
     }
 
-    /// Takes all, and meets this trouble where it is flushed.
+    /// Takes everything, with this fault in its flushes.
     pub fn flushing(alloc: Global, flushing: Trouble) -> Choppy {
         Choppy {
             taken: Vec::new(alloc),
@@ -143,7 +145,7 @@ impl Write for Choppy {
     }
 }
 
-/// A reader that gives so many bytes first, and then at most a piece at a time.
+/// A reader that returns `first` bytes in the first read, and then at most `piece` bytes per read.
 #[derive(Drop)]
 pub struct Halting<'a> {
     pub rest: &'a [u8],

@@ -1,5 +1,6 @@
-//! Tests of hostile use: writers, readers and timers that fault in every way and at every place, odd calls, texts and lines, how often a
-//! writer, a reader and a timer are asked, and each quantity at each size.
+//! Tests of hostile use: writers, readers and timers that fault in every way and at every place;
+//! odd calls, strings and lines; how often a writer, a reader and a timer are called; and each
+//! quantity at each size.
 #![tactic(auto)]
 
 #[cfg(test)]

@@ -36,7 +36,7 @@ fn read_by(alloc: Global, reader: Halting<'_>) -> End {
     (ran.fault, ran.accepted, ran.writer.bytes().len())
 }
 
-// A run that ends at this line, from 1 on, for this cause, after all calls before it.
+// Returns a run that ends at this line, from 1 on, for this cause, after all calls before it.
 fn ended(line: usize, cause: LineCause) -> End {
     let calls = line.saturating_sub(2);
     let fault = LineFault {
@@ -49,8 +49,8 @@ fn ended(line: usize, cause: LineCause) -> End {
 
 const WHOLE: End = (None, 3, 32);
 
-// The number of the first read of each line, of one in its middle, and of the one that finds its end; the last line is the end of the
-// input.
+// Returns the numbers of three reads for each line: the first, one in its middle, and the one that
+// finds its end. The last line is the end of the input.
 fn reads(alloc: Global) -> Result<Vec<(usize, usize)>, AllocError> {
     let mut reads = Vec::new(alloc);
     let mut before = 0_usize;
@@ -65,7 +65,8 @@ fn reads(alloc: Global) -> Result<Vec<(usize, usize)>, AllocError> {
     Ok(reads)
 }
 
-// Over a reader that gives a byte a read, so that the reads of a line are known, and meets this trouble, the run ends so.
+// Over a reader that gives a byte a read, so that the reads of a line are known, and meets this
+// trouble, the run ends so.
 fn reads_end(rt: &(impl Abort + AllocGlobal), trouble: Trouble, wanted: End) {
     let end = read_by(rt.alloc(), Halting::new(INPUT.as_bytes(), 1, trouble));
     assert_eq!(rt; end, wanted, "{trouble:?}");
@@ -96,7 +97,7 @@ fn reads_are_interrupted_in_each_line(rt: HostRuntime) -> Result<(), Fail> {
     Ok(())
 }
 
-// This text, and so many spaces after it.
+// Returns this string with `spaces` spaces after it.
 fn spaced(alloc: Global, text: &str, spaces: usize) -> Result<String, AllocError> {
     let mut input = String::from_str(alloc, text)?;
     input.push_str(" ".repeat(alloc, spaces)?.as_str())?;
@@ -115,13 +116,14 @@ fn a_line_comes_in_many_parts(rt: HostRuntime) -> Result<(), Fail> {
 // The lines up to a call.
 const BEGINNING: &str = "{\"indent_lines\":true}\n{\"call\":\"new\",\"name\":\"a\"}\n";
 
-// How much is shown at each flush of a run over this reader.
+// Returns how much is shown at each flush of a run over this reader.
 fn shown_by(alloc: Global, reader: Halting<'_>) -> Vec<usize> {
     let writer = Wrap::new(Choppy::new(alloc, usize::MAX, Trouble::NONE));
     run_lines(alloc, reader, writer).writer.into_inner().shown
 }
 
-// The lines up to a call, and as many bytes of the next line, come with the first read. How much is shown before each read after it.
+// The lines up to a call, and as many bytes of the next line, come with the first read. How much is
+// shown before each read after it.
 fn shown(alloc: Global, begun: usize) -> Result<Vec<usize>, AllocError> {
     let input = spaced(alloc, BEGINNING, begun.saturating_add(10))?;
     let mut reader = Halting::new(input.as_bytes(), usize::MAX, Trouble::NONE);
@@ -142,12 +144,13 @@ fn a_line_that_has_begun_holds_nothing_back(rt: HostRuntime) -> Result<(), Fail>
 // A call, and the line that it is.
 const CALLS: [(usize, usize); 3] = [(1, 2), (2, 3), (3, 4)];
 
-// A run whose writer refuses what the call in this line draws.
+// Returns a run whose writer refuses what the call in this line draws.
 fn refused(line: usize) -> End {
     ended(line, LineCause::Refused(Refusal::Writer))
 }
 
-// A run over a writer that is asked once a call: how it ended, and how often the writer was asked.
+// Runs the lines over a writer that is called once per call. Returns how the run ended, and how
+// often the writer was called.
 fn written_by(alloc: Global, writer: Choppy) -> (End, usize) {
     let ran = run_lines(alloc, INPUT.as_bytes(), Wrap::new(writer));
     let (fault, accepted) = (ran.fault, ran.accepted);
@@ -155,7 +158,8 @@ fn written_by(alloc: Global, writer: Choppy) -> (End, usize) {
     ((fault, accepted, writer.taken.len()), writer.writes)
 }
 
-// Over a writer that meets this trouble the run ends so, and asks the writer so often.
+// Runs the lines over a writer with this fault, and checks how the run ends and how often the
+// writer is called.
 fn writes_end(rt: &(impl Abort + AllocGlobal), trouble: Trouble, wanted: (End, usize)) {
     let writer = Choppy::new(rt.alloc(), usize::MAX, trouble);
     assert_eq!(rt; written_by(rt.alloc(), writer), wanted, "{trouble:?}");
@@ -190,7 +194,8 @@ fn no_write_takes_anything(rt: HostRuntime) {
     assert_eq!(rt; written_by(rt.alloc(), writer), (refused(2), 1));
 }
 
-// A run, a byte a read, over a writer that meets this trouble where it is flushed: how it ended, and whether the output is stuck.
+// Runs the lines, one byte per read, over a writer with this fault in its flushes. Returns how the
+// run ended, and whether the output is stuck.
 fn flushed_by(alloc: Global, input: &[u8], trouble: Trouble) -> (End, bool) {
     let reader = Halting::new(input, 1, Trouble::NONE);
     let ran = run_lines(alloc, reader, Wrap::new(Choppy::flushing(alloc, trouble)));
@@ -199,7 +204,7 @@ fn flushed_by(alloc: Global, input: &[u8], trouble: Trouble) -> (End, bool) {
     ((fault, accepted, bytes), stuck)
 }
 
-// Over a writer that meets this trouble where it is flushed the run ends so.
+// Runs the lines over a writer with this fault in its flushes, and checks how the run ends.
 fn flushes_end(rt: &(impl Abort + AllocGlobal), trouble: Trouble, wanted: (End, bool)) {
     let end = flushed_by(rt.alloc(), INPUT.as_bytes(), trouble);
     assert_eq!(rt; end, wanted, "{trouble:?}");
@@ -212,8 +217,9 @@ fn flushes_fail(rt: &(impl Abort + AllocGlobal), flush: usize, wanted: (End, boo
     }
 }
 
-// The writer is flushed once before each line but the first, and the last time before the end of the input. A flush that is refused
-// is told of the next call that draws, though later flushes are not refused.
+// The writer is flushed before each line except the first, and for the last time before the end of
+// the input. A refused flush is reported by the next call that draws, even if later flushes
+// succeed.
 #[test]
 fn flushes_fail_before_each_line_and_in_each_way(rt: HostRuntime) {
     for (flush, line) in CALLS {

@@ -1,4 +1,4 @@
-//! Odd calls, odd texts and odd lines.
+//! Odd calls, odd strings and odd lines.
 
 use std::alloc::{AllocError, Global};
 use std::process::Abort;
@@ -18,7 +18,8 @@ const PLAIN: Settings = Settings {
     ..LINED
 };
 
-// What calls come to: the first that is not answered as it stands beside it, what they draw, and whether the layer has failed.
+// The result of calls: the first one with an unexpected answer, what they draw, and whether the
+// layer has failed.
 type Drawing = (Option<(usize, Answer)>, Vec<u8>, bool);
 
 fn drawing(
@@ -31,7 +32,7 @@ fn drawing(
     Ok((unlike, tree.text().to_vec(alloc)?, tree.failed()))
 }
 
-// Each of these calls is answered as it stands beside it, and they draw this.
+// Checks the answer to each of these calls, and what they draw.
 fn draws(
     rt: &(impl Abort + AllocGlobal),
     settings: Settings,
@@ -148,8 +149,8 @@ const MESSAGES: [(&str, &str, &str); 9] = [
     ),
 ];
 
-// A line end takes the carriage return right before it along. What follows the last one keeps its own without lines; with lines a line
-// end is put after it.
+// A line end takes the carriage return right before it along. What follows the last one keeps its
+// own without lines; with lines a line end is put after it.
 #[test]
 fn texts_with_line_ends_are_drawn(rt: HostRuntime) -> Result<(), Fail> {
     for (message, lined, plain) in MESSAGES {
@@ -180,7 +181,7 @@ fn push_row(out: &mut String, row: &Row) -> Result<(), AllocError> {
     out.push_str("\n")
 }
 
-// Each row of the text, or nothing where it isn't read.
+// Returns each row of the text, or an empty string if it can't be read.
 fn read(alloc: Global, text: &str) -> Result<String, AllocError> {
     let mut out = String::new(alloc);
     let Ok(rows) = read_rows(alloc, text, 2) else {
@@ -192,7 +193,7 @@ fn read(alloc: Global, text: &str) -> Result<String, AllocError> {
     Ok(out)
 }
 
-// A root of this name draws this text, which is read as these rows.
+// Checks that a root with this name draws this text, which is read as these rows.
 fn is_read_back(
     rt: &(impl Abort + AllocGlobal),
     name: &str,
@@ -223,7 +224,7 @@ fn odd_names_are_read_back(rt: HostRuntime) -> Result<(), Fail> {
     Ok(())
 }
 
-// How a run over this input ends: the text of its fault, or nothing, and the status.
+// Runs the lines over this input. Returns the fault as a string, or an empty one, and the status.
 fn ends(alloc: Global, input: &[u8]) -> Result<(String, u8), AllocError> {
     let ran = run_lines(alloc, input, Tape::new(alloc));
     let status = status(&ran.fault, true);
@@ -233,14 +234,15 @@ fn ends(alloc: Global, input: &[u8]) -> Result<(String, u8), AllocError> {
     }
 }
 
-// How a run over this input after that one ends.
+// Returns how a run over this input after that one ends.
 fn ends_after(alloc: Global, before: &[u8], input: &[u8]) -> Result<(String, u8), AllocError> {
     let mut whole = before.to_vec(alloc)?;
     whole.extend_from_slice(input)?;
     ends(alloc, whole.as_slice())
 }
 
-// After the input before it, a run over each of these inputs ends with this text of a fault, or nothing, and this status.
+// Checks how a run ends over each of these inputs after the input `before`: the fault as a string,
+// or an empty one, and the status.
 fn each_ends(
     rt: &(impl Abort + AllocGlobal),
     before: &[u8],

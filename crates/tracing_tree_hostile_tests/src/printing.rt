@@ -23,18 +23,18 @@ const PRINTED: &str = concat!(
 // How a reading ends.
 type Ended = Result<(), RowFault>;
 
-// What this writer took of the rows that this reader gives, and how the reading ended.
+// Returns what this writer took of the rows that this reader gives, and how the reading ended.
 fn printed(alloc: Global, reader: Halting<'_>, mut writer: Choppy) -> (Vec<u8>, Ended) {
     let ended = rows_to_json(alloc, reader, &mut writer, 2);
     (writer.taken, ended)
 }
 
-// What is taken is a beginning of what is to be printed.
+// Checks that the bytes taken are a prefix of the expected output.
 fn begins(rt: &impl Abort, taken: &[u8], trouble: Trouble) {
     assert!(rt; PRINTED.as_bytes().starts_with(taken), "{trouble:?}");
 }
 
-// A writer of pieces that meets this trouble takes so many bytes, and the reading ends so.
+// Writes in pieces with this fault. Checks how many bytes are taken, and how the reading ends.
 fn takes(rt: &(impl Abort + AllocGlobal), piece: usize, trouble: Trouble, wanted: (usize, Ended)) {
     let reader = Halting::new(TREE.as_bytes(), usize::MAX, Trouble::NONE);
     let writer = Choppy::new(rt.alloc(), piece, trouble);
@@ -65,7 +65,8 @@ fn row_is_refused(rt: &(impl Abort + AllocGlobal), place: usize, before: usize, 
     }
 }
 
-// The line after the row of each byte is told, the first rows are out, and a beginning of that row.
+// For each byte, the fault names the line after its row. The rows before it and a first part of
+// that row have been written.
 #[test]
 fn each_write_is_refused(rt: HostRuntime) {
     let mut before = 0_usize;
@@ -87,12 +88,13 @@ fn writes_fail_in_each_way(rt: HostRuntime) {
     }
 }
 
-// How many lines these bytes end.
+// Returns how many lines these bytes end.
 fn line_ends(bytes: &[u8]) -> usize {
     bytes.iter().filter(|byte| **byte == b'\n').count()
 }
 
-// Of what a reader of a byte a read gives that meets this trouble so many rows are printed, and the reading ends so.
+// Reads one byte at a time with this fault. Checks how many rows are printed, and how the reading
+// ends.
 fn gives(rt: &(impl Abort + AllocGlobal), trouble: Trouble, wanted: (usize, Ended)) {
     let reader = Halting::new(TREE.as_bytes(), 1, trouble);
     let writer = Choppy::new(rt.alloc(), usize::MAX, Trouble::NONE);
@@ -101,7 +103,7 @@ fn gives(rt: &(impl Abort + AllocGlobal), trouble: Trouble, wanted: (usize, Ende
     assert_eq!(rt; (line_ends(taken.as_slice()), ended), wanted, "{trouble:?}");
 }
 
-// Each read of a row fails, so many after those of the rows before it.
+// Fails each read of a row, after the reads of the rows before it.
 fn row_is_not_given(rt: &(impl Abort + AllocGlobal), place: usize, before: usize, length: usize) {
     let fault = RowFault {
         line: (place as u64).saturating_add(1),
@@ -116,7 +118,8 @@ fn row_is_not_given(rt: &(impl Abort + AllocGlobal), place: usize, before: usize
     }
 }
 
-// A byte a read: each read fails. The rows before its line are printed, and the line is told.
+// Fails each read, one byte per read. The rows before its line are printed, and the fault names the
+// line.
 #[test]
 fn each_read_fails(rt: HostRuntime) {
     let mut before = 0_usize;
@@ -126,14 +129,14 @@ fn each_read_fails(rt: HostRuntime) {
     }
 }
 
-// An event of so many bytes outside every span.
+// Returns an event of `bytes` bytes outside all spans.
 fn event(alloc: Global, bytes: usize) -> Result<String, AllocError> {
     let mut text = "x".repeat(alloc, bytes)?;
     text.push_str("\n")?;
     Ok(text)
 }
 
-// How many bytes are printed of this text by a writer of a byte a write.
+// Returns how many bytes of this text a writer prints that takes one byte per write.
 fn printed_by_bytes(alloc: Global, text: &str) -> usize {
     let reader = Halting::new(text.as_bytes(), usize::MAX, Trouble::NONE);
     let writer = Choppy::new(alloc, 1, Trouble::NONE);
@@ -143,7 +146,7 @@ fn printed_by_bytes(alloc: Global, text: &str) -> usize {
     }
 }
 
-// Besides the text of the event 56 bytes are printed.
+// In addition to the event, 56 bytes are printed.
 #[test]
 fn long_rows_are_written_byte_by_byte(rt: HostRuntime) -> Result<(), Fail> {
     for bytes in [1, 70, 127, 128, 129, 2_000, 10_000] {

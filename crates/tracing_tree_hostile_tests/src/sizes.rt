@@ -1,5 +1,5 @@
-//! A run in which one quantity has each size, through a layer with its registry and through bare layers over both kinds of live spans,
-//! and single values that are far larger.
+//! Runs in which one quantity has each size, through a layer with its registry and through bare
+//! layers over both kinds of live spans, and single values that are far larger.
 
 mod bare;
 mod deep;

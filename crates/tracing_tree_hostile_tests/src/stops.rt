@@ -21,7 +21,7 @@ const STEPS: [Step<'static>; 5] = [
     Step::Close(1),
 ];
 
-// The same as lines.
+// The same calls, as lines.
 const LINES: &[u8] = br#"{"indent_lines":true}
 {"call":"new","name":"a"}
 {"call":"new","name":"b","current":1}
@@ -96,7 +96,8 @@ struct End {
     bytes: usize,
 }
 
-// Where this write is refused, by counting the writes that each call needs. After all of them nothing is.
+// Returns where this write is refused, from the number of writes that each call needs. After all of
+// them, no write is refused.
 fn expected(piece: usize, stop: usize) -> End {
     let mut left = stop;
     let mut bytes = 0_usize;
@@ -133,14 +134,14 @@ fn last(layered: &Stopping) -> Option<Id> {
     layered.layer().last_span()
 }
 
-// Whether these spans live, and this one is the last.
+// Returns whether these spans live, and this one is the last.
 fn is_left(layered: &Stopping, left: Left) -> bool {
     lives(layered, 1) == left.first
         && lives(layered, 2) == left.second
         && last(layered) == left.last
 }
 
-// Whether the spans and the last one are as they were before the call at this place.
+// Returns whether the spans and the last one are those before the call at this place.
 fn is_before(layered: &Stopping, place: usize) -> bool {
     match BEFORE.get(place) {
         Some(left) => is_left(layered, *left),
@@ -160,7 +161,7 @@ fn accepted(rt: &(impl Abort + AllocGlobal), layered: &mut Stopping) -> usize {
     STEPS.len()
 }
 
-// Whether every later call is refused, whatever it is.
+// Returns whether every later call is refused, whatever it is.
 fn has_failed(alloc: Global, layered: &mut Stopping) -> bool {
     for step in LATER {
         if answer(alloc, layered, step) != Err(Refusal::Failed) {
@@ -175,7 +176,7 @@ fn into_taken(layered: Box<Stopping>) -> Choppy {
     layer.into_writer().into_inner()
 }
 
-// After a run of which so many calls were accepted.
+// Checks the layer after a run with `accepted` accepted calls.
 fn stays(rt: &(impl Abort + AllocGlobal), layered: &mut Stopping, accepted: usize) {
     assert!(rt; is_before(layered, accepted), "{accepted}");
     if accepted < STEPS.len() {
@@ -184,7 +185,7 @@ fn stays(rt: &(impl Abort + AllocGlobal), layered: &mut Stopping, accepted: usiz
     }
 }
 
-// The calls over this writer: what they come to.
+// Makes the calls over this writer, and returns their result.
 fn ends(rt: &(impl Abort + AllocGlobal), piece: usize, stop: usize) -> Result<End, AllocError> {
     let trouble = Trouble::once(stop, ErrorKind::BrokenPipe);
     let mut layered = stopping(rt.alloc(), piece, trouble)?;
@@ -194,13 +195,13 @@ fn ends(rt: &(impl Abort + AllocGlobal), piece: usize, stop: usize) -> Result<En
     Ok(End { accepted, bytes })
 }
 
-// How many bytes of the whole text these are.
+// Returns how many bytes of the whole text these are.
 fn beginning(rt: &impl Abort, taken: &[u8]) -> usize {
     assert!(rt; TREE.as_bytes().starts_with(taken), "{taken:?}");
     taken.len()
 }
 
-// A writer of such pieces that refuses this write: what the calls come to.
+// Makes the calls over a writer that takes pieces and refuses this write, and checks their result.
 fn stops_calls(
     rt: &(impl Abort + AllocGlobal),
     piece: usize,
@@ -211,7 +212,7 @@ fn stops_calls(
     Ok(())
 }
 
-// The stops go on until a run meets none.
+// The stops continue until a run has no refused write.
 #[test]
 fn every_write_is_refused(rt: HostRuntime) -> Result<(), Fail> {
     for piece in 1..=12 {
@@ -222,7 +223,7 @@ fn every_write_is_refused(rt: HostRuntime) -> Result<(), Fail> {
     Ok(())
 }
 
-// How a run of lines is to end of which so many calls were accepted.
+// Returns how a run of lines must end after `accepted` accepted calls.
 fn fault_after(accepted: u64) -> Option<LineFault> {
     let cause = LineCause::Refused(Refusal::Writer);
     let line = accepted.saturating_add(2);
@@ -233,14 +234,15 @@ fn fault_after(accepted: u64) -> Option<LineFault> {
     }
 }
 
-// The lines over such a writer: the fault, how many calls were accepted, whether the output has no fault, and what the writer took.
+// The lines over such a writer: the fault, how many calls were accepted, whether the output has no
+// fault, and what the writer took.
 fn run_of_lines(alloc: Global, writer: Choppy) -> (Option<LineFault>, u64, bool, Vec<u8>) {
     let ran = run_lines(alloc, LINES, Wrap::new(writer));
     let (fault, accepted, whole) = (ran.fault, ran.accepted, ran.writer.faults() == 0);
     (fault, accepted, whole, ran.writer.into_inner().taken)
 }
 
-// What they come to.
+// Runs the lines, and returns their result.
 fn lines_end(rt: &(impl Abort + AllocGlobal), piece: usize, stop: usize) -> End {
     let trouble = Trouble::once(stop, ErrorKind::BrokenPipe);
     let writer = Choppy::new(rt.alloc(), piece, trouble);
@@ -254,7 +256,7 @@ fn lines_end(rt: &(impl Abort + AllocGlobal), piece: usize, stop: usize) -> End 
     }
 }
 
-// The same for the lines.
+// Like `stops_calls`, for the lines.
 fn stops_lines(rt: &(impl Abort + AllocGlobal), piece: usize, stop: usize) {
     let wanted = expected(piece, stop);
     assert_eq!(rt; lines_end(rt, piece, stop), wanted, "{piece} {stop}");
@@ -275,7 +277,8 @@ const HELD_BY_A_CHILD: [Step<'static>; 3] = [
     Step::Close(1),
 ];
 
-// What the close is answered with which a root and its child go, where its write, the third, is refused.
+// Returns the answer to the close that removes a root and its child, if its write, the third, is
+// refused.
 fn closes_both(alloc: Global, layered: &mut Stopping) -> Answer {
     for step in HELD_BY_A_CHILD {
         let _ = answer(alloc, layered, step);
@@ -283,7 +286,7 @@ fn closes_both(alloc: Global, layered: &mut Stopping) -> Answer {
     answer(alloc, layered, Step::Close(2))
 }
 
-// Whether the child has its handle, with which the root goes.
+// Returns whether the child has its handle, whose close would also remove the root.
 fn holds_both(alloc: Global, layered: &Stopping) -> bool {
     match layered.registry().closing(alloc, Id(2)) {
         Ok(closing) => closing.as_slice() == [Id(2), Id(1)].as_slice(),

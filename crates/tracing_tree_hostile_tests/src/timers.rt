@@ -12,7 +12,7 @@ use tracing_tree::style::Level;
 use tracing_tree::time::{FormatTime, Moment, TimeFault};
 use tracing_tree_for_tests::{Answer, Step};
 
-// Shows nothing, and faults at this moment of the clock that only goes forward.
+// A timer that shows nothing, and faults at this moment of the monotonic clock.
 #[derive(Drop)]
 struct StopAt(u64);
 
@@ -41,7 +41,7 @@ impl FormatTime for StopAt {
     }
 }
 
-// The moment at which the timer faults.
+// The moment of the timer's fault.
 const STOP: u64 = 7;
 
 type Stopping = Layered<Tape, StopAt>;
@@ -67,7 +67,7 @@ fn answer(alloc: Global, layered: &mut Stopping, step: Step<'_>, mono: u64) -> A
     layered.call(call)
 }
 
-// Whether a span lives that wasn't printed.
+// Returns whether a span lives that wasn't printed.
 fn is_unprinted(layered: &Stopping, id: u64) -> bool {
     match layered.registry().data(Id(id)) {
         Some(data) => !data.written,
@@ -75,7 +75,7 @@ fn is_unprinted(layered: &Stopping, id: u64) -> bool {
     }
 }
 
-// Makes so many spans, each in the one before, and returns whether all were made.
+// Makes `depth` nested spans, and returns whether all were made.
 fn nests(alloc: Global, layered: &mut Stopping, depth: u64) -> bool {
     let mut current = None;
     for id in 1..=depth {
@@ -88,7 +88,7 @@ fn nests(alloc: Global, layered: &mut Stopping, depth: u64) -> bool {
     true
 }
 
-// Whether nothing was written or printed, and there is no last span.
+// Returns whether nothing was written or printed, and there is no last span.
 fn is_blank(layered: &Stopping, depth: u64) -> bool {
     for id in 1..=depth {
         if !is_unprinted(layered, id) {
@@ -128,7 +128,7 @@ const WIDE: Step<'static> = Step::Told(Level::Info, "x", Some(3));
 
 const NARROW: Step<'static> = Step::Told(Level::Info, "y", Some(1));
 
-// All widths are tested before the timer is asked.
+// All widths are checked before the timer is called.
 #[test]
 fn a_row_too_wide_asks_no_timer(rt: HostRuntime) -> Result<(), Fail> {
     let mut layered = deferring(rt.alloc(), false, 1 << 63)?;

@@ -14,7 +14,7 @@ fn written(wrap: &mut Wrap<Choppy>, bytes: &[u8]) -> Option<Result<usize, Output
     Some(wrap.write(bytes))
 }
 
-// What two writes are answered, and how often the writer was asked.
+// The answers to two writes, and how often the writer was called.
 type TwoWrites = (
     Option<Result<usize, OutputFault>>,
     Option<Result<usize, OutputFault>>,
@@ -58,8 +58,8 @@ fn writes_are_interrupted(rt: HostRuntime) {
     writes_come_to(&rt, Trouble::interrupted(2, 9), wanted);
 }
 
-// A flush that is refused, and another one. Whether the output is stuck after each, how often the writer was flushed, and whether
-// the next write is taken.
+// A flush that is refused, and another one. Whether the output is stuck after each, how often the
+// writer was flushed, and whether the next write is taken.
 type TwoFlushes = (bool, bool, usize, bool);
 
 fn two_flushes(alloc: Global, trouble: Trouble) -> TwoFlushes {
@@ -96,7 +96,8 @@ fn flushes_are_interrupted(rt: HostRuntime) {
     flushes_come_to(&rt, later, (false, true, 10, false));
 }
 
-// What a writer that takes nothing is told: whether the write was taken, and how often it was asked.
+// Writes to a writer that takes nothing. Returns whether the write was taken, and how often the
+// writer was called.
 fn to_none(rt: &(impl Abort + AllocGlobal), bytes: &[u8]) -> (bool, usize) {
     let mut wrap = Wrap::new(Choppy::new(rt.alloc(), 0, Trouble::NONE));
     let taken = matches!(written(&mut wrap, bytes), Some(Ok(_)));
@@ -104,7 +105,7 @@ fn to_none(rt: &(impl Abort + AllocGlobal), bytes: &[u8]) -> (bool, usize) {
     (taken, wrap.into_inner().writes)
 }
 
-// A count of 0 is a fault where there was something to take.
+// A count of 0 is a fault if there was something to take.
 #[test]
 fn a_count_of_nothing_is_a_fault(rt: HostRuntime) {
     assert_eq!(rt; to_none(&rt, b"a"), (false, 1));

@@ -1,4 +1,4 @@
-//! How a worker tells what it does.
+//! Records what a worker does.
 
 use jiff::Timestamp;
 use std::alloc::{AllocError, Global};
@@ -12,7 +12,7 @@ use tracing_tree::text::Text;
 use tracing_tree::time::Moment;
 use tracing_tree_shared::StreamingLayer;
 
-/// What came of the orders, and how many events were told of them.
+/// The results of the orders, and how many events were recorded for them.
 #[derive(Clone, Copy, Default)]
 pub struct Done {
     pub shipped: u64,
@@ -50,7 +50,7 @@ impl<R: Wait, W: Output> Journal<'_, R, W> {
         }
     }
 
-    /// Tells an event in a span, with these numbers.
+    /// Records an event in a span, with these numbers.
     pub fn tell(
         &mut self,
         level: Level,
@@ -75,7 +75,7 @@ impl<R: Wait, W: Output> Journal<'_, R, W> {
         Ok(())
     }
 
-    // An event is drawn by its thread before it waits for the layer.
+    // Submits a call. An event is drawn by its thread before it waits for the layer.
     fn submit(&self, call: Call) -> Result<Reply, Refusal> {
         let draft = self.layer.draft(self.alloc, call)?;
         match self.layer.submit(self.rt, draft) {
@@ -84,7 +84,7 @@ impl<R: Wait, W: Output> Journal<'_, R, W> {
         }
     }
 
-    // The layer shows no time, so that each moment is the same.
+    // Returns the context of a call. The layer doesn't show times, so each moment is the same.
     fn context(&self, current: Option<Id>) -> Context {
         Context {
             current,
@@ -98,7 +98,7 @@ impl<R: Wait, W: Output> Journal<'_, R, W> {
     }
 }
 
-// A message, if there is one, and numbers.
+// Returns a message, if there is one, and numbers.
 fn fields(
     alloc: Global,
     message: Option<&str>,

@@ -1,7 +1,9 @@
-//! A service with four workers. They take orders from one queue and pieces from one stock, and what they do is drawn as one tree.
+//! A service with four workers. They take orders from one queue and pieces from one stock, and
+//! their work is drawn as one tree.
 //!
-//! The tree goes to standard output while they work. With the argument `check` it is kept in memory instead, and the program prints
-//! what came of the orders, and whether each event of the tree stands under its own order.
+//! The tree is written to standard output while they work. With the argument `check` it is kept in
+//! memory instead. The program then prints the results of the orders, and whether each event of the
+//! tree is nested in its own order.
 #![tactic(auto)]
 
 ghost use Rattle.std.specs.Prelude.{◌≡◌};
@@ -46,7 +48,8 @@ fn is_check(rt: &(impl AllocGlobal + Env)) -> anyhow::Result<bool> {
     Ok(true)
 }
 
-// A layer that shows the spans of an event again where the drawing changes from one worker to another.
+// Returns a layer that shows the spans of an event again if the drawing changes from one worker to
+// another.
 fn shared<W: Output + Drop>(alloc: Global, writer: W) -> StreamingLayer<W, ()>
     requires { W.fault_count writer ≡ 0 }
 {
@@ -57,7 +60,7 @@ fn shared<W: Output + Drop>(alloc: Global, writer: W) -> StreamingLayer<W, ()>
     StreamingLayer::new(Layered::new(alloc, layer))
 }
 
-// Draws the tree on standard output: each call's text is written at once.
+// Draws the tree on standard output. Each call's text is written at once.
 fn stream<R: AllocGlobal + Print + Threads + Wait + Clock + Sync>(rt: &R) -> anyhow::Result<()> {
     let layer = shared(rt.alloc(), Wrap::new(io::writer(rt)));
     run_workers(rt, rt.alloc(), &layer)?;

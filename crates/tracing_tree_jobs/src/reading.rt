@@ -5,7 +5,7 @@ ghost use Rattle.std.specs.Prelude.{◌≤◌};
 use std::alloc::Global;
 use tracing_tree::rows::{EventPath, ReadFault, Row, read_paths, read_rows};
 
-/// How many events of a drawing stand under the order that they name.
+/// Returns how many events of a drawing are nested in the order that they name.
 pub fn events_under_their_orders(
     alloc: Global,
     text: &str,
@@ -24,7 +24,7 @@ pub fn events_under_their_orders(
     )
 }
 
-// Whether an ancestor of an event is the span of the order that the event names.
+// Returns whether an ancestor of an event is the span of the order that the event names.
 fn is_under_its_order(rows: &[Row], path: &EventPath) -> bool {
     let named = number_in(rows, Some(path.event), ", order=");
     named.is_some()
@@ -35,7 +35,7 @@ fn is_under_its_order(rows: &[Row], path: &EventPath) -> bool {
             .any(|place| number_in(rows, *place, "order id=") == named)
 }
 
-// The number that comes after these words in the first line of a row.
+// Returns the number that comes after these words in the first line of a row.
 fn number_in(rows: &[Row], place: Option<usize>, words: &str) -> Option<u64> {
     let line = rows.get(place?)?.lines().as_slice().first()?;
     let (_, rest) = line.as_str().split_once(words)?;

@@ -8,10 +8,10 @@ const ORDERS: u64 = 12;
 
 const STOCK: u64 = 40;
 
-// The order that asks for more pieces than there ever were.
+// The order that needs more pieces than there ever were.
 const LARGE: u64 = 7;
 
-/// How many pieces are to be packed.
+/// An order, and how many pieces must be packed for it.
 #[derive(Clone, Copy)]
 pub struct Order {
     pub id: u64,
@@ -26,7 +26,7 @@ pub struct Warehouse {
 }
 
 impl Warehouse {
-    /// All orders wait.
+    /// Opens a warehouse in which all orders wait.
     pub fn open(alloc: Global) -> Result<Warehouse, AllocError> {
         let mut queue = VecDeque::new(alloc);
         for id in 1..=ORDERS {
@@ -39,7 +39,7 @@ impl Warehouse {
         })
     }
 
-    /// The order that has waited longest, which then no other worker gets.
+    /// Returns the order that has waited longest, and removes it from the queue.
     pub fn next_order(&mut self) -> Option<Order> {
         self.queue.pop_front()
     }

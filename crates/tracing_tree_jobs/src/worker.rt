@@ -17,7 +17,8 @@ const WORKERS: usize = 4;
 // How many milliseconds a piece takes.
 const PIECE_MILLIS: u64 = 1;
 
-/// Has the workers serve all orders, and returns what came of them. A refusal is that of the first worker that met one.
+/// Has the workers serve all orders, and returns what came of them. A refusal is that of the first
+/// worker that met one.
 pub fn run_workers<W: Output + Send + Drop, R: Threads + Wait + Clock + Sync>(
     rt: &R,
     alloc: Global,
@@ -62,7 +63,7 @@ fn journal<'a, R: Wait, W: Output>(
     }
 }
 
-// What a worker does: it takes orders until none waits.
+// Takes orders until the queue is empty.
 fn serve_all<R: Wait + Clock, W: Output>(
     mut journal: Journal<'_, R, W>,
     warehouse: &Mutex<Warehouse>,

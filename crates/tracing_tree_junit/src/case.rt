@@ -58,7 +58,7 @@ impl Model for Case {
 }
 
 impl Case {
-    // A case with the attributes of this tag.
+    // Returns a case with the attributes of this tag.
     pub(crate) fn new(alloc: Global, tag: &Tag) -> Result<Case, AllocError>
         ensures { IfOk result (λ case. case ≡ case_of tag.now) }
     {
@@ -136,7 +136,7 @@ impl Case {
         Ok(())
     }
 
-    // How the case ended. A failure that was expected, as of a test to be done, skips it.
+    // Returns how the case ended. A failure that was expected, as of a test to be done, skips it.
     pub(crate) fn outcome(&self) -> Outcome
         ensures { result ≡ outcome_of self.now }
     {
@@ -151,14 +151,14 @@ impl Case {
         }
     }
 
-    // Whether there is nothing more to show than how it ended.
+    // Returns whether there is nothing more to show than how it ended.
     pub(crate) fn is_bare(&self) -> bool
         ensures { result ≡ is_bare self.now }
     {
         self.rows.is_empty() && self.fields.as_slice().is_empty()
     }
 
-    // The fields of the event of a bare case.
+    // Returns the fields of the event of a bare case.
     pub(crate) fn event_fields(&self, alloc: Global) -> Result<Fields, AllocError>
         ensures { IfOk result (λ fields. fields ≡ event_fields self.now) }
     {
@@ -166,7 +166,7 @@ impl Case {
         self.end_fields(alloc, text.as_str())
     }
 
-    // The fields of the last event in the span of a case.
+    // Returns the fields of the last event in the span of a case.
     pub(crate) fn span_fields(&self, alloc: Global) -> Result<Fields, AllocError>
         ensures { IfOk result (λ fields. fields ≡ span_fields self.now) }
     {
@@ -183,7 +183,7 @@ impl Case {
     }
 }
 
-// The word for an outcome.
+// Returns the word for an outcome.
 fn word_of(outcome: Outcome) -> &'static str
     ensures { result.now ≡ word_of outcome }
 {

@@ -36,8 +36,9 @@ impl JunitCalls {
 /// Returns the calls of a document.
 ///
 /// Each suite is a span, and so are consecutive cases of a class. A case is an event, or a span if
-/// there is more to show than how it ended. The first span gets the id `next`, and all calls are made
-/// at `moment`. A document that ends early has the calls of the cases that ended, and its spans close.
+/// there is more to show than how it ended. The first span gets the id `next`, and all calls are
+/// made at `moment`. A document that ends early has the calls of the cases that ended, and its
+/// spans close.
 ///
 /// # Errors
 ///

@@ -39,8 +39,8 @@ pub(crate) fn element_named(name: &str) -> Element
     }
 }
 
-// What an element is by where it is. Nothing is in a part of a case but its text, and no case or
-// suite is in a case.
+// Returns the role of an element at its place. A part of a case contains only its text, and a case
+// contains no case or suite.
 pub(crate) fn role_of(element: Element, in_case: bool, in_part: bool) -> Element
     ensures { result ≡ role_of element in_case in_part }
 {
@@ -54,7 +54,7 @@ pub(crate) fn role_of(element: Element, in_case: bool, in_part: bool) -> Element
     }
 }
 
-// The value of the first attribute of this name; empty if there is none.
+// Returns the value of the first attribute with this name. It is empty if there isn't one.
 pub(crate) fn attribute_in<'a>(name: &str, attributes: &'a [Field]) -> &'a str
     ensures { result.now ≡ attribute_in name.now attributes.now }
 {
@@ -66,7 +66,7 @@ pub(crate) fn attribute_in<'a>(name: &str, attributes: &'a [Field]) -> &'a str
     ""
 }
 
-// Whether a case of this status wasn't run.
+// Returns whether a case of this status wasn't run.
 pub(crate) fn is_off(status: &str) -> bool
     ensures { result ≡ is_off status.now }
 {

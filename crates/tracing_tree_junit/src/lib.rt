@@ -1,7 +1,7 @@
 //! JUnit XML, drawn as a tree.
 //!
-//! [`junit_calls`] returns the calls of a document: a span for each suite, and an event or a span for
-//! each case.
+//! [`junit_calls`] returns the calls of a document: a span for each suite, and an event or a span
+//! for each case.
 #![tactic(auto)]
 
 mod case;

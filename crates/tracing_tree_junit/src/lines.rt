@@ -28,7 +28,7 @@ pub(crate) fn push_row(
     Ok(rows.push(Row { level, text })?)
 }
 
-// Appends the lines of a text that are shown. Each turn reads a byte or more.
+// Appends the lines of a string that are shown. Each turn reads at least one byte.
 pub(crate) fn push_lines(alloc: Global, rows: &mut Vec<Row>, text: &str) -> Result<(), AllocError>
     ensures { OnOk result (rows.new.items ≡ rows.old.items ++ printed_rows text.now) }
 {
@@ -71,7 +71,7 @@ fn push_line<'a>(
     Ok(None)
 }
 
-// The first line of a text, and what comes after it.
+// Returns the first line of a string, and what follows it.
 fn first_line(text: &str) -> (&str, &str)
     ensures line { result.0.now ≡ line_of text.now }
     ensures others { result.1.now ≡ after_line text.now }
@@ -88,7 +88,7 @@ fn is_blank_text(text: &str) -> bool
     first_byte(text.as_bytes()).is_none()
 }
 
-// Whether pytest writes this line before what it captured.
+// Returns whether pytest writes this line before what it captured.
 fn is_separator(line: &str) -> bool
     ensures { result ≡ is_separator line.now }
 {
@@ -99,7 +99,7 @@ fn is_separator(line: &str) -> bool
             == "--------------------------------- Captured Err ---------------------------------"
 }
 
-// What a failure is drawn as: the first line of its message, or the name of its element.
+// Returns what a failure is drawn as: the first line of its message, or the name of its element.
 pub(crate) fn head_of<'a>(message: &'a str, name: &'a str) -> &'a str
     ensures { result.now ≡ head_of message.now name.now }
 {
@@ -107,7 +107,7 @@ pub(crate) fn head_of<'a>(message: &'a str, name: &'a str) -> &'a str
     if is_blank_text(line) { name } else { line }
 }
 
-// Why a case was skipped: the message, or otherwise the text of the element.
+// Returns why a case was skipped: the message, or otherwise the element's content.
 pub(crate) fn reason_of<'a>(message: &'a str, body: &'a str) -> &'a str
     ensures { result.now ≡ reason_of message.now body.now }
 {

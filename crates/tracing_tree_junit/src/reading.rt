@@ -1,4 +1,4 @@
-//! A document as far as it is read.
+//! The state after a part of a document.
 
 ghost use Rattle.std.specs.Prelude.{◌≡◌, ◌++◌, [], IfOk, OnOk, pos};
 ghost use Rattle.tracing_tree_spans.specs.Registry.Ids.{id_of};
@@ -52,8 +52,8 @@ pub struct Tally {
     pub skipped: u64,
 }
 
-// A document as far as it is read: the elements that are open, the suites among them and the case
-// and the part in which it is, each with the innermost last, and the calls.
+// The state after a part of a document: the open elements, suites, case and part, each with the
+// innermost last, and the calls.
 #[derive(Drop)]
 pub(crate) struct Junit {
     alloc: Global,
@@ -95,7 +95,7 @@ impl Model for Junit {
 }
 
 impl Junit {
-    // Nothing is read yet. The first span gets the id `next`.
+    // Returns the state before the first token. The first span gets the id `next`.
     pub(crate) fn new(alloc: Global, next: u64, moment: Moment) -> Result<Junit, AllocError>
         ensures { IfOk result (λ junit. junit ≡ at_start next moment) }
     {
@@ -128,7 +128,7 @@ impl Junit {
         self.tally
     }
 
-    // Whether an element is open.
+    // Returns whether an element is open.
     pub(crate) fn is_open(&self) -> bool
         ensures { result ≡ is_open self.now }
     {
@@ -192,7 +192,7 @@ impl Junit {
         }
     }
 
-    // An element begins: that of the tag. In a part its text begins a line.
+    // Opens the element of the tag. The content of a part starts a line.
     fn begin(&mut self) -> Result<(), AllocError>
         ensures { OnOk result (self.new ≡ begun self.old) }
     {
@@ -209,14 +209,14 @@ impl Junit {
         }
     }
 
-    // What the element of the tag is here.
+    // Returns what the element of the tag is here.
     fn element(&self) -> Element
         ensures { result ≡ element_of self.now }
     {
         role_of(element_named(self.tag.name()), self.in_case, self.in_part)
     }
 
-    // The innermost element ends.
+    // Ends the innermost element.
     fn end(&mut self) -> Result<(), AllocError>
         ensures { OnOk result (self.new ≡ ended self.old) }
     {
@@ -242,7 +242,7 @@ impl Junit {
 
     // ---- suites
 
-    // The span of the innermost suite.
+    // Returns the span of the innermost suite.
     fn innermost_span(&self) -> Option<Id>
         ensures { result ≡ innermost_span self.now.suites }
     {
@@ -252,7 +252,7 @@ impl Junit {
         }
     }
 
-    // The name of the innermost suite; empty if there is none.
+    // Returns the name of the innermost suite. It is empty if there isn't one.
     fn innermost_name(&self) -> &str
         ensures { result.now ≡ innermost_name self.now.suites }
     {
@@ -320,7 +320,7 @@ impl Junit {
         }
     }
 
-    // A suite with a time ends with an event.
+    // Ends a suite. A suite with a time ends with an event.
     fn end_with(&mut self, suite: &Suite) -> Result<(), AllocError>
         ensures { OnOk result (self.new ≡ ended_with suite.now self.old) }
     {
@@ -334,7 +334,7 @@ impl Junit {
 
     // ---- classes
 
-    // Whether the case is in a span of its class.
+    // Returns whether the case is in a span of its class.
     fn wants_class(&self) -> bool
         ensures { result ≡ wants_class self.now }
     {
@@ -345,7 +345,7 @@ impl Junit {
             || classname == self.innermost_name())
     }
 
-    // Whether the span of the case's class is open.
+    // Returns whether the span of the case's class is open.
     fn is_in_class(&self) -> bool
         ensures { result ≡ is_in_class self.now.class self.now.case.classname }
     {
@@ -355,7 +355,7 @@ impl Junit {
         }
     }
 
-    // Comes to the span in which the case is.
+    // Enters the span that the case is nested in.
     fn enter_class(&mut self) -> Result<(), AllocError>
         ensures { OnOk result (self.new ≡ class_entered self.old) }
     {
@@ -388,7 +388,7 @@ impl Junit {
         }
     }
 
-    // The span in which cases are.
+    // Returns the span that cases are nested in.
     fn case_span(&self) -> Option<Id>
         ensures { result ≡ case_span self.now.class self.now.suites }
     {
@@ -525,7 +525,7 @@ impl Junit {
         )
     }
 
-    // The property of the tag is a field of the case or of the suite.
+    // Adds the property of the tag as a field to the case or the suite.
     fn add_property(&mut self) -> Result<(), AllocError>
         ensures { OnOk result (self.new ≡ property_added self.old) }
     {
@@ -602,7 +602,7 @@ fn property_of(alloc: Global, tag: &Tag) -> Result<Field, AllocError>
     })
 }
 
-// The last event.
+// Returns the last event.
 fn tally_fields(alloc: Global, tally: &Tally) -> Result<Fields, AllocError>
     ensures { IfOk result (λ fields. fields ≡ tally_fields tally.now) }
 {

@@ -5,7 +5,8 @@ ghost use Rattle.tracing_tree_junit.specs.Seconds.{after_three, all_digits, bill
 
 use tracing_tree_sources::marks::after_mark;
 
-// The nanoseconds of a number of seconds, as `0.25`, `1,234.5` or `6.2e-05`. A number below zero counts as zero.
+// Returns the nanoseconds of a number of seconds, as `0.25`, `1,234.5` or `6.2e-05`. A number below
+// zero counts as zero.
 pub(crate) fn nanoseconds_of(text: &str) -> Option<u64>
     ensures { result ≡ nanoseconds_of text.now }
 {
@@ -24,7 +25,7 @@ fn unsigned_of(text: &str) -> Option<u64>
     }
 }
 
-// The nanoseconds of a number over a power of ten, as `6.2e-05`.
+// Returns the nanoseconds of a number over a power of ten, as `6.2e-05`.
 fn scaled(number: &str, power: &str) -> Option<u64>
     ensures { result ≡ scaled number.now power.now }
 {
@@ -32,7 +33,7 @@ fn scaled(number: &str, power: &str) -> Option<u64>
     Some(over_ten(plain(number)?, whole_of(digits.as_bytes())?.min(20)))
 }
 
-// A number over this power of ten.
+// Returns a number over this power of ten.
 fn over_ten(number: u64, power: u64) -> u64
     ensures { result ≡ over_ten power number }
 {
@@ -55,7 +56,7 @@ fn plain(text: &str) -> Option<u64>
     }
 }
 
-// The nanoseconds of these digits before and after the point.
+// Returns the nanoseconds of these digits before and after the point.
 fn decimal(whole: &str, part: &str) -> Option<u64>
     ensures { result ≡ decimal whole.now part.now }
 {
@@ -67,7 +68,7 @@ fn decimal(whole: &str, part: &str) -> Option<u64>
         .checked_add(billionths(part.as_bytes()))
 }
 
-// The number that digits write, with commas between them, if a u64 holds it.
+// Returns the number that digits write, with commas between them, if a u64 holds it.
 fn whole_of(digits: &[u8]) -> Option<u64>
     ensures { result ≡ whole_of digits.now }
 {
@@ -97,7 +98,7 @@ fn all_digits(bytes: &[u8]) -> bool
     true
 }
 
-// The billionths that the digits after a point write.
+// Returns the billionths that the digits after a point write.
 fn billionths(digits: &[u8]) -> u64
     ensures { result ≡ billionths digits.now }
 {
@@ -105,7 +106,7 @@ fn billionths(digits: &[u8]) -> u64
     thousandths(digits) * 1_000_000 + thousandths(more) * 1000 + thousandths(after_three(more))
 }
 
-// The thousandths that the first three digits after a point write.
+// Returns the thousandths that the first three digits after a point write.
 fn thousandths(digits: &[u8]) -> u64
     ensures value { result ≡ thousandths digits.now }
     ensures small { result ≤ 30_000 }
@@ -118,7 +119,7 @@ fn thousandths(digits: &[u8]) -> u64
     }
 }
 
-// The digits after the first three.
+// Returns the digits after the first three.
 fn after_three(digits: &[u8]) -> &[u8]
     ensures { result.now ≡ after_three digits.now }
 {
@@ -128,7 +129,7 @@ fn after_three(digits: &[u8]) -> &[u8]
     }
 }
 
-// What a digit counts.
+// Returns what a digit counts.
 fn digit_in(byte: u8) -> u64
     ensures value { result ≡ digit_in byte }
     ensures small { result ≤ 255 }

@@ -43,7 +43,7 @@ impl Tag {
         self.name.as_str()
     }
 
-    // The value of an attribute; empty if there is none.
+    // Returns the value of an attribute. It is empty if there isn't one.
     pub(crate) fn value(&self, name: &str) -> &str
         ensures { result.now ≡ attribute_in name.now self.now.attributes }
     {
@@ -63,7 +63,7 @@ impl Tag {
     }
 }
 
-// A part of a case or of a suite: the name of its element, its message and its text.
+// A part of a case or of a suite: its element's name, its message and its content.
 #[derive(Drop)]
 pub(crate) struct Part {
     name: Text,

@@ -9,8 +9,12 @@ use std::alloc::{AllocError, Global};
 use tracing_tree::DifferenceIter;
 use tracing_tree::format::Id;
 
-/// The ids of a path that differ from those of an older one, by a `DifferenceIter`. Of two paths of one forest these are the spans
-/// that a retrace shows. `AllocError` where memory is refused.
+/// Returns the ids of a path that differ from those of an older one, by a `DifferenceIter`. For two
+/// paths of one forest these are the spans that a retrace shows.
+///
+/// # Errors
+///
+/// `AllocError` if an allocation fails.
 pub fn fresh_spans(alloc: Global, old: &[Id], new: &[Id]) -> Result<Vec<Id>, AllocError>
     ensures differ { IfOk result (λ found. found.items ≡ differing same_id old.now new.now) }
     ensures fresh { (forest : Forest) (last : Option Id) (i : Id) → IsForest forest

@@ -1,5 +1,5 @@
-//! Equality holds exactly where all parts are equal: a function for each of 26 public types that derive it, and for `Text` and
-//! `Fields`, whose contract says so.
+//! Equality holds exactly if all parts are equal. There is a function for each of 26 public types
+//! that derive it, and for `Text` and `Fields`, whose contract says so.
 
 ghost use Rattle.std.specs.Prelude.{◌≡◌};
 ghost use Rattle.std.specs.Bool.{Decides};
@@ -14,7 +14,7 @@ use tracing_tree::style::{Level, Style};
 use tracing_tree::text::Text;
 use tracing_tree::time::{Moment, TimeFault, Uptime, UtcDateTime};
 
-/// Returns whether two texts are equal in all parts.
+/// Returns whether two strings are equal in all parts.
 pub fn texts(left: &Text, right: &Text) -> bool
     ensures { Decides result (left.now ≡ right.now) }
 {

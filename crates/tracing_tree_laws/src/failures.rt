@@ -17,35 +17,36 @@ use tracing_tree_output::Output;
 use tracing_tree_sources::{Notes, draw_source};
 use tracing_tree_time::{FormatTime, Moment};
 
-/// After lines and their end, tests have failed exactly if a line tells that a test or a package
-/// failed, or a package still ran after the last line.
+/// After lines and their end, tests have failed exactly if a line says that a test or a package
+/// failed, or a package was still running after the last line.
 pub fn tests_fail_by_a_line_or_a_package_that_runs()
     ensures { (next : ℕ) (moment : Moment) (lines : List (List ℕ)) →
         has_failed (source_after go_takes go_ended (nothing_run next moment) lines)
         ≡ some_failed lines (hear go_takes (nothing_run next moment) lines).source }
 {}
 
-/// Whether tests have failed is said by the counts: a test or a package failed, or a package didn't end.
+/// The counts say whether tests have failed: a test or a package failed, or a package didn't end.
 pub fn failures_agree_with_the_counts()
     ensures { (s : GoState) → has_failed s
         ≡ (not (s.tally.failed == 0) || not (s.tally.packages_failed == 0)) }
 {}
 
-/// When a package passes, no test of it is counted as unfinished: each that still runs has passed.
+/// When a package passes, no test of it is counted as unfinished: each test that is still running
+/// has passed.
 pub fn packages_that_pass_leave_nothing_unfinished()
     ensures { (path : List ℕ) (elapsed : Option (List ℕ)) (s : GoState) →
         (moved (codes "pass") path [] elapsed s).tally.unfinished ≡ s.tally.unfinished }
 {}
 
-/// In the span of an outer test, a test shows what comes after the outer test's name and a `/`. So the
+/// In the span of a parent test, a test's name is what follows the parent's name and a `/`. So the
 /// names on a path, joined by `/`, are the whole name.
 pub fn own_names_make_the_whole_name()
     ensures { (outer name : List ℕ) → is_empty outer ≡ false →
         own_name outer (outer ++ codes "/" ++ name) ≡ name }
 {}
 
-/// Runs Go's tests over an input. Returns whether a test or a package failed, or didn't end; None if
-/// something ended the run early.
+/// Runs Go's tests over an input. Returns whether a test or a package failed or didn't end. Returns
+/// `None` if the run ended early.
 pub fn have_tests_failed<L: LineInput, W: Output, FT: FormatTime, N: Notes>(
     alloc: Global,
     next: u64,

@@ -1,8 +1,9 @@
-//! What the definitions mean: laws that the contracts of other crates rest on, each as the contract of a public function.
+//! The meaning of the definitions: laws that the contracts of other crates rest on. Each is the
+//! contract of a public function.
 //!
-//! A law about definitions alone is the contract of a function with an empty body. `equal`,
-//! `difference`, `reading_back` and `tracers` have calls as their bodies, of which their contracts
-//! speak.
+//! A law about definitions only is the contract of a function with an empty body. `equal`,
+//! `difference`, `reading_back` and `tracers` have calls as their bodies, and their contracts are
+//! about those calls.
 #![tactic(auto)]
 
 pub mod counts;

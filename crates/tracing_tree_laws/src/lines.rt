@@ -4,8 +4,9 @@ ghost use Rattle.std.specs.Prelude.{ℕ, List, ◌≡◌};
 ghost use Rattle.std.specs.Str.Lines.{lines, lines_of_parts};
 ghost use Rattle.tracing_tree_drawing.specs.Format.Picture.{AreParts, parts_of};
 
-/// The parts of a block are the one list of texts without line ends whose joining by line ends is the block. Its lines are these
-/// parts, without the last if that is empty, and without a carriage return at the end of each other.
+/// The parts of a block are the only list of strings without line ends that yields the block when
+/// joined by line ends. Its lines are these parts, without the last if that is empty, and without a
+/// carriage return at the end of each other part.
 pub fn parts_join_to_the_block()
     ensures parts { (block : List ℕ) → AreParts block (parts_of block) }
     ensures only { (block : List ℕ) (parts : List (List ℕ)) → AreParts block parts

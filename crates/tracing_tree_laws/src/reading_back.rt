@@ -1,4 +1,4 @@
-//! Runs whose events are read back from their text alone.
+//! Runs whose events are read back only from their text.
 
 ghost use Rattle.std.specs.Prelude.{◌≡◌, [], IfSome, Option, length};
 ghost use Rattle.tracing_tree_context.specs.declared.context.Id.{Id};
@@ -14,24 +14,25 @@ use tracing_tree::rows::{EventPath, read_paths};
 use tracing_tree::time::FormatTime;
 use tracing_tree::{Call, Layered, Reply};
 
-/// What a run answered, and the paths of its events as its text shows them.
+/// The answers of a run, and the paths of its events as its text shows them.
 #[derive(Drop)]
 pub struct EventsRead {
     /// The answer to each call, in order.
     pub answers: Vec<Result<Reply, Refusal>>,
 
-    /// The events, in order, with the places of their ancestors.
+    /// The events in order, with the indices of their ancestors.
     pub paths: Vec<EventPath>,
 }
 
 /// Makes the calls, and reads the events back from the text that they drew.
 ///
-/// If the layered began empty and its rows are readable, with `close_retrace`, and with
-/// `span_retrace` or `deferred_spans`, each accepted event in its current span finds, in the text
-/// alone, the rows that open the spans on its path. This follows from the contracts of
+/// Suppose the layered value began empty, its rows are readable, `close_retrace` is on, and so is
+/// `span_retrace` or `deferred_spans`. Then the text shows for each accepted event in its current
+/// span the rows that open the spans on its path. This follows from the contracts of
 /// [`Layered::run`] and [`read_paths`].
 ///
-/// Returns `None` if the amount is below 2, memory runs out, the layer fails or its text isn't read.
+/// Returns `None` if the amount is below 2, memory runs out, the layer fails or its text can't be
+/// read.
 pub fn read_events<FT: FormatTime>(
     alloc: Global,
     layered: &mut Layered<Tape, FT>,

@@ -10,8 +10,9 @@ use tracing_tree::format::{Id, Output};
 use tracing_tree::time::FormatTime;
 use tracing_tree::tracer::{Now, TraceFault, Tracer, Value};
 
-/// Opens a span by a tracer over a registry with a layer: its call is answered as `Layered::call` answers it. So are the calls of the
-/// tracer's other methods, since each contract of them says what `Calls` says of a `Layered`.
+/// Opens a span by a tracer over a registry with a layer. Its call is answered like
+/// `Layered::call`. So are the calls of the tracer's other methods, since each of their contracts
+/// says what `Calls` says of a `Layered`.
 pub fn open_on_layered<W: Output, FT: FormatTime, N: Now>(
     tracer: &mut Tracer<Layered<W, FT>, N>,
     name: &str,

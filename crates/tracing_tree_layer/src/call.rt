@@ -15,18 +15,22 @@ pub enum Call {
     /// Adds a handle to a live span.
     Clone(Id),
 
-    /// Puts fields at the end of a span's. An id that isn't live is accepted, and nothing happens.
+    /// Appends fields to those of a span. An id that isn't live is accepted, and nothing happens.
     Record(Id, Record),
 
-    /// Tells of an event.
+    /// Records an event.
     Event(Event, Context),
 
-    /// Takes a handle of a span away.
+    /// Drops a handle of a span.
     Close(Id, Context),
 }
 
 impl Call {
     /// Returns a copy of the call.
+    ///
+    /// # Errors
+    ///
+    /// `AllocError` if an allocation fails.
     pub fn copied(&self) -> Result<Call, AllocError>
         ensures { IfOk result (λ copy. copy ≡ self.now) }
     {
@@ -61,7 +65,11 @@ impl Call {
     }
 }
 
-/// Returns a copy of what is handed in with a call.
+/// Returns a copy of a call's context.
+///
+/// # Errors
+///
+/// `AllocError` if an allocation fails.
 pub fn copied_context(context: &Context) -> Result<Context, AllocError>
     ensures { IfOk result (λ copy. copy ≡ context.now) }
 {
@@ -86,9 +94,9 @@ pub enum Reply {
     /// The span whose handle was cloned.
     Cloned(Id),
 
-    /// A record or an event was taken.
+    /// A record or an event was accepted.
     Done,
 
-    /// Whether the span went.
+    /// Whether the span was removed.
     Closed(bool),
 }

@@ -8,11 +8,11 @@ use tracing_tree_output::Output;
 use tracing_tree_spans::registry::{Attributes, Record};
 use tracing_tree_time::FormatTime;
 
-/// A receiver of calls, which answers each of them: a [`Layered`], a thread's way to a layer of
-/// several threads, a counter, or an adapter of another receiver.
+/// A receiver of calls, which answers each of them: a [`Layered`], a thread's receiver over a
+/// shared layer, a counter, or an adapter of another receiver.
 ///
-/// A maker of calls knows only this trait. It makes a call by its parts if it has them, so that no
-/// whole [`Call`] is built: the strings of an event stay where the maker has them.
+/// Code that makes calls knows only this trait. It makes a call from its parts if it has them, so
+/// no whole [`Call`] is built: the strings of an event stay where they are.
 pub trait Calls {
     ghost use Rattle.std.specs.Prelude.{IfOk, Result, ◌≡◌};
     ghost use Rattle.tracing_tree_context.specs.declared.context.Refusal.{Refusal};
@@ -20,10 +20,10 @@ pub trait Calls {
     ghost use Rattle.tracing_tree_layer.specs.declared.call.Reply.{Reply};
     ghost use Rattle.tracing_tree_layer.specs.Replies.{IsReplyTo, answer_as, cloned, closed, done, span};
 
-    /// The answers that a call may get, and what each leaves.
+    /// The answers that a call may get, and the effect of each.
     ghost answers: { Call → Result Reply Refusal → Self → Self → Type 0 };
 
-    /// What a flush leaves.
+    /// The effect of a flush.
     ghost flushes: { Self → Self → Type 0 } = { λ old new. new ≡ old };
 
     /// Makes a call. The reply to an accepted one is of the call's kind.
@@ -36,30 +36,30 @@ pub trait Calls {
         ensures answered { answers call result self.old self.new }
         ensures kind { IfOk result (λ reply. IsReplyTo call reply) };
 
-    /// Makes the call of a new span. Returns its id.
+    /// Makes a span. Returns its id.
     fn new_span(&mut self, attributes: Attributes, context: &Context) -> Result<Id, Refusal>
         ensures { answers (Call.New attributes context.now) (answer_as span result)
             self.old self.new };
 
-    /// Makes the call of one more handle to a span. Returns the span's id.
+    /// Adds a handle to a span. Returns the span's id.
     fn clone_span(&mut self, id: Id) -> Result<Id, Refusal>
         ensures { answers (Call.Clone id) (answer_as cloned result) self.old self.new };
 
-    /// Makes the call of a record: these fields come after those of the span.
+    /// Appends these fields to those of the span.
     fn record(&mut self, id: Id, values: Record) -> Result<(), Refusal>
         ensures { answers (Call.Record id values) (answer_as done result) self.old self.new };
 
-    /// Makes the call of an event, whose strings stay the caller's.
+    /// Records an event, without a copy of its strings.
     fn event<E: ToldEvent>(&mut self, event: &E, context: &Context) -> Result<(), Refusal>
         ensures { answers (Call.Event (E.told event.now) context.now) (answer_as done result)
             self.old self.new };
 
-    /// Makes the call of a close. Returns whether the span was removed.
+    /// Drops a handle of a span. Returns whether the span was removed.
     fn close(&mut self, id: Id, context: &Context) -> Result<bool, Refusal>
         ensures { answers (Call.Close id context.now) (answer_as closed result)
             self.old self.new };
 
-    /// Passes on what the receiver holds back. It does nothing if nothing is held back.
+    /// Flushes the receiver. Does nothing if its buffer is empty.
     fn flush(&mut self)
         ensures { flushes self.old self.new };
 }
@@ -123,7 +123,7 @@ impl<W: Output, FT: FormatTime> Calls for Layered<W, FT> {
     }
 }
 
-/// A receiver that is lent answers as it does itself.
+/// A borrowed receiver answers like the receiver itself.
 impl<C: Calls> Calls for &mut C {
     ghost answers = { λ call answer old new. C.answers call answer old.now new.now };
 

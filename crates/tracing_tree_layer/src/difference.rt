@@ -1,4 +1,4 @@
-//! Two iterators side by side.
+//! Two iterators in parallel.
 
 ghost use Rattle.std.specs.Prelude.{◌≡◌, MatchBool};
 ghost use Rattle.std.specs.Iterator.{MakesProgress};
@@ -6,12 +6,11 @@ ghost use Rattle.tracing_tree_layer.specs.Difference.Steps.{difference_left, dif
 
 use std::iter::Fuse;
 
-/// Runs two iterators side by side, and gives the items of the right one that differ.
+/// An iterator over two iterators in parallel, which returns the right items that differ.
 /// (`DifferenceIter` of the Rust crate.)
 ///
-/// A right item differs where the left iterator has no item at its place, or one for which
-/// `compare` returns an unequal key. Both iterators step together. A left iterator that has ended
-/// is not called again.
+/// A right item differs if the left iterator has no item at its position, or one with an unequal
+/// `compare` key. Both iterators step together. A left iterator that has ended isn't called again.
 #[derive(Drop)]
 pub struct DifferenceIter<L, R, C> {
     left: Fuse<L>,
@@ -26,17 +25,17 @@ impl<
     R: Iterator<Item = T>,
     C: Fn(&T) -> U,
 > DifferenceIter<L, R, C> {
-    /// Compares the items of two iterators by the keys that `compare` returns for them.
+    /// Compares the items of two iterators by the keys that `compare` returns.
     pub fn new(left: L, right: R, compare: C) -> Self
         ensures left { IsFresh (difference_left result) left }
         ensures right { difference_right result ≡ right }
         ensures compare { difference_compare result ≡ compare }
 
-        // Of any two iterators, it gives the right items that differ.
+        // For any two iterators, it returns the right items that differ.
         ensures runs { DifferenceRuns L.next_gives R.next_gives C.Fn U.eq
             left right compare result }
 
-        // The same, where the lists of both sides are known.
+        // If the lists of both sides are known, it returns those that differ.
         ensures yields { YieldsDiffering L.next_gives R.next_gives C.Fn U.eq
             left right compare result }
     {
@@ -47,7 +46,7 @@ impl<
         }
     }
 
-    // Steps both sides: gives the left item, if there still is one, and the right item.
+    // Steps both sides: returns the left item, if there still is one, and the right item.
     fn both(&mut self) -> Option<(Option<T>, T)>
         requires { CanCallDifference L.can_next R.can_next R.remaining (C.IsAlwaysCallable)
             self.old }
@@ -61,7 +60,7 @@ impl<
         Some((left, right))
     }
 
-    // Whether the left item is missing, or unequal to the right one under `compare`.
+    // Returns whether the left item is missing, or unequal to the right one under `compare`.
     fn differs(&self, left: &Option<T>, right: &T) -> bool
         requires { C.IsAlwaysCallable (difference_compare self.now) }
         ensures { MatchBool result

@@ -5,10 +5,10 @@ ghost use Rattle.tracing_tree_layer.specs.Flushed.{WasFlushed};
 
 use crate::calls::Calls;
 
-/// A receiver that was flushed, and to which no call was made since.
+/// A receiver that was flushed, and got no call since.
 ///
-/// A function that may wait takes one, so that whoever follows the receiver's output sees what was
-/// drawn before the wait.
+/// A function that may wait takes one. So a reader of the receiver's output sees what was drawn
+/// before the wait.
 #[derive(Drop)]
 pub struct Flushed<'a, C: Calls> {
     /// The receiver.

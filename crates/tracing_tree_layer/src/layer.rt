@@ -1,4 +1,4 @@
-//! The layer: what it draws of each call.
+//! The layer, which draws each call.
 
 mod bare;
 mod block;
@@ -30,12 +30,14 @@ use tracing_tree_output::{Output, write_whole};
 use tracing_tree_spans::registry::LookupSpan;
 use tracing_tree_time::FormatTime;
 
-/// Draws spans and events as a tree into a writer. (`HierarchicalLayer` of the Rust crate.)
+/// A layer that draws spans and events as a tree into a writer. (`HierarchicalLayer` of the Rust
+/// crate.)
 ///
-/// The text of a call is built whole and then written. Once the timer or the writer has faulted the
-/// layer has failed, and refuses every further call until `recover`.
+/// The text of a call is built whole and then written. After a fault of the timer or the writer,
+/// the layer has failed. It refuses every further call until `recover`.
 ///
-/// A service that keeps its spans itself calls the layer alone. A `Layered` makes these calls for it:
+/// A service that stores its spans itself calls only the layer. A `Layered` makes these calls for
+/// it:
 /// ```rust
 /// let layer = HierarchicalLayer::new(alloc, 2, false, Tape::new(alloc));
 /// let mut layer = layer.with_indent_lines(true);
@@ -78,8 +80,8 @@ impl<W: Output, FT: FormatTime> Model for HierarchicalLayer<W, FT> {
 }
 
 impl<W: Output> HierarchicalLayer<W, ()> {
-    /// Makes a layer with the default settings but for the amount (columns a level) and ansi,
-    /// without a timer. Takes no memory. The caller must ensure that the writer has no faults.
+    /// Makes a layer without a timer, with the default settings except for the amount (columns per
+    /// level) and ansi. Never allocates. The caller must ensure that the writer has no faults.
     pub fn new(
         alloc: Global,
         indent_amount: usize,
@@ -99,7 +101,7 @@ impl<W: Output> HierarchicalLayer<W, ()> {
         HierarchicalLayer::with_config(alloc, Config::new(indent_amount, ansi), writer)
     }
 
-    /// Makes a layer with these settings, without a timer. Takes no memory. The caller must ensure
+    /// Makes a layer with these settings, without a timer. Never allocates. The caller must ensure
     /// that the writer has no faults.
     pub fn with_config(alloc: Global, config: Config, writer: W) -> HierarchicalLayer<W, ()>
         requires { W.fault_count writer ≡ 0 }
@@ -139,8 +141,8 @@ impl<W: Output, FT: FormatTime> HierarchicalLayer<W, FT> {
         &self.writer
     }
 
-    /// Returns the last span, the one that a call reached last: a span that opened, one that an event or a close was retraced to, or
-    /// the parent of one that closed. It may be gone.
+    /// Returns the last span shown: a span that opened, a span that an event or a close was
+    /// retraced to, or the parent of a span that closed. It may have closed since.
     pub fn last_span(&self) -> Option<Id>
         ensures { result ≡ self.now.last }
     {
@@ -157,14 +159,14 @@ impl<W: Output, FT: FormatTime> HierarchicalLayer<W, FT> {
         self.failed
     }
 
-    /// Returns whether the layer has no last span and has not failed, as one that was just made.
+    /// Returns whether the layer has no last span and hasn't failed, like a new one.
     pub fn is_fresh(&self) -> bool
         ensures { result ≡ is_fresh self.now }
     {
         !self.failed && self.last.is_none()
     }
 
-    /// Returns the writer alone, with all that was written.
+    /// Returns the writer, with everything that was written.
     pub fn into_writer(self) -> W
     where
         FT: Drop,
@@ -173,7 +175,7 @@ impl<W: Output, FT: FormatTime> HierarchicalLayer<W, FT> {
         self.writer
     }
 
-    /// Returns the settings, and the writer with all that was written.
+    /// Splits this value into the settings and the writer, with everything that was written.
     pub fn into_parts(self) -> (Config, W)
     where
         FT: Drop,
@@ -183,7 +185,7 @@ impl<W: Output, FT: FormatTime> HierarchicalLayer<W, FT> {
         (self.config, self.writer)
     }
 
-    /// Writes to this writer from now on, and returns the one before. The caller must ensure that the
+    /// Replaces the writer, and returns the previous one. The caller must ensure that the new
     /// writer has no faults.
     pub fn replace_writer(&mut self, writer: W) -> W
         requires { W.fault_count writer ≡ 0 }
@@ -193,7 +195,7 @@ impl<W: Output, FT: FormatTime> HierarchicalLayer<W, FT> {
         mem::replace(&mut self.writer, writer)
     }
 
-    /// Shows the time by this timer from now on, and returns the one before.
+    /// Replaces the timer, and returns the previous one.
     pub fn replace_timer(&mut self, timer: FT) -> FT
         ensures before { result ≡ self.old.timer }
         ensures layer { self.new ≡ record self.old { timer = timer } }
@@ -201,8 +203,8 @@ impl<W: Output, FT: FormatTime> HierarchicalLayer<W, FT> {
         mem::replace(&mut self.timer, timer)
     }
 
-    /// Writes to this writer from now on, and returns the one before. A layer that has failed goes on, as if the call at which it
-    /// failed had not been made. The caller must ensure that the writer has no faults.
+    /// Replaces the writer, and returns the previous one. A layer that has failed continues, as if
+    /// the failed call had not been made. The caller must ensure that the new writer has no faults.
     pub fn recover(&mut self, writer: W) -> W
         requires { W.fault_count writer ≡ 0 }
         ensures before { result ≡ self.old.writer }
@@ -218,14 +220,14 @@ impl<W: Output, FT: FormatTime> HierarchicalLayer<W, FT> {
         before
     }
 
-    // Has the writer pass on what it holds back.
+    // Flushes the writer.
     pub(crate) fn flush(&mut self)
         ensures { IsFlushed W.Output self.old self.new }
     {
         self.writer.flush();
     }
 
-    // Draws a span that was made, which is live.
+    // Draws a new span, which is live.
     pub(crate) fn write_new_span<S: LookupSpan>(
         &mut self,
         id: Id,
@@ -248,7 +250,7 @@ impl<W: Output, FT: FormatTime> HierarchicalLayer<W, FT> {
         sent
     }
 
-    // Draws an event that stands in `depth` spans. A tail that was drawn before is used.
+    // Draws an event that is nested in `depth` spans. Uses the tail, if it was drawn before.
     pub(crate) fn write_event<S: LookupSpan, E: ToldEvent>(
         &mut self,
         event: &E,
@@ -285,7 +287,7 @@ impl<W: Output, FT: FormatTime> HierarchicalLayer<W, FT> {
         sent
     }
 
-    // Draws spans that close one after another. Where none closes, no memory is taken.
+    // Draws spans that close one after another. If `ids` is empty, it never allocates.
     pub(crate) fn write_closes<S: LookupSpan>(
         &mut self,
         ids: &[Id],
@@ -309,7 +311,8 @@ impl<W: Output, FT: FormatTime> HierarchicalLayer<W, FT> {
     }
 }
 
-// Does what is left of a plan once its rows are written: marks, and the last span. Takes no memory.
+// Applies the rest of a plan after its rows were written: marks the fresh spans, and sets the last
+// span. Never allocates.
 fn commit<S: LookupSpan>(plan: &Plan, last: &mut Option<Id>, spans: &mut S)
     ensures last { last.new ≡ plan.now.last }
     ensures forest { S.forest spans.new ≡ mark_all plan.now.fresh (S.forest spans.old) }
@@ -320,8 +323,8 @@ fn commit<S: LookupSpan>(plan: &Plan, last: &mut Option<Id>, spans: &mut S)
     *last = plan.last();
 }
 
-// Writes what was drawn, once and whole, or gives it up. Only a fault of the writer leaves a text
-// on the page.
+// Writes what was drawn in one piece, or discards it. Only a fault of the writer leaves a text on
+// the page.
 #[inline(always)]
 fn send<W: Output>(
     drawn: Result<(), Refusal>,

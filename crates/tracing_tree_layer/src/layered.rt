@@ -1,4 +1,4 @@
-//! A registry with a layer, which take each call whole, or refuse it and say why.
+//! A registry with a layer. Each call is accepted as a whole, or refused with a cause.
 
 ghost use Rattle.std.specs.Prelude.{◌≡◌, ◌≢◌, ◌<◌, [], false, None, OnErr, IfOk, IfSome, length};
 ghost use Rattle.tracing_tree_spans.specs.Registry.Ids.{id_of};
@@ -23,11 +23,13 @@ use tracing_tree_text::field::Fields;
 use tracing_tree_text::text::Text;
 use tracing_tree_time::FormatTime;
 
-/// A registry with a layer. An accepted call changes both and writes its text. A refused one leaves the spans, their marks and the
-/// last span as they were; after `Timer` and `Writer` the layer has failed besides, and after `Writer` a beginning of the text may
-/// be out.
+/// A registry with a layer. An accepted call changes both, and writes its text.
 ///
-/// A root span that opens and closes; its attributes and the contexts come from the caller:
+/// After a refused call the spans, their marks and the last span are unchanged. After `Timer` and
+/// `Writer` the layer has also failed. After `Writer` a first part of the text may have been
+/// written.
+///
+/// A root span that opens and closes. Its attributes and the contexts come from the caller:
 /// ```rust
 /// let layer = HierarchicalLayer::new(alloc, 2, false, Tape::new(alloc)).with_indent_lines(true);
 /// let mut layered = Layered::new(alloc, layer);
@@ -39,7 +41,7 @@ use tracing_tree_time::FormatTime;
 pub struct Layered<W: Output, FT: FormatTime> {
     registry: Registry,
     layer: HierarchicalLayer<W, FT>,
-    // What a close removes. It is kept so that its room is taken once.
+    // The ids that a close removes. The list is reused, so it grows only once.
     closing: Vec<Id>,
 }
 
@@ -52,8 +54,8 @@ impl<W: Output, FT: FormatTime> Model for Layered<W, FT> {
 }
 
 impl<W: Output, FT: FormatTime> Layered<W, FT> {
-    /// No spans, and this layer. The first id is 1. The caller must ensure that the layer is fresh: it has no last span and hasn't
-    /// failed.
+    /// Returns a registry without spans and this layer. The first id is 1. The caller must ensure
+    /// that the layer is fresh: it has no last span and hasn't failed.
     pub fn new(alloc: Global, layer: HierarchicalLayer<W, FT>) -> Layered<W, FT>
         requires last { layer.last ≡ None }
         requires sound { layer.failed ≡ false }
@@ -62,7 +64,8 @@ impl<W: Output, FT: FormatTime> Layered<W, FT> {
         Layered::starting_at(alloc, 1, layer)
     }
 
-    /// No spans, and this layer. The first id is this. The caller must ensure that the layer is fresh, as for `new`.
+    /// Returns a registry without spans and this layer. The first id is `first`. The caller must
+    /// ensure that the layer is fresh, as for `new`.
     pub fn starting_at(alloc: Global, first: u64, layer: HierarchicalLayer<W, FT>) -> Layered<W, FT>
         requires last { layer.last ≡ None }
         requires sound { layer.failed ≡ false }
@@ -75,28 +78,28 @@ impl<W: Output, FT: FormatTime> Layered<W, FT> {
         }
     }
 
-    /// The writer, with all that was written.
+    /// Returns the writer, with everything that was written.
     pub fn writer(&self) -> &W
         ensures { result.now ≡ self.now.layer.writer }
     {
         self.layer.writer()
     }
 
-    /// The live spans.
+    /// Returns the live spans.
     pub fn registry(&self) -> &Registry
         ensures { result.now ≡ self.now.forest }
     {
         &self.registry
     }
 
-    /// The layer.
+    /// Returns the layer.
     pub fn layer(&self) -> &HierarchicalLayer<W, FT>
         ensures { result.now ≡ self.now.layer }
     {
         &self.layer
     }
 
-    /// The registry and the layer by themselves.
+    /// Splits this value into its registry and its layer.
     pub fn into_parts(self) -> (Registry, HierarchicalLayer<W, FT>)
         ensures registry { result.0 ≡ self.forest }
         ensures layer { result.1 ≡ self.layer }
@@ -104,7 +107,8 @@ impl<W: Output, FT: FormatTime> Layered<W, FT> {
         (self.registry, self.layer)
     }
 
-    /// Writes to this writer from now on, and returns the one before. The caller must ensure that the writer has no faults.
+    /// Replaces the writer, and returns the previous one. The caller must ensure that the new
+    /// writer has no faults.
     pub fn replace_writer(&mut self, writer: W) -> W
         requires { W.fault_count writer ≡ 0 }
         ensures before { result ≡ self.old.layer.writer }
@@ -115,7 +119,7 @@ impl<W: Output, FT: FormatTime> Layered<W, FT> {
         self.layer.replace_writer(writer)
     }
 
-    /// Shows the time by this timer from now on, and returns the one before.
+    /// Replaces the timer, and returns the previous one.
     pub fn replace_timer(&mut self, timer: FT) -> FT
         ensures before { result ≡ self.old.layer.timer }
         ensures layer { self.new ≡ record self.old {
@@ -125,8 +129,9 @@ impl<W: Output, FT: FormatTime> Layered<W, FT> {
         self.layer.replace_timer(timer)
     }
 
-    /// Writes to this writer from now on, and returns the one before. After `Timer` or `Writer` the layer goes on, as if the call
-    /// that was refused had not been made. The caller must ensure that the writer has no faults.
+    /// Replaces the writer, and returns the previous one. After `Timer` or `Writer` the layer
+    /// continues, as if the refused call had not been made. The caller must ensure that the new
+    /// writer has no faults.
     pub fn recover(&mut self, writer: W) -> W
         requires { W.fault_count writer ≡ 0 }
         ensures before { result ≡ self.old.layer.writer }
@@ -137,7 +142,7 @@ impl<W: Output, FT: FormatTime> Layered<W, FT> {
         self.layer.recover(writer)
     }
 
-    /// Flushes the writer (`Output::flush`). Nothing else changes.
+    /// Flushes the writer (`Output::flush`). Changes nothing else.
     pub fn flush(&mut self)
         ensures flushed { Changes (seen FT.FormatTime W.Output) Flushes self.old self.new }
         ensures shown { IsShown W.Output self.new.layer.writer }
@@ -145,13 +150,22 @@ impl<W: Output, FT: FormatTime> Layered<W, FT> {
         self.layer.flush();
     }
 
-    /// Makes a call: the registry's part of it, the layer's rows, and the reply.
+    /// Makes a call on the registry, draws its rows, and returns the reply.
     ///
-    /// The first cause of these decides: `Failed` after an earlier call was refused for the timer or the writer, until `recover`;
-    /// `NotHeld` of a new span's parent or a span to be cloned that isn't live, or of a span to be closed that has no handle;
-    /// `TooMany` where no id or no further handle is left; `TooWide` where a row's level used times the amount passes `usize`; `Timer`
-    /// and `Writer` for their faults; `Memory`, in place of a cause too, where memory is refused. A refused call leaves the spans,
-    /// their marks and the last span.
+    /// # Errors
+    ///
+    /// The first of these causes that applies:
+    ///
+    /// - `Failed` after a call was refused for the timer or the writer, until `recover`.
+    /// - `NotHeld` if a new span's parent or a span to clone isn't live, or a span to close has no
+    ///   handle.
+    /// - `TooMany` if all ids are used, or a span can't have more handles.
+    /// - `TooWide` if the width of a row, its level used times the amount, exceeds `usize::MAX`
+    ///   columns.
+    /// - `Timer` and `Writer` if the timer or the writer faults.
+    ///
+    /// `Memory` if an allocation fails, possibly instead of another cause. After a refusal the
+    /// spans, their marks and the last span are unchanged.
     pub fn call(&mut self, call: Call) -> Result<Reply, Refusal>
         ensures answered { Changes (seen FT.FormatTime W.Output) (IsAnswered call result)
             self.old self.new }
@@ -160,8 +174,13 @@ impl<W: Output, FT: FormatTime> Layered<W, FT> {
         self.take_call(&mut call)
     }
 
-    /// Makes the call of an event that stays the caller's, as `call` does. Level, target and fields may be drawn before by
-    /// `push_event_tail`, with ansi and targets as they are here: the caller must ensure that such a tail is theirs.
+    /// Records an event, like `call`, without taking it. The level, target and fields may already
+    /// be drawn, by `push_event_tail` with the same ansi and targets. The caller must ensure that
+    /// such a tail is this event's.
+    ///
+    /// # Errors
+    ///
+    /// Those of `call`.
     pub fn call_event(
         &mut self,
         event: &Event,
@@ -181,8 +200,13 @@ impl<W: Output, FT: FormatTime> Layered<W, FT> {
         }
     }
 
-    /// Makes calls one after another, and returns the answer to each, in order. Room for the answers is taken first: on
-    /// `AllocError` nothing has changed. No calls need no room.
+    /// Makes calls one after another, and returns their answers in order. Memory for the answers is
+    /// allocated first.
+    ///
+    /// # Errors
+    ///
+    /// `AllocError` if that allocation fails. Nothing has changed then. Without calls it can't
+    /// fail.
     pub fn run(
         &mut self,
         alloc: Global,
@@ -204,7 +228,8 @@ impl<W: Output, FT: FormatTime> Layered<W, FT> {
         Ok(answers)
     }
 
-    // Makes a call where it lies, since it is large and each move of it costs. What a span keeps is taken out of it.
+    // Makes a call in place, since a call is large and each move of it costs. What a span stores is
+    // moved out of it.
     fn take_call(&mut self, call: &mut Call) -> Result<Reply, Refusal>
         ensures { Changes (seen FT.FormatTime W.Output) (IsAnswered call.old result)
             self.old self.new }
@@ -232,7 +257,7 @@ impl<W: Output, FT: FormatTime> Layered<W, FT> {
         }
     }
 
-    // A refusal of the layer takes the new span and its id back.
+    // Makes a span. If the layer refuses, the span and its id are taken back.
     pub(crate) fn add_span(
         &mut self,
         attributes: Attributes,
@@ -251,7 +276,7 @@ impl<W: Output, FT: FormatTime> Layered<W, FT> {
         Ok(id)
     }
 
-    // The rows of all that closes are written before anything is removed.
+    // Drops a handle. The rows of all spans that close are written before any span is removed.
     pub(crate) fn close_handle(&mut self, id: Id, context: &Context) -> Result<bool, Refusal>
         requires { self.old.layer.failed ≡ false }
         ensures { Changes (seen FT.FormatTime W.Output)
@@ -263,7 +288,7 @@ impl<W: Output, FT: FormatTime> Layered<W, FT> {
         Ok(self.registry.close_listed(id, ids))
     }
 
-    // Nothing is drawn.
+    // Adds a handle. Nothing is drawn.
     pub(crate) fn add_handle(&mut self, id: Id) -> Result<Id, Refusal>
         requires { self.old.layer.failed ≡ false }
         ensures { Changes (seen FT.FormatTime W.Output)
@@ -272,7 +297,7 @@ impl<W: Output, FT: FormatTime> Layered<W, FT> {
         self.registry.clone_span(id)
     }
 
-    // Nothing is drawn.
+    // Records fields. Nothing is drawn.
     pub(crate) fn add_fields(&mut self, id: Id, fields: Fields) -> Result<(), Refusal>
         requires { self.old.layer.failed ≡ false }
         ensures { Changes (seen FT.FormatTime W.Output)
@@ -283,7 +308,8 @@ impl<W: Output, FT: FormatTime> Layered<W, FT> {
         Ok(())
     }
 
-    // The spans stay. Retracing may mark them as printed and change the last span.
+    // Draws an event. No span is added or removed. Retracing may mark spans as printed and change
+    // the last span.
     pub(crate) fn draw_event<E: ToldEvent>(
         &mut self,
         event: &E,
@@ -303,7 +329,7 @@ impl<W: Output, FT: FormatTime> Layered<W, FT> {
     }
 }
 
-// What is left of attributes that were taken. Takes no memory.
+// Returns empty attributes, to replace those that were taken. Never allocates.
 fn no_attributes(alloc: Global) -> Attributes {
     Attributes {
         name: Text::from(String::new(alloc)),
@@ -313,8 +339,8 @@ fn no_attributes(alloc: Global) -> Attributes {
     }
 }
 
-// How many spans lead down to the span, itself among them; 0 where it isn't there or isn't live. The registry keeps
-// all paths, so no memory is taken.
+// Returns the length of the path down to the span, including it. It is 0 if the id is missing or
+// isn't live. Never allocates, since the registry stores all paths.
 fn depth(registry: &Registry, id: Option<Id>) -> usize
     ensures { result ≡ length (path_of_any registry.now (if_live registry.now id)) }
 {

@@ -1,8 +1,8 @@
 //! Calls, the layer that draws them, and a registry with such a layer.
 //!
-//! [`Layered`] takes a [`Call`], draws it whole or refuses it, and answers with a [`Reply`]. It is a registry with a
-//! [`HierarchicalLayer`], which can also be called alone over spans that are kept elsewhere. [`DifferenceIter`] is here because the
-//! Rust crate has it; no call goes through it.
+//! [`Layered`] accepts or refuses a [`Call`] as a whole, and answers with a [`Reply`]. It is a
+//! registry with a [`HierarchicalLayer`]. The layer can also be called directly, over spans that
+//! are stored elsewhere. [`DifferenceIter`] is here because the Rust crate has it. No call uses it.
 #![tactic(auto)]
 
 pub mod call;

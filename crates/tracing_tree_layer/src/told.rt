@@ -1,4 +1,4 @@
-//! Events as they are told.
+//! Events as the caller stores them.
 
 mod texts;
 
@@ -12,30 +12,38 @@ use tracing_tree_drawing::format::push_event_field;
 use tracing_tree_spans::registry::{Event, Parent};
 use tracing_tree_text::style::Level;
 
-/// An event as it is told. Nothing of an event is kept, so its texts need no place of their own: a caller that holds them in
-/// another form draws them from there.
+/// An event in the caller's form. The registry stores no part of an event, so its strings are drawn
+/// from where the caller has them, without a copy.
 pub trait ToldEvent {
     /// The event.
     ghost told: { Self → Event };
 
-    /// Its level.
+    /// Returns its level.
     fn level(&self) -> Level
         ensures { result ≡ (told self.now).level };
 
-    /// Its target.
+    /// Returns its target.
     fn target(&self) -> &str
         ensures { result.now ≡ (told self.now).target };
 
-    /// Its parent.
+    /// Returns its parent.
     fn parent(&self) -> Parent
         ensures { result ≡ (told self.now).parent };
 
-    /// Appends its fields as an event shows them, a space before the first. After an error a beginning may stand in `out`.
+    /// Appends its fields as an event shows them, with a space before the first.
+    ///
+    /// # Errors
+    ///
+    /// `AllocError` if an allocation fails. A part of them may be in `out` then.
     fn push_fields(&self, out: &mut String) -> Result<(), AllocError>
         ensures { OnOk result (string_bytes out.new
             ≡ string_bytes out.old ++ event_fields (told self.now).fields) };
 
-    /// A copy with texts of its own, for one that must keep it.
+    /// Returns a copy with separate strings, for a receiver that has to store it.
+    ///
+    /// # Errors
+    ///
+    /// `AllocError` if an allocation fails.
     fn to_event(&self, alloc: Global) -> Result<Event, AllocError>
         ensures { IfOk result (λ event. event ≡ told self.now) };
 }

@@ -1,7 +1,7 @@
-//! Lines of JSON: calls that they spell, and rows of a drawing that are written as such lines.
+//! Lines of JSON: the calls that they encode, and the rows of a drawing written as such lines.
 //!
-//! [`run_lines`] draws the calls that lines spell. [`rows::rows_to_json`] writes the rows of a drawing, and [`rows::read_paths`] returns
-//! where the ancestors of its events stand.
+//! [`run_lines`] draws the calls of its input lines. [`rows::rows_to_json`] writes the rows of a
+//! drawing, and [`rows::read_paths`] returns the ancestors of its events.
 #![tactic(auto)]
 
 pub mod lines;

@@ -1,4 +1,4 @@
-//! The program's lines: the first spells settings, each further one a call.
+//! The program's input lines: the first has the settings, each further one a call.
 
 mod call;
 mod context;
@@ -44,11 +44,11 @@ use tracing_tree_time::FormatTime;
 /// Why a line ended the run.
 #[derive(Clone, Copy, Debug, PartialEq, Eq, Error)]
 pub enum LineCause {
-    /// The first line isn't there, or spells no settings.
+    /// The first line is missing or isn't valid settings.
     #[error("settings")]
     Settings,
 
-    /// A further line spells no call.
+    /// A further line isn't a call.
     #[error("not a call")]
     NotACall,
 
@@ -56,7 +56,7 @@ pub enum LineCause {
     #[error("read")]
     Read,
 
-    /// Memory was refused before the line's call was made.
+    /// An allocation failed before the line's call was made.
     #[error("memory")]
     Memory,
 
@@ -124,10 +124,10 @@ impl<T: Drop> From<AllocFailed<T>> for LineCause {
     }
 }
 
-/// The line that ended the run, and why. It is shown as `line N: CAUSE`.
+/// The line that ended the run, and why. It is displayed as `line N: CAUSE`.
 #[derive(Clone, Copy, Debug, PartialEq, Eq)]
 pub struct LineFault {
-    /// The line's number; the first line is 1.
+    /// The line's number, from 1.
     pub line: u64,
 
     /// Why the run ended there.
@@ -142,33 +142,45 @@ impl fmt::Display for LineFault {
     }
 }
 
-/// What a run over lines leaves.
+/// The result of a run over lines.
 #[derive(Drop)]
 pub struct LinesRun<W: Output> {
-    /// The writer, with all that was written.
+    /// The writer, with everything that was written.
     pub writer: W,
 
     /// How many calls were accepted.
     pub accepted: u64,
 
-    /// The line that ended the run; none where the input was run to its end. The last flush may have been refused then: no call
-    /// draws after it that could tell, and `Wrap::is_stuck` does.
+    /// The line that ended the run, or `None` if the run reached the end of the input. Even then
+    /// the last flush may have failed. No later call reports that, but `Wrap::is_stuck` does.
     pub fault: Option<LineFault>,
 }
 
-/// Runs the calls that the input's lines spell, under the settings that its first line spells, and draws them into the writer.
-/// The caller must ensure that the writer has no faults.
+/// Runs the calls of the input's lines with the settings of its first line, and draws them into the
+/// writer. The caller must ensure that the writer has no faults.
 ///
-/// Where line 1 spells no settings, or there is no line, the fault is line 1 and `Settings`. Else the run ends after the first line
-/// that spells no call or whose call is refused: that line's number and the cause are the fault. From line 2 on, a line of spaces,
-/// tabs and carriage returns alone is counted and skipped. An interrupted read is tried again at most eight times in a row; `Read`
-/// is the cause of a ninth interruption and of another error, of 2^64 - 1 reads of a line that doesn't end, and of line number
-/// 2^64 - 1, which isn't judged. `Memory` is the cause where memory is refused before a line's call is made, of line 1 where the
-/// buffer of the input can't be made; where it is refused to the call, the cause is `Refused(Memory)`. The writer is flushed before
-/// each read of the input from line 2 on, and not elsewhere: where a fault ends the run, the caller flushes what was drawn last.
+/// From line 2 on, a line that has only spaces, tabs and carriage returns is counted and skipped.
+/// The run ends after the first line that isn't a call or whose call is refused. The writer is
+/// flushed before each read of the input from line 2 on, and not elsewhere. After a fault the
+/// caller must flush what was drawn last.
 ///
-/// What was run and written is promised where a contract can name the reader's bytes, as those of a slice; of any reader, that
-/// `Refused(Writer)` is the cause exactly where the writer counted a fault.
+/// # Errors
+///
+/// `LinesRun::fault` has the line's number and the cause:
+///
+/// - `Settings` at line 1 if it isn't valid settings, or if there is no line.
+/// - `NotACall` if a further line isn't a call.
+/// - `Refused` if a line's call is refused. If an allocation fails in a call, it is
+///   `Refused(Memory)`.
+/// - `Memory` if an allocation fails before a line's call is made. If the buffer of the input can't
+///   be allocated, this is at line 1.
+/// - `Read` if a read is interrupted for the ninth time in a row, or fails with another error. It
+///   is also the cause after 2^64 - 1 reads of a line that doesn't end, and at line 2^64 - 1, which
+///   isn't judged.
+///
+/// If a contract can name the reader's bytes, as for a slice, it states what was run and written.
+/// For any reader it states that the cause is `Refused(Writer)` exactly if the writer counted a
+/// fault.
 pub fn run_lines<R: Read, W: Output>(alloc: Global, reader: R, writer: W) -> LinesRun<W>
 where
     R: Drop,
@@ -203,7 +215,7 @@ where
     }
 }
 
-// The lines after the first, and what the first asks for.
+// Opens the input: returns the lines after the first, and the settings of the first.
 fn open<R: Read>(alloc: Global, reader: R) -> Result<(BufReader<R>, Setup), LineCause>
 where
     R: Drop,
@@ -224,10 +236,10 @@ where
 }
 
 /// Draws the calls of lines, as [`run_lines`] does from the second line on. Returns how many calls
-/// were accepted, and the line that ended the run: the first of these lines is line 2.
+/// were accepted, and the line that ended the run. The first of these lines is line 2.
 ///
-/// The lines are read by the methods of [`LineInput`] only, so what is drawn is shown before each
-/// wait for a line.
+/// It reads only by the methods of [`LineInput`], so everything drawn is shown before each wait for
+/// a line.
 pub fn draw_lines<L: LineInput, W: Output, FT: FormatTime>(
     alloc: Global,
     lines: &mut L,
@@ -262,7 +274,7 @@ pub fn draw_lines<L: LineInput, W: Output, FT: FormatTime>(
     (run.accepted, Some(fault))
 }
 
-// How far a run has come.
+// The state of a run.
 #[derive(Drop)]
 struct Progress {
     // The number of the next line.
@@ -286,17 +298,18 @@ impl Progress {
     }
 }
 
-// What became of a line.
+// The result of a line.
 enum Judged {
-    // There is none.
+    // The input ended.
     End,
     Skipped,
     // Its call was accepted.
     Accepted,
 }
 
-// Makes the calls of the whole lines that the reader's buffer holds; where it holds none, the call of the next line. Returns whether
-// there was a line. A line that ends the run isn't counted: its number is that of the next line.
+// Makes the calls of all complete lines in the reader's buffer. Without a complete line, makes the
+// call of the next line. Returns whether there was a line. A line that ends the run isn't counted:
+// its number is that of the next line.
 fn run_some<L: LineInput, W: Output, FT: FormatTime>(
     alloc: Global,
     lines: &mut L,
@@ -326,8 +339,8 @@ fn run_some<L: LineInput, W: Output, FT: FormatTime>(
     }
 }
 
-// Makes the calls of lines that the reader holds whole. Returns how many bytes were judged. The lines are checked as one text, which
-// costs less than to check each by itself.
+// Makes the calls of the complete lines in the reader's buffer. Returns how many bytes were judged.
+// The lines are checked for UTF-8 together, which costs less than one check per line.
 fn run_held<W: Output, FT: FormatTime>(
     alloc: Global,
     held: &[u8],
@@ -359,7 +372,8 @@ fn run_held<W: Output, FT: FormatTime>(
     Ok(start)
 }
 
-// The text of a line, out of that of all held lines. Where they are no text, the line is checked by itself: another may be to blame.
+// Returns the string of a line, as a part of all held lines. If those aren't UTF-8, this line is
+// checked separately, since another one may be invalid.
 fn line_text<'a>(
     held: &'a [u8],
     whole: Option<&'a str>,
@@ -395,7 +409,7 @@ fn run_line<L: LineInput, W: Output, FT: FormatTime>(
     judge(alloc, line.as_slice(), text, scratch, layered)
 }
 
-// Reads the next line. What is drawn is shown first, since the read may wait.
+// Reads the next line. Flushes what was drawn first, since the read may wait.
 fn read_next<L: LineInput, W: Output, FT: FormatTime>(
     lines: &mut L,
     line: &mut Vec<u8>,
@@ -408,7 +422,7 @@ fn read_next<L: LineInput, W: Output, FT: FormatTime>(
     lines.read_line(line, &flushed)
 }
 
-// What becomes of a line with this text: it is skipped, or the call that it spells is made.
+// Judges a line: skips it, or makes its call.
 fn judge<W: Output, FT: FormatTime>(
     alloc: Global,
     line: &[u8],
@@ -430,8 +444,8 @@ fn judge<W: Output, FT: FormatTime>(
     Ok(Judged::Accepted)
 }
 
-/// The exit status of the program after a run that ended so: 2 for the settings, 1 for any other fault, and without a fault 0
-/// if the last text went out and 1 if not.
+/// Returns the exit status of the program after a run: 2 for `Settings` and 1 for any other fault.
+/// Without a fault it is 0 if the last text was flushed, otherwise 1.
 pub fn status(fault: &Option<LineFault>, flushed: bool) -> u8
     ensures { result ≡ status_of fault.now flushed }
 {

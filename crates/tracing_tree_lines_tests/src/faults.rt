@@ -1,5 +1,5 @@
-//! Readers and writers that fault in each way, once and again and again: what is answered, what is taken or drawn, and how often
-//! they are asked.
+//! Readers and writers that fault in each way, once and repeatedly: what is answered, what is taken
+//! or drawn, and how often they are called.
 
 use std::alloc::{AllocError, Global};
 use std::io;
@@ -13,10 +13,10 @@ use tracing_tree::rows::{RowCause, RowFault, rows_to_json};
 use tracing_tree::style::Level;
 use tracing_tree_for_tests::{Step, calls, lined_over};
 
-// What an attempt to read or to write comes to.
+// The result of an attempt to read or write.
 #[derive(Clone, Copy, Debug)]
 enum Attempt {
-    // At most so many bytes.
+    // At most this many bytes.
     Bytes(usize),
 
     // An error of this kind.
@@ -31,7 +31,7 @@ const INTERRUPTED: Attempt = Attempt::Fails(ErrorKind::Interrupted);
 
 const ALWAYS: u32 = u32::MAX;
 
-// Errors after which nothing is tried again.
+// The errors that aren't retried.
 const ERRORS: [ErrorKind; 9] = [
     ErrorKind::WouldBlock,
     ErrorKind::BrokenPipe,
@@ -44,7 +44,8 @@ const ERRORS: [ErrorKind; 9] = [
     ErrorKind::Other,
 ];
 
-// What one attempt after another comes to, each so many times, and how many were made. After these all bytes are taken or given.
+// A script of results, each for a number of attempts in a row, and how many attempts were made.
+// After the script, all bytes are taken or returned.
 #[derive(Drop)]
 struct Attempts<'a> {
     script: &'a [(Attempt, u32)],
@@ -80,7 +81,8 @@ impl<'a> Attempts<'a> {
     }
 }
 
-// A writer of these attempts. It counts the writes of no bytes, and notes how many bytes were taken at each flush.
+// A writer of these attempts. It counts the writes of no bytes, and notes how many bytes were taken
+// at each flush.
 #[derive(Drop)]
 struct Sink<'a> {
     attempts: Attempts<'a>,
@@ -143,10 +145,11 @@ const INPUT: &[u8] = br#"{"indent_lines":true}
 // What they draw: lines of 6, 12 and 16 bytes.
 const TREE: &str = "┐a \n└─┐b \n  ├─ INFO x\n";
 
-// How many bytes the first calls draw, so many.
+// How many bytes the first calls draw: 0, 1, 2 and 3 of them.
 const DRAWN: [usize; 4] = [0, 6, 18, 34];
 
-// The answers to the three calls where this many are accepted, and the next one is refused for the writer.
+// Returns the answers to the three calls if this many are accepted, and the next one is refused
+// because of the writer.
 fn answers(alloc: Global, accepted: usize) -> Result<Vec<Result<Reply, Refusal>>, AllocError> {
     let replies = [Reply::Span(Id(1)), Reply::Span(Id(2)), Reply::Done];
     let mut answers = Vec::new(alloc);
@@ -162,7 +165,7 @@ fn answers(alloc: Global, accepted: usize) -> Result<Vec<Result<Reply, Refusal>>
     Ok(answers)
 }
 
-// What a writer of these attempts was asked for and took, and when it was flushed.
+// Checks what a writer with these attempts was called with and took, and when it was flushed.
 fn took(rt: &impl Abort, sink: &Sink<'_>, taken: &[u8], made: u32, shown: &[usize]) {
     assert_eq!(rt; sink.taken.as_slice(), taken, "{made} attempts");
     assert_eq!(rt; sink.attempts.made, made);
@@ -170,14 +173,15 @@ fn took(rt: &impl Abort, sink: &Sink<'_>, taken: &[u8], made: u32, shown: &[usiz
     assert_eq!(rt; sink.shown.as_slice(), shown);
 }
 
-// The calls that the lines of the input spell.
+// The calls in the lines of the input.
 const CALLS: [Step<'static>; 3] = [
     Step::New("a", None),
     Step::New("b", Some(1)),
     Step::Told(Level::Info, "x", Some(2)),
 ];
 
-// Makes the calls over a writer of these attempts, of which so many are accepted, and returns the writer.
+// Makes the calls over a writer with these attempts, checks how many are accepted, and returns the
+// writer.
 fn after_calls<'a>(
     rt: &(impl Abort + AllocGlobal),
     script: &'a [(Attempt, u32)],
@@ -192,7 +196,8 @@ fn after_calls<'a>(
     Ok(layer.into_writer().into_inner())
 }
 
-// Runs the lines over a writer of these attempts, of which so many calls are accepted, and returns the writer.
+// Runs the lines over a writer with these attempts, checks how many calls are accepted, and returns
+// the writer.
 fn after_lines<'a>(
     rt: &(impl Abort + AllocGlobal),
     script: &'a [(Attempt, u32)],
@@ -213,7 +218,8 @@ fn after_lines<'a>(
     ran.writer.into_inner()
 }
 
-// Over a writer of these attempts so many calls are accepted, and it takes so many bytes, by so many attempts.
+// Checks how many calls are accepted over a writer with these attempts, how many bytes it takes,
+// and in how many attempts.
 fn draws(
     rt: &(impl Abort + AllocGlobal),
     script: &[(Attempt, u32)],
@@ -297,7 +303,7 @@ fn writes_are_refused(rt: HostRuntime) -> Result<(), Fail> {
     draws(&rt, [(ONE, 4), (NOTHING, 1)].as_slice(), 0, 4, 5)
 }
 
-// The same, where these attempts are made first, if any.
+// Like `draws`, but these attempts are made first, if there are any.
 fn refuses(
     rt: &(impl Abort + AllocGlobal),
     before: (Attempt, u32),
@@ -312,7 +318,8 @@ fn refuses(
     draws(rt, [before, refused].as_slice(), accepted, bytes, made)
 }
 
-// Over a reader of these attempts so many calls are accepted, it is asked so often, and the run ends so.
+// Checks how many calls are accepted over a reader with these attempts, how often it is called, and
+// how the run ends.
 fn reads(
     rt: &(impl Abort + AllocGlobal),
     script: &[(Attempt, u32)],
@@ -336,14 +343,14 @@ fn reads(
     assert_eq!(rt; source.attempts.made, made);
 }
 
-// The first lines, of so many bytes.
+// The first lines, by their bytes.
 const LINES_1: (Attempt, u32) = (Attempt::Bytes(22), 1);
 
 const LINES_2: (Attempt, u32) = (Attempt::Bytes(48), 1);
 
 const LINES_3: (Attempt, u32) = (Attempt::Bytes(86), 1);
 
-// Over an input of which so many bytes come first, the writer is flushed after so many bytes.
+// Checks after how many bytes the writer is flushed, if the input arrives in these parts.
 fn shows(rt: &(impl Abort + AllocGlobal), reading: &[(Attempt, u32)], shown: &[usize]) {
     let alloc = rt.alloc();
     let source = Source {
@@ -355,7 +362,8 @@ fn shows(rt: &(impl Abort + AllocGlobal), reading: &[(Attempt, u32)], shown: &[u
     took(rt, &ran.writer.into_inner(), TREE.as_bytes(), 3, shown);
 }
 
-// What the whole lines before a read draw is passed on before it, and the writer is flushed at no other time.
+// Everything that the complete lines before a read draw is flushed before it. The writer is flushed
+// at no other time.
 #[test]
 fn shows_before_reads(rt: HostRuntime) {
     shows(&rt, [].as_slice(), [34].as_slice());
@@ -411,7 +419,7 @@ fn reads_in_pieces(rt: HostRuntime) {
     reads(&rt, [(Attempt::Bytes(50), ALWAYS)].as_slice(), 3, 5, None);
 }
 
-// Where a read gives nothing the input ends.
+// If a read returns nothing, the input ends.
 #[test]
 fn reads_nothing(rt: HostRuntime) {
     for times in [1, ALWAYS] {
@@ -514,7 +522,8 @@ const PRINTED: [&str; 4] = [
     "{\"shape\":\"CloseRoot\",\"level\":0,\"lines\":[\"\"]}\n",
 ];
 
-// Over a reader and a writer of these attempts so many rows are printed, each is asked so often, and the reading ends so.
+// Checks how many rows are printed over a reader and a writer with these attempts, how often each
+// is called, and how the reading ends.
 fn prints(
     rt: &(impl Abort + AllocGlobal),
     reading: &[(Attempt, u32)],

@@ -1,4 +1,4 @@
-//! Large runs with ample memory: every call is accepted, and the whole text is what it must be.
+//! Large runs with enough memory: every call is accepted, and the whole text is what it must be.
 
 use std::alloc::{AllocError, Global};
 use std::process::Abort;
@@ -20,7 +20,7 @@ const ASCII: &str = concat!(
     "\u{7f}",
 );
 
-// How a field shows it as a text.
+// The same characters as a quoted field shows them.
 const SHOWN: &str = concat!(
     "\"\\0\\u{1}\\u{2}\\u{3}\\u{4}\\u{5}\\u{6}\\u{7}\\u{8}\\t\\n\\u{b}\\u{c}\\r\\u{e}\\u{f}",
     "\\u{10}\\u{11}\\u{12}\\u{13}\\u{14}\\u{15}\\u{16}\\u{17}\\u{18}\\u{19}\\u{1a}\\u{1b}",
@@ -31,13 +31,13 @@ const SHOWN: &str = concat!(
 // How deep the spans are nested.
 const DEPTH: usize = 1_000;
 
-// How long a long text is.
+// The length of a long string.
 const LONG: usize = 1_000_000;
 
 // How many spans live at once.
 const SPANS: u64 = 100_000;
 
-// Calls, and the text that they are to draw.
+// Calls, and the text that they must draw.
 #[derive(Drop)]
 struct Script {
     alloc: Global,
@@ -54,7 +54,7 @@ impl Script {
         }
     }
 
-    // A call that is to draw so many spaces and this text.
+    // Adds a call that must draw `spaces` spaces and this text.
     fn push(&mut self, call: Call, spaces: usize, text: &str) -> Result<(), AllocError> {
         self.calls.push(call)?;
         self.wanted
@@ -83,7 +83,7 @@ impl Script {
     }
 }
 
-// A field with this text, as a text if it is ASCII.
+// Returns a field with this string, which is quoted if it is ASCII.
 fn text_field(alloc: Global, text: &str) -> Result<Field, AllocError> {
     if text.is_ascii() {
         return Field::text(alloc, "a", text);
@@ -91,7 +91,8 @@ fn text_field(alloc: Global, text: &str) -> Result<Field, AllocError> {
     Field::rendered(alloc, "a", "")
 }
 
-// Fields with long texts and with each ASCII character, and how they are shown with commas between them.
+// Returns fields with long strings and with each ASCII character, and the text that shows them,
+// separated by commas.
 fn many_fields(alloc: Global) -> Result<(Fields, String), AllocError> {
     let mut fields = Vec::new(alloc);
     let mut shown = String::new(alloc);
@@ -196,7 +197,8 @@ fn draws_many_live_spans(rt: HostRuntime) -> Result<(), Fail> {
     script.runs(&rt)
 }
 
-// A first line padded with so many spaces, a name ten times as long, and a value of so many parts under a key that no call has.
+// A first line padded with `count` spaces, a name ten times as long, and a value with `count` parts
+// at an unknown key.
 fn reads_long(rt: &(impl Abort + AllocGlobal), count: usize) -> Result<(), Fail> {
     let alloc = rt.alloc();
     let name = "n".repeat(alloc, count.saturating_mul(10))?;

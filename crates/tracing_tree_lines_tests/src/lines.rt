@@ -1,4 +1,4 @@
-//! What no contract says of lines: the texts of faults, and readers that fail.
+//! Properties of lines that aren't in a contract: faults as strings, and readers that fail.
 
 use std::alloc::{AllocError, Global};
 use std::io;
@@ -8,7 +8,8 @@ use std::test::*;
 use tracing_tree::format::{Id, Refusal, Tape};
 use tracing_tree::lines::{LineCause, LineFault, run_lines};
 
-// A reader that gives one byte at a time. After the first `calm` bytes it fails `times` times before each.
+// A reader that gives one byte at a time. After the first `calm` bytes it fails `times` times
+// before each.
 #[derive(Drop)]
 struct Hesitant<'a> {
     rest: &'a [u8],
@@ -52,10 +53,10 @@ impl Read for Hesitant<'_> {
     }
 }
 
-// Three lines, of which the last two are skipped; the third begins after four bytes.
+// Three lines. The last two are skipped, and the third starts after four bytes.
 const THREE_LINES: &[u8] = b"{}\n\n \t\n";
 
-// The fault of a run over the three lines, by a reader that fails so.
+// Returns the fault of a run over the three lines, by a reader that fails so.
 fn fault_of(alloc: Global, calm: u32, times: u32, kind: ErrorKind) -> Option<LineFault> {
     let reader = Hesitant::new(THREE_LINES, calm, times, kind);
     run_lines(alloc, reader, Tape::new(alloc)).fault
@@ -106,7 +107,7 @@ fn errors(rt: HostRuntime) {
     assert_eq!(rt; fault_of(alloc, 5, 1, ErrorKind::BrokenPipe), read_fault(3));
 }
 
-// Settings, a line of so many spaces, and a line that spells no call.
+// Returns settings, a line of `spaces` spaces, and a line that isn't a call.
 fn long_line(alloc: Global, spaces: usize) -> Result<String, AllocError> {
     let mut text = String::new(alloc);
     text.push_str("{}\n")?;
@@ -132,7 +133,8 @@ fn long_lines(rt: HostRuntime) -> Result<(), Fail> {
     Ok(())
 }
 
-// What stands before and after 200,000 spaces in lines that spell no settings or no call, longer than the buffer of the input.
+// The parts before and after 200,000 spaces, in lines that aren't valid settings or calls and are
+// longer than the buffer of the input.
 const WRONG: [(&str, &str, u64, LineCause); 6] = [
     ("{", "\n", 1, LineCause::Settings),
     ("{\"ansi\":", "1}\n", 1, LineCause::Settings),
@@ -175,7 +177,7 @@ fn reads_no_further(rt: HostRuntime) {
     assert_eq!(rt; reader.rest, b"{}\n".as_slice());
 }
 
-// Compares the text of a fault in line 3.
+// Compares a fault in line 3 as a string.
 fn reads_as(rt: &(impl Abort + AllocGlobal), cause: LineCause, wanted: &str) -> Result<(), Fail> {
     let fault = LineFault { line: 3, cause };
     let text = format!(in rt.alloc(); "{fault}")?;

@@ -1,4 +1,5 @@
-//! Rows wider than any memory: which refusal a call gets, and who is said to have asked for the memory.
+//! Rows wider than any memory: which refusal a call gets, and whether the call or its line ran out
+//! of memory.
 
 use std::alloc::{AllocError, Global};
 use std::test::*;
@@ -22,7 +23,7 @@ fn deferring(alloc: Global) -> Result<Box<Layered<Tape, ()>>, AllocError> {
     Ok(Box::new(alloc, Layered::new(alloc, layer))?)
 }
 
-// Makes so many spans, each in the one before it.
+// Makes `depth` nested spans.
 fn nest(layered: &mut Layered<Tape, ()>, alloc: Global, depth: u64) -> Result<(), Fail> {
     for above in 0..depth {
         let current = if above == 0 { None } else { Some(above) };
@@ -34,7 +35,7 @@ fn nest(layered: &mut Layered<Tape, ()>, alloc: Global, depth: u64) -> Result<()
     Ok(())
 }
 
-// What an event in the lowest of so many spans is answered.
+// Returns the answer to an event in the innermost of `depth` spans.
 fn answer_at(alloc: Global, depth: u64) -> Result<Result<Reply, Refusal>, Fail> {
     let mut layered = deferring(alloc)?;
     nest(&mut layered, alloc, depth)?;

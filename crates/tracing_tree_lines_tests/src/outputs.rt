@@ -13,7 +13,8 @@ use tracing_tree::registry::LookupSpan;
 use tracing_tree::style::Level;
 use tracing_tree_for_tests::{Answer, Step, lined_over};
 
-// A writer that is interrupted so many times, and then takes at most a piece of what it is given. It counts its flushes.
+// A writer that is first interrupted a number of times, and then takes at most a piece of its
+// bytes. It counts its flushes.
 #[derive(Drop)]
 struct Halting {
     taken: Vec<u8>,
@@ -71,7 +72,7 @@ fn tape_takes_nothing(rt: HostRuntime) {
     assert_eq!(rt; tape.faults(), 0);
 }
 
-// Takes three bytes at a time, and refuses the write of one number, counted from 1: that one alone, or all from it on.
+// Takes three bytes at a time, and refuses one write, counted from 1, or all writes from it on.
 #[derive(Drop)]
 struct Choppy {
     taken: Vec<u8>,
@@ -107,7 +108,7 @@ impl Choppy {
     }
 }
 
-// Two spans, of which the second is refused, and what every call after it is answered.
+// Two spans, the second of which is refused, and the answer to every call after it.
 const REFUSED: [(Step<'static>, Answer); 2] = [
     (Step::New("a", None), Ok(Reply::Span(Id(1)))),
     (Step::New("b", Some(1)), Err(Refusal::Writer)),
@@ -118,7 +119,7 @@ const FAILED: [(Step<'static>, Answer); 2] = [
     (Step::Clone(1), Err(Refusal::Failed)),
 ];
 
-// Each of these calls is answered as it stands beside it.
+// Checks the answer to each of these calls.
 fn answers(
     rt: &(impl Abort + AllocGlobal),
     layered: &mut Layered<Wrap<Choppy>, ()>,
@@ -227,7 +228,7 @@ impl Withholding {
     }
 }
 
-// A flush that is refused is told by the next write; an interrupted one is tried again.
+// A refused flush is reported by the next write. An interrupted flush is tried again.
 #[test]
 fn flushes_are_refused(rt: HostRuntime) {
     let alloc = rt.alloc();
@@ -256,7 +257,8 @@ fn flushes_are_refused(rt: HostRuntime) {
     }
 }
 
-// A run whose flush is refused ends at the next call that draws. The last flush of a run is told by no call.
+// A run whose flush is refused ends at the next call that draws. The last flush of a run isn't
+// reported by a call.
 #[test]
 fn blames_the_line_after_a_refused_flush(rt: HostRuntime) {
     let alloc = rt.alloc();

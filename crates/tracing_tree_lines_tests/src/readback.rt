@@ -1,4 +1,5 @@
-//! Runs whose drawing is read back: over the public contracts of `Layered::run` and `read_rows` alone.
+//! Runs whose drawing is read back, only from the public contracts of `Layered::run` and
+//! `read_rows`.
 
 ghost use Rattle.std.specs.Prelude.{◌≡◌, IfSome};
 ghost use Rattle.tracing_tree_time.specs.Clock.{no_timer};
@@ -23,8 +24,9 @@ struct ReadBack {
     rows: Vec<Row>,
 }
 
-// Makes the calls, and reads the rows that they drew: those of the run of the accepted calls, if these rows are readable. None where
-// the writer held a text before, the amount is below 2, memory is refused, the layer fails or its drawing isn't read.
+// Makes the calls, and reads the rows that they drew: those of the run of the accepted calls, if
+// these rows are readable. Returns `None` if the writer wasn't empty before, the amount is below 2,
+// memory runs out, the layer fails or its drawing can't be read.
 fn read_back(alloc: Global, layered: &mut Layered<Tape, ()>, calls: Vec<Call>) -> Option<ReadBack>
     ensures { IfSome result (λ back.
         let settings = layered.old.layer.settings in
@@ -50,7 +52,7 @@ fn read_back(alloc: Global, layered: &mut Layered<Tape, ()>, calls: Vec<Call>) -
     Some(ReadBack { answers, rows })
 }
 
-// Two spans, of which the inner one has an event and closes. One close is refused.
+// Two spans. The inner one has an event and closes. One close is refused.
 const STEPS: [Step<'static>; 5] = [
     Step::New("a", None),
     Step::Close(7),
@@ -59,7 +61,7 @@ const STEPS: [Step<'static>; 5] = [
     Step::Close(2),
 ];
 
-// What is read back of them. It promises nothing, so that the test is soon proved.
+// Returns what is read back of them. It promises nothing, so that the test is soon proved.
 fn steps_read_back(alloc: Global) -> Result<Option<ReadBack>, AllocError> {
     let calls = calls(alloc, STEPS.as_slice())?;
     let mut layered = lined(alloc)?;

@@ -20,7 +20,7 @@ const TREE: &str = "┐a \n└─┐b \n  ├─ WARN x\n┌─┘\n┘\n";
 const TREE_ROWS: &str =
     "OpenRoot 0|a \nOpen(false) 1|b \nEvent 2| WARN x\nClose(false) 1|\nCloseRoot 0|\n";
 
-// A row of these lines, if there is one.
+// Returns a row of these lines, if there is one.
 fn row(
     alloc: Global,
     shape: Shape,
@@ -34,7 +34,7 @@ fn row(
     Ok(Row::new(shape, level, lines))
 }
 
-// A row as a line: its shape, its level, and each of its texts after a bar.
+// Appends a row as a line: its shape, its level, and each of its strings after a bar.
 fn push_row(out: &mut String, row: &Row) -> Result<(), AllocError> {
     let (shape, level): (Shape, usize) = (row.shape(), row.level());
     write!(out, "{shape:?} {level}")?;
@@ -44,7 +44,7 @@ fn push_row(out: &mut String, row: &Row) -> Result<(), AllocError> {
     out.push_str("\n")
 }
 
-// The rows, a line each.
+// Returns the rows, a line each.
 fn shown(alloc: Global, rows: &[Row]) -> Result<String, AllocError> {
     let mut out = String::new(alloc);
     for row in rows {
@@ -66,7 +66,7 @@ fn push_path(out: &mut String, path: &EventPath) -> Result<(), AllocError> {
     out.push_str("\n")
 }
 
-// The paths, a line each.
+// Returns the paths, a line each.
 fn shown_paths(alloc: Global, paths: &[EventPath]) -> Result<String, AllocError> {
     let mut out = String::new(alloc);
     for path in paths {
@@ -75,17 +75,18 @@ fn shown_paths(alloc: Global, paths: &[EventPath]) -> Result<String, AllocError>
     Ok(out)
 }
 
-// The rows of the text with amount 2. Like the two below it promises nothing, so that what calls it is soon proved.
+// Returns the rows of the text with amount 2. Like the two below it has no contract, so its callers
+// are proved quickly.
 fn read(alloc: Global, text: &str) -> Result<Vec<Row>, ReadFault> {
     read_rows(alloc, text, 2)
 }
 
-// The paths of its events.
+// Returns the paths of its events.
 fn paths(alloc: Global, text: &str) -> Result<Vec<EventPath>, ReadFault> {
     read_paths(alloc, text, 2)
 }
 
-// What the rows are drawn as with amount 2, or nothing and why not.
+// Returns what the rows are drawn as with amount 2, or nothing and why not.
 fn redrawn(alloc: Global, rows: &[Row]) -> (String, Option<DrawFault>) {
     match draw_rows(alloc, rows, 2) {
         Ok(text) => (text, None),
@@ -93,7 +94,7 @@ fn redrawn(alloc: Global, rows: &[Row]) -> (String, Option<DrawFault>) {
     }
 }
 
-// The text is read as these rows, and drawing them gives the text again.
+// Checks that the text is read as these rows, and that drawing them yields the text again.
 fn reads_as(rt: &(impl Abort + AllocGlobal), text: &str, wanted: &str) -> Result<(), Fail> {
     let rows = read(rt.alloc(), text)?;
     let shown = shown(rt.alloc(), rows.as_slice())?;
@@ -103,7 +104,7 @@ fn reads_as(rt: &(impl Abort + AllocGlobal), text: &str, wanted: &str) -> Result
     Ok(())
 }
 
-// The same for each of these texts.
+// Like `reads_as`, for each of these texts.
 fn each_reads_as(rt: &(impl Abort + AllocGlobal), texts: &[(&str, &str)]) -> Result<(), Fail> {
     for (text, wanted) in texts {
         reads_as(rt, text, wanted)?;
@@ -111,12 +112,12 @@ fn each_reads_as(rt: &(impl Abort + AllocGlobal), texts: &[(&str, &str)]) -> Res
     Ok(())
 }
 
-// Why the text is not read as rows, and why not as paths.
+// Returns why the text can't be read as rows, and as paths.
 fn faults(alloc: Global, text: &str) -> (Option<ReadFault>, Option<ReadFault>) {
     (read(alloc, text).err(), paths(alloc, text).err())
 }
 
-// This line is the first that is no line of a row.
+// Checks that this line is the first that isn't a line of a row.
 fn fails_at(rt: &(impl Abort + AllocGlobal), text: &str, line: u64) {
     let wanted = Some(ReadFault::Line(line));
     assert_eq!(rt; faults(rt.alloc(), text), (wanted, wanted), "{text:?}");
@@ -146,7 +147,7 @@ fn reads_each_shape(rt: HostRuntime) -> Result<(), Fail> {
     each_reads_as(&rt, SHAPES.as_slice())
 }
 
-// Texts that aren't read, with the line at which each isn't.
+// Texts that can't be read, with the invalid line of each.
 const NO_ROWS: [(&str, u64); 9] = [
     ("└──┐b \n", 1),
     ("┐a\n│  y\n", 2),
@@ -179,7 +180,7 @@ fn reads_odd_texts(rt: HostRuntime) -> Result<(), Fail> {
     each_reads_as(&rt, ODD_TEXTS.as_slice())
 }
 
-// The rows of this table, a text each.
+// Returns the rows of this table, with one string each.
 fn rows_of(
     rt: &(impl Abort + AllocGlobal),
     table: &[(Shape, usize, &str)],
@@ -232,7 +233,7 @@ fn refuses_rows_that_are_too_wide(rt: HostRuntime) -> Result<(), Fail> {
     Ok(())
 }
 
-// Whether there is a row of this shape and level with these texts.
+// Whether there is a row of this shape and level with these strings.
 const MADE: [(Shape, usize, &[&str], bool); 17] = [
     (Shape::PreOpen, 0, &["a", "b"], true),
     (Shape::OpenRoot, 0, &["a"], true),
@@ -262,7 +263,7 @@ fn makes_rows_that_may_be(rt: HostRuntime) -> Result<(), Fail> {
     Ok(())
 }
 
-// The events of the text have these paths.
+// Checks that the events of the text have these paths.
 fn paths_are(rt: &(impl Abort + AllocGlobal), text: &str, wanted: &str) -> Result<(), Fail> {
     let paths = paths(rt.alloc(), text)?;
     let shown = shown_paths(rt.alloc(), paths.as_slice())?;
@@ -305,14 +306,14 @@ fn reads_what_a_run_drew(rt: HostRuntime) -> Result<(), Fail> {
     reads_as(&rt, text.as_str(), TREE_ROWS)
 }
 
-// What the program prints of the text, and how it ends.
+// Returns what the program prints for the text, and how it ends.
 fn printed(alloc: Global, text: &[u8]) -> Result<(Vec<u8>, Result<(), RowFault>), AllocError> {
     let mut out = Vec::new(alloc);
     let ended = rows_to_json(alloc, text, &mut out, 2);
     Ok((out, ended))
 }
 
-// Of the text this is printed, and the reading ends so.
+// Checks what is printed for the text, and how the reading ends.
 fn prints(
     rt: &(impl Abort + AllocGlobal),
     text: &[u8],
@@ -340,7 +341,7 @@ fn prints_rows(rt: HostRuntime) -> Result<(), Fail> {
     Ok(())
 }
 
-// For rows whose texts need no escapes, the line of JSON of each that is read, with the path of each event.
+// Returns the lines of JSON for rows whose strings need no escapes, with the path of each event.
 fn expected(alloc: Global, rows: &[Row], paths: &[EventPath]) -> Result<String, AllocError> {
     let mut out = String::new(alloc);
     for (place, row) in rows.iter().enumerate() {
@@ -406,7 +407,7 @@ fn push_ancestors(out: &mut String, path: &EventPath) -> Result<(), AllocError> 
     out.push_str("]")
 }
 
-// What is printed of the text is what is read of it.
+// Checks that the program prints what is read from the text.
 fn prints_as_read(rt: &(impl Abort + AllocGlobal), text: &str) -> Result<(), Fail> {
     let rows = read(rt.alloc(), text)?;
     let paths = paths(rt.alloc(), text)?;
@@ -452,7 +453,7 @@ fn prints_the_rows_before_a_fault(rt: HostRuntime) -> Result<(), Fail> {
     Ok(())
 }
 
-// The causes of a fault, each with the text of a fault in line 3.
+// The causes of a fault, each as a fault in line 3 and its string.
 const CAUSES: [(RowCause, &str); 4] = [
     (RowCause::NotARow, "line 3: not a row"),
     (RowCause::Read, "line 3: read"),
@@ -460,7 +461,7 @@ const CAUSES: [(RowCause, &str); 4] = [
     (RowCause::Writer, "line 3: writer"),
 ];
 
-// A fault in line 3 with this cause has this text.
+// Checks the string of a fault in line 3 with this cause.
 fn row_fault_reads(
     rt: &(impl Abort + AllocGlobal),
     cause: RowCause,
@@ -503,7 +504,7 @@ fn texts_of_faults(rt: HostRuntime) -> Result<(), Fail> {
     Ok(())
 }
 
-// Takes so many writes, and refuses those after them.
+// Takes `left` writes, and refuses those after them.
 #[derive(Drop)]
 struct Full {
     left: u32,
@@ -523,7 +524,7 @@ impl Write for Full {
     }
 }
 
-// How the reading of the tree ends over a writer that takes so many writes.
+// Reads the tree over a writer that takes `left` writes. Returns how it ends.
 fn ends_after(alloc: Global, left: u32) -> Result<(), RowFault> {
     let mut writer = Full { left };
     rows_to_json(alloc, TREE.as_bytes(), &mut writer, 2)

@@ -1,4 +1,4 @@
-//! What is drawn is passed on before each read of the input, and not elsewhere.
+//! What was drawn is flushed before each read of the input, and not elsewhere.
 
 use std::alloc::Global;
 use std::cell::Cell;
@@ -9,7 +9,7 @@ use tracing_tree::format::{Refusal, Wrap};
 use tracing_tree::lines::run_lines;
 use tracing_tree_for_tests::{Step, lined_over};
 
-// How many bytes a writer has taken and passed on, and how often it was flushed.
+// How many bytes a writer has taken and flushed, and how often it was flushed.
 #[derive(Drop)]
 struct Counts {
     taken: Cell<usize>,
@@ -52,7 +52,8 @@ impl Write for Counting<'_> {
     }
 }
 
-// Gives this many bytes at first, and then a line a read. Notes how many bytes were shown before each read.
+// Gives this many bytes at first, and then a line a read. Notes how many bytes were shown before
+// each read.
 #[derive(Drop)]
 struct Looking<'a> {
     counts: &'a Counts,
@@ -77,7 +78,8 @@ impl Read for Looking<'_> {
     }
 }
 
-// Returns how many bytes were shown before each read of this input, and how often the writer was flushed.
+// Returns how many bytes were shown before each read of this input, and how often the writer was
+// flushed.
 fn shown_before_reads(alloc: Global, input: &str, first: usize) -> (Vec<usize>, usize) {
     let counts = Counts::new();
     let mut reader = Looking {
@@ -115,7 +117,7 @@ fn what_is_drawn_is_shown_before_each_read(rt: HostRuntime) -> Result<(), Fail> 
     Ok(())
 }
 
-// The bytes that were taken before a write was refused are passed on too.
+// The bytes that were taken before a refused write are flushed too.
 #[test]
 fn a_failed_layer_is_flushed(rt: HostRuntime) -> Result<(), Fail> {
     let alloc = rt.alloc();

@@ -33,7 +33,7 @@ impl Groups {
         }
     }
 
-    // The span of the group with this key.
+    // Returns the span of the group with this key.
     pub(crate) fn span_of(&self, key: &[u8]) -> Option<Id>
         ensures { result ≡ span_of key.now self.now }
     {

@@ -32,8 +32,8 @@ use tracing_tree_time::Moment;
 
 /// The groups of a log: its traces and its requests.
 ///
-/// A line that is an object is an event in the span of its group, or at the root if it has none.
-/// Any other line is an event where the last object was.
+/// A line that is an object is an event in the span of its group, or at the root without a group.
+/// Any other line is an event in the same span as the last object.
 #[derive(Drop)]
 pub struct Logs {
     alloc: Global,
@@ -230,7 +230,7 @@ impl Source for Logs {
     }
 }
 
-// The close of the last line's group.
+// Returns the close of the last line's group.
 fn close_of(alloc: Global, moment: Moment, at: Option<Id>) -> Result<Vec<Call>, AllocError>
     ensures { IfOk result (λ calls. calls.items ≡ close_of moment at) }
 {

@@ -1,4 +1,4 @@
-//! A value of OTLP (`AnyValue`) as text.
+//! Shows a value of OTLP (`AnyValue`) as text.
 
 ghost use Rattle.std.specs.Prelude.{◌≡◌, ◌++◌, true, IfOk, OnOk, codes, option_map, string_bytes};
 ghost use Rattle.json.specs.Value.{items_view, members_view, value_view};
@@ -8,7 +8,7 @@ use json::Value;
 use std::alloc::{AllocError, Global};
 use tracing_tree_sources::values::text_at;
 
-// A value as text: a string by itself, and any other value as JSON.
+// Returns a value as text: a string unchanged, and any other value as JSON.
 pub(crate) fn any_text(alloc: Global, value: &Value<'_>) -> Result<String, AllocError>
     ensures { IfOk result (λ text. string_bytes text ≡ any_text (value_view value.now)) }
 {
@@ -20,7 +20,7 @@ pub(crate) fn any_text(alloc: Global, value: &Value<'_>) -> Result<String, Alloc
     Ok(out)
 }
 
-// The text of a string, or of bytes as base64.
+// Returns a string, or bytes as base64.
 fn raw_text<'v>(value: &'v Value<'_>) -> Option<&'v str>
     ensures { option_map (λ s. s.now) result ≡ raw_text (value_view value.now) }
 {
@@ -147,7 +147,7 @@ fn is_text_key(key: &str) -> bool
     key == "stringValue" || key == "bytesValue"
 }
 
-// Whether a value at this key isn't a list.
+// Returns whether a value at this key isn't a list.
 fn is_scalar_key(key: &str) -> bool
     ensures { result ≡ is_scalar_key key.now }
 {
@@ -175,7 +175,7 @@ fn push_scalar(out: &mut String, has_quotes: bool, value: &Value<'_>) -> Result<
     }
 }
 
-// A comma before all but the first.
+// Appends a comma, except before the first item.
 fn push_separator(out: &mut String, is_first: bool) -> Result<(), AllocError>
     ensures { OnOk result (string_bytes out.new ≡ string_bytes out.old ++ separator is_first) }
 {

@@ -59,7 +59,7 @@ impl Model for Tree {
     } };
 }
 
-// The calls of rows in their order.
+// Returns the calls of rows in their order.
 pub(crate) fn calls_in_order(
     alloc: Global,
     next: u64,
@@ -81,7 +81,7 @@ fn step_count(rows: usize) -> u64
     (rows as u64).saturating_mul(4)
 }
 
-// Rows by the span in which they are nested.
+// Returns rows grouped by the span that they are nested in.
 fn grouped(alloc: Global, rows: Vec<Item>) -> Result<Groups, AllocError>
     ensures { IfOk result (λ groups. groups ≡ grouped rows.items) }
 {
@@ -143,7 +143,7 @@ impl Tree {
         Ok(())
     }
 
-    // Shows the next row of the innermost span, or closes it if it has none.
+    // Shows the next row of the innermost span, or closes it after its last row.
     fn step(&mut self) -> Result<(), AllocError>
         ensures { OnOk result (self.new ≡ stepped self.old) }
     {
@@ -223,14 +223,14 @@ impl Tree {
         }
     }
 
-    // The innermost span that is open.
+    // Returns the innermost span that is open.
     fn current(&self) -> Option<Id>
         ensures { result ≡ id_on_top self.now.frames }
     {
         self.frames.as_slice().last()?.id
     }
 
-    // The service of the innermost span.
+    // Returns the service of the innermost span.
     fn service(&self) -> &str
         ensures { result.now ≡ service_on_top self.now.frames }
     {
@@ -353,7 +353,7 @@ fn frame_of(
     }
 }
 
-// The moment this many nanoseconds after 1970.
+// Returns the moment this many nanoseconds after 1970.
 fn moment_at(nanosecond: u64, before: Moment) -> Moment
     ensures { result ≡ moment_at (pos nanosecond) }
 {
@@ -366,7 +366,7 @@ fn moment_at(nanosecond: u64, before: Moment) -> Moment
     }
 }
 
-// A service is shown if it isn't that of the span above.
+// Returns the field with the service, if it isn't that of the parent.
 fn service_fields(alloc: Global, above: &str, service: &str) -> Result<Fields, AllocError>
     ensures { IfOk result (λ fields. fields ≡ service_fields above.now service.now) }
 {
@@ -397,7 +397,7 @@ fn kind_text(kind: u64) -> &'static str
     }
 }
 
-// A field, unless it is empty.
+// Returns a field, unless it is empty.
 fn field_if(alloc: Global, name: &str, text: &str) -> Result<Fields, AllocError>
     ensures { IfOk result (λ fields. fields ≡ field_if name.now text.now) }
 {
@@ -407,7 +407,7 @@ fn field_if(alloc: Global, name: &str, text: &str) -> Result<Fields, AllocError>
     Ok(Fields::one(alloc, field_of(alloc, name, text)?))
 }
 
-// The parent of a span that isn't nested in one.
+// Returns the parent of a span that isn't nested in one.
 fn parent_fields(alloc: Global, above: &str, parent: &str) -> Result<Fields, AllocError>
     ensures { IfOk result (λ fields. fields ≡ parent_fields above.now parent.now) }
 {
@@ -427,8 +427,8 @@ fn time_field(alloc: Global, nanoseconds: u64) -> Result<Field, AllocError>
     })
 }
 
-// What the row of a span shows before its attributes: its service, how long it took, its parent and
-// its kind.
+// Returns what the row of a span shows before its attributes: its service, how long it took, its
+// parent and its kind.
 fn span_fields(
     alloc: Global,
     nanoseconds: u64,

@@ -1,4 +1,4 @@
-//! What the lines of an input say together: rows, and where each is nested.
+//! Collects the lines of an input: rows, and the span that each is nested in.
 
 ghost use Rattle.std.specs.Prelude.{◌≡◌, IfOk, OnOk, IsPermutation, IsSorted, codes, map, option_map};
 ghost use Rattle.std.specs.Str.Lines.{lines};
@@ -48,7 +48,7 @@ impl Model for Gathered {
     } };
 }
 
-// What a text says.
+// Collects the rows of an input.
 pub(crate) fn gathered_in(alloc: Global, text: &str) -> Result<Gathered, AllocError>
     ensures { IfOk result (λ gathered. gathered ≡ gathered_in text.now) }
 {
@@ -84,7 +84,7 @@ impl Gathered {
         })
     }
 
-    // The rows, and the traces and spans that there are.
+    // Returns the rows, and the traces and spans that there are.
     pub(crate) fn into_rows(self) -> (Vec<Item>, Known)
         ensures items { result.0.items ≡ self.items }
         ensures known { result.1 ≡ self.known }
@@ -227,7 +227,7 @@ impl Gathered {
         Ok(())
     }
 
-    // Takes a span, unless it has no id, or none of its trace.
+    // Takes a span, unless its id or the id of its trace is missing.
     fn take_span(&mut self, value: &Value<'_>) -> Result<(), AllocError>
         ensures { OnOk result (self.new ≡ span_taken (value_view value.now) self.old) }
     {
@@ -254,7 +254,7 @@ impl Gathered {
         self.add(trace, above.as_str(), start, start, Shape::Span(span))
     }
 
-    // Something happened in a trace at a time.
+    // Records that something happened in a trace at this time.
     fn see_trace(&mut self, trace: &str, time: u64) -> Result<(), AllocError>
         ensures { OnOk result (self.new ≡ trace_seen trace.now time self.old) }
     {
@@ -330,7 +330,7 @@ impl Gathered {
         self.add(trace, span, time, time, Shape::Note(note))
     }
 
-    // A failure comes after all else in a span.
+    // Takes a failure, which comes after everything else in a span.
     fn take_status(
         &mut self,
         trace: &str,
@@ -424,8 +424,8 @@ fn place_of(order: u64, shape: &Shape, index: usize) -> Place
     }
 }
 
-// A trace at its earliest time, and any other row in its span, or in its trace if the span is
-// unknown.
+// Returns a trace at its earliest time, and any other row in its span, or in its trace if the span
+// is unknown.
 fn resolved(alloc: Global, known: &Known, item: Item) -> Result<Item, AllocError>
     ensures { IfOk result (λ row. row ≡ resolved known.now item) }
 {
@@ -458,7 +458,8 @@ fn resolved_all(alloc: Global, known: &Known, items: Vec<Item>) -> Result<Vec<It
     Ok(rows)
 }
 
-// All rows in their order: by the time, events and logs first, by the id, and then as they came.
+// Returns all rows in their order: by time, events and logs first, then by id, then in the order of
+// the input.
 pub(crate) fn in_order(
     alloc: Global,
     known: &Known,

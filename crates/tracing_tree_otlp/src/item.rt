@@ -57,19 +57,19 @@ pub(crate) struct Place {
     pub(crate) index: u64,
 }
 
-// A row of the tree, and where it is nested.
+// A row of the tree, and the span that it is nested in.
 #[derive(Drop)]
 pub(crate) struct Item {
     // Empty for traces, and for logs without a trace.
     pub(crate) trace: Text,
-    // The id of the span in which it is nested, empty if it is in none.
+    // The id of the span that it is nested in. Empty at the root.
     pub(crate) above: Text,
     pub(crate) place: Place,
     pub(crate) time: u64,
     pub(crate) shape: Shape,
 }
 
-// The time of a log: when it happened, or else when it was observed.
+// Returns the time of a log: when it happened, otherwise when it was observed.
 pub(crate) fn log_time(value: &Value<'_>) -> u64
     ensures { result ≡ log_time (value_view value.now) }
 {
@@ -88,7 +88,7 @@ fn has_members(members: &Vec<(&str, Value<'_>)>) -> bool
     }
 }
 
-// Whether a body says something.
+// Returns whether a body says something.
 fn has_body(value: &Value<'_>) -> bool
     ensures { result ≡ has_body (value_view value.now) }
 {
@@ -151,7 +151,7 @@ pub(crate) fn event_note(alloc: Global, value: &Value<'_>) -> Result<Note, Alloc
     })
 }
 
-// A link to another span.
+// Returns a link to another span.
 pub(crate) fn link_note(alloc: Global, value: &Value<'_>) -> Result<Note, AllocError>
     ensures { IfOk result (λ note. note ≡ link_note (value_view value.now)) }
 {
@@ -178,7 +178,7 @@ fn reason_fields(alloc: Global, text: &str) -> Result<Fields, AllocError>
     Ok(Fields::one(alloc, field_of(alloc, "message", text)?))
 }
 
-// What a span ends with whose status is that it failed.
+// Returns the event that ends a span whose status is an error.
 pub(crate) fn failed_note(alloc: Global, status: &Value<'_>) -> Result<Note, AllocError>
     ensures { IfOk result (λ note. note ≡ failed_note (value_view status.now)) }
 {
@@ -210,7 +210,7 @@ pub(crate) fn span_of(alloc: Global, service: Text, value: &Value<'_>) -> Result
     })
 }
 
-// The span in which a span is nested. One that is its own parent has none.
+// Returns the span that a span is nested in. It is empty if the span is its own parent.
 pub(crate) fn above_of(alloc: Global, id: &str, parent: &str) -> Result<Text, AllocError>
     ensures { IfOk result (λ above. above ≡ above_of id.now parent.now) }
 {
@@ -231,14 +231,14 @@ fn hex_digit(byte: u8) -> u64
     }
 }
 
-// One digit more, of which the last sixteen count.
+// Adds one digit. Only the last sixteen count.
 fn digit_added(number: u64, byte: u8) -> u64
     ensures { result ≡ digit_added number byte }
 {
     number.wrapping_mul(16).wrapping_add(hex_digit(byte))
 }
 
-// The number that an id's hexadecimal digits write.
+// Returns the number that an id's hexadecimal digits write.
 pub(crate) fn number_of(id: &[u8]) -> u64
     ensures { result ≡ number_of id.now }
 {

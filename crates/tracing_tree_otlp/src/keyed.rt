@@ -8,7 +8,7 @@ use std::alloc::{AllocError, Global};
 use std::collections::BTreeMap;
 use std::marker::Model;
 
-// A trace and a span of it; without a span it is the trace, and without either the root.
+// Returns a trace and a span of it; without a span it is the trace, and without either the root.
 pub(crate) fn key_of(alloc: Global, trace: &str, span: &str) -> Result<Vec<u8>, AllocError>
     ensures { IfOk result (λ key. key.items ≡ key_of trace.now span.now) }
 {
@@ -96,7 +96,7 @@ impl Group {
         self.items.pop()
     }
 
-    // The trace of the first row.
+    // Returns the trace of the first row.
     pub(crate) fn trace(&self) -> &str
         ensures { result.now ≡ trace_of self.now }
     {

@@ -17,19 +17,23 @@ use tracing_tree_sources::notes::{Lack, Notes};
 use tracing_tree_sources::run::{SourceRun, draw_calls, skip};
 use tracing_tree_time::{FormatTime, Moment};
 
-/// Draws traces and logs in OTLP/JSON: one object, which may take several lines, or one in each
-/// line, as the Collector's file exporter writes them.
+/// Draws traces and logs in OTLP/JSON: one object, which may have several lines, or one object in
+/// each line, as the Collector's file exporter writes them.
 ///
-/// Each trace is a span `trace`, at its earliest time. A span is nested in its parent, wherever that
-/// is in the input, and in its trace if its parent isn't there. Logs and events are in their spans,
-/// and logs without a trace at the root. All are ordered by time. Spans that are nested in each
-/// other come last, in a `trace` of their own. The first span gets the id `next`, and calls are made
-/// at the times that the input says, or at `moment` if a moment can't have that time.
+/// Each trace is a span `trace`, at its earliest time. A span is nested in its parent, wherever
+/// that is in the input. If its parent is missing, it is nested in its trace. Logs and events are
+/// in their spans, and logs without a trace are at the root. All are ordered by time. Spans that
+/// are nested in each other come last, in a separate `trace`. The first span gets the id `next`.
+/// Calls are made at the times in the input, or at `moment` if a moment can't have that time.
 ///
-/// A line that isn't an object, and a span without an id or without that of its trace, are counted,
-/// noted by the line's number from 1 on, and skipped. Nothing is drawn if an allocation fails, and
-/// if the notes end the run: `NotACall` is the cause then. The drawing ends at the first call that is
-/// refused. The line of a fault is 1.
+/// A line that isn't an object is counted, noted with its number from 1, and skipped. So is a span
+/// without an id or a trace id.
+///
+/// # Errors
+///
+/// The fault is at line 1. Its cause is `Memory` if an allocation fails before the first call, and
+/// `NotACall` if the notes end the run. Nothing is drawn then. It is `Refused` if a call is
+/// refused. The drawing ends at that call.
 pub fn run_otlp<W: Output, FT: FormatTime, N: Notes>(
     alloc: Global,
     next: u64,
@@ -147,7 +151,7 @@ fn draw<W: Output, FT: FormatTime>(
     }
 }
 
-// The calls that draw what was gathered.
+// Returns the calls that draw what was gathered.
 fn calls_of(
     alloc: Global,
     next: u64,

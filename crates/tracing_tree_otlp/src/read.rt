@@ -15,7 +15,7 @@ use tracing_tree_text::field::{Field, Fields};
 use tracing_tree_text::style::Level;
 use tracing_tree_text::text::Text;
 
-// A number as it is written, which may be in a string.
+// Returns a number as written, which may be in a string.
 fn word_of<'v>(value: &'v Value<'_>) -> Option<&'v str>
     ensures { option_map (λ w. w.now) result ≡ word_of (value_view value.now) }
 {
@@ -32,14 +32,14 @@ fn number_at(value: &Value<'_>, key: &str) -> Option<u64>
     whole_of(word_of(value.get(key)?)?)
 }
 
-// The count at a key, 0 if none is there.
+// Returns the count at a key, or 0 if there isn't one.
 pub(crate) fn count_at(value: &Value<'_>, key: &str) -> u64
     ensures { result ≡ count_at key.now (value_view value.now) }
 {
     number_at(value, key).unwrap_or(0)
 }
 
-// The number that digits write, if a u64 holds it.
+// Returns the number that digits write, if a u64 holds it.
 fn whole_of(text: &str) -> Option<u64>
     ensures { result ≡ whole_of text.now }
 {
@@ -49,7 +49,7 @@ fn whole_of(text: &str) -> Option<u64>
     text.parse().ok()
 }
 
-// Whether a text is one digit or more, and nothing else.
+// Returns whether a string has only digits, and at least one.
 fn is_digits(text: &str) -> bool
     ensures { result ≡ is_digits text.now }
 {
@@ -69,7 +69,7 @@ fn all_digits(bytes: &[u8]) -> bool
     true
 }
 
-// The string at a key, empty if none is there.
+// Returns the string at a key. It is empty if there isn't one.
 pub(crate) fn string_at<'v>(value: &'v Value<'_>, key: &str) -> &'v str
     ensures { result.now ≡ string_at key.now (value_view value.now) }
 {
@@ -79,7 +79,7 @@ pub(crate) fn string_at<'v>(value: &'v Value<'_>, key: &str) -> &'v str
     }
 }
 
-// The id at a key, empty if none is there.
+// Returns the id at a key. It is empty if there isn't one.
 pub(crate) fn id_at(alloc: Global, value: &Value<'_>, key: &str) -> Result<Text, AllocError>
     ensures { IfOk result (λ id. id ≡ id_at key.now (value_view value.now)) }
 {
@@ -101,7 +101,7 @@ fn are_zeros(bytes: &[u8]) -> bool
     bytes.iter().all(|byte| *byte == b'0')
 }
 
-// An attribute's value.
+// Returns an attribute's value.
 fn attribute_text(alloc: Global, attribute: &Value<'_>) -> Result<String, AllocError>
     ensures { IfOk result (λ text. string_bytes text ≡ attribute_text (value_view attribute.now)) }
 {
@@ -111,7 +111,8 @@ fn attribute_text(alloc: Global, attribute: &Value<'_>) -> Result<String, AllocE
     }
 }
 
-// A field. One called `message` would be drawn without its name, so its value begins with it.
+// Returns a field. One called `message` would be drawn without its name, so its value begins with
+// it.
 pub(crate) fn field_of(alloc: Global, name: &str, text: &str) -> Result<Field, AllocError>
     ensures { IfOk result (λ field. field ≡ field_of name.now text.now) }
 {
@@ -133,7 +134,7 @@ fn attribute_field(alloc: Global, attribute: &Value<'_>) -> Result<Field, AllocE
     field_of(alloc, string_at(attribute, "key"), text.as_str())
 }
 
-// The attributes of an object as fields.
+// Returns the attributes of an object as fields.
 pub(crate) fn attributes_in(alloc: Global, value: &Value<'_>) -> Result<Fields, AllocError>
     ensures { IfOk result (λ fields. fields ≡ attributes_in (value_view value.now)) }
 {
@@ -153,7 +154,7 @@ fn attribute_fields(alloc: Global, attributes: &Vec<Value<'_>>) -> Result<Fields
     Ok(Fields::from(fields))
 }
 
-// The value of the first of these attributes with this key, empty if there is none.
+// Returns the value of the first of these attributes with this key. It is empty if there isn't one.
 fn attribute_at(alloc: Global, key: &str, attributes: &Vec<Value<'_>>) -> Result<String, AllocError>
     ensures { IfOk result (λ text. string_bytes text
         ≡ attribute_at key.now (items_view attributes.now.items)) }
@@ -166,7 +167,7 @@ fn attribute_at(alloc: Global, key: &str, attributes: &Vec<Value<'_>>) -> Result
     Ok(String::new(alloc))
 }
 
-// The name of the service with this resource, empty if it has none.
+// Returns the name of the service with this resource. It is empty if there isn't one.
 fn service_of(alloc: Global, resource: &Value<'_>) -> Result<Text, AllocError>
     ensures { IfOk result (λ service. service ≡ service_of (value_view resource.now)) }
 {
@@ -176,7 +177,7 @@ fn service_of(alloc: Global, resource: &Value<'_>) -> Result<Text, AllocError>
     }
 }
 
-// The service whose resource an object has.
+// Returns the service whose resource an object has.
 pub(crate) fn service_in(alloc: Global, value: &Value<'_>) -> Result<Text, AllocError>
     ensures { IfOk result (λ service. service ≡ service_in (value_view value.now)) }
 {
@@ -186,7 +187,7 @@ pub(crate) fn service_in(alloc: Global, value: &Value<'_>) -> Result<Text, Alloc
     }
 }
 
-// The level of a log's severity number; INFO if it says none.
+// Returns the level of a log's severity number, or INFO without one.
 pub(crate) fn level_of(severity: u64) -> Level
     ensures { result ≡ level_of severity }
 {

@@ -1,4 +1,4 @@
-//! Where a text goes: outputs, which are in memory or write to a file, a pipe or a terminal.
+//! Outputs of text: in memory, or to a file, a pipe or a terminal.
 #![tactic(auto)]
 
 mod output;

@@ -13,9 +13,9 @@ use std::marker::Model;
 #[derive(Clone, Copy, Debug, PartialEq, Eq)]
 pub struct OutputFault;
 
-/// Something that takes bytes and counts its faults.
+/// A destination that takes bytes and counts its faults.
 ///
-/// One that counts the bytes and keeps none:
+/// An output that counts the bytes and doesn't store them:
 /// ```rust
 /// impl Output for Counter {
 ///     ghost use Rattle.std.specs.Prelude.{None, true};
@@ -41,13 +41,13 @@ pub struct OutputFault;
 /// }
 /// ```
 pub trait Output {
-    /// The bytes that it has taken, where they are known.
+    /// The bytes that it has taken, if they are known.
     ghost contents: { Self → Option (List ℕ) };
 
-    /// How many writes it has refused.
+    /// The number of writes that it has refused.
     ghost fault_count: { Self → ℕ };
 
-    /// Whether it may hold back some of what it has taken.
+    /// Whether its buffer may have some of what it has taken.
     ghost holds_back: { Self → Bool } = { λ _. false };
 
     /// Whether it has refused a flush.
@@ -55,12 +55,16 @@ pub trait Output {
 
     ghost WHOLE: { Bool };
 
-    /// Whether each accepted write is taken whole.
+    /// Whether each accepted write takes all bytes.
     const WHOLE: bool;
 
-    /// Takes some of the bytes: at least one and at most all of a nonempty slice, and all where
-    /// `WHOLE`. Returns how many. A refused write leaves what was taken, and raises the count of
-    /// faults by one. After a refused flush each write is refused.
+    /// Takes some of the bytes, and returns how many: at least one if the slice isn't empty, and
+    /// all if `WHOLE`.
+    ///
+    /// # Errors
+    ///
+    /// `OutputFault` if the write is refused. The bytes taken so far are unchanged then, and the
+    /// count of faults rises by one. After a refused flush each write is refused.
     fn write(&mut self, bytes: &[u8]) -> Result<usize, OutputFault>
         requires { fault_count self.old < u64.MAX }
         ensures taken { IfOk result (TakesSome WHOLE bytes.now) }
@@ -69,19 +73,19 @@ pub trait Output {
         ensures stuck { IsTrue (stuck self.old) → IsErr result }
         ensures stays { stuck self.new ≡ stuck self.old };
 
-    /// How many writes it has refused.
+    /// Returns the number of writes that it has refused.
     fn faults(&self) -> u64
         ensures { result ≡ fault_count self.now };
 
-    /// Passes on what it has taken and holds back. An output that holds nothing back does nothing. If it can't be passed on, it is
-    /// still held back, and each later write is refused. No fault is counted here.
+    /// Flushes the buffer. Does nothing if the buffer is empty. If it can't be flushed, it stays in
+    /// the buffer, and each later write is refused. The count of faults doesn't change.
     fn flush(&mut self)
         ensures contents { Keeps (contents self.old) (contents self.new) }
         ensures count { fault_count self.new ≡ fault_count self.old }
         ensures shown { IsTrue (holds_back self.new) → IsTrue (stuck self.new) };
 
-    /// Keeps a text as it is, where that can be done without a copy, and leaves an empty one in its place. Returns whether the
-    /// text was kept; else nothing has changed, and it is to be written.
+    /// Takes over a string if that needs no copy, and leaves an empty one in its place. Returns
+    /// whether it did. Otherwise nothing has changed, and the caller must write the string.
     fn keep(&mut self, text: &mut String) -> bool
         ensures kept { KeepsText result (string_bytes text.old) (string_bytes text.new)
             (contents self.old) (contents self.new) }
@@ -94,7 +98,7 @@ pub trait Output {
     }
 }
 
-/// An output in memory. Each write is taken whole; a growth that is refused is its fault.
+/// An output in memory. Each write takes all bytes. A write is refused if an allocation fails.
 #[derive(Drop)]
 pub struct Tape {
     bytes: Vec<u8>,
@@ -110,7 +114,7 @@ impl Model for Tape {
 }
 
 impl Tape {
-    /// An output that holds nothing. Takes no memory.
+    /// Returns an empty output. Never allocates.
     pub fn new(alloc: Global) -> Tape
         ensures { result ≡ record { bytes = []; faults = 0 } }
     {
@@ -120,7 +124,7 @@ impl Tape {
         }
     }
 
-    /// The bytes that it has taken.
+    /// Returns the bytes that it has taken.
     pub fn bytes(&self) -> &[u8]
         ensures { result.now ≡ self.now.bytes }
     {
@@ -156,13 +160,14 @@ impl Output for Tape {
     fn flush(&mut self) {}
 }
 
-/// An output over a writer of std. An interrupted write or flush is tried again at most 8 times; a write that is still
-/// interrupted, a count of 0 or another error is a fault. After a flush that was refused each write is a fault.
+/// An output over a writer of std. An interrupted write or flush is tried again at most 8 times. A
+/// write that is still interrupted, a count of 0 for a nonempty slice and another error are faults.
+/// After a refused flush each write is a fault.
 #[derive(Drop)]
 pub struct Wrap<W: Write> {
     writer: W,
     faults: u64,
-    // Whether the writer has taken bytes since the last flush that it accepted.
+    // Whether the writer has taken bytes since the last flush that succeeded.
     holds_back: bool,
     // Whether a flush was refused.
     stuck: bool,
@@ -199,7 +204,7 @@ impl<W: Write> Wrap<W> {
         }
     }
 
-    /// Whether a flush was refused, so that each write is a fault.
+    /// Returns whether a flush was refused. Each write is then a fault.
     pub fn is_stuck(&self) -> bool
         ensures { result ≡ self.now.stuck }
     {

@@ -1,15 +1,16 @@
-//! Writes and flushes that signals interrupt.
+//! Writes and flushes that may be interrupted.
 
 ghost use Rattle.std.specs.Prelude.{◌≤◌, ◌<◌, IfSome, IfNone, length, take};
 ghost use Rattle.std.specs.Io.KnownBytes.{Appends, Keeps};
 
 use std::io::{ErrorKind, Write};
 
-/// How often a write, a flush or a read is tried that signals interrupt: it is tried again eight times.
+/// How often an interrupted write, flush or read is tried: once, and eight times again.
 pub const TRIES: u32 = 9;
 
-/// Writes once, and again where it is interrupted, up to `TRIES` times. Returns how many bytes were taken, or none where the write was
-/// refused. A count of 0 is a refusal, unless there is nothing to write.
+/// Writes once, and again while it is interrupted, up to `TRIES` times in all. Returns how many
+/// bytes were taken, or `None` if the write was refused. A count of 0 is a refusal, unless there is
+/// nothing to write.
 pub fn write_tried<W: Write>(writer: &mut W, bytes: &[u8]) -> Option<usize>
     ensures bound { IfSome result (λ n. n ≤ length bytes.now) }
     ensures some { IfSome result (λ n. 0 < length bytes.now → 0 < n) }
@@ -31,7 +32,8 @@ pub fn write_tried<W: Write>(writer: &mut W, bytes: &[u8]) -> Option<usize>
     None
 }
 
-// Flushes once, and again where it is interrupted. Returns whether all was passed on.
+// Flushes once, and again while it is interrupted, up to `TRIES` times in all. Returns whether it
+// succeeded.
 pub(crate) fn flush_tried<W: Write>(writer: &mut W) -> bool
     ensures { Keeps (W.contents writer.old) (W.contents writer.new) }
 {

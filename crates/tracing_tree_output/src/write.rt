@@ -1,12 +1,17 @@
-//! Texts that are written whole.
+//! Strings that are written in full.
 
 ghost use Rattle.std.specs.Prelude.{◌≡◌, ◌<◌, string_bytes};
 ghost use Rattle.tracing_tree_output.specs.Writers.{WritesWhole, emptied_when_ok, seen_writer};
 
 use super::{Output, OutputFault};
 
-/// Has the output keep a text, or else writes it whole, and leaves an empty one in its place. On a fault the text stays; what was
-/// written is then a beginning that isn't the whole, and nothing where the output's writes are whole.
+/// Passes a string to the output, and leaves an empty one in its place. The output takes it over,
+/// or it is written in full.
+///
+/// # Errors
+///
+/// `OutputFault` if a write fails. The string is unchanged then. Only a first part of it was
+/// written, or nothing if the output takes each write whole.
 #[inline(always)]
 pub fn write_whole<O: Output>(text: &mut String, out: &mut O) -> Result<(), OutputFault>
     requires { O.fault_count out.old < u64.MAX }
@@ -22,7 +27,7 @@ pub fn write_whole<O: Output>(text: &mut String, out: &mut O) -> Result<(), Outp
     Ok(())
 }
 
-// Writes all bytes, in as many writes as it takes.
+// Writes all bytes, in as many writes as necessary.
 fn write_all<O: Output>(bytes: &[u8], out: &mut O) -> Result<(), OutputFault>
     requires { O.fault_count out.old < u64.MAX }
     ensures { WritesWhole bytes.now result

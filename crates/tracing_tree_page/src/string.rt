@@ -17,7 +17,7 @@ pub(crate) fn push_quoted(out: &mut String, text: &str) -> Result<(), AllocError
     out.push_str("\"")
 }
 
-// Appends a string as it is between quotes.
+// Appends a string as it appears between quotes.
 pub(crate) fn push_escaped(out: &mut String, text: &str) -> Result<(), AllocError>
     ensures ok { OnOk result
         (string_bytes out.new ≡ string_bytes out.old ++ flat_map escaped text.now) }
@@ -29,7 +29,7 @@ pub(crate) fn push_escaped(out: &mut String, text: &str) -> Result<(), AllocErro
     Ok(())
 }
 
-// Appends a character as it is between quotes.
+// Appends a character as it appears between quotes.
 fn push_char(out: &mut String, c: char) -> Result<(), AllocError>
     ensures ok { OnOk result
         (string_bytes out.new ≡ string_bytes out.old ++ flat_map escaped (encode_utf8 c)) }

@@ -23,19 +23,20 @@ use tracing_tree_layer::told::ToldEvent;
 use tracing_tree_output::{Output, write_whole};
 use tracing_tree_spans::registry::{Attributes, LookupSpan, Record, Registry};
 
-/// A receiver of calls that writes a line for each step: for a new span, for fields that are recorded
-/// later, for an event, and for each span that closes.
+/// A receiver of calls that writes a line for each step: for a new span, for fields that are
+/// recorded later, for an event, and for each span that closes.
 ///
-/// Between calls it keeps only the live spans. A refused call leaves them unchanged. A call is refused
-/// with `NotHeld` or `TooMany` as by a layer, with `Memory` if an allocation fails, and with `Writer`
-/// if the output fails. After `Writer`, a prefix of the call's lines may have been written, and each
-/// later call is refused with `Failed`.
+/// Between calls it keeps only the live spans. A refused call leaves them unchanged. A call is
+/// refused with `NotHeld` or `TooMany` as by a layer, with `Memory` if an allocation fails, and
+/// with `Writer` if the output fails. After `Writer`, a prefix of the call's lines may have been
+/// written, and each later call is refused with `Failed`.
 #[derive(Drop)]
 pub struct StepWriter<W: Output> {
     form: LineForm,
     registry: Registry,
     writer: W,
-    // The spans that a close removes, and the lines of a call. Kept so that they are allocated once.
+    // The spans that a close removes, and the lines of a call. Kept so that they are allocated
+    // once.
     closing: Vec<Id>,
     text: String,
 }
@@ -63,7 +64,7 @@ impl<W: Output> StepWriter<W> {
         }
     }
 
-    /// Writes the first bytes of a run, before any call: the head, as it is, and the line with the
+    /// Writes the first bytes of a run, before any call: the head, unchanged, and the line with the
     /// title.
     ///
     /// # Errors
@@ -86,8 +87,8 @@ impl<W: Output> StepWriter<W> {
         send(&mut self.text, &mut self.writer)
     }
 
-    /// Writes the last bytes of a run, after all calls: the last line, and the tail as it is. With
-    /// what was written since [`StepWriter::begin`], they are a page.
+    /// Writes the last bytes of a run, after all calls: the last line, and the tail, unchanged.
+    /// With what was written since [`StepWriter::begin`], they are a page.
     ///
     /// # Errors
     ///
@@ -281,7 +282,7 @@ fn is_live(registry: &Registry, id: Id) -> bool
     registry.kept_path(id).is_some()
 }
 
-// Writes a text.
+// Writes a string.
 fn send<W: Output>(text: &mut String, writer: &mut W) -> Result<(), Refusal>
     requires { W.fault_count writer.old ≡ 0 }
     ensures written { Writes (string_bytes text.old) result

@@ -25,7 +25,8 @@ pub enum Mark {
     /// `]`, as `kubectl logs --prefix` writes it.
     Bracket,
 
-    /// The blank after a time, as `kubectl logs --timestamps` writes it: the line begins with a digit.
+    /// The blank after a time, as `kubectl logs --timestamps` writes it: the line begins with a
+    /// digit.
     Time,
 }
 
@@ -42,8 +43,8 @@ impl Mark {
         }
     }
 
-    /// Returns the prefix of a line, and what comes after it, both without blanks at the mark. A prefix
-    /// in brackets is returned without them. None if the line has no such prefix.
+    /// Returns the prefix of a line, and what comes after it, both without blanks at the mark. A
+    /// prefix in brackets is returned without them. None if the line has no such prefix.
     pub fn split<'a>(self, line: &'a str) -> Option<(&'a str, &'a str)>
         ensures { option_map (λ parts. (parts.0.now, parts.1.now)) result ≡ split self line.now }
     {
@@ -56,7 +57,7 @@ impl Mark {
         }
     }
 
-    // A prefix without the blanks at its end, or without the bracket at its front.
+    // Returns a prefix without the blanks at its end, or without the bracket at its front.
     fn trimmed<'a>(self, prefix: &'a str) -> &'a str
         ensures { result.now ≡ trimmed self prefix.now }
     {
@@ -66,7 +67,7 @@ impl Mark {
         }
     }
 
-    // Whether a prefix may begin as this line does.
+    // Returns whether a prefix may begin as this line does.
     fn may_begin(self, line: &str) -> bool
         ensures { result ≡ may_begin self line.now }
     {
@@ -78,10 +79,10 @@ impl Mark {
     }
 }
 
-/// A source whose lines may begin with a prefix.
+/// A source whose lines may start with a prefix.
 ///
 /// A line that isn't JSON and has the mark is taken without its prefix, which comes last among the
-/// fields of the line's events. Every other line is taken as it is.
+/// fields of the line's events. Every other line is taken unchanged.
 #[derive(Drop)]
 pub struct Prefixed<S> {
     source: S,
@@ -97,7 +98,7 @@ impl<S> Model for Prefixed<S> {
 }
 
 impl<S> Prefixed<S> {
-    /// Lines of this source, with prefixes that end at this mark, if there are prefixes.
+    /// Returns a source for lines of `source` with prefixes that end at this mark, if there is one.
     pub fn new(source: S, mark: Option<Mark>) -> Prefixed<S>
         ensures { result ≡ record { source = source; mark = mark } }
     {
@@ -149,7 +150,7 @@ impl<S: Source> Source for Prefixed<S> {
     }
 }
 
-// A line at its first mark: what comes before it and after it.
+// Returns a line at its first mark: what comes before it and after it.
 fn at_mark(line: &str, mark: char) -> Option<(&str, &str)>
     requires { mark < 128 }
     ensures { option_map (λ parts. (parts.0.now, parts.1.now)) result ≡ at_mark mark line.now }
@@ -166,7 +167,8 @@ fn without_bracket(prefix: &str) -> &str
     }
 }
 
-// The prefix of a line, and what comes after it. None if the line is JSON, or has no prefix.
+// Returns the prefix of a line, and what comes after it. None if the line is JSON, or has no
+// prefix.
 fn parts_of<'a>(
     mark: Option<Mark>,
     line: &'a str,
@@ -181,7 +183,7 @@ fn parts_of<'a>(
     }
 }
 
-// These calls, with a prefix in each event.
+// Returns these calls, with a prefix in each event.
 fn with_prefixes(alloc: Global, prefix: &str, calls: Vec<Call>) -> Result<Vec<Call>, AllocError>
     ensures { IfOk result (λ made. made.items ≡ map (with_prefix prefix.now) calls.items) }
 {
@@ -192,7 +194,7 @@ fn with_prefixes(alloc: Global, prefix: &str, calls: Vec<Call>) -> Result<Vec<Ca
     Ok(made)
 }
 
-// A call, with a prefix last among its fields if it is an event.
+// Returns a call, with a prefix last among its fields if it is an event.
 fn with_prefix(alloc: Global, prefix: &str, call: Call) -> Result<Call, AllocError>
     ensures { IfOk result (λ made. made ≡ with_prefix prefix.now call) }
 {

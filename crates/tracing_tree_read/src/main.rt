@@ -1,4 +1,4 @@
-//! The program that reads: the rows of the drawing on standard input, each as a line of JSON on standard output.
+//! Reads the drawing on standard input, and prints each of its rows as a line of JSON.
 #![tactic(auto)]
 
 ghost use Rattle.std.specs.Prelude.{◌≤◌, IfOk};
@@ -16,7 +16,7 @@ use tracing_tree::rows::{RowCause, RowFault, rows_to_json};
 // The amount without an argument.
 const AMOUNT: usize = 2;
 
-// What stands there where memory is refused before the first line.
+// The fault if an allocation fails before the first line.
 const NO_MEMORY: RowFault = RowFault {
     line: 1,
     cause: RowCause::Memory,
@@ -39,18 +39,18 @@ fn main(rt: HostRuntime) -> ExitCode {
     }
 }
 
-// The words of the command line, the program's name first.
+// Returns the arguments of the command line, the program's name first.
 fn words<R: AllocGlobal + Env>(rt: &R) -> io::Result<Vec<String>> {
     Ok(std::env::args(rt)?.collect(rt.alloc())?)
 }
 
-// A word that isn't text.
+// Reports an argument that isn't UTF-8.
 fn refuse(rt: &impl Eprint) -> ExitCode {
     let _ = eprintln!(rt; "error: an argument isn't UTF-8");
     ExitCode::from(2)
 }
 
-// The amount that the words name.
+// Returns the amount in the arguments.
 fn amount(alloc: Global, words: &[String]) -> Result<usize, Error>
     ensures { IfOk result (λ n. 2 ≤ n) }
 {
@@ -74,7 +74,7 @@ fn amount(alloc: Global, words: &[String]) -> Result<usize, Error>
     )
 }
 
-// Tells what the parser of arguments has to tell: help, the version, or a mistake.
+// Prints what the parser of arguments reports: help, the version, or a mistake.
 fn answer(rt: &(impl Print + Eprint), error: &Error) -> ExitCode {
     let _ = error.print(rt);
     if error.use_stderr() {
@@ -97,7 +97,8 @@ fn read<R: AllocGlobal + Eprint + Input + Print>(rt: &R, amount: usize) -> ExitC
     end(rt, run, flushed)
 }
 
-// Puts the fault on standard error, if there is one, and returns the status. A fault of standard error itself changes nothing.
+// Prints the fault on standard error, if there is one, and returns the status. A fault of standard
+// error itself changes nothing.
 fn end(rt: &impl Eprint, run: Result<(), RowFault>, flushed: bool) -> ExitCode {
     let told = match run {
         Err(fault) => eprintln!(rt; "{fault}"),

@@ -12,7 +12,7 @@ use tracing_tree::registry::{Data, LookupSpan};
 // More than any of the works writes.
 const ROOM: usize = 4096;
 
-/// Takes texts while there is room, which is made beforehand.
+/// An output that takes text while its capacity lasts. The capacity is allocated beforehand.
 #[derive(Drop)]
 pub struct Board {
     bytes: Vec<u8>,
@@ -33,7 +33,7 @@ impl Board {
         self.bytes.as_slice()
     }
 
-    // Takes the text and returns true, or returns false where the room doesn't suffice.
+    // Takes the text and returns true, or returns false if the capacity doesn't suffice.
     fn take(&mut self, text: &[u8]) -> bool
         ensures { self.new.faults ≡ self.old.faults }
     {
@@ -86,8 +86,8 @@ impl Write for Board {
 // No work gives out a greater id.
 const LAST: u64 = 12;
 
-/// What can be seen of a layer without memory: the last span, whether it has failed, how many spans are live, how many of them were
-/// printed, and how many fields they have together.
+/// What can be seen of a layer without memory: the last span, whether it has failed, how many spans
+/// are live, how many of them were printed, and how many fields they have together.
 #[derive(Clone, Copy, PartialEq, Eq)]
 pub struct Seen {
     last: Option<Id>,

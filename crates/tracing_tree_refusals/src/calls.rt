@@ -1,4 +1,4 @@
-//! Calls on a layer, each made again where memory was refused to it.
+//! Calls on a layer. Each is made again if an allocation failed.
 
 ghost use Rattle.std.specs.Prelude.{◌≡◌};
 
@@ -9,8 +9,8 @@ use tracing_tree::Layered;
 use tracing_tree::call::Call;
 use tracing_tree::format::{Output, Refusal, Tape};
 
-/// A call with a copy of it, and what it is answered. The calls are boxed, since each step of what moves them is proved over all that they
-/// hold.
+/// A call with a copy of it, and what it is answered. The calls are boxed, since each step of what
+/// moves them is proved over all that they hold.
 #[derive(Drop)]
 pub struct Trial {
     pub call: Box<Call>,
@@ -18,7 +18,7 @@ pub struct Trial {
     pub answer: Answer,
 }
 
-/// The calls of a script.
+/// Returns the calls of a script.
 pub fn trials(alloc: Global, script: Script) -> Result<Vec<Trial>, AllocError> {
     let mut trials = Vec::new(alloc);
     for (step, answer) in script.steps() {
@@ -31,7 +31,7 @@ pub fn trials(alloc: Global, script: Script) -> Result<Vec<Trial>, AllocError> {
     Ok(trials)
 }
 
-/// The calls of a script, twice.
+/// Returns the calls of a script, twice.
 pub fn both(alloc: Global, script: Script) -> Result<(Vec<Call>, Vec<Call>), AllocError> {
     let mut first = Vec::new(alloc);
     let mut second = Vec::new(alloc);
@@ -42,8 +42,8 @@ pub fn both(alloc: Global, script: Script) -> Result<(Vec<Call>, Vec<Call>), All
     Ok((first, second))
 }
 
-/// A layer over an output that takes no memory, and the calls that it is to be asked. It is boxed, since each step of what uses it is
-/// proved over all that its own values hold.
+/// A layer over an output that never allocates, and the calls to make. It is boxed, since each step
+/// of its users is proved over everything that their values contain.
 #[derive(Drop)]
 pub struct Prepared {
     script: Script,
@@ -61,7 +61,7 @@ impl Prepared {
         })
     }
 
-    /// Makes the calls, one by one. Returns how often memory was refused.
+    /// Makes the calls one by one. Returns how many allocations failed.
     pub fn make(self) -> anyhow::Result<u32> {
         let Prepared {
             script,
@@ -81,8 +81,8 @@ impl Prepared {
         Ok(refused)
     }
 
-    /// Makes all calls as one run, and the whole run again where there was no room for its answers. Returns how often memory was
-    /// refused.
+    /// Makes all calls as one run, and the whole run again if its answers could not be allocated.
+    /// Returns how many allocations failed.
     pub fn run(self, alloc: Global, first: Vec<Call>, second: Vec<Call>) -> anyhow::Result<u32> {
         let Prepared {
             script: _,
@@ -106,7 +106,8 @@ impl Prepared {
     }
 }
 
-// How many of the answers are `Memory`. Those before the first must be as with ample memory.
+// Returns how many of the answers are `Memory`. Those before the first must be as with ample
+// memory.
 fn refused_in(answers: &[Answer], trials: &[Trial]) -> anyhow::Result<u32> {
     anyhow::ensure!(answers.len() == trials.len(), "an answer is missing");
     let mut refused = 0u32;
@@ -123,7 +124,7 @@ fn refused_in(answers: &[Answer], trials: &[Trial]) -> anyhow::Result<u32> {
     Ok(refused)
 }
 
-// Makes a call, once more where memory was refused, and returns whether it was.
+// Makes a call, and again if an allocation failed. Returns whether one did.
 fn told_twice(layered: &mut Layered<Board, ()>, trial: Trial) -> anyhow::Result<bool> {
     let Trial {
         call,
@@ -150,7 +151,7 @@ fn told<W: Output>(layered: &mut Layered<W, ()>, call: Box<Call>) -> Answer {
     layered.call(Box::into_inner(call))
 }
 
-// The same of a run.
+// Makes a run, like `told_twice`.
 fn run(
     layered: &mut Layered<Board, ()>,
     alloc: Global,
@@ -159,7 +160,7 @@ fn run(
     layered.run(alloc, calls)
 }
 
-/// A layer over an output in memory, and the calls that it is to be asked.
+/// A layer over an output in memory, and the calls to make.
 #[derive(Drop)]
 pub struct OnTape {
     script: Script,
@@ -177,8 +178,8 @@ impl OnTape {
         })
     }
 
-    /// Makes the calls, one by one. Where the output was refused memory, its fault ends the layer, with what was written before that
-    /// call. Returns how often memory was refused.
+    /// Makes the calls one by one. If an allocation of the output fails, its fault ends the layer,
+    /// with what was written before that call. Returns how many allocations failed.
     pub fn make(self) -> anyhow::Result<u32> {
         let OnTape {
             script,
@@ -202,7 +203,8 @@ impl OnTape {
     }
 }
 
-// Makes a call, once more where memory was refused. Returns whether it was, to the call or to the output.
+// Makes a call, and again if an allocation failed. Returns whether one did, of the call or of the
+// output.
 fn told_on_tape(layered: &mut Layered<Tape, ()>, trial: Trial) -> anyhow::Result<bool> {
     let Trial {
         call,
@@ -224,7 +226,8 @@ fn told_on_tape(layered: &mut Layered<Tape, ()>, trial: Trial) -> anyhow::Result
     judged(given, answer, stays, had_failed)
 }
 
-// Whether the output was refused memory, by the answer to a call. A layer that had failed before answers `Failed`.
+// Returns whether the output was refused memory, by the answer to a call. A layer that had failed
+// before answers `Failed`.
 fn judged(given: Answer, wanted: Answer, stays: bool, had_failed: bool) -> anyhow::Result<bool> {
     match given {
         Err(Refusal::Writer) => {

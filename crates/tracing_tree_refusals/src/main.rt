@@ -1,9 +1,10 @@
-//! Does a work, in which any one request for memory may be refused: what is refused must leave all as it was, and when it is asked
-//! for again it must be answered as with ample memory.
+//! Does a work in which any one allocation may fail. A failure must leave everything unchanged, and
+//! a second attempt must be answered as with enough memory.
 //!
-//! The argument is the name of a work; without one, all are done. Whatever a work needs is made first. A line `begin NAME` is
-//! printed then, and from there on `scripts/refuse_calls.py` refuses one request after another. The last line of a work says how
-//! often memory was refused. A work that leaves something else ends the program with an error.
+//! The argument is the name of a work. Without one, all are done. Everything that a work needs is
+//! made first. Then a line `begin NAME` is printed, and from there on `scripts/refuse_calls.py`
+//! lets one allocation after another fail. The last line of a work says how many allocations
+//! failed. A work with another result ends the program with an error.
 #![tactic(auto)]
 
 mod board;
@@ -35,18 +36,18 @@ fn main(rt: HostRuntime) -> anyhow::Result<()> {
     Ok(())
 }
 
-// What is asked for, and of whom.
+// The works.
 #[derive(Clone, Copy)]
 enum Work {
     // Each call of a script, of a layer over an output that takes no memory.
     Calls(Script),
     // All calls of a script as one run.
     Run,
-    // Each call, where the output takes memory too.
+    // Each call, if the output allocates too.
     Tape,
-    // A text read back, and drawn again.
+    // A text that is read back and drawn again.
     Rows,
-    // The same line by line.
+    // Like `Rows`, line by line.
     Reader,
     // The ancestors of events.
     Paths,
@@ -91,7 +92,7 @@ impl Work {
     }
 }
 
-// Does a work, and returns how often memory was refused.
+// Does a work, and returns how many allocations failed.
 fn done<R: AllocGlobal + Print + Wait>(rt: &R, work: Work) -> anyhow::Result<u32> {
     match work {
         Work::Calls(script) => make_calls(rt, work, script),

@@ -18,7 +18,7 @@ pub type Answer = Result<Reply, Refusal>;
 /// A list of calls.
 #[derive(Clone, Copy)]
 pub enum Script {
-    /// Deferred spans, of which the last is never shown.
+    /// Deferred spans. The last is never shown.
     Deferred,
 
     /// A span that waits for its child, and closes with it.
@@ -93,7 +93,7 @@ impl Script {
         }
     }
 
-    /// What is drawn in the end.
+    /// Returns what is drawn in the end.
     pub fn text(self) -> &'static str {
         match self {
             Script::Deferred => "┐a \n└─┐b \n  ├─ INFO x\n",
@@ -105,7 +105,7 @@ impl Script {
         }
     }
 
-    /// The layer that draws it, on which no call was made yet.
+    /// Returns the layer that draws it, on which no call was made yet.
     pub fn layer<W: Output + Drop>(self, alloc: Global, writer: W) -> HierarchicalLayer<W, ()>
         requires { W.fault_count writer ≡ 0 }
         ensures last { result.last ≡ None }
@@ -130,7 +130,7 @@ impl Script {
             .with_thread_names(is_concurrent)
     }
 
-    /// The calls and their answers.
+    /// Returns the calls and their answers.
     pub fn steps(self) -> &'static [(Step, Answer)] {
         match self {
             Script::Deferred => DEFERRED,
@@ -247,7 +247,7 @@ const NESTED: &[(Step, Answer)] = &[
 ];
 
 impl Step {
-    /// The call itself.
+    /// Returns the call itself.
     pub fn call(self, alloc: Global) -> Result<Call, AllocError> {
         Ok(match self {
             Step::New(name, key, current) => {
@@ -287,7 +287,7 @@ fn field(alloc: Global, name: &str, value: &str) -> Result<Fields, AllocError> {
     Ok(Fields::from(fields))
 }
 
-// The field `key`, or none.
+// Returns the field `key`, or an empty list.
 fn keyed(alloc: Global, value: &str) -> Result<Fields, AllocError> {
     if value.is_empty() {
         return Ok(Fields::new(alloc));

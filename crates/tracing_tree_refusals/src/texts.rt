@@ -22,7 +22,7 @@ const JSON: &str = "{\"shape\":\"OpenRoot\",\"level\":0,\"lines\":[\"a \"]}\n\
     {\"shape\":\"Close\",\"verbose\":false,\"level\":1,\"lines\":[\"\"]}\n\
     {\"shape\":\"CloseRoot\",\"level\":0,\"lines\":[\"\"]}\n";
 
-// A text of more than 16 bytes takes memory.
+// A string of more than 16 bytes allocates.
 const LINES: &str =
     "{\"indent_lines\":true,\"deferred_spans\":true,\"targets\":true,\"thread_names\":true}\n\
     {\"call\":\"new\",\"name\":\"the first of two spans\",\"target\":\"a target of a span\"}\n\
@@ -39,7 +39,7 @@ const DRAWN: &str = "a thread with a name┐a target of a span::the first of two
     ┌─┘\n\
     ┘\n";
 
-// The calls stand in functions of their own, whose contracts say nothing: what is looked at here is what they return.
+// The calls are in separate functions without contracts: only what they return is tested.
 
 fn read(alloc: Global, text: &str) -> Result<Vec<Row>, ReadFault> {
     read_rows(alloc, text, 2)
@@ -63,7 +63,7 @@ fn run(alloc: Global, lines: &[u8], board: Board) -> LinesRun<Board>
     run_lines(alloc, lines, board)
 }
 
-/// Reads a tree and draws it again. Returns how often memory was refused.
+/// Reads a tree and draws it again. Returns how many allocations failed.
 pub fn read_and_draw(alloc: Global) -> anyhow::Result<u32> {
     let (rows, unread) = match read(alloc, TREE) {
         Err(ReadFault::Memory) => (read(alloc, TREE), 1u32),
@@ -75,7 +75,7 @@ pub fn read_and_draw(alloc: Global) -> anyhow::Result<u32> {
     Ok(unread.saturating_add(drawn_again(alloc, rows.as_slice())?))
 }
 
-// Draws the rows of the tree, once more where memory was refused, and returns how often that was.
+// Draws the rows of the tree, and again if an allocation failed. Returns how many did.
 fn drawn_again(alloc: Global, rows: &[Row]) -> anyhow::Result<u32> {
     let (text, undrawn) = match drawn(alloc, rows) {
         Err(DrawFault::Memory) => (drawn(alloc, rows), 1u32),
@@ -88,8 +88,8 @@ fn drawn_again(alloc: Global, rows: &[Row]) -> anyhow::Result<u32> {
     Ok(undrawn)
 }
 
-/// Reads a tree line by line, each again where memory was refused, into a list with room for all rows, and draws it again. Returns
-/// how often it was refused.
+/// Reads a tree line by line, each again if an allocation failed, into a list with enough capacity,
+/// and draws it again. Returns how many allocations failed.
 pub fn read_by_lines(alloc: Global, mut rows: Vec<Row>) -> anyhow::Result<u32> {
     let mut reader = Reader::new(2);
     let mut refused = 0u32;
@@ -106,7 +106,7 @@ pub fn read_by_lines(alloc: Global, mut rows: Vec<Row>) -> anyhow::Result<u32> {
     Ok(refused.saturating_add(drawn_again(alloc, rows.as_slice())?))
 }
 
-// Takes a line, once more where memory was refused, and returns how often that was.
+// Takes a line, and again if an allocation failed. Returns how many did.
 fn take_twice(alloc: Global, reader: &mut Reader, line: &str) -> Result<(Taken, u32), AllocError> {
     match reader.take(alloc, line) {
         Ok(taken) => Ok((taken, 0)),
@@ -114,7 +114,7 @@ fn take_twice(alloc: Global, reader: &mut Reader, line: &str) -> Result<(Taken, 
     }
 }
 
-/// Finds the ancestors of the one event of a tree. Returns how often memory was refused.
+/// Finds the ancestors of the one event of a tree. Returns how many allocations failed.
 pub fn find_paths(alloc: Global) -> anyhow::Result<u32> {
     let (paths, refused) = match found(alloc, TREE) {
         Err(ReadFault::Memory) => (found(alloc, TREE), 1u32),
@@ -133,7 +133,7 @@ pub fn find_paths(alloc: Global) -> anyhow::Result<u32> {
     Ok(refused)
 }
 
-/// Tells the rows of a tree as lines of JSON. Returns how often memory was refused.
+/// Writes the rows of a tree as lines of JSON. Returns how many allocations failed.
 pub fn tell_rows(alloc: Global, mut board: Board, mut again: Board) -> anyhow::Result<u32> {
     let Err(cause) = told(alloc, TREE.as_bytes(), &mut board) else {
         anyhow::ensure!(board.bytes() == JSON.as_bytes(), "other rows are told");
@@ -151,12 +151,13 @@ pub fn tell_rows(alloc: Global, mut board: Board, mut again: Board) -> anyhow::R
     Ok(1)
 }
 
-// Whether these are the first lines of a text.
+// Returns whether these are the first lines of a text.
 fn is_beginning(lines: &[u8], text: &[u8]) -> bool {
     text.starts_with(lines) && lines.last().is_none_or(|last| *last == b'\n')
 }
 
-/// Draws the calls of lines. Where memory was refused, the text must be that of the lines before. Returns how often it was.
+/// Draws the calls of lines. If an allocation fails, the text must be that of the lines before.
+/// Returns how many failed.
 pub fn run_by_lines(alloc: Global, board: Board, again: Board) -> anyhow::Result<u32>
     requires first { board.faults ≡ 0 }
     requires second { again.faults ≡ 0 }
@@ -181,7 +182,7 @@ pub fn run_by_lines(alloc: Global, board: Board, again: Board) -> anyhow::Result
     Ok(1)
 }
 
-// The lines before the one of this number, from 1.
+// Returns the lines before the one of this number, from 1.
 fn lines_before(lines: &[u8], number: u64) -> &[u8] {
     let mut left = number;
     let mut end = 0usize;

@@ -1,4 +1,4 @@
-//! Drafts of calls, handed in to a layer for several threads by one of them.
+//! Drafts of calls, passed to a layer for several threads by one of them.
 
 ghost use Rattle.std.specs.Prelude.{◌≡◌};
 
@@ -12,10 +12,10 @@ use tracing_tree::call::Call;
 use tracing_tree::format::{Refusal, Tape};
 use tracing_tree_shared::{Draft, Finished, Pass, Refused, SharedLayer};
 
-// The calls on the layer stand in functions of their own, whose contracts say no more than their callers need: what is looked at here
-// is what they return.
+// The calls on the layer are in separate functions, whose contracts say only what their callers
+// need: only what they return is tested.
 
-// A layer with one pass.
+// Returns a layer with one pass.
 fn opened<L: Ledger>(alloc: Global, blank: Blank) -> Option<(SharedLayer<(), L>, Vec<Pass<L>>)>
     requires name { blank.name ≡ L.name }
     requires parts { blank.parts ≡ L.parts }
@@ -33,7 +33,7 @@ fn draft<L: Ledger>(
     layer.draft(alloc, Box::into_inner(call))
 }
 
-// What a draft is answered, and the draft where it came back.
+// Returns the answer to a draft, and the draft if it was refused.
 fn submit<L: Ledger, R: Wait>(
     rt: &R,
     layer: &SharedLayer<(), L>,
@@ -50,7 +50,8 @@ fn finished<L: Ledger>(layer: SharedLayer<(), L>, passes: Vec<Pass<L>>) -> Optio
     layer.finish(passes).ok()
 }
 
-/// Hands the calls in, each again where memory was refused, and takes the pass back. Returns how often it was refused.
+/// Makes the calls, each again if an allocation failed, and takes the pass back. Returns how many
+/// allocations failed.
 pub fn hand_in<L: Ledger, R: Wait>(
     rt: &R,
     alloc: Global,
@@ -78,7 +79,7 @@ pub fn hand_in<L: Ledger, R: Wait>(
     Ok(refused)
 }
 
-// Whether this is the text of all calls, or a beginning of it where one may have been refused.
+// Returns whether this is the text of all calls, or a prefix of it if one may have been refused.
 fn is_drawn(written: &[u8], may_lack: bool) -> bool {
     let whole = Script::Concurrent.text().as_bytes();
     whole.starts_with(written) && (may_lack || written.len() == whole.len())
@@ -108,7 +109,7 @@ fn hand_in_all<L: Ledger, R: Wait>(
     Ok(refused)
 }
 
-// A draft of the call, or of its copy where memory was refused, and how often that was.
+// Returns a draft of the call, or of its copy if an allocation failed, and how many failed.
 fn draft_twice<L: Ledger>(
     alloc: Global,
     layer: &SharedLayer<(), L>,
@@ -124,8 +125,8 @@ fn draft_twice<L: Ledger>(
     }
 }
 
-// Submits a draft, once more where memory was refused, and returns how often that was. The draft comes back whole then. A fault of the
-// output is the last answer but `Failed`.
+// Submits a draft, and again if an allocation failed. Returns how many did. The refused draft is
+// unchanged. After a fault of the output, all further answers are `Failed`.
 fn submit_twice<L: Ledger, R: Wait>(
     rt: &R,
     layer: &SharedLayer<(), L>,

@@ -17,7 +17,7 @@ struct Listed {
     written: bool,
 }
 
-// The live spans in the order in which they were made, and the next id.
+// The live spans in the order of their making, and the next id.
 #[derive(Drop)]
 struct List {
     spans: Vec<Listed>,
@@ -39,7 +39,7 @@ impl List {
         }
     }
 
-    // The id that a new span below this parent has, if it may be made.
+    // Returns the id that a new span below this parent has, if it may be made.
     fn next_below(&self, parent: Option<Id>) -> Result<Id, Refusal> {
         if let Some(id) = parent {
             if self.get(id).is_none() {
@@ -71,7 +71,7 @@ impl List {
         }
     }
 
-    // The span, its parent, and so on upward: a parent is older than its children.
+    // Returns the span, its parent, and so on upward: a parent is older than its children.
     fn scope(&self, alloc: Global, id: Id) -> Result<Vec<Id>, AllocError> {
         let mut scope = Vec::new(alloc);
         let mut above = Some(id);
@@ -84,7 +84,7 @@ impl List {
         Ok(scope)
     }
 
-    // A span that nothing holds, neither a handle nor a child.
+    // Returns a span without a handle and without a child.
     fn idle(&self) -> Option<Id> {
         for span in self.spans.iter() {
             if span.handles == 0 && self.is_childless(span.id) {
@@ -142,7 +142,8 @@ impl Trial {
         self.seed >> 33
     }
 
-    // Mostly the id of a live span, else one that was given out lately or comes soon.
+    // Mostly returns the id of a live span, otherwise one that was used recently or will be used
+    // soon.
     fn any_id(&mut self) -> Id {
         let number = self.random();
         let count = self.list.spans.len() as u64;
@@ -167,7 +168,7 @@ impl Trial {
         }
     }
 
-    // Makes a span, and takes it back where it is not to be kept.
+    // Makes a span, and takes it back unless it must be kept.
     fn make(&mut self, alloc: Global, kept: bool) -> Result<bool, AllocError> {
         let (parent, current, meant) = self.any_parent();
         let context = Context {
@@ -233,7 +234,8 @@ impl Trial {
         )
     }
 
-    // A random call, with more new spans than closes while the forest is to grow. Whether all answer it alike.
+    // A random call, with more new spans than closes while the forest is to grow. Whether all
+    // answer it alike.
     fn call(&mut self, alloc: Global, grows: bool) -> Result<bool, AllocError> {
         let id = self.any_id();
         match (self.random() % 16, grows) {
@@ -252,7 +254,7 @@ impl Trial {
         }
     }
 
-    // Whether the registries show of a span what the list has.
+    // Returns whether the registries show of a span what the list has.
     fn shows(&self, alloc: Global, id: Id) -> Result<bool, AllocError> {
         let shown = match (self.both.lent.span(id), self.list.get(id)) {
             (Some(look), Some(span)) => {
@@ -274,7 +276,8 @@ impl Trial {
     }
 }
 
-// Whether the registries and the list answer so many random calls alike, and show the same of a random id after each.
+// Returns whether the registries and the list answer `count` random calls alike, and show a random
+// id alike after each.
 fn agrees(alloc: Global, first: u64, count: u64) -> Result<bool, AllocError> {
     let mut trial = Trial::starting_at(alloc, first)?;
     for number in 0..count {

@@ -24,7 +24,7 @@ fn spans(alloc: Global, parents: &[Option<u64>]) -> Result<Registry, Fail> {
     Ok(spans)
 }
 
-// What the paths of two spans share.
+// Returns what the paths of two spans share.
 fn shared(alloc: Global, spans: &Registry, old: u64, new: u64) -> Result<Common, AllocError> {
     let old = spans.path(alloc, Id(old))?;
     let new = spans.path(alloc, Id(new))?;
@@ -53,7 +53,7 @@ fn finds_what_paths_share(rt: HostRuntime) -> Result<(), Fail> {
     Ok(())
 }
 
-// A chain of so many spans, each with another child beside the next of the chain, and a root of its own.
+// Returns a chain of `count` spans, each with another child in addition to the next, and a root.
 fn comb(alloc: Global, count: u64) -> Result<Registry, Fail> {
     let mut spans = Registry::new(alloc);
     let mut above = None;
@@ -66,7 +66,7 @@ fn comb(alloc: Global, count: u64) -> Result<Registry, Fail> {
     Ok(spans)
 }
 
-// How many places two lists agree in before the first where they don't.
+// Returns the length of the common prefix of two lists.
 fn front(old: &[Id], new: &[Id]) -> usize {
     let mut length = 0usize;
     for (id, other) in old.iter().zip(new) {
@@ -78,7 +78,8 @@ fn front(old: &[Id], new: &[Id]) -> usize {
     length
 }
 
-// Whether what two paths share is what their fronts share, found in at most one look more than the new path has past it.
+// Returns whether what two paths share is what their fronts share, found in at most one look more
+// than the new path has past it.
 fn is_found_soon(alloc: Global, spans: &Registry, old: u64, new: u64) -> Result<bool, AllocError> {
     let Common { length, compared } = shared(alloc, spans, old, new)?;
     let old = spans.path(alloc, Id(old))?;
@@ -106,7 +107,7 @@ fn finds_it_from_the_end(rt: HostRuntime) -> Result<(), Fail> {
     Ok(())
 }
 
-// A chain of this many spans.
+// Returns a chain of this many spans.
 fn chain(alloc: Global, count: u64) -> Result<Registry, Fail> {
     let mut spans = Registry::new(alloc);
     let mut parent = None;

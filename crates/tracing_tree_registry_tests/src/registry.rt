@@ -9,7 +9,8 @@ use tracing_tree::registry::{Data, LookupSpan, Parent, Registry};
 use tracing_tree_for_tests::tree::{LINED, Settings, Tree};
 use tracing_tree_for_tests::{Answer, Step, at, attributes, recorded};
 
-// A root `a` and its child `b`, with the ids 1 and 2. A child of a span that isn't there is refused.
+// A root `a` and its child `b`, with the ids 1 and 2. A child of a span that isn't there is
+// refused.
 fn root_and_child(alloc: Global) -> Result<Registry, Fail> {
     let mut registry = Registry::new(alloc);
     for (name, parent, wanted) in [
@@ -76,7 +77,7 @@ fn takes_a_span_back(rt: HostRuntime) -> Result<(), Fail> {
     Ok(())
 }
 
-// What is kept with a new span that has one field.
+// Returns what is kept with a new span that has one field.
 fn data(alloc: Global) -> Result<Data, AllocError> {
     let mut made = attributes(alloc, "a", Parent::Root)?;
     made.fields = recorded(alloc, "k", "1")?;
@@ -108,7 +109,7 @@ fn runs(
     Ok(())
 }
 
-// Each of these steps is answered as it stands beside it, and they draw this.
+// Checks the answer to each of these steps, and what they draw.
 fn answers(
     rt: &impl Abort,
     alloc: Global,
@@ -223,7 +224,7 @@ fn steps_on(id: u64) -> [(Step<'static>, Answer); 5] {
     ]
 }
 
-// A span that closes, calls on ids that aren't live, and another span.
+// Returns a span that closes, calls on ids that aren't live, and another span.
 fn odd_steps(alloc: Global) -> Result<Vec<(Step<'static>, Answer)>, AllocError> {
     let mut steps = Vec::new(alloc);
     steps.push((Step::New("a", None), Ok(Reply::Span(Id(1)))))?;

@@ -1,4 +1,5 @@
-//! A registry that lends its paths beside one that walks them: the same calls, the same answers.
+//! A registry that lends its paths, compared with one that walks them: the same calls get the same
+//! answers.
 
 use std::alloc::{AllocError, Global};
 use std::test::*;
@@ -7,7 +8,8 @@ use tracing_tree::registry::{Attributes, Data, LookupSpan, Parent, Registry, Spa
 use tracing_tree::style::Level;
 use tracing_tree_for_tests::{Step, at, attributes, recorded};
 
-/// Two registries that are called alike. They are boxed, since each step of a test is proved over all that its own values hold.
+/// Two registries that are called alike. They are boxed, since each step of a test is proved over
+/// all that its own values hold.
 #[derive(Drop)]
 pub struct Both {
     pub lent: Box<Registry>,
@@ -32,7 +34,7 @@ fn walked_span(
     walked.new_span(attributes, context)
 }
 
-// What a span of this name is made of, with a field that says its name.
+// Returns what a span of this name is made of, with a field that says its name.
 fn named(alloc: Global, name: &str, parent: Parent) -> Result<Attributes, AllocError> {
     let mut made = attributes(alloc, name, parent)?;
     made.fields = recorded(alloc, "key", name)?;
@@ -48,7 +50,7 @@ impl Both {
         })
     }
 
-    /// Whether both show the same of this id.
+    /// Returns whether both show the same of this id.
     pub fn agree_on(&self, alloc: Global, id: Id) -> Result<bool, AllocError> {
         let path = self.walked.path(alloc, id)?;
         let scope = self.walked.scope(alloc, id)?;
@@ -66,7 +68,7 @@ impl Both {
         )
     }
 
-    // Whether both answer this step alike. An event only looks at its current span.
+    // Returns whether both answer this step alike. An event only looks at its current span.
     fn agree(&mut self, alloc: Global, step: Step<'_>) -> Result<bool, AllocError> {
         match step {
             Step::New(name, current) => self.agree_on_new(alloc, name, Parent::Current, current),
@@ -84,7 +86,7 @@ impl Both {
         }
     }
 
-    // Whether both make this span, and give it the same id.
+    // Returns whether both make this span, and give it the same id.
     fn agree_on_new(
         &mut self,
         alloc: Global,
@@ -109,7 +111,7 @@ impl Both {
         self.walked.record(id, recorded(alloc, "k", value)?)
     }
 
-    // Whether both show the same of this span, and let go of it alike.
+    // Returns whether both show the same of this span, and let go of it alike.
     fn agree_on_close(&mut self, alloc: Global, id: Id) -> Result<bool, AllocError> {
         let same = self.agree_on(alloc, id)?;
         let closed = self.lent.try_close(id);
@@ -117,7 +119,7 @@ impl Both {
     }
 }
 
-// Whether two looks show the same span, or both none.
+// Returns whether two views show the same span, or both are `None`.
 fn are_alike(look: Option<SpanRef<'_>>, other: Option<SpanRef<'_>>) -> bool {
     match (look, other) {
         (Some(look), Some(other)) => {
@@ -136,7 +138,8 @@ fn is_same(data: &Data, other: &Data) -> bool {
     data.start == other.start && data.written == other.written && data.fields == other.fields
 }
 
-// Whether both registries answer these steps alike, and show the same of the first ids after each.
+// Returns whether both registries answer these steps alike, and show the same of the first ids
+// after each.
 fn all_agree(alloc: Global, steps: &[Step<'_>]) -> Result<bool, AllocError> {
     let mut both = Both::starting_at(alloc, 1)?;
     for step in steps {
@@ -147,7 +150,7 @@ fn all_agree(alloc: Global, steps: &[Step<'_>]) -> Result<bool, AllocError> {
     Ok(true)
 }
 
-// Whether both show the same of the ids from 0 to 6.
+// Returns whether both show the same of the ids from 0 to 6.
 fn agree_on_first(alloc: Global, both: &Both) -> Result<bool, AllocError> {
     for id in 0..7 {
         if !both.agree_on(alloc, Id(id))? {

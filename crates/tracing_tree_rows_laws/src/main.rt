@@ -1,7 +1,8 @@
-//! Random rows, drawn and read: they are read as they were. And random changes of drawings: one that is read is drawn again as the
-//! same text.
+//! Draws and reads random rows: they are read as drawn. And changes drawings at random: a changed
+//! drawing that can be read is drawn again as the same text.
 //!
-//! The only argument is how many of each; without it a hundred. The numbers come from a fixed seed.
+//! The only argument is the number of each. Without it there are a hundred. The numbers come from a
+//! fixed seed.
 #![tactic(auto)]
 
 ghost use Rattle.std.specs.Prelude.{◌<◌};
@@ -9,10 +10,10 @@ ghost use Rattle.std.specs.Prelude.{◌<◌};
 use std::alloc::{AllocError, Global};
 use tracing_tree::rows::{ReadFault, Row, Shape, draw_rows, read_rows};
 
-// How many without an argument.
+// The number of rounds without an argument.
 const ROUNDS: u32 = 100;
 
-// What texts are made of.
+// The characters of random strings.
 const PALETTE: [char; 12] = [' ', ' ', 'a', 'é', '\r', '─', '│', '┌', '┐', '└', '┘', '├'];
 
 fn main(rt: HostRuntime) -> anyhow::Result<()> {
@@ -36,7 +37,7 @@ fn main(rt: HostRuntime) -> anyhow::Result<()> {
     Ok(())
 }
 
-// How many rounds the argument asks for.
+// Returns the number of rounds in the argument.
 fn rounds(rt: &(impl AllocGlobal + std::rt::Env)) -> anyhow::Result<u32> {
     for word in std::env::args(rt)?.skip(1) {
         return Ok(word.as_str().parse::<u32>()?);
@@ -44,14 +45,14 @@ fn rounds(rt: &(impl AllocGlobal + std::rt::Env)) -> anyhow::Result<u32> {
     Ok(ROUNDS)
 }
 
-// Numbers that follow from a seed.
+// A sequence of numbers from a seed.
 #[derive(Drop)]
 struct Random {
     state: u64,
 }
 
 impl Random {
-    // The next number. (SplitMix64)
+    // Returns the next number. (SplitMix64)
     fn next(&mut self) -> u64 {
         self.state = self.state.wrapping_add(0x9e37_79b9_7f4a_7c15);
         let mut z = self.state;
@@ -60,7 +61,7 @@ impl Random {
         z ^ (z >> 31)
     }
 
-    // A number below this bound.
+    // Returns a number below this bound.
     fn below(&mut self, bound: u64) -> usize
         requires { 0 < bound }
         ensures { result < bound }
@@ -82,7 +83,7 @@ impl Random {
         }
     }
 
-    // A text of up to seven characters.
+    // Returns a string of up to seven characters.
     fn text(&mut self, alloc: Global) -> Result<String, AllocError> {
         let mut text = String::new(alloc);
         for _char in 0..self.below(8) {
@@ -91,7 +92,7 @@ impl Random {
         Ok(text)
     }
 
-    // Up to seven rows, of those that are made.
+    // Returns up to seven rows, those that can be made.
     fn rows(&mut self, alloc: Global) -> Result<Vec<Row>, AllocError> {
         let mut rows = Vec::new(alloc);
         for _row in 0..self.below(8) {
@@ -108,7 +109,8 @@ impl Random {
         Ok(rows)
     }
 
-    // The text with a column more, a character changed, a character less or a line cut.
+    // Returns the text with one column more, one character changed, one character less or the rest
+    // of a line cut.
     fn changed(&mut self, alloc: Global, text: &str) -> Result<String, AllocError> {
         let at = (self.next() % (text.len() as u64).max(1)) as usize;
         let other = PALETTE[self.below(12)];
@@ -136,7 +138,7 @@ impl Random {
     }
 }
 
-// Whether random rows are read as they were drawn.
+// Returns whether random rows are read as they were drawn.
 fn is_read_as_drawn(alloc: Global, random: &mut Random) -> Result<bool, AllocError> {
     let rows = random.rows(alloc)?;
     let amount = random.below(7) + 2;
@@ -149,7 +151,8 @@ fn is_read_as_drawn(alloc: Global, random: &mut Random) -> Result<bool, AllocErr
     }
 }
 
-// Whether a random change of a drawing is refused for one of its lines, or is read and drawn again as it is.
+// Returns whether a random change of a drawing is refused for one of its lines, or is read and
+// drawn again as the same text.
 fn is_fairly_read(alloc: Global, random: &mut Random) -> Result<bool, AllocError> {
     let rows = random.rows(alloc)?;
     let amount = random.below(7) + 2;
@@ -167,7 +170,7 @@ fn is_fairly_read(alloc: Global, random: &mut Random) -> Result<bool, AllocError
     }
 }
 
-// Whether both are the same rows.
+// Returns whether both are the same rows.
 fn are_same(rows: &[Row], others: &[Row]) -> bool {
     rows.len() == others.len()
         && rows

@@ -1,5 +1,5 @@
-//! A service that keeps a stock. It reads requests from standard input, one a line, and what it does is drawn as a tree on standard
-//! output, with colours where that is a terminal.
+//! A service that manages a stock. It reads requests from standard input, one per line, and draws
+//! its work as a tree on standard output. The tree has colours if that is a terminal.
 #![tactic(auto)]
 
 mod service;

@@ -50,7 +50,7 @@ struct Request<'a> {
     item: &'a str,
 }
 
-// `put 12 apples` or `take 3 apples`.
+// Parses `put 12 apples` or `take 3 apples`.
 fn parse(line: &str) -> Option<Request<'_>> {
     let (verb, rest) = line.split_once(' ')?;
     let (count, item) = rest.split_once(' ')?;

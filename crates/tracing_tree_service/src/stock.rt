@@ -17,7 +17,7 @@ pub struct Stock {
 }
 
 impl Stock {
-    /// Nothing.
+    /// Returns an empty stock.
     pub fn new(alloc: Global) -> Stock {
         Stock {
             alloc,
@@ -25,7 +25,7 @@ impl Stock {
         }
     }
 
-    /// How many there are of an item.
+    /// Returns how many there are of an item.
     pub fn count(&self, name: &str) -> u64 {
         let found = self
             .items

@@ -1,4 +1,4 @@
-//! What one thread does: a layer with the history of its calls.
+//! A layer with the history of its calls, which is the value behind the lock.
 
 ghost use Rattle.std.specs.Prelude.{◌≡◌, ◌++◌, ◌∷◌, [], None, false, length, IfErr};
 ghost use Rattle.tracing_tree_shared.specs.Kept.{KeepsReplay, seen_on_tape, IsApplied};
@@ -14,7 +14,7 @@ use tracing_tree_layer::call::{Call, Reply};
 use tracing_tree_output::Tape;
 use tracing_tree_time::FormatTime;
 
-/// Shows where a call stands in the history, with its reply. Only `Book::apply` makes one.
+/// A call's place in the history, with its reply. Only `Book::apply` makes one.
 #[derive(Debug, Drop)]
 pub struct Receipt {
     place: usize,
@@ -31,21 +31,21 @@ impl Model for Receipt {
 }
 
 impl Receipt {
-    /// Its place in the history, from 0.
+    /// Returns the call's place in the history, from 0.
     pub fn place(&self) -> usize
         ensures { result ≡ self.now.place }
     {
         self.place
     }
 
-    /// The call.
+    /// Returns the call.
     pub fn call(&self) -> &Call
         ensures { result.now ≡ self.now.entry.0 }
     {
         self.call.as_ref()
     }
 
-    /// Its reply.
+    /// Returns the call's reply.
     pub fn reply(&self) -> Reply
         ensures { result ≡ self.now.entry.1 }
     {
@@ -53,8 +53,9 @@ impl Receipt {
     }
 }
 
-/// A registry with a layer over a tape, and the history of the accepted calls, whose replay it keeps: the spans, the last span and
-/// the replies are those of the replay, and the tape is the drawing of its rows.
+/// A registry with a layer over a tape, and the history of the accepted calls. It matches the
+/// replay of that history: it has the same spans, last span and replies. The tape is the drawing of
+/// the replay's rows.
 #[derive(Drop)]
 pub struct Book<FT: FormatTime> {
     layered: Layered<Tape, FT>,
@@ -79,7 +80,8 @@ impl<FT: FormatTime> Model for Book<FT> {
 }
 
 impl<FT: FormatTime> Book<FT> {
-    /// No calls yet. The caller must ensure that no span is live, that the layer is fresh, and that the tape holds nothing.
+    /// Returns a book without calls. The caller must ensure that no span is live, that the layer is
+    /// fresh, and that the tape is empty.
     pub fn new(alloc: Global, layered: Layered<Tape, FT>) -> Book<FT>
         requires spans { layered.forest.spans ≡ [] }
         requires last { layered.layer.last ≡ None }
@@ -95,7 +97,7 @@ impl<FT: FormatTime> Book<FT> {
         }
     }
 
-    /// The accepted calls, in order, with their replies.
+    /// Returns the accepted calls in order, with their replies.
     pub fn history(&self) -> &[(Call, Reply)]
         ensures history { result.now ≡ self.now.history }
         ensures kept { KeepsReplay self.now.first self.now.history
@@ -104,15 +106,21 @@ impl<FT: FormatTime> Book<FT> {
         self.history.as_slice()
     }
 
-    /// What was written.
+    /// Returns what was written.
     pub fn output(&self) -> &Tape
         ensures { result.now ≡ self.now.layered.layer.writer }
     {
         self.layered.writer()
     }
 
-    /// Makes the draft's call as `Layered::call` does. Room for the history, and for its copy of the call where the draft has none,
-    /// is taken first. The receipt shows the call, its reply and their place.
+    /// Makes the draft's call, like `Layered::call`. The receipt has the call, its reply and their
+    /// place. Memory for the history is allocated first, and for its copy of the call if the draft
+    /// has no copy.
+    ///
+    /// # Errors
+    ///
+    /// `Refused` returns the draft, and the cause: `Failed` if the layer has failed, `Memory` if an
+    /// allocation fails, or the layer's refusal. The history is unchanged then.
     pub fn apply(&mut self, mut draft: Draft) -> Result<Receipt, Refused>
         ensures applied { IsApplied FT.FormatTime draft.call result self.old self.new }
         ensures draft { IfErr result (λ e. e.draft ≡ draft) }
@@ -146,14 +154,14 @@ impl<FT: FormatTime> Book<FT> {
                 })
             }
             Err(cause) => {
-                // As one value, so that the proof needn't follow each of its parts.
+                // Dropped as one value, so that the proof needn't follow each of its parts.
                 drop(kept);
                 Err(Refused { draft, cause })
             }
         }
     }
 
-    /// The settings, the history and what was written.
+    /// Splits this value into the settings, the history and what was written.
     pub fn into_parts(self) -> (Config, Vec<(Call, Reply)>, Tape)
     where
         FT: Drop,

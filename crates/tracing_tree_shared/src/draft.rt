@@ -1,4 +1,4 @@
-//! Calls on their way, drawn as far as they can be before the layer is held.
+//! Calls that aren't made yet, drawn as far as possible before the lock is taken.
 
 ghost use Rattle.std.specs.Prelude.{◌≡◌, IfOk, IfSome, false, option_map};
 ghost use Rattle.tracing_tree_layer.specs.Layer.Layers.{seen, Changes};
@@ -16,7 +16,8 @@ use tracing_tree_layer::layer::push_event_tail;
 use tracing_tree_output::Output;
 use tracing_tree_time::FormatTime;
 
-// Level, target and fields of an event, and the two settings under which they were drawn.
+// The level, target and fields of an event as drawn, and the two settings that they were drawn
+// with.
 #[derive(Debug, Drop)]
 struct Tail {
     ansi: bool,
@@ -33,13 +34,14 @@ impl Model for Tail {
     ghost view = { λ t. record { ansi = t.ansi; targets = t.targets; text = string_bytes t.text } };
 }
 
-/// A call on its way. Of an event, level, target and fields are drawn already: its tail.
+/// A call that isn't made yet. For an event, the level, target and fields are already drawn: its
+/// tail.
 #[derive(Debug, Drop)]
 pub struct Draft {
-    // In a box, as the copy: a draft and its receipt are handed on under the lock.
+    // In a box, like the copy: drafts and receipts are moved under the lock.
     call: Box<Call, Global>,
     tail: Option<Tail>,
-    // The copy that a history will keep, where it was made before the lock was taken.
+    // The copy for a history, if it was made before the lock was taken.
     copy: Option<Box<Call, Global>>,
 }
 
@@ -56,7 +58,11 @@ impl Model for Draft {
 }
 
 impl Draft {
-    /// A draft of this call. Under these settings an event's tail is drawn.
+    /// Returns a draft of this call. An event's tail is drawn with these settings.
+    ///
+    /// # Errors
+    ///
+    /// `AllocError` if an allocation fails.
     pub fn new(alloc: Global, config: &Config, call: Call) -> Result<Draft, AllocError>
         ensures call { IfOk result (λ draft. draft.call ≡ call) }
         ensures tail { IfOk result (λ draft. draft.tail
@@ -70,7 +76,7 @@ impl Draft {
         })
     }
 
-    // The same draft with a copy of its call, so that `take_copy` needs no memory.
+    // Returns the draft with a copy of its call, so that `take_copy` never allocates.
     pub(crate) fn with_copy(self, alloc: Global) -> Result<Draft, AllocError>
         ensures { IfOk result (λ draft. draft ≡ self) }
     {
@@ -83,7 +89,7 @@ impl Draft {
         Ok(Draft { call, tail, copy })
     }
 
-    // A copy of the call: the one that was made before, if there is one.
+    // Returns a copy of the call: the one that was made before, if there is one.
     pub(crate) fn take_copy(&mut self) -> Result<Call, AllocError>
         ensures copy { IfOk result (λ copy. copy ≡ self.old.call) }
         ensures same { self.new ≡ self.old }
@@ -94,14 +100,14 @@ impl Draft {
         }
     }
 
-    /// The call.
+    /// Returns the call.
     pub fn call(&self) -> &Call
         ensures { result.now ≡ self.now.call }
     {
         self.call.as_ref()
     }
 
-    /// The tail of an event; none of another call.
+    /// Returns the tail of an event, or `None` for another call.
     pub fn tail(&self) -> Option<&str>
         ensures { option_map (λ text. text.now) result ≡ tail_text self.now.tail }
     {
@@ -111,7 +117,7 @@ impl Draft {
         }
     }
 
-    // The tail, where it is as these settings have it.
+    // Returns the tail, if it was drawn with the same ansi and targets as in these settings.
     pub(crate) fn tail_under(&self, config: &Config) -> Option<&str>
         ensures { IfSome result (λ text. IsTailOf config.now self.now.call text.now) }
     {
@@ -123,7 +129,7 @@ impl Draft {
         }
     }
 
-    // Makes the call, which stays the draft's.
+    // Makes the call. The draft keeps it.
     pub(crate) fn tell<W: Output, FT: FormatTime>(
         &self,
         layered: &mut Layered<W, FT>,
@@ -144,7 +150,7 @@ impl Draft {
         }
     }
 
-    // The call alone.
+    // Returns the call.
     pub(crate) fn into_call(self) -> Box<Call, Global>
         ensures { result.value ≡ self.call }
     {
@@ -152,7 +158,7 @@ impl Draft {
     }
 }
 
-// The tail of an event.
+// Returns the tail of an event.
 fn drawn_tail(alloc: Global, config: &Config, call: &Call) -> Result<Option<Tail>, AllocError>
     ensures { IfOk result (λ tail. tail ≡ tail_under config.now.ansi config.now.targets call.now) }
 {
@@ -168,7 +174,7 @@ fn drawn_tail(alloc: Global, config: &Config, call: &Call) -> Result<Option<Tail
     }))
 }
 
-/// A refused draft comes back, with the cause.
+/// A refused draft, with the cause.
 #[derive(Debug, Drop)]
 pub struct Refused {
     pub draft: Draft,

@@ -1,4 +1,4 @@
-//! Taking all passes back: whether their receipts are the history, each call once.
+//! Takes all passes back, and checks that their receipts are the history, each call once.
 
 ghost use Rattle.std.specs.Prelude.{◌≡◌, ◌≤◌, None, All, IfSome, IfNone, length, min, count_by, flat_map, [], ◌∷◌, if◌then◌else◌, ◌==◌, nat_lt};
 ghost use Rattle.std.specs.Option.{option_map_or};
@@ -13,13 +13,13 @@ use tracing_tree_layer::call::{Call, Reply};
 use tracing_tree_output::Tape;
 use tracing_tree_time::FormatTime;
 
-/// The one history of all threads, with what was written, and under which settings.
+/// The history of all threads' calls, what was written, and the settings.
 #[derive(Drop)]
 pub struct Finished {
-    /// The settings under which the calls were drawn.
+    /// The settings that the calls were drawn with.
     pub config: Config,
 
-    /// The accepted calls, in order, with their replies.
+    /// The accepted calls in order, with their replies.
     pub history: Vec<(Call, Reply)>,
 
     /// What was written.
@@ -29,18 +29,19 @@ pub struct Finished {
     pub accepted: usize,
 }
 
-/// Why there is no one history.
+/// Why there isn't a common history.
 #[derive(Drop)]
 pub enum FinishFault<FT: FormatTime> {
     /// There are fewer passes than were opened.
     MissingPass,
 
-    /// The receipts aren't this book's history: the first place that is wrong. Public calls can't bring this about, since each
-    /// receipt of a pass comes from the book behind the same lock. No type says so, and so `finish` looks.
+    /// The receipts aren't this book's history. Has the first wrong place, and the book. Public
+    /// calls can't cause this, since each receipt of a pass comes from the book behind the same
+    /// lock. The types don't prove that, so `finish` checks it.
     Stranger(usize, Book<FT>),
 }
 
-// The settings and the history of a book, and what was written.
+// Returns the settings and the history of a book, and what was written.
 pub(crate) fn finish_book<FT: FormatTime + Drop>(book: Book<FT>) -> Finished
     ensures history { result.history.items ≡ book.history }
     ensures accepted { result.accepted ≡ length book.history }
@@ -57,8 +58,8 @@ pub(crate) fn finish_book<FT: FormatTime + Drop>(book: Book<FT>) -> Finished
     }
 }
 
-// The first place that is wrong: that of a receipt which isn't the history's or is out of order, or one before without its one
-// receipt. Takes no memory.
+// Returns the first wrong place. This is the place of a receipt that isn't in the history or is out
+// of order, or an earlier place that doesn't have exactly one receipt. Never allocates.
 pub(crate) fn first_strange<L: Ledger>(
     history: &[(Call, Reply)],
     passes: &[Pass<L>],
@@ -76,7 +77,7 @@ pub(crate) fn first_strange<L: Ledger>(
     misplaced
 }
 
-// The lesser of a place, if there is one, and a count.
+// Returns the lesser of a place, if there is one, and a count.
 fn up_to(place: Option<usize>, count: usize) -> usize
     ensures { result ≡ option_map_or (λ p. min p count) place count }
 {
@@ -86,7 +87,8 @@ fn up_to(place: Option<usize>, count: usize) -> usize
     }
 }
 
-// The least place of a receipt that isn't the history's or is out of order in its pass.
+// Returns the least place of a receipt that isn't in the history, or is in the wrong order in its
+// pass.
 fn first_misplaced<L: Ledger>(history: &[(Call, Reply)], passes: &[Pass<L>]) -> Option<usize>
     ensures { result ≡ least None (flat_map (misplaced history.now None) passes.now) }
 {
@@ -97,7 +99,7 @@ fn first_misplaced<L: Ledger>(history: &[(Call, Reply)], passes: &[Pass<L>]) -> 
     first
 }
 
-// The same of one pass, where this place was found before.
+// Like `first_misplaced` for one pass, given the place that was found before.
 fn first_in_pass(
     history: &[(Call, Reply)],
     receipts: &[Receipt],
@@ -114,7 +116,7 @@ fn first_in_pass(
     first
 }
 
-// The same of one receipt, before which this was the greatest place of its pass.
+// Like `first_in_pass` for one receipt, given the greatest place before it in its pass.
 fn first_with(
     found: Option<usize>,
     history: &[(Call, Reply)],
@@ -158,7 +160,7 @@ fn lesser(least: Option<usize>, place: usize) -> Option<usize>
     }
 }
 
-// Whether the history has the receipt's call and reply at its place.
+// Returns whether the history has the receipt's call and reply at its place.
 fn keeps(history: &[(Call, Reply)], receipt: &Receipt) -> bool
     ensures { result ≡ keeps_slip history.now receipt.now }
 {
@@ -168,7 +170,7 @@ fn keeps(history: &[(Call, Reply)], receipt: &Receipt) -> bool
     }
 }
 
-// How many receipts are for this place, up to which those of each pass rise.
+// Returns how many receipts are for this place. The receipts of each pass must rise up to it.
 fn count_at<L: Ledger>(passes: &[Pass<L>], place: usize) -> usize
     requires { All (RisesUpTo place) passes.now }
     ensures { result ≡ slips_at passes.now place }
@@ -180,7 +182,7 @@ fn count_at<L: Ledger>(passes: &[Pass<L>], place: usize) -> usize
     count
 }
 
-// How many receipts of a pass are for this place, up to which they rise.
+// Returns how many receipts of a pass are for this place. They must rise up to it.
 fn count_in_pass(receipts: &[Receipt], place: usize) -> usize
     requires { RisesUpTo place receipts.now }
     ensures count { result ≡ count_by (λ slip. slip.place == place) receipts.now }

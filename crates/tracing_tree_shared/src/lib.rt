@@ -1,8 +1,9 @@
 //! One layer for several threads.
 //!
-//! [`StreamingLayer`] keeps the live spans alone, and suits a service that runs for months. [`SharedLayer`] keeps the history of all
-//! calls too, and `finish` shows that it is one history of all threads: it suits tests and tools that end. A thread makes a
-//! [`Draft`] of its call before it takes the lock.
+//! [`StreamingLayer`] only stores the live spans, and suits a service that runs for months.
+//! [`SharedLayer`] also stores the history of all calls, and `finish` checks that it is one history
+//! of all threads. It suits tests and tools that end. A thread makes a [`Draft`] of its call before
+//! it takes the lock.
 #![tactic(auto)]
 
 pub mod book;

@@ -1,4 +1,4 @@
-//! Passes, and the lock.
+//! Passes, and the layer behind a lock that they belong to.
 
 ghost use Rattle.std.specs.Prelude.{◌≡◌, ◌⊎◌, Err, ◌+◌, ◌*◌, ◌<◌, ◌≤◌, ℕ, [], ◌∷◌, ◌++◌, false, None, All, length, IfOk, OnOk, OnErr, IfErr, vec_len, sum_by};
 ghost use Rattle.tracing_tree_shared.specs.Drafts.{tail_under};
@@ -20,7 +20,7 @@ use tracing_tree_layer::call::{Call, Reply};
 use tracing_tree_output::Tape;
 use tracing_tree_time::FormatTime;
 
-// A pass's share gains this amount with each receipt.
+// The amount that a pass's share gains with each receipt.
 const EACH: u64 = 4;
 
 /// A thread's pass, which contracts see as its receipts. Its share of the ledger counts them.
@@ -61,7 +61,7 @@ impl<L: Ledger> Pass<L> {
         (share, receipts)
     }
 
-    /// The receipts, in the order in which they were given.
+    /// Returns the receipts, in the order of the calls.
     pub fn receipts(&self) -> &[Receipt]
         ensures { result.now ≡ self.now }
     {
@@ -69,9 +69,9 @@ impl<L: Ledger> Pass<L> {
     }
 }
 
-// What the lock holds. The share starts with the ledger's total, and each accepted call moves
-// `EACH` of it to a pass. The total modulo `EACH` encodes ansi and targets of the layer, so that
-// `finish` knows them, and how many receipts there are.
+// The value in the lock. The share starts with the ledger's total, and each accepted call moves
+// `EACH` of it to a pass. The total modulo `EACH` encodes ansi and targets of the layer. So
+// `finish` knows these settings, and how many receipts there are.
 #[derive(Drop)]
 struct Locked<FT: FormatTime, L: Ledger> {
     book: Book<FT>,
@@ -100,7 +100,7 @@ impl<FT: FormatTime, L: Ledger> Locked<FT, L> {
         ensures draft { IfErr result (λ e. e.draft ≡ draft) }
     {
         let receipt = self.book.apply(draft)?;
-        // A place is below 2^64, so `EACH` is left.
+        // A place is below 2^64, so the share still has `EACH`.
         let _place = receipt.place();
         self.kept.transfer(share, EACH);
         Ok(receipt)
@@ -117,11 +117,12 @@ impl<FT: FormatTime, L: Ledger> Locked<FT, L> {
     }
 }
 
-/// A layer for several threads. Contracts see the number of its passes, and the two settings under which it drafts events.
+/// A layer for several threads. Contracts see the number of its passes, and the two settings that
+/// events are drafted with.
 #[derive(Drop)]
 pub struct SharedLayer<FT: FormatTime, L: Ledger> {
     lock: Mutex<Locked<FT, L>>,
-    // The ledger's parts and amount, which fix the number of passes and the two settings.
+    // The ledger's parts and amount. They determine the number of passes and the two settings.
     total: Total<L>,
     passes: usize,
     // A draft needs only ansi and targets, which are the layer's.
@@ -146,8 +147,13 @@ impl<FT: FormatTime, L: Ledger> Model for SharedLayer<FT, L> {
 }
 
 impl<FT: FormatTime + Drop, L: Ledger> SharedLayer<FT, L> {
-    /// Opens a layer with this count of passes, none of which has receipts. The caller must ensure that the ledger has one part more
-    /// than there are passes, that no span is live, that the layer is fresh, and that the tape holds nothing.
+    /// Opens a layer with `passes` passes, which have no receipts. The caller must ensure that no
+    /// span is live, that the layer is fresh, and that the tape is empty. The ledger must have one
+    /// part more than there are passes.
+    ///
+    /// # Errors
+    ///
+    /// `AllocError` if an allocation fails.
     pub fn open(
         alloc: Global,
         blank: Blank,
@@ -183,8 +189,12 @@ impl<FT: FormatTime + Drop, L: Ledger> SharedLayer<FT, L> {
         Ok((layer, all))
     }
 
-    /// A draft of this call. Takes no lock and waits for nobody: an event's level, target and fields are drawn here, and the call is
-    /// copied for the history.
+    /// Returns a draft of this call. Doesn't take the lock: an event's level, target and fields are
+    /// drawn here, and the call is copied for the history.
+    ///
+    /// # Errors
+    ///
+    /// `Memory` if an allocation fails.
     pub fn draft(&self, alloc: Global, call: Call) -> Result<Draft, Refusal>
         ensures call { IfOk result (λ draft. draft.call ≡ call) }
         ensures tail { IfOk result (λ draft. draft.tail
@@ -197,8 +207,12 @@ impl<FT: FormatTime + Drop, L: Ledger> SharedLayer<FT, L> {
         }
     }
 
-    /// Makes a call under the lock, for which it may wait. The pass gains its receipt; on a refusal it is as it was, and the draft
-    /// comes back.
+    /// Makes a call under the lock, which it may have to wait for. The pass gains the call's
+    /// receipt.
+    ///
+    /// # Errors
+    ///
+    /// `Refused` returns the draft and the cause. The pass is unchanged then.
     pub fn submit<R: Wait>(
         &self,
         rt: &R,
@@ -225,14 +239,14 @@ impl<FT: FormatTime + Drop, L: Ledger> SharedLayer<FT, L> {
         Ok(reply)
     }
 
-    /// Takes all passes back. Returns the history, what was written, and the settings under which
-    /// it was drawn: ansi and targets are those of the layer that was opened. Never allocates.
+    /// Takes all passes back. Returns the history, what was written, and the settings that it was
+    /// drawn with: ansi and targets are those of the layer that was opened. Never allocates.
     ///
     /// # Errors
     ///
-    /// `MissingPass` if there are fewer passes than were opened; the layer is dropped then.
-    /// `Stranger` if the receipts aren't one history, with the first place that is wrong and the
-    /// layer's book. Public calls can't cause it.
+    /// `MissingPass` if there are fewer passes than were opened. The layer is dropped then.
+    /// `Stranger` if the receipts aren't one history, with the first wrong place and the layer's
+    /// book. Public calls can't cause it.
     pub fn finish(self, passes: Vec<Pass<L>>) -> Result<Finished, FinishFault<FT>>
         ensures { IsFinishAnswer FT.FormatTime self passes.items result }
     {
@@ -273,7 +287,7 @@ fn fill<L: Ledger>(blank: Blank, config: &Config) -> (Total<L>, Share<L>)
     (book.close(), share)
 }
 
-// The two settings as a number less than `EACH`.
+// Returns the two settings as a number less than `EACH`.
 fn code(config: &Config) -> u64
     ensures { result ≡ settings_code config.now.ansi config.now.targets }
 {

@@ -1,4 +1,4 @@
-//! A layer for several threads that keeps no history.
+//! A layer for several threads, without a history.
 
 ghost use Rattle.std.specs.Prelude.{◌≡◌, IfOk, IfErr};
 ghost use Rattle.tracing_tree_output.specs.Writers.{IsShown};
@@ -25,7 +25,7 @@ pub struct Numbered {
     pub reply: Reply,
 }
 
-/// A registry with a layer, which counts the calls that it accepts. It keeps nothing else of them.
+/// A registry with a layer, and the number of calls that it accepted. It doesn't store the calls.
 #[derive(Drop)]
 pub struct Counted<W: Output, FT: FormatTime> {
     layered: Layered<W, FT>,
@@ -41,7 +41,7 @@ impl<W: Output, FT: FormatTime> Model for Counted<W, FT> {
 }
 
 impl<W: Output, FT: FormatTime> Counted<W, FT> {
-    /// No call was accepted yet. The layer may hold spans.
+    /// Returns a layer with a count of 0. The layer may already have spans.
     pub fn new(layered: Layered<W, FT>) -> Counted<W, FT>
         ensures { result ≡ record { layered = layered; accepted = 0 } }
     {
@@ -51,15 +51,20 @@ impl<W: Output, FT: FormatTime> Counted<W, FT> {
         }
     }
 
-    /// How many calls were accepted. The count ends at `u64::MAX`.
+    /// Returns how many calls were accepted. The count stops at `u64::MAX`.
     pub fn accepted(&self) -> u64
         ensures { result ≡ self.now.accepted }
     {
         self.accepted
     }
 
-    /// Makes the draft's call as `Layered::call` does; other calls than an event's are copied first. An accepted call gets the next
-    /// number.
+    /// Makes the draft's call, like `Layered::call`. An accepted call gets the next number. Calls
+    /// other than events are copied first.
+    ///
+    /// # Errors
+    ///
+    /// `Refused` returns the draft, and the cause: `Failed` if the layer has failed, `Memory` if an
+    /// allocation fails, or the layer's refusal.
     pub fn apply(&mut self, draft: Draft) -> Result<Numbered, Refused>
         ensures applied { IsStreamed FT.FormatTime W.Output draft.call result self.old self.new }
         ensures draft { IfErr result (λ e. e.draft ≡ draft) }
@@ -72,7 +77,7 @@ impl<W: Output, FT: FormatTime> Counted<W, FT> {
         }
         match draft.tell(&mut self.layered) {
             Ok(reply) => {
-                // As one value, so that the proof needn't follow each of its parts.
+                // Dropped as one value, so that the proof needn't follow each of its parts.
                 drop(draft);
                 let next = self.accepted.saturating_add(1);
                 let number = mem::replace(&mut self.accepted, next);
@@ -82,7 +87,7 @@ impl<W: Output, FT: FormatTime> Counted<W, FT> {
         }
     }
 
-    /// Flushes the writer (`Output::flush`). Nothing else changes.
+    /// Flushes the writer (`Output::flush`). Changes nothing else.
     pub fn flush(&mut self)
         ensures layered { Changes
             (seen FT.FormatTime W.Output) Flushes self.old.layered self.new.layered }
@@ -92,7 +97,7 @@ impl<W: Output, FT: FormatTime> Counted<W, FT> {
         self.layered.flush();
     }
 
-    /// The registry with its layer.
+    /// Returns the registry with its layer.
     pub fn into_layered(self) -> Layered<W, FT>
         ensures { result ≡ self.layered }
     {
@@ -104,15 +109,17 @@ impl<W: Output, FT: FormatTime> Counted<W, FT> {
     }
 }
 
-/// A layer for several threads over any writer, for services that run for months: it keeps no history and has no passes, and takes
-/// memory for the live spans alone. Contracts see the two settings under which it drafts events.
+/// A layer for several threads over any writer, for services that run for months. It has no history
+/// and no passes, and its memory is only that of the live spans. Contracts see the two settings
+/// that events are drafted with.
 ///
-/// Under its lock each call is `Counted::apply`. So its text is the drawing of the accepted calls in the order of their numbers; no
-/// contract of `submit` says so, since of what stands behind a lock only its type is known: it says that some layer answers so.
+/// Under its lock each call is `Counted::apply`, so its text is the drawing of the accepted calls
+/// in the order of their numbers. The contract of `submit` can't say so, since a contract can't
+/// refer to the value inside a mutex. It says that some layer returns this answer.
 #[derive(Drop)]
 pub struct StreamingLayer<W: Output, FT: FormatTime> {
     lock: Mutex<Counted<W, FT>>,
-    // Of these settings a draft needs ansi and targets alone, which are the layer's.
+    // A draft needs only ansi and targets, which are the layer's.
     config: Config,
 }
 
@@ -125,7 +132,7 @@ impl<W: Output, FT: FormatTime> Model for StreamingLayer<W, FT> {
 }
 
 impl<W: Output, FT: FormatTime> StreamingLayer<W, FT> {
-    /// Shares this layer. Takes no memory.
+    /// Shares this layer. Never allocates.
     pub fn new(layered: Layered<W, FT>) -> StreamingLayer<W, FT>
         ensures { result ≡ record {
           ansi = layered.layer.settings.ansi;
@@ -140,7 +147,12 @@ impl<W: Output, FT: FormatTime> StreamingLayer<W, FT> {
         }
     }
 
-    /// A draft of this call. Takes no lock and waits for nobody: an event's level, target and fields are drawn here.
+    /// Returns a draft of this call. Doesn't take the lock: an event's level, target and fields are
+    /// drawn here.
+    ///
+    /// # Errors
+    ///
+    /// `Memory` if an allocation fails.
     pub fn draft(&self, alloc: Global, call: Call) -> Result<Draft, Refusal>
         ensures call { IfOk result (λ draft. draft.call ≡ call) }
         ensures tail { IfOk result (λ draft. draft.tail
@@ -150,7 +162,11 @@ impl<W: Output, FT: FormatTime> StreamingLayer<W, FT> {
         Draft::new(alloc, &self.config, call).map_err(|_| Refusal::Memory)
     }
 
-    /// Makes a call under the lock, for which it may wait. On a refusal the draft comes back.
+    /// Makes a call under the lock, which it may have to wait for.
+    ///
+    /// # Errors
+    ///
+    /// `Refused` returns the draft and the cause.
     pub fn submit<R: Wait>(&self, rt: &R, draft: Draft) -> Result<Numbered, Refused>
         ensures applied { IsStreamedOnSome FT.FormatTime W.Output draft.call result }
         ensures draft { IfErr result (λ e. e.draft ≡ draft) }
@@ -158,12 +174,12 @@ impl<W: Output, FT: FormatTime> StreamingLayer<W, FT> {
         self.lock.lock(rt).apply(draft)
     }
 
-    /// Has the writer pass on what it holds back. May wait for the lock.
+    /// Flushes the writer. May wait for the lock.
     pub fn flush<R: Wait>(&self, rt: &R) {
         self.lock.lock(rt).flush();
     }
 
-    /// The registry with its layer, and the count of the accepted calls, once no other thread has it.
+    /// Returns the registry with its layer, and the number of accepted calls.
     pub fn into_counted(self) -> Counted<W, FT> {
         self.lock.into_inner()
     }

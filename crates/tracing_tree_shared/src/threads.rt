@@ -1,4 +1,4 @@
-//! Receivers of calls for the threads of a service: each thread has one, and a `Tracer` over it.
+//! Receivers of calls for the threads of a service. Each thread has one, with a `Tracer` over it.
 
 pub mod shared;
 pub mod streaming;

@@ -21,7 +21,7 @@ use tracing_tree_for_tests::{at, closed, recorded, told};
 use tracing_tree_layer::call::Call;
 use tracing_tree_shared::{Book, Draft, Pass, SharedLayer};
 
-// A warning of target `t`.
+// Returns a warning of target `t`.
 fn warning(alloc: Global) -> Result<Call, AllocError> {
     Ok(Call::Event(
         Event {
@@ -56,7 +56,8 @@ fn only_an_event_has_a_tail(rt: HostRuntime) -> Result<(), Fail> {
 // How often a thread looks before it gives up, after about half a minute.
 const LIMIT: u64 = 100_000_000;
 
-// Whether the flag was seen before the limit. The other thread may wait for this one's processor.
+// Returns whether the flag was seen before the limit. The other thread may wait for this one's
+// processor.
 fn is_seen(flag: &AtomicBool) -> bool {
     for _ in 0..LIMIT {
         if flag.load(Ordering::SeqCst) {
@@ -67,7 +68,8 @@ fn is_seen(flag: &AtomicBool) -> bool {
     false
 }
 
-// A timer that shows nothing. It tells that it is under the lock, and looks there for what another thread drafts.
+// A timer that shows nothing. It signals that it is under the lock, and waits there for a draft of
+// another thread.
 #[derive(Drop)]
 struct Watch<'a> {
     entered: &'a AtomicBool,

@@ -18,7 +18,7 @@ pub fn lined(alloc: Global) -> Layered<Tape, ()>
     Layered::new(alloc, layer)
 }
 
-/// The same, where a row at level 1 is past all memory.
+/// Like `lined`, but a row at level 1 exceeds all memory.
 pub fn wide(alloc: Global) -> Layered<Tape, ()>
     ensures spans { result.forest.spans ≡ [] }
     ensures last { result.layer.last ≡ None }

@@ -1,4 +1,5 @@
-//! Calls of the crate in functions that promise nothing, so that a test that makes them is soon proved.
+//! Calls of the crate in functions that promise nothing, so that a test that makes them is soon
+//! proved.
 
 use std::alloc::{AllocError, Global};
 use std::sync::Wait;
@@ -10,7 +11,7 @@ use tracing_tree_shared::{
     Book, Draft, Finished, Pass, Receipt, Refused, SharedLayer, StreamingLayer,
 };
 
-/// A draft of a call, under settings with an amount of 2 and no colours.
+/// Returns a draft of a call, under settings with an amount of 2 and no colours.
 pub fn drafted(alloc: Global, call: Call) -> Result<Draft, AllocError> {
     Draft::new(alloc, &Config::new(2, false), call)
 }
@@ -19,12 +20,12 @@ pub fn apply(book: &mut Book<()>, draft: Draft) -> Result<Receipt, Refused> {
     book.apply(draft)
 }
 
-/// What was written.
+/// Returns what was written.
 pub fn text(book: &Book<()>) -> &[u8] {
     book.output().bytes()
 }
 
-/// A draft by a layer with a history. None where memory is refused.
+/// Returns a draft by a layer with a history, or `None` if memory runs out.
 pub fn draft<FT: FormatTime + Drop, L: Ledger>(
     alloc: Global,
     layer: &SharedLayer<FT, L>,
@@ -42,7 +43,7 @@ pub fn submit<FT: FormatTime + Drop, L: Ledger, R: Wait>(
     layer.submit(rt, pass, draft)
 }
 
-/// Drafts and submits a call. None where either is refused.
+/// Drafts and submits a call. Returns `None` if either is refused.
 pub fn make<FT: FormatTime + Drop, L: Ledger, R: Wait>(
     rt: &R,
     alloc: Global,
@@ -54,7 +55,7 @@ pub fn make<FT: FormatTime + Drop, L: Ledger, R: Wait>(
     submit(rt, layer, pass, draft).ok()
 }
 
-/// What all passes show. None where one is missing or strange.
+/// Returns what all passes show, or `None` if one is missing or strange.
 pub fn finish<FT: FormatTime + Drop, L: Ledger>(
     layer: SharedLayer<FT, L>,
     passes: Vec<Pass<L>>,
@@ -62,7 +63,8 @@ pub fn finish<FT: FormatTime + Drop, L: Ledger>(
     layer.finish(passes).ok()
 }
 
-/// Drafts and submits a call to a layer without a history, and returns its number. None where either is refused.
+/// Drafts and submits a call to a layer without a history, and returns its number. Returns `None`
+/// if either is refused.
 pub fn stream<W: Output, R: Wait>(
     rt: &R,
     alloc: Global,

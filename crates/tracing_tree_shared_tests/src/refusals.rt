@@ -1,4 +1,4 @@
-//! Refusals: the draft comes back, and the history and the text stay.
+//! Refusals: the draft is returned, and the history and the text are unchanged.
 
 ghost use Rattle.std.specs.Prelude.{◌≡◌};
 
@@ -47,7 +47,7 @@ impl FormatTime for StopAt {
     }
 }
 
-// An event outside every span, at this moment.
+// Returns an event outside every span, at this moment.
 fn event_at(alloc: Global, mono: u64) -> Result<Call, AllocError> {
     let mut call = told(alloc, Level::Info, "x", None)?;
     if let Call::Event(_, context) = &mut call {
@@ -56,7 +56,8 @@ fn event_at(alloc: Global, mono: u64) -> Result<Call, AllocError> {
     Ok(call)
 }
 
-// What was answered to events at these moments, and how many calls were accepted in the end.
+// Returns what was answered to events at these moments, and how many calls were accepted in the
+// end.
 fn stopped_with<L: Ledger, R: Wait>(
     rt: &R,
     alloc: Global,
@@ -98,7 +99,7 @@ fn is_applied(alloc: Global, book: &mut Book<()>, call: Call) -> Result<bool, Al
     Ok(apply(book, drafted(alloc, call)?).is_ok())
 }
 
-// Applies this call, and returns what comes back where it is refused.
+// Applies this call. If it is refused, returns the refusal with its draft.
 fn refused(
     alloc: Global,
     book: &mut Book<()>,
@@ -115,17 +116,17 @@ fn is_applied_again(book: &mut Book<()>, refused: Box<Refused>) -> bool {
     apply(book, Box::into_inner(refused).draft).is_ok()
 }
 
-// A book in a box, since each step of a test is proved over all that its own values hold.
+// Returns a book in a box, since each step of a test is proved over all that its own values hold.
 fn boxed(alloc: Global, book: Book<()>) -> Result<Box<Book<()>>, AllocError> {
     Ok(Box::new(alloc, book)?)
 }
 
-// A book over a layer with lines.
+// Returns a book over a layer with lines.
 fn lined_book(alloc: Global) -> Result<Box<Book<()>>, AllocError> {
     boxed(alloc, Book::new(alloc, lined(alloc)))
 }
 
-// The same over one where a row at level 1 is past all memory.
+// Returns a book whose rows at level 1 exceed all memory.
 fn wide_book(alloc: Global) -> Result<Box<Book<()>>, AllocError> {
     boxed(alloc, Book::new(alloc, wide(alloc)))
 }
@@ -161,7 +162,7 @@ fn a_draft_that_memory_was_refused_to_is_applied_again(rt: HostRuntime) -> Resul
     Ok(())
 }
 
-// Submits a draft, once more where memory was refused. Nothing changes where it was.
+// Submits a draft, and again if memory ran out. Nothing changes if it did.
 fn submitted<L: Ledger, R: Wait>(
     rt: &R,
     layer: &SharedLayer<(), L>,
@@ -179,7 +180,7 @@ fn submitted<L: Ledger, R: Wait>(
     }
 }
 
-// A draft of a root or of an event. None where memory was refused.
+// Returns a draft of a root or of an event, or `None` if memory runs out.
 fn grown<L: Ledger>(alloc: Global, layer: &SharedLayer<(), L>, is_event: bool) -> Option<Draft> {
     let call = if is_event {
         told(alloc, Level::Info, "x", Some(1))
@@ -197,7 +198,7 @@ fn grow<L: Ledger, R: Wait>(
     pass: &mut Pass<L>,
 ) -> bool {
     for number in 0..21u64 {
-        // Once more where memory was refused.
+        // Again, if memory ran out.
         let draft = grown(alloc, layer, number > 0).or_else(|| grown(alloc, layer, number > 0));
         let Some(draft) = draft else {
             return false;

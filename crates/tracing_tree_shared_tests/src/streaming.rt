@@ -13,7 +13,7 @@ use tracing_tree_for_tests::{closed, made, told};
 use tracing_tree_layer::{HierarchicalLayer, Layered};
 use tracing_tree_shared::StreamingLayer;
 
-// Submits so many events, and gives out whether their numbers rise.
+// Submits `count` events, and returns whether their numbers rise.
 fn events<R: Wait>(rt: &R, alloc: Global, layer: &StreamingLayer<Tape, ()>, count: u64) -> bool {
     let mut least = 0;
     for _ in 0..count {
@@ -82,7 +82,7 @@ impl Write for Noting {
     }
 }
 
-// A layer without lines over such a writer.
+// Returns a layer without lines over such a writer.
 fn over_noting(alloc: Global) -> StreamingLayer<Wrap<Noting>, ()> {
     let writer = Wrap::new(Noting {
         taken: 0,
@@ -110,7 +110,7 @@ fn flush_each<R: Wait>(
     true
 }
 
-// The count of the accepted calls, and what the writer noted.
+// Returns the count of the accepted calls, and what the writer noted.
 fn noted(layer: StreamingLayer<Wrap<Noting>, ()>) -> (u64, Vec<usize>) {
     let counted = layer.into_counted();
     let accepted = counted.accepted();

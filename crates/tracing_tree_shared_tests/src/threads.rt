@@ -1,4 +1,5 @@
-//! Threads that share a layer: each call stands once in the history, and a layer of one thread that runs it writes the same text.
+//! Threads that share a layer: each call appears once in the history, and a layer of one thread
+//! that runs it writes the same text.
 
 ghost use Rattle.std.specs.Prelude.{◌≡◌};
 
@@ -19,7 +20,7 @@ use tracing_tree_layer::Layered;
 use tracing_tree_layer::call::{Call, Reply};
 use tracing_tree_shared::{FinishFault, Finished, Pass, SharedLayer};
 
-// So many events outside every span.
+// Records `count` events outside all spans.
 fn events<L: Ledger, R: Wait>(
     rt: &R,
     alloc: Global,
@@ -58,7 +59,7 @@ fn tree<L: Ledger, R: Wait>(
     make(rt, alloc, layer, pass, closed(root));
 }
 
-// The name of a thread's root.
+// Returns the name of a thread's root.
 fn name_of(thread: usize) -> &'static str {
     match thread {
         0 => "t1",
@@ -112,7 +113,8 @@ fn answer(layered: &mut Layered<Tape, ()>, call: Call) -> Result<Reply, Refusal>
     layered.call(call)
 }
 
-// Makes the calls of a history, and gives out whether each is answered as it was and the text is the same.
+// Makes the calls of a history, and returns whether each gets the same answer and the text is the
+// same.
 fn is_replayed(mut layered: Layered<Tape, ()>, finished: Finished) -> bool {
     for (call, reply) in finished.history {
         if answer(&mut layered, call) != Ok(reply) {
@@ -134,7 +136,7 @@ fn two_threads(rt: HostRuntime) -> Result<(), Fail> {
     Ok(())
 }
 
-// How many events of a text stand under the root whose name is their message.
+// Returns how many events of a text are nested in the root whose name is their message.
 fn under_their_roots(alloc: Global, text: &str) -> Result<usize, Fail> {
     let rows = read_rows(alloc, text, 2)?;
     let paths = read_paths(alloc, text, 2)?;
@@ -153,7 +155,7 @@ fn under_their_roots(alloc: Global, text: &str) -> Result<usize, Fail> {
     Ok(count)
 }
 
-// Whether an event's message is the name of a root.
+// Returns whether an event's message is the name of a root.
 fn is_named(event: &Row, root: &Row) -> bool {
     let (Some(message), Some(name)) = (
         event.lines().as_slice().first(),

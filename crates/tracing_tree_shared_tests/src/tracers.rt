@@ -1,4 +1,5 @@
-//! Threads with tracers of their own over one layer: of what is drawn, the rows of each thread are those of a thread alone.
+//! Threads with separate tracers over one layer: the rows of each thread are those of a thread
+//! alone.
 
 ghost use Rattle.std.specs.Prelude.{◌≡◌, [], None, false};
 
@@ -31,7 +32,7 @@ fn thread_at(place: usize) -> u64 {
     (place as u64).saturating_add(1)
 }
 
-// An amount under which each row is drawn, and one under which a row at level 1 is past all memory.
+// An amount with which each row is drawn, and one with which a row at level 1 exceeds all memory.
 const NARROW: usize = 2;
 
 const WIDE: usize = 1 << 62;
@@ -72,26 +73,27 @@ fn query<C: Calls>(tracer: &mut Tracer<C, Moment>, at: u8) -> Result<(), TraceFa
     )
 }
 
-// A tracer of this thread over what takes its calls.
+// Returns a tracer of this thread over what takes its calls.
 fn tracer_of<C: Calls>(alloc: Global, thread: u64, calls: C) -> Tracer<C, Moment> {
     Tracer::new(alloc, calls, START).with_thread(thread, None)
 }
 
-// A thread draws over what takes its calls, and gives that back. It is general, since the proof over one way alone takes far longer.
+// Draws as one thread over a receiver of calls, and returns the receiver. It is generic, since the
+// proof over only one receiver takes far longer.
 fn serve_over<C: Calls>(alloc: Global, thread: u64, calls: C) -> (Result<(), TraceFault>, C) {
     let mut tracer = tracer_of(alloc, thread, calls);
     let served = serve(&mut tracer);
     (served, tracer.into_layered())
 }
 
-// What a thread draws that has the layer to itself.
+// Returns what a thread draws that has the layer to itself.
 fn alone(alloc: Global, thread: u64) -> Result<Layered<Tape, ()>, TraceFault> {
     let (served, layered) = serve_over(alloc, thread, telling(alloc, NARROW));
     served?;
     Ok(layered)
 }
 
-// The rows of a text that begin as the first one does of another, one after another.
+// Returns the rows of a text that start like the first row of another, one after another.
 fn rows_like(alloc: Global, text: &str, first: &str) -> Result<String, AllocError> {
     let mut rows = String::new(alloc);
     for row in text.lines() {
@@ -103,7 +105,7 @@ fn rows_like(alloc: Global, text: &str, first: &str) -> Result<String, AllocErro
     Ok(rows)
 }
 
-// Whether the rows of each thread are those of a thread alone.
+// Returns whether the rows of each thread are those of a thread alone.
 fn are_rows_of_each(alloc: Global, text: &str) -> Result<bool, Fail> {
     for at in 0..THREADS {
         let layered = alone(alloc, thread_at(at))?;
@@ -131,7 +133,8 @@ fn serve_with_pass<L: Ledger, R: Wait>(
 
 type Session = Result<(bool, Option<Finished>), AllocError>;
 
-// Each thread draws with a pass of its own. Whether all were served, and what the passes show.
+// Draws as each thread, with separate passes. Returns whether all were served, and what the passes
+// show.
 fn passes_with<L: Ledger + Send + Sync, R: Threads + Wait + Sync>(
     rt: &R,
     alloc: Global,
@@ -232,7 +235,7 @@ fn a_refusal_of_a_streaming_layer_leaves_the_open_spans(rt: HostRuntime) -> Resu
     Ok(())
 }
 
-// What `open_two` gives over a pass, and how many receipts the pass has then.
+// Returns what `open_two` gives over a pass, and how many receipts the pass has then.
 fn refused_with<L: Ledger, R: Wait>(
     rt: &R,
     alloc: Global,

@@ -3,7 +3,7 @@
 ghost use Rattle.std.specs.Prelude.{◌≡◌};
 ghost use Rattle.tracing_tree_sources.specs.Blanks.{after_blanks, first_byte, is_blank};
 
-/// What stands from the first byte on that is no blank.
+/// Returns what follows the blanks at the start.
 pub fn after_blanks(text: &[u8]) -> &[u8]
     ensures { result.now ≡ after_blanks text.now }
 {
@@ -17,7 +17,7 @@ pub fn after_blanks(text: &[u8]) -> &[u8]
     rest
 }
 
-/// The first byte that is no blank.
+/// Returns the first byte that isn't a blank.
 pub fn first_byte(text: &[u8]) -> Option<u8>
     ensures { result ≡ first_byte text.now }
 {
@@ -31,7 +31,7 @@ pub fn first_byte(text: &[u8]) -> Option<u8>
     None
 }
 
-/// Whether JSON has a byte as a blank.
+/// Returns whether a byte is a blank in JSON.
 pub fn is_blank(byte: u8) -> bool
     ensures { result ≡ is_blank byte }
 {

@@ -11,8 +11,8 @@ use tracing_tree_layer::told::ToldEvent;
 use tracing_tree_spans::registry::{Attributes, Record};
 use tracing_tree_text::style::Level;
 
-/// A receiver without the events below a level: such an event is accepted, and nothing happens. All
-/// other calls are those of the receiver.
+/// A receiver that drops events below a level: such an event is accepted, and nothing happens. All
+/// other calls go to the inner receiver.
 #[derive(Drop)]
 pub struct CallsAtLeast<C> {
     receiver: C,
@@ -28,7 +28,7 @@ impl<C> Model for CallsAtLeast<C> {
 }
 
 impl<C> CallsAtLeast<C> {
-    /// Leaves the events below this level out of what the receiver gets.
+    /// Returns a receiver that drops the events below this level.
     pub fn new(receiver: C, min_level: Level) -> CallsAtLeast<C>
         ensures { result ≡ record { receiver = receiver; min_level = min_level } }
     {

@@ -12,15 +12,24 @@ use std::alloc::{AllocError, Global};
 use tracing_tree_text::field::{Field, Fields};
 use tracing_tree_text::text::Text;
 
-/// An object's members as the fields of an event. A value that is no object has none. `AllocError` where memory is refused.
+/// Returns an object's members as the fields of an event. A value that isn't an object has no
+/// fields.
+///
+/// # Errors
+///
+/// `AllocError` if an allocation fails.
 pub fn event_fields(alloc: Global, value: &Value<'_>) -> Result<Fields, AllocError>
     ensures { IfOk result (λ fields. fields ≡ event_fields (value_view value.now)) }
 {
     fields_besides(alloc, &[], value)
 }
 
-/// An object's members as fields, but those with one of these keys. A value that is no object has none. `AllocError` where memory is
-/// refused.
+/// Returns an object's members as fields, except those with one of these keys. A value that isn't
+/// an object has no fields.
+///
+/// # Errors
+///
+/// `AllocError` if an allocation fails.
 pub fn fields_besides(alloc: Global, keys: &[&str], value: &Value<'_>) -> Result<Fields, AllocError>
     ensures { IfOk result (λ fields. fields
         ≡ fields_besides (map (λ key. key.now) keys.now) (value_view value.now)) }
@@ -46,7 +55,7 @@ fn members_fields(
     Ok(Fields::from(fields))
 }
 
-// Puts a member after these fields, unless it has one of these keys.
+// Appends a member to these fields, unless it has one of these keys.
 fn push_member(
     alloc: Global,
     fields: &mut Vec<Field>,
@@ -67,7 +76,7 @@ fn push_member(
     Ok(fields.push(field)?)
 }
 
-// Whether the text is one of these.
+// Returns whether the string is one of these.
 pub(crate) fn is_among(text: &str, keys: &[&str]) -> bool
     ensures { result ≡ list_any (bytes_eq text.now) (map (λ key. key.now) keys.now) }
 {
@@ -79,7 +88,7 @@ pub(crate) fn is_among(text: &str, keys: &[&str]) -> bool
     false
 }
 
-// A value as it is drawn.
+// Returns a value as it is drawn.
 fn text_of(alloc: Global, value: &Value<'_>) -> Result<Text, AllocError>
     ensures { IfOk result (λ text. text ≡ text_of (value_view value.now)) }
 {

@@ -33,10 +33,10 @@ const SETTING_KEYS: [&str; 15] = [
     "timer",
 ];
 
-// The words that name a call.
+// The names of calls.
 const CALL_WORDS: [&str; 5] = ["new", "clone", "record", "event", "close"];
 
-// How many lines are held at most, and how many bytes.
+// At most this many lines are held, and this many bytes.
 const MAX_LINES: usize = 1000;
 
 const MAX_BYTES: usize = 1024 * 1024;
@@ -69,7 +69,7 @@ pub enum Format {
     Tap,
 }
 
-/// What is known of a format after a line.
+/// The result of a line for the detection.
 #[derive(Clone, Copy, Debug, PartialEq, Eq)]
 pub enum Detection {
     /// The line determines the format.
@@ -82,7 +82,7 @@ pub enum Detection {
     Full,
 }
 
-/// Detects the format of an input from its lines, one after another.
+/// A detector of an input's format, from its lines one after another.
 ///
 /// The first line that determines a format counts. At most 1,000 lines, or 1 MiB with their line
 /// ends, are held before it.
@@ -91,19 +91,19 @@ pub struct Detector {
     /// How many lines were held.
     pub lines: usize,
 
-    /// How many bytes these lines have with their line ends.
+    /// How many bytes these lines have, with their line ends.
     pub bytes: usize,
 }
 
 impl Detector {
-    /// No line has been read yet.
+    /// Returns a detector before the first line.
     pub fn new() -> Detector
         ensures { result ≡ record { lines = 0; bytes = 0 } }
     {
         Detector { lines: 0, bytes: 0 }
     }
 
-    /// Takes the next line and returns what is known after it.
+    /// Takes the next line and returns its result.
     ///
     /// # Errors
     ///
@@ -128,7 +128,7 @@ impl Detector {
     }
 }
 
-/// Returns a line without the byte order mark at its front.
+/// Returns a line without the byte order mark at its start.
 pub fn without_mark(line: &[u8]) -> &[u8]
     ensures { result.now ≡ without_mark line.now }
 {
@@ -140,14 +140,22 @@ pub fn without_mark(line: &[u8]) -> &[u8]
 
 /// Returns the format that a line determines, if it determines one.
 ///
-/// A line that begins with `[` after its blanks is Chrome's if nothing more, `{` or `]` follows. A line
-/// that only OTLP, JUnit XML or TAP has is theirs ([`markers`](crate::markers)). A line that begins with
-/// `{`, followed by `"` or nothing more, and isn't a whole JSON value is Chrome's. An object with a
-/// string at `Action` is Go's. Another with an array at `traceEvents` is Chrome's. Another with an array
-/// at `resourceSpans`, `resourceLogs` or `resourceMetrics` is OTLP's. Another that has a key, and only keys of settings, or that names a call at `call`, is a line of settings and
-/// calls. Another with one of the five levels at `level`, and anything at `fields` or `target`, is
-/// tracing's. Another with a key of levels (`level`, `severity`, `lvl`, `log.level`, `PRIORITY`) and a
-/// key of messages (`msg`, `message`, `event`, `MESSAGE`) is a log. Every other line determines nothing.
+/// The first of these rules that applies counts:
+///
+/// - A line that starts with `[` after its blanks is Chrome's if nothing, `{` or `]` follows.
+/// - A line that only OTLP, JUnit XML or TAP has is theirs ([`markers`](crate::markers)).
+/// - A line that starts with `{` after its blanks, followed by `"` or nothing, and isn't a complete
+///   JSON value is Chrome's.
+/// - An object with a string at `Action` is Go's.
+/// - An object with an array at `traceEvents` is Chrome's.
+/// - An object with an array at `resourceSpans`, `resourceLogs` or `resourceMetrics` is OTLP's.
+/// - An object that has a key, and only keys of settings, is a line of settings and calls. So is
+///   one that names a call at `call`.
+/// - An object with one of the five levels at `level`, in capitals, and a value at `fields` or
+///   `target` is tracing's.
+/// - An object with a key of levels (`level`, `severity`, `lvl`, `log.level`, `PRIORITY`) and a key
+///   of messages (`msg`, `message`, `event`, `MESSAGE`) is a log.
+/// - Every other line determines nothing.
 ///
 /// # Errors
 ///
@@ -174,7 +182,7 @@ fn format_of_json(alloc: Global, line: &[u8]) -> Result<Option<Format>, AllocErr
     }
 }
 
-// Whether a list of objects begins, or nothing but a list does.
+// Returns whether the line starts a list of objects, or only a list.
 fn begins_list(line: &[u8]) -> bool
     ensures { result ≡ begins_list line.now }
 {
@@ -206,7 +214,7 @@ fn ends_object(text: &[u8]) -> bool
     }
 }
 
-// Whether an object with a key begins, or nothing but an object does.
+// Returns whether the line starts an object with a key, or only an object.
 fn begins_object(line: &[u8]) -> bool
     ensures { result ≡ begins_object line.now }
 {
@@ -269,7 +277,7 @@ fn format_of_value(value: &Value<'_>) -> Option<Format>
     }
 }
 
-// Whether a value has an array at one of OTLP's keys.
+// Returns whether a value has an array at one of OTLP's keys.
 fn is_of_otlp(value: &Value<'_>) -> bool
     ensures { result ≡ is_of_otlp (value_view value.now) }
 {
@@ -278,7 +286,7 @@ fn is_of_otlp(value: &Value<'_>) -> bool
         || array_at(value, "resourceMetrics").is_some()
 }
 
-// Whether an object has a key, and each of its keys is a setting's.
+// Returns whether an object has a key, and only keys of settings.
 fn spells_settings(value: &Value<'_>) -> bool
     ensures { result ≡ spells_settings (value_view value.now) }
 {
@@ -316,7 +324,7 @@ fn are_settings(members: &[(&str, Value<'_>)]) -> bool
     true
 }
 
-// Whether an object names a call.
+// Returns whether an object names a call.
 fn spells_call(value: &Value<'_>) -> bool
     ensures { result ≡ spells_call (value_view value.now) }
 {
@@ -326,14 +334,14 @@ fn spells_call(value: &Value<'_>) -> bool
     }
 }
 
-// Whether a value has what tells a line of tracing.
+// Returns whether a value has the keys of a line of tracing.
 fn is_of_tracing(value: &Value<'_>) -> bool
     ensures { result ≡ is_of_tracing (value_view value.now) }
 {
     level_in(value).is_some() && (value.get("fields").is_some() || value.get("target").is_some())
 }
 
-// Whether a value has a key of levels and a key of messages, as the logs of services have.
+// Returns whether a value has a key of levels and a key of messages, as the logs of services have.
 fn is_log(value: &Value<'_>) -> bool
     ensures { result ≡ is_log (value_view value.now) }
 {

@@ -72,7 +72,7 @@ fn push_members(out: &mut String, members: &Vec<(&str, Value<'_>)>) -> Result<()
     Ok(())
 }
 
-// A comma before all but the first.
+// Appends a comma, except before the first item.
 fn push_separator(out: &mut String, is_first: bool) -> Result<(), AllocError>
     ensures { OnOk result (string_bytes out.new ≡ string_bytes out.old ++ separator is_first) }
 {

@@ -1,4 +1,4 @@
-//! The level of a line, and a source of which only events of a level and above are told.
+//! The level of a line, and a source without the events below a level.
 
 ghost use Rattle.std.specs.Prelude.{◌≡◌};
 ghost use Rattle.json.specs.Value.{value_view};
@@ -13,15 +13,15 @@ use std::marker::Model;
 use tracing_tree_layer::call::Call;
 use tracing_tree_text::style::Level;
 
-/// The level that an object names at `"level"`, in capitals. None where it names none.
+/// Returns the level that an object names at `"level"`, in capitals. `None` if it doesn't name one.
 pub fn level_in(value: &Value<'_>) -> Option<Level>
     ensures { result ≡ level_in (value_view value.now) }
 {
     text_at(value, "level")?.parse().ok()
 }
 
-/// A source without its events below the least level. Every other call stays, in its order: an event changes no span, so the ids that
-/// the source counts are right.
+/// A source without its events below the least level. All other calls are unchanged, in their
+/// order. An event doesn't change spans, so the ids that the source counts stay right.
 #[derive(Drop)]
 pub struct AtLeast<S> {
     source: S,
@@ -37,7 +37,7 @@ impl<S> Model for AtLeast<S> {
 }
 
 impl<S> AtLeast<S> {
-    /// Leaves the events below this level out of what the source tells.
+    /// Returns a source without the events below this level.
     pub fn new(source: S, least: Level) -> AtLeast<S>
         ensures { result ≡ record { source = source; least = least } }
     {
@@ -85,7 +85,7 @@ impl<S: Source> Source for AtLeast<S> {
     }
 }
 
-// These calls without the events below the least level.
+// Removes the events below the least level from these calls.
 fn shown_calls(least: Level, calls: Vec<Call>) -> Vec<Call>
     ensures { result.items ≡ shown_calls least calls.items }
 {
@@ -104,7 +104,7 @@ pub fn is_shown(least: Level, call: &Call) -> bool
     }
 }
 
-/// Returns how much a level matters: `Trace` least.
+/// Returns the rank of a level, from `Trace` (0) to `Error` (4).
 pub fn rank(level: Level) -> u8
     ensures { result ≡ rank level }
 {

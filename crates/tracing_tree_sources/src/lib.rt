@@ -1,9 +1,9 @@
-//! Other tools' output drawn as a tree.
+//! Draws the output of other tools as a tree.
 //!
 //! [`run_source`] makes the calls of any [`Source`]'s lines on any receiver, and [`draw_source`]
-//! draws them: what they mean is said in a crate for each tool. [`count_source`] counts them.
+//! draws them. Each tool's lines are read in a separate crate. [`count_source`] counts the calls.
 //! [`AtLeast`] is a source, and [`CallsAtLeast`] a receiver, with only the events of a level and
-//! above. A [`Detector`] detects the format of an input by its lines.
+//! above. A [`Detector`] detects the format of an input from its lines.
 #![tactic(auto)]
 
 pub mod blanks;

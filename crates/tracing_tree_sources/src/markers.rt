@@ -10,9 +10,9 @@ use crate::traces::{after_digits, is_digit};
 
 /// Returns the format that has this line, if only one format has such lines.
 ///
-/// OTLP's are objects whose first key is `resourceSpans`, `resourceLogs` or `resourceMetrics`. JUnit
-/// XML's begin with `<testsuite`, also after an XML declaration. TAP's have its version, a plan
-/// (`1..5`), a result (`ok 1`, `not ok - name`) or the name of a subtest (`# Subtest: name`).
+/// OTLP's are objects whose first key is `resourceSpans`, `resourceLogs` or `resourceMetrics`.
+/// JUnit XML's start with `<testsuite`, also after an XML declaration. TAP's have its version, a
+/// plan (`1..5`), a result (`ok 1`, `not ok - name`) or the name of a subtest (`# Subtest: name`).
 pub(crate) fn format_marked(line: &[u8]) -> Option<Format>
     ensures { result ≡ format_marked line.now }
 {
@@ -27,7 +27,7 @@ pub(crate) fn format_marked(line: &[u8]) -> Option<Format>
     }
 }
 
-/// Returns whether an object begins here whose first key is one of OTLP's.
+/// Returns whether an object starts here whose first key is one of OTLP's.
 pub fn is_otlp(text: &[u8]) -> bool
     ensures { result ≡ is_otlp text.now }
 {
@@ -69,7 +69,7 @@ fn declares_suite(text: &[u8]) -> bool
     text.starts_with("<?xml".as_bytes()) && begins_suite(after_declaration(text))
 }
 
-// What follows the first `?>`.
+// Returns what follows the first `?>`.
 fn after_declaration(text: &[u8]) -> &[u8]
     ensures { result.now ≡ after_declaration text.now }
 {
@@ -121,7 +121,7 @@ fn is_result(mark: &str, line: &[u8]) -> bool
     }
 }
 
-// Whether a result's number or its description begins.
+// Returns whether a result's number or its description starts here.
 fn is_numbered(text: &[u8]) -> bool
     ensures { result ≡ is_numbered text.now }
 {
@@ -152,7 +152,7 @@ fn ends_number(text: &[u8]) -> bool
     }
 }
 
-// What follows this mark at the front, if it is there.
+// Returns what follows this prefix, if it is there.
 fn after_bytes<'a>(text: &'a [u8], mark: &[u8]) -> Option<&'a [u8]>
     ensures { option_map (λ s. s.now) result ≡ after_mark mark.now text.now }
 {

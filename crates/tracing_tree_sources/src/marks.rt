@@ -1,9 +1,9 @@
-//! Marks at the front of a line.
+//! Prefixes of a line.
 
 ghost use Rattle.std.specs.Prelude.{◌≡◌, option_map};
 ghost use Rattle.tracing_tree_sources.specs.Marks.{after_mark};
 
-/// What stands after this mark at the front of a line. None where the line doesn't begin with the mark.
+/// Returns what follows this prefix of a line, or `None` if the line doesn't start with it.
 pub fn after_mark<'a>(line: &'a str, mark: &str) -> Option<&'a str>
     ensures { option_map (λ s. s.now) result ≡ after_mark mark.now line.now }
 {

@@ -1,4 +1,4 @@
-//! When a line happened, as it tells.
+//! The moments of lines.
 
 ghost use Rattle.std.specs.Prelude.{◌≡◌, option_map};
 ghost use Rattle.tracing_tree_sources.specs.Moments.{moment_after, moment_of, since_1970};
@@ -6,7 +6,8 @@ ghost use Rattle.tracing_tree_sources.specs.Moments.{moment_after, moment_of, si
 use jiff::Timestamp;
 use tracing_tree_time::Moment;
 
-/// When a line happened by the text of its time, as RFC 3339 writes it. Where it tells none, that is when the line before did.
+/// Returns a line's moment from its time in RFC 3339. If the time is missing or invalid, this is
+/// the moment of the line before.
 pub fn moment_after(text: Option<&str>, before: &Moment) -> Moment
     ensures { result ≡ moment_after (option_map (λ t. t.now) text.entry) before.now }
 {
@@ -19,7 +20,7 @@ pub fn moment_after(text: Option<&str>, before: &Moment) -> Moment
     }
 }
 
-// The moment that a text tells, as RFC 3339 writes it.
+// Returns the moment of a time in RFC 3339.
 fn moment_of(text: &str) -> Option<Moment>
     ensures { result ≡ moment_of text.now }
 {
@@ -32,7 +33,7 @@ fn moment_of(text: &str) -> Option<Moment>
     }
 }
 
-// Nanoseconds since 1970, as a moment has them: 0 before then, and at most what a u64 holds.
+// Returns the nanoseconds since 1970, clamped to 0 and `u64::MAX`.
 fn since_1970(wall: &Timestamp) -> u64
     ensures { result ≡ since_1970 wall.now.nanosecond }
 {

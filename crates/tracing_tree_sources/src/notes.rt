@@ -1,11 +1,11 @@
-//! Notes of lines that are skipped.
+//! Notes of skipped lines.
 
 ghost use Rattle.std.specs.Prelude.{List, [], ◌∷◌, Option, None};
 ghost use Rattle.tracing_tree_sources.specs.Noted.{AddsNotes, Note};
 
 use thiserror::Error;
 
-/// What a line lacks that each line of its tool has. It is shown as a sentence about the line.
+/// What is missing in an unknown line. It is displayed as a sentence about the line.
 #[derive(Clone, Copy, Debug, PartialEq, Eq, Error)]
 pub enum Lack {
     /// The line isn't UTF-8.
@@ -16,39 +16,39 @@ pub enum Lack {
     #[error("not a JSON object")]
     Object,
 
-    /// No text at `Action`.
+    /// `Action` is missing or isn't a string.
     #[error("\"Action\" must be a string")]
     Action,
 
-    /// No text at `Package`, and none at `ImportPath`.
+    /// `Package` and `ImportPath` are missing or aren't strings.
     #[error("\"Package\" must be a string")]
     Package,
 
-    /// No text at `Output`, which the line's action needs.
+    /// `Output`, which the line's action needs, is missing or isn't a string.
     #[error("\"Output\" must be a string")]
     Output,
 
-    /// None of the five levels at `level`.
+    /// `level` is missing or isn't a valid level.
     #[error("\"level\" must be one of TRACE, DEBUG, INFO, WARN, ERROR")]
     Level,
 
-    /// No text at `ph`.
+    /// `ph` is missing or isn't a string.
     #[error("\"ph\" must be a string")]
     Phase,
 
-    /// What stands at `pid` is no whole number.
+    /// The value at `pid` isn't a whole number.
     #[error("\"pid\" must be a whole number")]
     Process,
 
-    /// What stands at `tid` is no whole number.
+    /// The value at `tid` isn't a whole number.
     #[error("\"tid\" must be a whole number")]
     Thread,
 
-    /// No number of microseconds at `ts`.
+    /// `ts` is missing or isn't a number of microseconds.
     #[error("\"ts\" must be a number of microseconds")]
     Start,
 
-    /// No number of microseconds at `dur`, which a span needs.
+    /// `dur`, which a span needs, is missing or isn't a number of microseconds.
     #[error("\"dur\" must be a number of microseconds")]
     Duration,
 
@@ -57,12 +57,12 @@ pub enum Lack {
     Trace,
 }
 
-/// Who is told of skipped lines.
+/// A receiver of notes about skipped lines.
 pub trait Notes {
-    /// What has been noted, in order. None if that isn't known.
+    /// The notes so far, in order. `None` if they aren't known.
     ghost noted: { Self → Option (List Note) } = { λ _. None };
 
-    /// Takes note of a line that is skipped, by its number from 1 on. Returns whether the run goes on.
+    /// Reports a skipped line, numbered from 1. Returns whether the run continues.
     fn note(&mut self, line: u64, lack: Lack) -> bool
         ensures { AddsNotes ((line, lack) ∷ []) (noted self.old) (noted self.new) };
 }

@@ -1,4 +1,4 @@
-//! Lines of no format.
+//! Lines without a format.
 
 ghost use Rattle.std.specs.Prelude.{◌≡◌};
 
@@ -11,7 +11,8 @@ use std::marker::Model;
 use tracing_tree_layer::call::Call;
 use tracing_tree_time::Moment;
 
-/// Lines of no format: each is an event at the root, at one moment ([`plain_event`]).
+/// Lines without a format. Each is an event at the root, and all are at one moment
+/// ([`plain_event`]).
 #[derive(Drop)]
 pub struct Plain {
     moment: Moment,
@@ -26,7 +27,7 @@ impl Model for Plain {
 }
 
 impl Plain {
-    /// Creates the source of events at this moment.
+    /// Returns the source of events at this moment.
     pub fn new(moment: Moment) -> Plain
         ensures { result ≡ moment }
     {

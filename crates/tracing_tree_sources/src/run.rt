@@ -1,4 +1,4 @@
-//! The run of a source over an input.
+//! Runs a source over an input.
 
 ghost use Rattle.std.specs.Prelude.{◌≡◌, [], List, ℕ, Option, true, Err, IfErr, IfOk, IfSome, OnOk, MatchResult, option_map};
 ghost use Rattle.json.specs.Json.{document};
@@ -25,22 +25,26 @@ use tracing_tree_lines::lines::{LineCause, LineFault, LineInput, is_skipped, rea
 use tracing_tree_output::Output;
 use tracing_tree_time::FormatTime;
 
-/// What a run of a source leaves.
+/// The result of a run over a source.
 #[derive(Clone, Copy, Debug)]
 pub struct SourceRun {
-    /// How many lines told nothing that is known.
+    /// The number of unknown lines.
     pub unknown: u64,
 
-    /// The line that ended the run; none where the input was run to its end.
+    /// The line that ended the run, or `None` if the run reached the end of the input.
     pub fault: Option<LineFault>,
 }
 
 /// Makes the calls of a source's lines on a receiver, and then those of its end.
 ///
-/// An unknown line is counted and skipped, and what it lacks is noted. The run ends early if the input
-/// can't be read, if an allocation fails, if a call is refused, and if the notes end it at a skipped
-/// line: `NotACall` is the cause then, and never otherwise. The input is read by the methods of
-/// [`LineInput`] only, so the receiver is flushed before each wait for a line.
+/// An unknown line is counted and skipped, and what is missing in it is noted. The input is read
+/// only by the methods of [`LineInput`], so the receiver is flushed before each wait for a line.
+///
+/// # Errors
+///
+/// The fault is the line that ended the run. Its cause is `Read` if the input can't be read,
+/// `Memory` if an allocation fails, and `Refused` if a call is refused. It is `NotACall` exactly if
+/// the notes end the run at a skipped line.
 #[tactic(auto, using(crate::proofs::Ended::ends_line, crate::proofs::Ended::ends_noted))]
 pub fn run_source<S: Source, L: LineInput, C: Calls, N: Notes>(
     alloc: Global,
@@ -97,7 +101,7 @@ pub fn run_source<S: Source, L: LineInput, C: Calls, N: Notes>(
     SourceRun { unknown, fault }
 }
 
-/// Draws a source's lines: [`run_source`] on a [`Layered`].
+/// Draws a source's lines, like [`run_source`] on a [`Layered`].
 pub fn draw_source<S: Source, L: LineInput, W: Output, FT: FormatTime, N: Notes>(
     alloc: Global,
     source: &mut S,
@@ -116,8 +120,12 @@ pub fn draw_source<S: Source, L: LineInput, W: Output, FT: FormatTime, N: Notes>
     run_source(alloc, source, lines, layered, notes)
 }
 
-/// Has a skipped line noted, by its number from 1 on. An error ends the run: `NotACall` where the notes end it, `Memory` where memory
-/// was refused, and nothing is noted then.
+/// Reports a skipped line, numbered from 1. Returns an error if the run has to stop.
+///
+/// # Errors
+///
+/// `NotACall` if the notes end the run. `Memory` if `lack` is an `AllocError`. Nothing is noted
+/// then.
 #[tactic(auto, using(crate::proofs::Noted::adds_none))]
 pub fn skip<N: Notes>(
     notes: &mut N,
@@ -141,7 +149,7 @@ pub fn skip<N: Notes>(
     }
 }
 
-// What a line lacks of which nothing is known.
+// Returns what is missing in an unknown line.
 fn lack_of<S: Source>(alloc: Global, line: &[u8], scratch: &mut Scratch) -> Result<Lack, AllocError>
     ensures { IfOk result (λ lack. lack ≡ lack_of S.lacks line.now) }
 {
@@ -162,15 +170,15 @@ fn lack_of_text<S: Source>(
     Ok(S::lack(value.as_ref()))
 }
 
-// What became of a line.
+// The result of a line.
 enum Judged {
-    // There is none: the calls that the end brings were made.
+    // The input ended, and the calls of its end were made.
     End,
     Known,
     Unknown,
 }
 
-// Reads the next line. The receiver is flushed before the read if it may wait.
+// Reads the next line. If the read may wait, the receiver is flushed first.
 fn read_next<L: LineInput, C: Calls>(
     lines: &mut L,
     line: &mut Vec<u8>,
@@ -187,7 +195,7 @@ fn read_next<L: LineInput, C: Calls>(
     Ok(true)
 }
 
-// Makes the calls that the line means that was read, or those of the input's end.
+// Makes the calls of the line that was read, or those of the input's end.
 #[tactic(auto, using(crate::proofs::Ended::ends_outside))]
 fn run_read<S: Source, C: Calls>(
     alloc: Global,
@@ -217,7 +225,7 @@ fn run_read<S: Source, C: Calls>(
     }
 }
 
-// Makes the calls that a line tells. Returns whether something is known of such a line.
+// Makes the calls of a line. Returns whether the line is known.
 fn run_line<S: Source, C: Calls>(
     alloc: Global,
     source: &mut S,
@@ -247,7 +255,7 @@ fn run_line<S: Source, C: Calls>(
     }
 }
 
-// What a line tells.
+// Returns the calls of a line.
 fn hear<S: Source>(
     alloc: Global,
     source: &mut S,
@@ -261,7 +269,7 @@ fn hear<S: Source>(
     source.take(alloc, text, value.as_ref())
 }
 
-// Makes the calls that the input's end brings.
+// Makes the calls of the input's end.
 fn run_end<S: Source, C: Calls>(
     alloc: Global,
     source: &mut S,
@@ -281,7 +289,11 @@ fn run_end<S: Source, C: Calls>(
     }
 }
 
-/// Draws these calls: [`make`] on a [`Layered`].
+/// Draws these calls, like [`make`] on a [`Layered`].
+///
+/// # Errors
+///
+/// Returns the refusal of the first call that is refused.
 pub fn draw_calls<W: Output, FT: FormatTime>(
     calls: Vec<Call>,
     layered: &mut Layered<W, FT>,
@@ -293,6 +305,10 @@ pub fn draw_calls<W: Output, FT: FormatTime>(
 }
 
 /// Makes these calls one after another, up to the first that is refused.
+///
+/// # Errors
+///
+/// Returns the refusal of that call.
 pub fn make<C: Calls>(calls: Vec<Call>, receiver: &mut C) -> Result<(), Refusal>
     ensures { MakesEach (Accepts C.answers C.flushes) C.answers calls.items result
         receiver.old receiver.new }

@@ -1,4 +1,4 @@
-//! What lines of another tool's output mean.
+//! The meaning of another tool's lines.
 
 ghost use Rattle.std.specs.Prelude.{◌≡◌, List, ℕ, Option, IfOk, OnOk, option_map};
 ghost use Rattle.json.specs.Json.{Json};
@@ -12,23 +12,27 @@ use json::Value;
 use std::alloc::{AllocError, Global};
 use tracing_tree_layer::call::Call;
 
-/// A tool's output, line by line. A source keeps what it must know of earlier lines.
+/// A tool's output, line by line. A source stores what it needs from earlier lines.
 pub trait Source {
-    /// What a line tells, by its text and by the JSON value that it is, if it is one: calls, and the source afterwards. None where
-    /// nothing is known of such a line.
+    /// The calls of a line, and the source afterwards. They depend on the line's string, and on its
+    /// JSON value if it is one. `None` if the line is unknown.
     ghost takes: { Self → List ℕ → Option Json → Option (Step Self) };
 
-    /// The calls that the input's end brings.
+    /// The calls of the input's end.
     ghost ends: { Self → List Call };
 
     /// The source after the input's end.
     ghost ended: { Self → Self };
 
-    /// What a line lacks of which nothing is known, by the JSON value that it is, if it is one.
+    /// What is missing in an unknown line, given its JSON value if it is one.
     ghost lacks: { Option Json → Lack };
 
-    /// Takes a line. None where nothing is known of such a line, and nothing has changed then. `AllocError` where memory is
-    /// refused; nothing is said of the source then.
+    /// Takes a line and returns its calls. Returns `None` if the line is unknown. Nothing has
+    /// changed then.
+    ///
+    /// # Errors
+    ///
+    /// `AllocError` if an allocation fails. The state of the source is then unspecified.
     fn take(
         &mut self,
         alloc: Global,
@@ -39,12 +43,15 @@ pub trait Source {
             (takes self.old line.now (option_map (λ v. value_view v.now) value.entry))
             self.old self.new (option_map (λ calls. calls.items) told)) };
 
-    /// What a line lacks of which nothing is known.
+    /// Returns what is missing in an unknown line.
     fn lack(value: Option<&Value<'_>>) -> Lack
         ensures { result ≡ lacks (option_map (λ v. value_view v.now) value.entry) };
 
-    /// The calls that the input's end brings. Nothing is said of the source if memory is refused
-    /// (`AllocError`).
+    /// Returns the calls of the input's end.
+    ///
+    /// # Errors
+    ///
+    /// `AllocError` if an allocation fails. The state of the source is then unspecified.
     fn end(&mut self, alloc: Global) -> Result<Vec<Call>, AllocError>
         ensures calls { IfOk result (λ calls. calls.items ≡ ends self.old) }
         ensures after { OnOk result (self.new ≡ ended self.old) };

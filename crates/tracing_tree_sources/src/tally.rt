@@ -16,8 +16,7 @@ use tracing_tree_layer::told::ToldEvent;
 use tracing_tree_lines::lines::LineInput;
 use tracing_tree_spans::registry::{Attributes, Record};
 
-/// A receiver that counts its calls by kind, and keeps nothing else of them. Its spans get the ids
-/// 1, 2 and so on.
+/// A receiver that only counts its calls by kind. Its spans get the ids 1, 2 and so on.
 #[derive(Clone, Copy, Debug, Drop)]
 pub struct Tally {
     /// How many spans were made.
@@ -37,7 +36,7 @@ pub struct Tally {
 }
 
 impl Tally {
-    /// Returns a tally of no calls.
+    /// Returns a tally with counts of 0.
     pub fn new() -> Tally
         ensures { result ≡ nothing_counted }
     {
@@ -51,7 +50,7 @@ impl Tally {
     }
 }
 
-/// A call is refused with `TooMany` if its count can't rise.
+/// A call is refused with `TooMany` if its count is `u64::MAX`.
 impl Calls for Tally {
     ghost use Rattle.tracing_tree_sources.specs.Tallies.{IsCounted};
 
@@ -108,7 +107,7 @@ impl Calls for Tally {
     fn flush(&mut self) {}
 }
 
-// Returns the next count. `TooMany` if there is none.
+// Returns the next count, or `TooMany` after `u64::MAX`.
 fn one_more(count: u64) -> Result<u64, Refusal>
     ensures { MatchResult result (λ more. more ≡ count + 1) (λ refusal. refusal ≡ Refusal.TooMany) }
 {
@@ -118,7 +117,7 @@ fn one_more(count: u64) -> Result<u64, Refusal>
     }
 }
 
-/// Counts the calls of a source's lines and of its end: [`run_source`] on a [`Tally`].
+/// Counts the calls of a source's lines and of its end, like [`run_source`] on a [`Tally`].
 pub fn count_source<S: Source, L: LineInput, N: Notes>(
     alloc: Global,
     source: &mut S,

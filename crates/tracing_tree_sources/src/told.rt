@@ -1,4 +1,4 @@
-//! Calls as a source tells them: each names the span that it stands in as its current span.
+//! The calls of a source. Each names its parent as its current span.
 
 ghost use Rattle.std.specs.Prelude.{◌≡◌, ◌++◌, IfOk, OnOk, [], ◌∷◌, map, string_bytes};
 ghost use Rattle.tracing_tree_sources.specs.Told.{all_on_thread, close_call, context_at, event_call, is_escaped, message_field, on_thread, record_call, shown, shown_char, span_call};
@@ -12,7 +12,7 @@ use tracing_tree_text::style::Level;
 use tracing_tree_text::text::Text;
 use tracing_tree_time::Moment;
 
-// The context of a call with this current span.
+// Returns the context of a call with this current span.
 fn context_at(moment: Moment, current: Option<Id>) -> Context
     ensures { result ≡ context_at moment current }
 {
@@ -24,7 +24,8 @@ fn context_at(moment: Moment, current: Option<Id>) -> Context
     }
 }
 
-// Whether a character is shown by its code. A tab and a line end are not: the drawing has lines of its own.
+// Returns whether a character is shown by its code. Tabs and line feeds aren't, since a drawing can
+// have them.
 fn is_escaped(c: char) -> bool
     ensures { result ≡ is_escaped c }
 {
@@ -34,7 +35,7 @@ fn is_escaped(c: char) -> bool
     }
 }
 
-// A character as it is shown.
+// Appends a character as it is shown.
 fn push_shown(out: &mut String, c: char) -> Result<(), AllocError>
     ensures { OnOk result (string_bytes out.new ≡ string_bytes out.old ++ shown_char c) }
 {
@@ -47,8 +48,12 @@ fn push_shown(out: &mut String, c: char) -> Result<(), AllocError>
     out.push_str("}")
 }
 
-/// A text with control characters as escapes, so that no input moves a terminal's cursor or changes its colour. `AllocError` where
-/// memory is refused, here and below.
+/// Returns a string with escapes for control characters, except tabs and line feeds. So no input
+/// moves a terminal's cursor or changes its colour.
+///
+/// # Errors
+///
+/// `AllocError` if an allocation fails.
 pub fn shown(alloc: Global, text: &str) -> Result<Text, AllocError>
     ensures { IfOk result (λ made. made ≡ shown text.now) }
 {
@@ -59,7 +64,11 @@ pub fn shown(alloc: Global, text: &str) -> Result<Text, AllocError>
     Ok(Text::from(out))
 }
 
-/// A new span, in the span above.
+/// Returns the call for a new span in the span `above`.
+///
+/// # Errors
+///
+/// `AllocError` if an allocation fails.
 pub fn span_call(
     alloc: Global,
     moment: Moment,
@@ -78,7 +87,11 @@ pub fn span_call(
     Ok(Call::New(attributes, context_at(moment, above)))
 }
 
-/// The field that is drawn as its text alone.
+/// Returns the field `message`, which is drawn as its value only.
+///
+/// # Errors
+///
+/// `AllocError` if an allocation fails.
 pub fn message_field(alloc: Global, text: &str) -> Result<Field, AllocError>
     ensures { IfOk result (λ field. field ≡ message_field text.now) }
 {
@@ -88,7 +101,11 @@ pub fn message_field(alloc: Global, text: &str) -> Result<Field, AllocError>
     })
 }
 
-/// An event with these fields, in the span above.
+/// Returns the call for an event with these fields in the span `above`.
+///
+/// # Errors
+///
+/// `AllocError` if an allocation fails.
 pub fn event_call(
     alloc: Global,
     moment: Moment,
@@ -107,21 +124,25 @@ pub fn event_call(
     Ok(Call::Event(event, context_at(moment, above)))
 }
 
-/// A span's close, in the span above.
+/// Returns the call that closes a span, whose parent is `above`.
 pub fn close_call(moment: Moment, id: Id, above: Option<Id>) -> Call
     ensures { result ≡ close_call moment id above }
 {
     Call::Close(id, context_at(moment, above))
 }
 
-/// A record of these fields, which come after those of the span.
+/// Returns the call that appends these fields to those of the span.
 pub fn record_call(id: Id, fields: Fields) -> Call
     ensures { result ≡ record_call id fields }
 {
     Call::Record(id, Record { fields })
 }
 
-/// These calls on the thread of this name, if it has one. `AllocError` where memory is refused.
+/// Returns these calls on the thread with this name, if there is one.
+///
+/// # Errors
+///
+/// `AllocError` if an allocation fails.
 pub fn all_on_thread(
     alloc: Global,
     name: &Option<Text>,
@@ -145,7 +166,7 @@ fn named(alloc: Global, name: &Text, calls: Vec<Call>) -> Result<Vec<Call>, Allo
     Ok(placed)
 }
 
-// A call on the thread of this name.
+// Returns a call on the thread with this name.
 fn on_thread(call: Call, name: Text) -> Call
     ensures { result ≡ on_thread name call }
 {

@@ -13,9 +13,9 @@ use tracing_tree_text::field::Fields;
 use tracing_tree_text::style::Level;
 use tracing_tree_time::Moment;
 
-/// Returns the event of a line that is no JSON object, in the span above.
+/// Returns the event of a line that isn't a JSON object, in the span `above`.
 ///
-/// Its level is `Error` if the line begins a panic or a stack trace ([`begins_trace`]), otherwise
+/// Its level is `Error` if the line starts a panic or a stack trace ([`begins_trace`]), otherwise
 /// `Info`. The message is the line without the carriage return at its end.
 ///
 /// # Errors
@@ -49,7 +49,7 @@ fn plain_level(line: &str) -> Level
     }
 }
 
-// A line without the carriage return at its end.
+// Removes the carriage return at a line's end.
 fn without_return(line: &str) -> &str
     ensures { result.now ≡ without_return line.now }
 {
@@ -59,7 +59,7 @@ fn without_return(line: &str) -> &str
     }
 }
 
-/// Returns whether Rust, Go, Python or Java begin a panic or a stack trace with this line.
+/// Returns whether a panic or a stack trace of Rust, Go, Python or Java starts with this line.
 pub fn begins_trace(line: &str) -> bool
     ensures { result ≡ begins_trace line.now }
 {
@@ -97,7 +97,7 @@ fn begins_goroutine(line: &str) -> bool
     }
 }
 
-// What comes after the decimal digits at the front.
+// Returns what follows the decimal digits at the start.
 pub(crate) fn after_digits(text: &[u8]) -> &[u8]
     ensures { result.now ≡ after_digits text.now }
 {
@@ -117,7 +117,7 @@ pub(crate) fn is_digit(byte: u8) -> bool
     matches!(byte, b'0'..=b'9')
 }
 
-// Whether a text holds this mark somewhere.
+// Returns whether a string contains this mark.
 fn holds_mark(mark: &[u8], text: &[u8]) -> bool
     ensures { result ≡ holds_mark mark.now text.now }
 {

@@ -1,4 +1,4 @@
-//! What JSON values hold.
+//! Access to JSON values.
 
 ghost use Rattle.std.specs.Prelude.{◌≡◌, IfOk, is_some, option_map};
 ghost use Rattle.json.specs.Find.{as_object};
@@ -9,7 +9,11 @@ ghost use Rattle.tracing_tree_sources.specs.Values.{array_at, text_at};
 use json::{Error, Scratch, Value};
 use std::alloc::{AllocError, Global};
 
-/// The JSON value that a text is, if it is one. `AllocError` where memory is refused.
+/// Returns the JSON value of a string, if it is one.
+///
+/// # Errors
+///
+/// `AllocError` if an allocation fails.
 pub fn value_of<'a>(
     alloc: Global,
     text: &'a str,
@@ -24,14 +28,14 @@ pub fn value_of<'a>(
     }
 }
 
-/// The text at this key, if a text is there.
+/// Returns the string at this key, if there is one.
 pub fn text_at<'v>(value: &'v Value<'_>, key: &str) -> Option<&'v str>
     ensures { option_map (λ s. s.now) result ≡ text_at key.now (value_view value.now) }
 {
     value.get(key)?.as_str()
 }
 
-/// Whether a value is an object.
+/// Returns whether a value is an object.
 pub fn is_object(value: &Value<'_>) -> bool
     ensures { result ≡ is_some (as_object (value_view value.now)) }
 {
@@ -41,7 +45,7 @@ pub fn is_object(value: &Value<'_>) -> bool
     }
 }
 
-/// The items of the array at this key, if an array is there.
+/// Returns the items of the array at this key, if there is one.
 pub fn array_at<'v, 'a>(value: &'v Value<'a>, key: &str) -> Option<&'v Vec<Value<'a>>>
     ensures { option_map (λ items. items_view items.now.items) result
         ≡ array_at key.now (value_view value.now) }

@@ -13,7 +13,7 @@ fn is_whole<S: Source>(alloc: Global, source: &mut S, input: &str) -> Result<boo
     Ok(run.noted.is_empty() && run.fault.is_none())
 }
 
-// A line of a test that comes in pieces, a long one, and many lines of another.
+// Returns a line of a test that comes in pieces, a long one, and many lines of another.
 fn printed(alloc: Global) -> Result<String, AllocError> {
     let long = "x".repeat(alloc, 110_000)?;
     let part =
@@ -63,7 +63,7 @@ fn a_first_line_is_long(rt: HostRuntime) -> Result<(), Fail> {
     Ok(())
 }
 
-// A line in 1,001 spans, and 12,000 spans that stay open.
+// Returns a line in 1,001 spans, and 12,000 spans that stay open.
 fn nested(alloc: Global) -> Result<String, AllocError> {
     let span = "{\"name\":\"s\"},".repeat(alloc, 1_000)?;
     let mut input = String::from_str(
@@ -78,7 +78,7 @@ fn nested(alloc: Global) -> Result<String, AllocError> {
     Ok(input)
 }
 
-// A line by which a span opens.
+// Appends a line that opens a span.
 fn push_new(input: &mut String, number: u32) -> Result<(), AllocError> {
     input.push_str("{\"level\":\"INFO\",\"fields\":{\"message\":\"new\"},\"span\":{\"name\":\"a")?;
     let digits = number.to_string(*input.allocator())?;

@@ -1,5 +1,5 @@
-//! Calls of the laws that run something: the fresh spans of a path, the events that are read back of a
-//! run, and whether Go's tests have failed.
+//! Calls of the laws that run something: the fresh spans of a path, the events that are read back
+//! of a run, and whether Go's tests have failed.
 
 use super::seen::{START, Skipped, drawn};
 use std::alloc::{AllocError, Global};
@@ -19,7 +19,7 @@ fn gives_the_fresh_spans_of_a_path(rt: HostRuntime) -> Result<(), Fail> {
     Ok(())
 }
 
-// Two spans, of which the inner one has an event and closes. One close is refused.
+// Two spans. The inner one has an event and closes. One close is refused.
 const STEPS: [Step<'static>; 5] = [
     Step::New("a", None),
     Step::Close(7),
@@ -28,7 +28,8 @@ const STEPS: [Step<'static>; 5] = [
     Step::Close(2),
 ];
 
-// The events that are read back of them. It promises nothing, so that the test is soon proved.
+// Returns the events that are read back of them. It promises nothing, so that the test is soon
+// proved.
 fn events_read(alloc: Global) -> Result<Option<EventsRead>, AllocError> {
     let calls = calls(alloc, STEPS.as_slice())?;
     let mut layered = lined(alloc)?;

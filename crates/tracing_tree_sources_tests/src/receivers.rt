@@ -8,7 +8,7 @@ use tracing_tree::style::Level;
 use tracing_tree_go_test::GoTest;
 use tracing_tree_sources::{CallsAtLeast, Tally, count_source, run_source};
 
-// Two spans open, two events fail, and the end has an event of its own. Two lines are unknown.
+// Two spans open, two events fail, and there is one event at the end. Two lines are unknown.
 const TESTS: &str = concat!(
     "{\"Action\":\"run\",\"Package\":\"p\",\"Test\":\"A\"}\n",
     "[1]\n",

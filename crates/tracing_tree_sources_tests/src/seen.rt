@@ -16,7 +16,7 @@ pub const START: Moment = Moment {
     wall: Timestamp::UNIX_EPOCH,
 };
 
-// Keeps what is skipped, and goes on.
+// Stores what is skipped, and continues.
 #[derive(Drop)]
 pub struct Skipped {
     pub lines: Vec<(u64, Lack)>,
@@ -113,7 +113,7 @@ pub fn heard<S: Source, R: Read + Drop>(
     Ok(Box::new(alloc, outcome)?)
 }
 
-// How many bytes were written before each flush.
+// Returns how many bytes were written before each flush.
 fn shown_by(layered: Box<Drawn>) -> Vec<usize> {
     let (_registry, layer) = Box::into_inner(layered).into_parts();
     layer.into_writer().into_inner().shown

@@ -1,4 +1,5 @@
-//! Runs in which one quantity has each size up to 20, and those beside each power of two up to 1,024.
+//! Runs in which one quantity has each size up to 20, and those next to each power of two up to
+//! 1,024.
 
 use super::seen::{START, Skipped, drawn, heard};
 use std::alloc::{AllocError, Global};
@@ -15,11 +16,11 @@ enum Quantity {
     Tests,
     // Lines that a test prints.
     Printed,
-    // Strings of which a test prints one line.
+    // Strings that together are one printed line of a test.
     Parts,
     // Bytes of a line that a test prints.
     Bytes,
-    // Spans in which an event of tracing occurs.
+    // Spans around an event of tracing.
     Spans,
     // Fields of an event of tracing.
     Fields,
@@ -41,7 +42,7 @@ impl Quantity {
         Quantity::Elements,
     ];
 
-    // Appends the input that has so many.
+    // Appends the input with this size.
     fn push(self, input: &mut String, size: u32) -> Result<(), AllocError> {
         match self {
             Quantity::Tests => push_tests(input, size),
@@ -97,7 +98,7 @@ fn push_long_line(input: &mut String, size: u32) -> Result<(), AllocError> {
     push_lines(input, 1, text.as_str())
 }
 
-// An event with one field of this name, in so many of these spans and one more.
+// Appends an event with one field of this name, in `size` of these spans and one more.
 fn push_event(input: &mut String, name: &str, span: &str, size: u32) -> Result<(), AllocError> {
     let spans = span.repeat(*input.allocator(), size as usize)?;
     write!(
@@ -114,7 +115,8 @@ fn push_fields(input: &mut String, size: u32) -> Result<(), AllocError> {
     input.push_str("\"message\":\"x\"}}\n")
 }
 
-// Elements that begin one after another. Each lasts until after the end of the next if they are nested.
+// Elements that begin one after another. Each lasts until after the end of the next if they are
+// nested.
 fn push_trace(input: &mut String, size: u32, nested: bool) -> Result<(), AllocError> {
     input.push_str("[")?;
     for number in 0..size {
@@ -145,7 +147,7 @@ fn is_trace(alloc: Global, text: &str) -> Result<bool, AllocError> {
     Ok(run.fault.is_none() && notes.lines.is_empty())
 }
 
-// Whether runs of each size come to their end.
+// Returns whether runs of each size reach the end of their input.
 fn are_run(alloc: Global, quantity: Quantity, sizes: &[u32]) -> Result<bool, AllocError> {
     for size in sizes {
         let mut input = String::new(alloc);

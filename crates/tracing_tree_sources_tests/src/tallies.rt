@@ -1,4 +1,5 @@
-//! Which tests a source counts, and whether it says that they failed, after a run to the input's end.
+//! Which tests a source counts, and whether it says that they failed, after a run to the input's
+//! end.
 
 use super::seen::{START, heard};
 use std::alloc::{AllocError, Global};
@@ -7,8 +8,8 @@ use tracing_tree::style::Level;
 use tracing_tree_go_test::{Failed, GoTest};
 use tracing_tree_sources::AtLeast;
 
-// Lines, how many tests passed, failed, were skipped and didn't finish, how many packages there were and how many of them failed, and
-// whether something failed.
+// Lines, how many tests passed, failed, were skipped and didn't finish, how many packages there
+// were and how many of them failed, and whether something failed.
 const ROWS: [(&str, [u64; 6], bool); 9] = [
     ("", [0, 0, 0, 0, 0, 0], false),
     (
@@ -32,7 +33,7 @@ const ROWS: [(&str, [u64; 6], bool); 9] = [
         [0, 0, 0, 1, 1, 1],
         true,
     ),
-    // The failure of a build is told by the package's end, which isn't there.
+    // The failure of a build is reported at the package's end, which is missing here.
     (
         "{\"Action\":\"build-fail\",\"ImportPath\":\"p\"}\n",
         [0, 0, 0, 0, 0, 0],

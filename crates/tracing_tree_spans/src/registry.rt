@@ -1,4 +1,4 @@
-//! Spans: what they are made of, which are live, and looking at them.
+//! Spans: their attributes, the registry of live spans, and access to them.
 
 ghost use Rattle.std.specs.Prelude.{◌≡◌};
 ghost use Rattle.tracing_tree_spans.specs.Registry.Forest.{named_parent};
@@ -27,18 +27,18 @@ pub use walked::Walked;
 /// The parent that a new span or an event names.
 #[derive(Clone, Copy, Debug, PartialEq, Eq)]
 pub enum Parent {
-    /// None.
+    /// A root: no parent.
     Root,
 
     /// The current span, if there is one.
     Current,
 
-    /// This one, current or not.
+    /// This span, current or not.
     Of(Id),
 }
 
 impl Parent {
-    /// The parent that is meant where this is the current span, whether it is live or not.
+    /// Returns the parent's id, given the current span. The parent may not be live.
     pub fn named(self, current: Option<Id>) -> Option<Id>
         ensures { result ≡ named_parent self current }
     {
@@ -50,7 +50,7 @@ impl Parent {
     }
 }
 
-/// What a new span is made of.
+/// The parts of a new span.
 #[derive(Debug, Drop, PartialEq, Eq)]
 pub struct Attributes {
     pub name: Text,
@@ -59,7 +59,7 @@ pub struct Attributes {
     pub fields: Fields,
 }
 
-/// Fields that come later.
+/// Fields that are recorded later.
 #[derive(Debug, Drop, PartialEq, Eq)]
 pub struct Record {
     pub fields: Fields,

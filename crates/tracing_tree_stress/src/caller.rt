@@ -13,11 +13,11 @@ use tracing_tree::style::Level;
 use tracing_tree_for_tests::Step;
 use tracing_tree_shared::{Draft, Receipt, Refused};
 
-// How often a draft is handed in that is refused for want of memory.
+// How often a draft is submitted that is refused because memory ran out.
 const TRIES: u64 = 8;
 
-/// An accepted call, with its place among all accepted calls, and its reply. A call is boxed, since each step of what moves it is proved
-/// over all that it holds.
+/// An accepted call, with its place among all accepted calls, and its reply. A call is boxed, since
+/// each step of what moves it is proved over all that it holds.
 #[derive(Drop)]
 pub struct Told {
     pub place: usize,
@@ -60,7 +60,7 @@ impl Caller {
         }
     }
 
-    // Makes a call, and keeps it if it is accepted. On an `Err` it was not handed in.
+    // Makes a call, and stores it if it is accepted. On an `Err` it was not submitted.
     fn turn<R: Wait, D: Desk>(&mut self, rt: &R, desk: &mut D) -> Result<(), Refusal> {
         let call = Box::new(self.alloc, self.call()?)?;
         let kept = copied(self.alloc, &call)?;
@@ -81,7 +81,7 @@ impl Caller {
         Ok(())
     }
 
-    // A random call that no other thread makes, but for those that name no thread.
+    // Returns a random call that no other thread makes, except for calls that name no thread.
     fn call(&mut self) -> Result<Call, AllocError> {
         let mut call = self.step().call(self.alloc)?;
         match &mut call {
@@ -110,7 +110,7 @@ impl Caller {
         }
     }
 
-    // Mostly a span of this thread's, else one of any thread's, or an id that isn't given out.
+    // Mostly returns a span of this thread, otherwise one of any thread, or an id that isn't used.
     fn any_id(&mut self) -> u64 {
         let word = self.random.next_word();
         if word % 32 == 0 {
@@ -129,7 +129,7 @@ impl Caller {
         }
     }
 
-    /// Whether the places of the calls rise.
+    /// Returns whether the places of the calls rise.
     pub fn is_in_order(&self) -> bool {
         let mut least = 0;
         for told in &self.told {
@@ -141,7 +141,7 @@ impl Caller {
         true
     }
 
-    /// Whether these are the receipts of the accepted calls, each in its turn.
+    /// Returns whether these are the receipts of the accepted calls, each in its turn.
     pub fn has(&self, receipts: &[Receipt]) -> bool {
         receipts.len() == self.told.len()
             && receipts.iter().zip(&self.told).all(|(receipt, told)| {
@@ -161,7 +161,7 @@ fn drafted<D: Desk>(alloc: Global, desk: &D, call: Box<Call>) -> Result<Box<Draf
     Ok(Box::new(alloc, draft)?)
 }
 
-// Hands a draft in. One that is refused for want of memory comes back, and is handed in again.
+// Submits a draft. If it is refused because memory ran out, it is submitted again.
 fn handed_in<R: Wait, D: Desk>(
     rt: &R,
     desk: &mut D,

@@ -1,4 +1,4 @@
-//! Where a thread hands its calls in.
+//! The receivers of a thread's calls.
 
 use std::alloc::Global;
 use std::sync::Wait;

@@ -1,9 +1,9 @@
-//! Random calls of several threads through one layer, round after round, and what has to come of
-//! them.
+//! Makes random calls of several threads through one layer, round after round, and checks their
+//! results.
 //!
-//! The arguments are how many rounds, and a seed. What the threads do follows from the seed but for
-//! the order in which they get the lock. The first round that shows something else ends the run,
-//! with its number.
+//! The arguments are the number of rounds, and a seed. The seed determines what the threads do,
+//! except for the order in which they get the lock. The first round with another result ends the
+//! run, with its number.
 #![tactic(auto)]
 
 ghost use Rattle.std.specs.Prelude.{◌≡◌, ◌<◌, ◌≤◌};
@@ -48,7 +48,7 @@ fn main(rt: HostRuntime) -> anyhow::Result<()> {
     Ok(())
 }
 
-// How many rounds, and the seed.
+// Returns how many rounds, and the seed.
 fn asked(rt: &(impl AllocGlobal + Env)) -> anyhow::Result<(u64, u64)> {
     let mut words = std::env::args(rt)?.skip(1);
     let rounds = match words.next() {
@@ -62,8 +62,8 @@ fn asked(rt: &(impl AllocGlobal + Env)) -> anyhow::Result<(u64, u64)> {
     Ok((rounds, seed))
 }
 
-// A round of each layer. How many calls are refused depends on the order in which the threads get
-// the lock.
+// Runs a round of each layer. The number of refused calls depends on the order in which the threads
+// get the lock.
 fn both_rounds<R: Threads + Wait + Sync>(rt: &R, mut plan: Plan) -> anyhow::Result<Tally> {
     let threads = plan.threads();
     let blank = Blank::new((threads + 1) as u64);

@@ -76,7 +76,7 @@ impl Plan {
         (self.random.next_word() % 7) as usize + 2
     }
 
-    // A layer on which no call was made yet. It is the same each time.
+    // Returns a layer on which no call was made yet. It is the same each time.
     fn layered(&self) -> Layered<Tape, ()>
         ensures spans { result.forest.spans ≡ [] }
         ensures last { result.layer.last ≡ None }
@@ -124,7 +124,7 @@ fn seats<L: Ledger>(plan: &mut Plan, passes: Vec<Pass<L>>) -> Result<Vec<Seat<L>
     Ok(seats)
 }
 
-// The passes and the threads' accounts, where each pass has the calls of its thread.
+// Returns the passes and the threads' accounts, if each pass has the calls of its thread.
 fn vacated<L: Ledger>(
     alloc: Global,
     seats: Vec<Seat<L>>,
@@ -205,7 +205,7 @@ pub fn streaming_round<R: Threads + Wait + Sync>(rt: &R, plan: &mut Plan) -> any
     Ok(tally)
 }
 
-// The accepted calls of all threads by their places, of which each is there once.
+// Returns the accepted calls of all threads by their places. Each place must appear once.
 fn all_told(alloc: Global, callers: Vec<Caller>) -> anyhow::Result<Vec<Told>> {
     let mut all: Vec<Told> = Vec::new(alloc);
     for mut caller in callers {
@@ -230,8 +230,7 @@ fn is_history(history: &[(Call, Reply)], told: &[Told]) -> bool {
         && *reply == told.reply)
 }
 
-// Has a layer of one thread make the calls: it has to answer them as they were answered, and to
-// write this.
+// Makes the calls on a layer of one thread. It must give the same answers, and write this text.
 fn draw_again(mut layered: Layered<Tape, ()>, told: Vec<Told>, text: &[u8]) -> anyhow::Result<()> {
     for Told { place, call, reply } in told {
         anyhow::ensure!(

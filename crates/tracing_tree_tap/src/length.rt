@@ -7,8 +7,8 @@ use crate::strings::{is_digits, whole_of};
 use std::alloc::{AllocError, Global};
 use tracing_tree_text::text::Text;
 
-// A length of time, in nanoseconds, as the largest unit of which it has one or more, with three digits after the point. What is
-// below them is cut.
+// Returns a duration in nanoseconds as text: in seconds or milliseconds if it has at least one of
+// them, otherwise in microseconds. It has three digits after the point. Further digits are cut off.
 pub(crate) fn length_text(alloc: Global, nanoseconds: u64) -> Result<Text, AllocError>
     ensures { IfOk result (λ text. text ≡ length_text nanoseconds) }
 {
@@ -30,7 +30,7 @@ fn unit_text(alloc: Global, count: u64, unit: &str) -> Result<Text, AllocError>
     Ok(Text::from(out))
 }
 
-// `count` thousandths of a unit.
+// Appends `count` thousandths of a unit.
 fn push_thousandths(out: &mut String, count: u64) -> Result<(), AllocError>
     ensures { OnOk result (string_bytes out.new ≡ string_bytes out.old ++ thousandths_text count) }
 {
@@ -41,7 +41,7 @@ fn push_thousandths(out: &mut String, count: u64) -> Result<(), AllocError>
     write!(out, "{whole}.{hundreds}{tens}{ones}")
 }
 
-// The nanoseconds of a number of milliseconds, without a sign or an exponent.
+// Returns the nanoseconds of a number of milliseconds, without a sign or an exponent.
 pub(crate) fn milliseconds(text: &str) -> Option<u64>
     ensures { result ≡ milliseconds text.now }
 {
@@ -51,7 +51,7 @@ pub(crate) fn milliseconds(text: &str) -> Option<u64>
     }
 }
 
-// The same of a number with a point, by what is before the point and after it.
+// Like `milliseconds`, for a number with a point, given its parts before and after the point.
 fn decimal_milliseconds(whole: &str, part: &str) -> Option<u64>
     ensures { result ≡ decimal_milliseconds whole.now part.now }
 {
@@ -61,14 +61,14 @@ fn decimal_milliseconds(whole: &str, part: &str) -> Option<u64>
     nanoseconds(whole_of(whole)?, millionths(part.as_bytes()))
 }
 
-// The nanoseconds of milliseconds and of millionths of one, if a u64 holds them.
+// Returns the nanoseconds of milliseconds and of millionths of one, if a u64 holds them.
 fn nanoseconds(whole: u64, part: u64) -> Option<u64>
     ensures { result ≡ nanoseconds whole part }
 {
     whole.checked_mul(1_000_000)?.checked_add(part)
 }
 
-// The millionths that the digits after a point write; those after the sixth are cut off.
+// Returns the millionths that the digits after a point write; those after the sixth are cut off.
 fn millionths(digits: &[u8]) -> u64
     ensures value { result ≡ millionths digits.now }
     ensures small { result ≤ 40_000_000 }
@@ -76,7 +76,7 @@ fn millionths(digits: &[u8]) -> u64
     thousandths(digits) * 1000 + thousandths(after_three(digits))
 }
 
-// The thousandths that the first three digits after a point write.
+// Returns the thousandths that the first three digits after a point write.
 fn thousandths(digits: &[u8]) -> u64
     ensures value { result ≡ thousandths digits.now }
     ensures small { result ≤ 30_000 }
@@ -89,7 +89,7 @@ fn thousandths(digits: &[u8]) -> u64
     }
 }
 
-// The digits after the first three.
+// Returns the digits after the first three.
 fn after_three(digits: &[u8]) -> &[u8]
     ensures { result.now ≡ after_three digits.now }
 {
@@ -99,7 +99,7 @@ fn after_three(digits: &[u8]) -> &[u8]
     }
 }
 
-// What a digit counts.
+// Returns what a digit counts.
 fn digit_in(byte: u8) -> u64
     ensures value { result ≡ digit_in byte }
     ensures small { result ≤ 255 }

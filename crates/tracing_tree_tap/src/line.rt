@@ -33,7 +33,7 @@ pub(crate) enum Kind {
     Output,
 }
 
-// The kind of a line, by what follows its indentation.
+// Returns the kind of a line, by what follows its indentation.
 #[tactic(auto, unfolding(crate::specs::Line::kind_of))]
 pub(crate) fn kind_of(text: &str) -> Kind
     ensures { result ≡ kind_of text.now }
@@ -80,7 +80,7 @@ fn is_frame(text: &str) -> bool
     begins("TAP version ", text) || begins("KTAP version ", text) || begins("pragma ", text)
 }
 
-// Whether a text is nothing, or a comment.
+// Returns whether a string is empty, or a comment.
 fn begins_note(text: &str) -> bool
     ensures { result ≡ begins_note text.now }
 {
@@ -96,7 +96,7 @@ fn is_plan(text: &str) -> bool
     }
 }
 
-// How many tests a plan has.
+// Returns how many tests a plan has.
 pub(crate) fn planned(text: &str) -> u64
     ensures { result ≡ planned text.now }
 {
@@ -106,7 +106,7 @@ pub(crate) fn planned(text: &str) -> u64
     }
 }
 
-// Why a plan without tests skips everything.
+// Returns why a plan without tests skips everything.
 pub(crate) fn plan_reason(text: &str) -> &str
     ensures { result.now ≡ plan_reason text.now }
 {
@@ -118,7 +118,7 @@ pub(crate) fn plan_reason(text: &str) -> &str
     }
 }
 
-// What a comment says.
+// Returns what a comment says.
 pub(crate) fn comment_of(text: &str) -> &str
     ensures { result.now ≡ comment_of text.now }
 {
@@ -129,7 +129,7 @@ pub(crate) fn comment_of(text: &str) -> &str
     }
 }
 
-// Whether a comment is a count of a reporter's summary, as `tests 14`.
+// Returns whether a comment is a count of a reporter's summary, as `tests 14`.
 pub(crate) fn is_count(comment: &str) -> bool
     ensures { result ≡ is_count comment.now }
 {
@@ -152,14 +152,14 @@ fn is_reporters(word: &str) -> bool
 
 // ---- results
 
-// The number of a result, by what follows `ok`.
+// Returns the number of a result, by what follows `ok`.
 pub(crate) fn number_of(rest: &str) -> Option<u64>
     ensures { result ≡ number_of rest.now }
 {
     whole_of(first_word(without_leading(' ', rest)))
 }
 
-// What follows the number and the dash of a result.
+// Returns what follows the number and the dash of a result.
 pub(crate) fn described(rest: &str) -> &str
     ensures { result.now ≡ described rest.now }
 {
@@ -171,8 +171,8 @@ pub(crate) fn described(rest: &str) -> &str
     }
 }
 
-// The place of the first `#` at the front or behind a space, with that space; the length if there is
-// none.
+// Returns the index of the first `#` at the start or after a space, with that space. If there isn't
+// one, returns the length.
 fn note_place(text: &str) -> usize
     ensures value { result ≡ note_place text.now }
 {
@@ -197,21 +197,21 @@ fn space_note_place(text: &[u8]) -> usize
     place
 }
 
-// What comes before the note of a description.
+// Returns what comes before the note of a description.
 pub(crate) fn label_part(text: &str) -> &str
     ensures { result.now ≡ label_part text.now }
 {
     text.split_at(note_place(text)).0
 }
 
-// What comes after a `#` and spaces.
+// Returns what comes after a `#` and spaces.
 fn tail_from(note: &str) -> &str
     ensures { result.now ≡ tail_from note.now }
 {
     without_leading(' ', rest_after("#", without_leading(' ', note)))
 }
 
-// The note of a description, without its `#`.
+// Returns the note of a description, without its `#`.
 pub(crate) fn tail_of(text: &str) -> &str
     ensures { result.now ≡ tail_of text.now }
 {
@@ -248,7 +248,7 @@ fn is_skip(word: &str) -> bool
     same_word(word, "skip") || same_word(word, "skipped")
 }
 
-// The first word, without a colon at its end.
+// Returns the first word, without a colon at its end.
 fn word_in(text: &str) -> &str
     ensures { result.now ≡ word_in text.now }
 {
@@ -264,14 +264,14 @@ fn without_colon(word: &str) -> &str
     }
 }
 
-// Why a test is skipped or to be done.
+// Returns why a test is skipped or to be done.
 pub(crate) fn reason_of(tail: &str) -> &str
     ensures { result.now ≡ reason_of tail.now }
 {
     after_word(tail)
 }
 
-// The nanoseconds of `time=12ms`.
+// Returns the nanoseconds of `time=12ms`.
 pub(crate) fn elapsed_of(tail: &str) -> Option<u64>
     ensures { result ≡ elapsed_of tail.now }
 {
@@ -280,7 +280,7 @@ pub(crate) fn elapsed_of(tail: &str) -> Option<u64>
 
 // ---- what prove prints
 
-// Whether a line names a file, as `t/basic.t ... ` does; a verdict may follow.
+// Returns whether a line names a file, as `t/basic.t ... ` does; a verdict may follow.
 pub(crate) fn is_file(line: &str) -> bool
     ensures { result ≡ is_file line.now }
 {
@@ -290,7 +290,7 @@ pub(crate) fn is_file(line: &str) -> bool
     }
 }
 
-// What follows the dots behind a file's name.
+// Returns what follows the dots behind a file's name.
 fn after_dots(text: &str) -> &str
     ensures { result.now ≡ after_dots text.now }
 {
@@ -306,14 +306,14 @@ fn is_named(rest: &str) -> bool
     }
 }
 
-// What follows the name of a file and the dots.
+// Returns what follows the name of a file and the dots.
 pub(crate) fn tail_of_file(line: &str) -> &str
     ensures { result.now ≡ tail_of_file line.now }
 {
     rest_after(" ", after_dots(after_word(line)))
 }
 
-// The level of a verdict on a file.
+// Returns the level of a verdict on a file.
 #[tactic(auto, unfolding(crate::specs::Line::verdict_level))]
 pub(crate) fn verdict_level(line: &str) -> Option<Level>
     ensures { result ≡ verdict_level line.now }
@@ -332,7 +332,7 @@ pub(crate) fn verdict_level(line: &str) -> Option<Level>
     }
 }
 
-// Whether a line counts the tests that failed, as `Failed 2/5 subtests`.
+// Returns whether a line counts the tests that failed, as `Failed 2/5 subtests`.
 fn is_failure(line: &str) -> bool
     ensures { result ≡ is_failure line.now }
 {
@@ -351,14 +351,14 @@ fn is_fraction(word: &str) -> bool
     }
 }
 
-// Whether prove's summary begins.
+// Returns whether prove's summary begins.
 pub(crate) fn begins_summary(line: &str) -> bool
     ensures { result ≡ begins_summary line.now }
 {
     line == "All tests successful." || line == "Test Summary Report" || begins("Files=", line)
 }
 
-// Whether prove's summary ends with this line.
+// Returns whether prove's summary ends with this line.
 pub(crate) fn ends_summary(line: &str) -> bool
     ensures { result ≡ ends_summary line.now }
 {

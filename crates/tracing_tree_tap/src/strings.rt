@@ -9,14 +9,14 @@ use std::alloc::{AllocError, Global};
 use tracing_tree_sources::marks::after_mark;
 use tracing_tree_text::text::Text;
 
-// Whether a text begins with this mark.
+// Returns whether a string starts with this prefix.
 pub(crate) fn begins(mark: &str, text: &str) -> bool
     ensures { result ≡ begins mark.now text.now }
 {
     after_mark(text, mark).is_some()
 }
 
-// What follows this mark at the front, or nothing.
+// Returns what follows this mark at the front, or nothing.
 pub(crate) fn rest_after<'a>(mark: &str, text: &'a str) -> &'a str
     ensures { result.now ≡ rest_after mark.now text.now }
 {
@@ -26,14 +26,14 @@ pub(crate) fn rest_after<'a>(mark: &str, text: &'a str) -> &'a str
     }
 }
 
-// What comes before this mark at the end.
+// Returns what comes before this mark at the end.
 pub(crate) fn before_mark<'a>(mark: &str, text: &'a str) -> Option<&'a str>
     ensures { option_map (λ s. s.now) result ≡ before_mark mark.now text.now }
 {
     text.strip_suffix(mark)
 }
 
-// A text without this mark at its end.
+// Removes this suffix from a string.
 pub(crate) fn without_end<'a>(mark: &str, text: &'a str) -> &'a str
     ensures { result.now ≡ without_end mark.now text.now }
 {
@@ -43,7 +43,7 @@ pub(crate) fn without_end<'a>(mark: &str, text: &'a str) -> &'a str
     }
 }
 
-// A text from its first character on that isn't this one.
+// Removes the characters at the start that are equal to `mark`.
 pub(crate) fn without_leading(mark: char, text: &str) -> &str
     requires { mark < 128 }
     ensures { result.now ≡ without_leading mark text.now }
@@ -55,7 +55,7 @@ pub(crate) fn without_leading(mark: char, text: &str) -> &str
     rest
 }
 
-// A text without its first spaces, at most this many.
+// Removes the first spaces of a string, at most `limit`.
 pub(crate) fn without_margin(limit: usize, text: &str) -> &str
     ensures { result.now ≡ without_margin limit text.now }
 {
@@ -71,7 +71,7 @@ pub(crate) fn without_margin(limit: usize, text: &str) -> &str
     rest
 }
 
-// What comes before the first space.
+// Returns what comes before the first space.
 pub(crate) fn first_word(text: &str) -> &str
     ensures { result.now ≡ first_word text.now }
 {
@@ -81,7 +81,7 @@ pub(crate) fn first_word(text: &str) -> &str
     }
 }
 
-// What comes after the first space and those that follow it.
+// Returns what comes after the first space and those that follow it.
 pub(crate) fn after_word(text: &str) -> &str
     ensures { result.now ≡ after_word text.now }
 {
@@ -91,14 +91,14 @@ pub(crate) fn after_word(text: &str) -> &str
     }
 }
 
-// Whether two words are the same but for the case of their letters.
+// Returns whether two words are equal without regard to case.
 pub(crate) fn same_word(word: &str, other: &str) -> bool
     ensures { result ≡ same_word word.now other.now }
 {
     word.eq_ignore_ascii_case(other)
 }
 
-// The number that digits write, if a u64 holds it.
+// Returns the number that digits write, if a u64 holds it.
 pub(crate) fn whole_of(text: &str) -> Option<u64>
     ensures { result ≡ whole_of text.now }
 {
@@ -108,7 +108,7 @@ pub(crate) fn whole_of(text: &str) -> Option<u64>
     text.parse().ok()
 }
 
-// Whether a text is one digit or more, and nothing else.
+// Returns whether a string has only digits, and at least one.
 pub(crate) fn is_digits(text: &str) -> bool
     ensures { result ≡ is_digits text.now }
 {
@@ -128,7 +128,7 @@ fn all_digits(bytes: &[u8]) -> bool
     true
 }
 
-// A text in which `\#` stands for `#`, and `\\` for `\`.
+// Returns a string with `\#` replaced by `#`, and `\\` by `\`.
 pub(crate) fn unescaped(alloc: Global, text: &str) -> Result<Text, AllocError>
     ensures { IfOk result (λ made. made ≡ unescaped text.now) }
 {
@@ -148,7 +148,7 @@ fn push_unescaped(out: &mut String, text: &str) -> Result<(), AllocError>
     push_last(out, is_escaped)
 }
 
-// A backslash at the end of a text escapes nothing.
+// Appends a backslash at the end of a string, which escapes nothing.
 fn push_last(out: &mut String, is_escaped: bool) -> Result<(), AllocError>
     ensures { OnOk result (string_bytes out.new ≡ string_bytes out.old ++ last_escape is_escaped) }
 {
@@ -159,7 +159,7 @@ fn push_last(out: &mut String, is_escaped: bool) -> Result<(), AllocError>
     }
 }
 
-// Whether the next character is behind a backslash that may escape it.
+// Returns whether the next character is behind a backslash that may escape it.
 fn past_escape(is_escaped: bool, c: char) -> bool
     ensures { result ≡ past_escape is_escaped c }
 {
@@ -175,7 +175,7 @@ fn push_char(out: &mut String, is_escaped: bool, c: char) -> Result<(), AllocErr
     if c == '\\' { Ok(()) } else { out.push(c) }
 }
 
-// A character behind a backslash.
+// Appends a character after a backslash.
 fn push_escaped(out: &mut String, c: char) -> Result<(), AllocError>
     ensures { OnOk result (string_bytes out.new ≡ string_bytes out.old ++ end_of_escape c) }
 {
@@ -191,7 +191,7 @@ fn is_escape(c: char) -> bool
     c == '#' || c == '\\'
 }
 
-// A description without the dash before it.
+// Returns a description without the dash before it.
 pub(crate) fn dashless(text: &str) -> &str
     ensures { result.now ≡ dashless text.now }
 {
@@ -201,14 +201,14 @@ pub(crate) fn dashless(text: &str) -> &str
     }
 }
 
-// How many bytes come before the rest of a text.
+// Returns how many bytes come before the rest of a string.
 pub(crate) fn column_of(text: &str, rest: &str) -> usize
     ensures { result ≡ length text.now - length rest.now }
 {
     text.len().saturating_sub(rest.len())
 }
 
-// What comes before the first of these characters.
+// Returns what comes before the first of these characters.
 pub(crate) fn first_part(mark: char, text: &str) -> &str
     requires { mark < 128 }
     ensures { result.now ≡ first_part mark text.now }

@@ -25,7 +25,7 @@ pub struct Tally {
 }
 
 impl Tally {
-    // Nothing is counted yet.
+    // Returns counts of 0.
     pub(crate) fn new() -> Tally
         ensures { result ≡ no_counts }
     {
@@ -45,7 +45,7 @@ impl Tally {
         self.is_broken || self.failed != 0
     }
 
-    // The tally with one result more.
+    // Returns the tally with one result more.
     pub(crate) fn with(self, verdict: Verdict) -> Tally
         ensures counted { result ≡ counted_tally verdict self }
         ensures once { total_of self < 2 ^ 64 - 1 → total_of result ≡ total_of self + 1 }
@@ -70,7 +70,7 @@ impl Tally {
         }
     }
 
-    // The tally with something broken.
+    // Returns the tally with something broken.
     pub(crate) fn broken(self) -> Tally
         ensures { result ≡ broken_tally self }
     {
@@ -80,7 +80,7 @@ impl Tally {
         }
     }
 
-    // The fields that tell the counts.
+    // Returns the fields with the counts.
     pub(crate) fn fields(&self, alloc: Global) -> Result<Vec<Field>, AllocError>
         ensures { IfOk result (λ fields. fields.items ≡ tally_fields self.now) }
     {
@@ -103,7 +103,7 @@ pub(crate) enum Verdict {
 }
 
 impl Verdict {
-    // The verdict of a result, by `ok` or `not ok` and its note.
+    // Returns the verdict of a result, by `ok` or `not ok` and its note.
     pub(crate) fn of(is_ok: bool, directive: Directive) -> Verdict
         ensures { result ≡ verdict_of is_ok directive }
     {

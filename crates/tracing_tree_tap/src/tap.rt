@@ -114,8 +114,8 @@ impl Tap {
         })
     }
 
-    /// Returns whether a test failed, or anything else that must not: a plan that isn't met, a missing
-    /// number, a subtest without a result, `Bail out!`, or a verdict of prove.
+    /// Returns whether a test failed, or anything else that must not: a plan that isn't met, a
+    /// missing number, a subtest without a result, `Bail out!`, or a verdict of prove.
     pub fn has_failed(&self) -> bool
         ensures { result ≡ has_failed self.now.tally }
     {
@@ -212,7 +212,7 @@ impl Tap {
         }
     }
 
-    // A script begins with its first line of TAP.
+    // Starts a script, at its first line of TAP.
     #[tactic(auto, unfolding(crate::specs::Tap::begun))]
     fn begin(&mut self, kind: Kind)
         ensures { self.new ≡ begun kind self.old }
@@ -237,7 +237,7 @@ impl Tap {
         Ok(())
     }
 
-    // A comment is an event, unless it is a count of the reporter's summary behind the plan.
+    // Takes a comment as an event, unless it is a count of the reporter's summary after the plan.
     #[tactic(auto, unfolding(crate::specs::Tap::comment_taken))]
     fn take_comment(&mut self, comment: &str) -> Result<(), AllocError>
         ensures { OnOk result (self.new ≡ comment_taken comment.now self.old) }
@@ -249,14 +249,14 @@ impl Tap {
         self.push_line(Level::Info, text.as_str(), self.subtest.span)
     }
 
-    // Whether a reporter's summary may come.
+    // Returns whether a reporter's summary may come.
     fn is_counting(&self) -> bool
         ensures { result ≡ reporter_counts self.now }
     {
         self.outer.is_empty() && self.subtest.planned.is_some()
     }
 
-    // What a test printed is an event.
+    // Takes a line that a test printed, as an event.
     #[tactic(auto, unfolding(crate::specs::Tap::output_taken))]
     fn take_output(&mut self, text: &str) -> Result<(), AllocError>
         ensures { OnOk result (self.new ≡ output_taken text.now self.old) }
@@ -265,7 +265,7 @@ impl Tap {
         self.push_line(Level::Info, shown, self.subtest.span)
     }
 
-    // Everything ends.
+    // Ends everything.
     #[tactic(auto, unfolding(crate::specs::Tap::bailed_out))]
     fn bail_out(&mut self, text: &str) -> Result<(), AllocError>
         ensures { OnOk result (self.new ≡ bailed_out text.now self.old) }
@@ -289,7 +289,7 @@ impl Tap {
         self.close_script()
     }
 
-    // A test whose name was the last line has no result.
+    // Ends a heading. A test whose name was the last line has no result.
     #[tactic(auto, unfolding(crate::specs::Tap::heading_ended))]
     fn end_heading(&mut self) -> Result<(), AllocError>
         ensures { OnOk result (self.new ≡ heading_ended self.old) }
@@ -303,7 +303,7 @@ impl Tap {
         }
     }
 
-    // The event that counts the results.
+    // Returns the event that counts the results.
     fn tally_call(&self, alloc: Global) -> Result<Call, AllocError>
         ensures { IfOk result (λ call. call ≡ tally_call self.now) }
     {

@@ -1,4 +1,4 @@
-//! Calls on a layer alone, over each kind of live spans.
+//! Calls on a layer without a registry, over each kind of live spans.
 
 use crate::calls::TREE;
 use crate::lone::Lone;
@@ -53,12 +53,12 @@ impl Keeps for Walked {
     }
 }
 
-// A layer over memory, with lines, of this amount.
+// Returns a layer over memory, with lines, of this amount.
 fn layer(alloc: Global, amount: usize) -> HierarchicalLayer<Tape, ()> {
     HierarchicalLayer::new(alloc, amount, false, Tape::new(alloc)).with_indent_lines(true)
 }
 
-// What was written.
+// Returns what was written.
 fn text(layer: &HierarchicalLayer<Tape, ()>) -> &[u8] {
     layer.writer().bytes()
 }
@@ -101,7 +101,7 @@ fn call_each<S: Keeps>(
     Ok(())
 }
 
-// The calls of a case, one after another, draw its text over these spans.
+// Checks that the calls of a case, made one after another, draw its text over these spans.
 fn draws_over<S: Keeps + Drop>(
     rt: &impl Abort,
     alloc: Global,
@@ -115,7 +115,7 @@ fn draws_over<S: Keeps + Drop>(
     Ok(())
 }
 
-// A registry with the layer of a case. None where that isn't fresh.
+// Returns a registry with the layer of a case, or `None` if that isn't fresh.
 fn layered(alloc: Global, case: Case) -> Result<Option<Box<Layered<Tape, ()>>>, AllocError> {
     let layer = case.layer(alloc);
     if layer.is_fresh() {
@@ -252,13 +252,13 @@ impl JobStep {
     }
 }
 
-// A new root for a job.
+// Returns a new root for a job.
 fn job(alloc: Global, key: Field) -> Result<Call, AllocError> {
     let fields = vec![in alloc; key]?;
     spawned(alloc, "spawn_fut", Fields::from(fields), None)
 }
 
-// The calls of the Rust crate's example `concurrent_eager`.
+// Returns the calls of the Rust crate's example `concurrent_eager`.
 fn concurrent(alloc: Global) -> Result<Vec<Call>, AllocError> {
     let mut calls = Vec::new(alloc);
     calls.push(job(alloc, Field::text(alloc, "key", "a")?)?)?;
@@ -269,7 +269,7 @@ fn concurrent(alloc: Global) -> Result<Vec<Call>, AllocError> {
     Ok(calls)
 }
 
-// The context of the thread main.
+// Returns the context of the thread main.
 fn on_main(alloc: Global, current: Option<u64>) -> Result<Context, AllocError> {
     let mut context = at(current);
     context.thread_name = Some(Text::from_str(alloc, "main")?);
@@ -305,8 +305,8 @@ fn happened(alloc: Global, message: &str, current: u64) -> Result<Call, AllocErr
     ))
 }
 
-// The calls draw their text over a registry that keeps paths, over one that walks them, and as one
-// run.
+// Checks that the calls draw their text over a registry that stores paths, over one that walks
+// them, and as one run.
 fn draws_everywhere(rt: &impl Abort, alloc: Global, case: Case) -> Result<(), Fail> {
     draws_over(rt, alloc, Registry::new(alloc), case)?;
     draws_over(rt, alloc, Walked::new(alloc), case)?;
@@ -343,7 +343,7 @@ fn draws_concurrent_jobs(rt: HostRuntime) -> Result<(), Fail> {
     draws_everywhere(&rt, rt.alloc(), Case::Concurrent)
 }
 
-// A call on a layer alone, by the number of its span.
+// A call on a layer without a registry, by the number of its span.
 #[derive(Clone, Copy)]
 enum Told {
     New(u64),
@@ -351,7 +351,7 @@ enum Told {
     Close(u64),
 }
 
-// Tells it to a layer over these spans.
+// Makes it on a layer over these spans.
 fn tell<S: LookupSpan>(
     alloc: Global,
     layer: &mut HierarchicalLayer<Tape, ()>,
@@ -370,7 +370,7 @@ fn tell<S: LookupSpan>(
     }
 }
 
-// What is told in turn, and how it is answered.
+// Calls made in turn, and their answers.
 const OF_ONE_ROOT: [(Told, Result<(), Refusal>); 7] = [
     (Told::New(1), Ok(())),
     (Told::Record(1), Ok(())),
@@ -381,7 +381,7 @@ const OF_ONE_ROOT: [(Told, Result<(), Refusal>); 7] = [
     (Told::Close(1), Ok(())),
 ];
 
-// Tells each in turn, and compares its answer. After each the layer is no longer fresh.
+// Makes each call in turn, and compares its answer. After each call the layer is no longer fresh.
 fn tells_each<S: LookupSpan>(
     rt: &impl Abort,
     alloc: Global,
@@ -394,7 +394,7 @@ fn tells_each<S: LookupSpan>(
     }
 }
 
-// A registry with a root that no layer has drawn.
+// Returns a registry with a root that no layer has drawn.
 fn rooted(alloc: Global) -> Result<Registry, Fail> {
     let mut registry = Registry::new(alloc);
     let root = attributes(alloc, "a", Parent::Root)?;

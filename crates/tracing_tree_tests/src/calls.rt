@@ -37,7 +37,7 @@ fn draws_a_tree(rt: HostRuntime) -> Result<(), Fail> {
     Ok(())
 }
 
-// So many roots, which live at once, and close again in the order in which they were made.
+// Returns `count` roots, which are live at once, and close in the order in which they opened.
 fn roots(alloc: Global, count: u64) -> Result<Vec<Step<'static>>, AllocError> {
     let mut steps = Vec::new(alloc);
     for _ in 0..count {
@@ -49,7 +49,7 @@ fn roots(alloc: Global, count: u64) -> Result<Vec<Step<'static>>, AllocError> {
     Ok(steps)
 }
 
-// So many roots, which are closed after the last has opened.
+// Returns the drawing of `count` roots that close after the last has opened.
 fn roots_text(alloc: Global, count: usize) -> Result<String, AllocError> {
     let opened = "┐a \n".repeat(alloc, count)?;
     let closed = "┘\n".repeat(alloc, count)?;

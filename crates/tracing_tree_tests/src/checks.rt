@@ -1,4 +1,5 @@
-//! What a test asserts of a tree, in functions that promise nothing: a test that is one call of them is soon proved.
+//! What a test asserts of a tree, in functions that promise nothing: a test that is one call of
+//! them is soon proved.
 
 use std::alloc::Global;
 use std::process::Abort;
@@ -18,7 +19,7 @@ pub fn draws(
     Ok(())
 }
 
-/// Each of these steps is answered as it stands beside it, and all that was drawn by then is this.
+/// Checks the answer to each of these steps, and what has been drawn after them.
 pub fn answers(
     rt: &impl Abort,
     alloc: Global,

@@ -1,11 +1,11 @@
-//! Clocks: the texts that they append.
+//! The output of clocks.
 
 use jiff::Timestamp;
 use std::alloc::{AllocError, Global};
 use std::test::*;
 use tracing_tree::time::{FormatTime, Moment, TimeFault, Uptime, UtcDateTime};
 
-// What a timer shows of a moment.
+// Returns what a timer shows of a moment.
 fn moment_text<F: FormatTime>(
     alloc: Global,
     timer: &F,
@@ -17,7 +17,7 @@ fn moment_text<F: FormatTime>(
     Ok(text)
 }
 
-// What a clock shows of an elapsed time.
+// Returns what a clock shows of an elapsed time.
 fn elapsed_text(alloc: Global, higher: bool, ansi: bool, nanos: u64) -> Result<String, TimeFault> {
     let mut text = String::new(alloc);
     let clock = UtcDateTime {
@@ -27,7 +27,8 @@ fn elapsed_text(alloc: Global, higher: bool, ansi: bool, nanos: u64) -> Result<S
     Ok(text)
 }
 
-// The instant that many nanoseconds after the start of 1970, or that start itself where there is none.
+// Returns the instant `nanosecond` after the start of 1970, or that start if the instant is out of
+// range.
 fn instant(nanosecond: i128) -> Timestamp {
     Timestamp::from_nanosecond(nanosecond).unwrap_or(Timestamp::UNIX_EPOCH)
 }
@@ -71,14 +72,15 @@ fn shows_elapsed_times(rt: HostRuntime) -> Result<(), TimeFault> {
     Ok(())
 }
 
-// A count of hundredths of a unit.
+// Returns a count of hundredths of a unit.
 fn hundredths(alloc: Global, count: u64, unit: &str) -> Result<String, AllocError> {
     let whole = count / 100;
     let cents = count % 100;
     format!(in alloc; " {whole}.{cents:02}{unit}")
 }
 
-// Whether the tie after this count goes to the even count, and its neighbours to the nearest.
+// Returns whether the tie after this count is rounded to the even count, and its neighbours to the
+// nearest.
 fn is_tie_even(alloc: Global, size: u64, unit: &str, count: u64) -> Result<bool, TimeFault> {
     let tie = count.wrapping_mul(size).wrapping_add(size / 2);
     let more = count.wrapping_add(1);
@@ -98,7 +100,7 @@ fn is_tie_even(alloc: Global, size: u64, unit: &str, count: u64) -> Result<bool,
     Ok(true)
 }
 
-// Whether it does so after each of these counts.
+// Returns whether it does so after each of these counts.
 fn are_ties_even(
     alloc: Global,
     size: u64,

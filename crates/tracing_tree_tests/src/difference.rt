@@ -7,7 +7,7 @@ use std::alloc::{AllocError, Global};
 use std::test::*;
 use tracing_tree::DifferenceIter;
 
-// The items of `right` that differ from those of `left`, by their values.
+// Returns the items of `right` that differ from those of `left`, by their values.
 fn differences<L: Iterator<Item = u32>>(
     alloc: Global,
     left: L,
@@ -19,7 +19,7 @@ where
     DifferenceIter::new(left, right.iter().copied(), |x: &u32| *x).collect(alloc)
 }
 
-// The same of two slices, whose items are then known.
+// Like `differences`, for two slices, whose items are then known.
 fn differences_of_slices(alloc: Global, left: &[u32], right: &[u32]) -> Result<Vec<u32>, AllocError>
     ensures { IfOk result (λ found. found.items ≡ differing nat_eq left.now right.now) }
 {
@@ -27,7 +27,7 @@ fn differences_of_slices(alloc: Global, left: &[u32], right: &[u32]) -> Result<V
     DifferenceIter::new(left, right.iter().copied(), |x: &u32| *x).collect(alloc)
 }
 
-// The same, of references to the items.
+// Like `differences_of_slices`, for references to the items.
 fn differences_of_references(
     alloc: Global,
     left: &[u32],

@@ -51,7 +51,7 @@ fn makes_calls(rt: HostRuntime) -> Result<(), Fail> {
     Ok(())
 }
 
-// The same with a registry and a layer apart.
+// Draws a root with a separate registry and layer.
 fn bare(
     alloc: Global,
     root: Attributes,
@@ -150,7 +150,7 @@ impl FormatTime for Star {
     }
 }
 
-// An event outside every span, with a star before it.
+// Returns an event outside every span, with a star before it.
 fn starred(alloc: Global) -> Result<Layered<Tape, Star>, Refusal> {
     let layer = HierarchicalLayer::new(alloc, 2, false, Tape::new(alloc)).with_timer(Star);
     let mut layered = Layered::new(alloc, layer);

@@ -9,15 +9,15 @@ use tracing_tree::time::{
     Clock, FormatTime, LocalDateTime, Moment, TimeFault, Uptime, UtcDateTime,
 };
 
-// What a timer shows of an instant.
+// Returns what a timer shows of an instant.
 fn shown<F: FormatTime>(alloc: Global, timer: &F, wall: Timestamp) -> Result<String, TimeFault> {
     let mut text = String::new(alloc);
     timer.format_time(&Moment { mono: 0, wall }, &mut text)?;
     Ok(text)
 }
 
-// What `jiff` prints of a date and a time, as a clock shows it. `jiff` writes a year below zero in six digits, an hour in two,
-// and no fraction where it is zero.
+// Returns a date and a time as printed by `jiff` in the form that a clock shows. `jiff` writes a
+// negative year in six digits, an hour in two, and no fraction if it is zero.
 fn as_shown(alloc: Global, printed: &str) -> Result<String, AllocError> {
     let (date, time) = printed.split_once('T').unwrap_or(("", ""));
     let (sign, date) = match date.strip_prefix("-00") {
@@ -29,7 +29,7 @@ fn as_shown(alloc: Global, printed: &str) -> Result<String, AllocError> {
     format!(in alloc; "{sign}{date} {time}{fraction}")
 }
 
-// The instant of this number among 10,000 from the first of `jiff` to the last.
+// Returns the instant of this number among 10,000 from the first of `jiff` to the last.
 fn instant(number: i64) -> Result<Timestamp, jiff::Error> {
     let second = number
         .wrapping_mul(63_110_723)
@@ -43,7 +43,8 @@ fn instant(number: i64) -> Result<Timestamp, jiff::Error> {
     Timestamp::new(second, nanosecond as i32)
 }
 
-// Whether the clock at offset zero shows what `jiff` prints of this instant, from which `jiff` reads the instant again.
+// Returns whether the clock at offset zero shows what `jiff` prints of this instant, from which
+// `jiff` reads the instant again.
 fn is_shown_in_utc(alloc: Global, wall: Timestamp) -> Result<bool, Fail> {
     let printed = wall.to_string(alloc)?;
     let read: Timestamp = printed.as_str().parse()?;
@@ -52,8 +53,8 @@ fn is_shown_in_utc(alloc: Global, wall: Timestamp) -> Result<bool, Fail> {
     Ok(read == wall && text.as_str() == wanted.as_str())
 }
 
-// Whether the clock at this offset shows what `jiff` prints of this instant there, and then the offset, which `jiff` prints in
-// six characters.
+// Returns whether the clock at this offset shows what `jiff` prints of this instant there, and then
+// the offset, which `jiff` prints in six characters.
 fn is_shown_at(alloc: Global, wall: Timestamp, offset: Offset, name: &str) -> Result<bool, Fail> {
     let printed = wall.display_with_offset(offset);
     let length = printed.as_str().len().saturating_sub(6);
@@ -74,7 +75,7 @@ fn shows_what_jiff_prints(rt: HostRuntime) -> Result<(), Fail> {
     Ok(())
 }
 
-// Whether the clock at this offset shows these instants as `jiff` does.
+// Returns whether the clock at this offset shows these instants as `jiff` does.
 fn are_shown_at(alloc: Global, seconds: i32, name: &str) -> Result<bool, Fail> {
     let offset = Offset::from_seconds(seconds)?;
     for number in 0..10_000 {
@@ -105,7 +106,7 @@ fn shows_what_jiff_prints_at_offsets(rt: HostRuntime) -> Result<(), Fail> {
     Ok(())
 }
 
-// Whether the clock at this offset shows this text of this instant.
+// Checks what the clock at this offset shows for this instant.
 fn shows_at(
     rt: &impl Abort,
     alloc: Global,
@@ -119,8 +120,9 @@ fn shows_at(
     Ok(())
 }
 
-// The first instant of `jiff` and the last, where a year, a century, the era and a leap day turn, and an instant of a leap day: the
-// second, the nanosecond, the offset, and the text.
+// The first and the last instant of `jiff`; instants at which a year, a century, the era or a leap
+// day turns; and an instant of a leap day. Each has the second, the nanosecond, the offset, and the
+// text.
 const TURNS: [(i64, i32, i32, &str); 14] = [
     (
         -377_705_023_201,
@@ -176,7 +178,7 @@ fn shows_dates_and_times(rt: HostRuntime) -> Result<(), Fail> {
     Ok(())
 }
 
-// New York, where the clocks were put forward in March 2024, and back in November.
+// New York's clocks were put forward in March 2024, and back in November.
 #[test]
 fn shows_the_offset_of_a_zone_at_each_instant(rt: HostRuntime) -> Result<(), Fail> {
     let zone = TimeZone::posix("EST5EDT,M3.2.0,M11.1.0")?;

@@ -1,4 +1,4 @@
-//! Calls whose parts are lent or moved alone.
+//! Calls whose parts are borrowed or moved separately.
 
 use std::alloc::Global;
 use std::test::*;
@@ -11,7 +11,7 @@ use tracing_tree::style::Level;
 use tracing_tree::told::{EventTexts, FieldTexts};
 use tracing_tree_for_tests::{at, attributes, lined};
 
-// An event whose texts the caller lends.
+// Records an event whose strings the caller lends.
 fn told(layered: &mut Layered<Tape, ()>, here: &Context) -> Result<(), Refusal> {
     let event = EventTexts {
         level: Level::Info,

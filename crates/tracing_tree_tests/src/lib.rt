@@ -1,5 +1,5 @@
-//! Tests of calls on a layer and of the clocks: each public call once on its happy path, the clocks against `jiff`'s own printing, and
-//! what no proof shows.
+//! Tests of calls on a layer and of the clocks: each public call once on its happy path, the clocks
+//! against `jiff`'s own printing, and what no proof shows.
 #![tactic(auto)]
 
 #[cfg(test)]

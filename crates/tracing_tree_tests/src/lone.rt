@@ -1,4 +1,4 @@
-//! A registry of one's own: a single root.
+//! A custom registry with a single root.
 
 use std::alloc::{AllocError, Global};
 use std::process::Abort;
@@ -18,7 +18,7 @@ pub struct Lone {
 }
 
 impl Lone {
-    /// A root of this name, without fields.
+    /// Returns a root of this name, without fields.
     pub fn new(alloc: Global, name: &str) -> Result<Lone, AllocError> {
         Ok(Lone {
             name: Text::from_str(alloc, name)?,

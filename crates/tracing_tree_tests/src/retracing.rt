@@ -212,7 +212,7 @@ const GONE: [Step<'static>; 4] = [
     Step::New("b", None),
 ];
 
-// An event whose current span is gone retraces nothing, and its last span may be gone.
+// An event whose current span isn't live retraces nothing, and its last span may not be live.
 #[test]
 fn retraces_to_no_span_that_is_gone(rt: HostRuntime) -> Result<(), Fail> {
     let settings = Settings {

@@ -1,5 +1,5 @@
-//! Texts, blocks, settings and single rows. The calls of the library stand in functions that promise nothing, so that the tests are soon
-//! proved.
+//! Strings, blocks, settings and single rows. The calls of the library are in functions without
+//! contracts, so the tests are proved quickly.
 
 use std::alloc::{AllocError, Global};
 use std::process::Abort;
@@ -11,7 +11,7 @@ use tracing_tree::text::Text;
 use tracing_tree::time::{FormatTime, TimeFault};
 use tracing_tree_for_tests::at;
 
-// A text, by whether it is for a terminal and by its style, and how it is painted.
+// A string with its ansi setting and its style, and how it is painted.
 const PAINTED: [(bool, Style, &str, &str); 4] = [
     (true, Style::Dimmed, "t", "\x1b[2mt\x1b[0m"),
     (true, Style::BoldWarn, "", "\x1b[1;38;2;252;234;160m\x1b[0m"),
@@ -64,7 +64,7 @@ enum Made {
     Whole(i128),
     Truth(bool),
 
-    // Of a text with escapes, which stands in `field`: there it is known to be ASCII.
+    // A string with escapes, as in `field`, which is known to be ASCII there.
     Quoted,
 }
 
@@ -110,7 +110,8 @@ const TEXTS: [&str; 5] = [
     "\u{fc}ber sechzehn Bytes",
 ];
 
-// Whether a text that is copied, one that is moved in and a clone are all this one.
+// Returns whether a string that is copied, one that is moved in and a clone are all equal to this
+// one.
 fn are_kept(alloc: Global, text: &str) -> Result<bool, AllocError> {
     let copied = Text::from_str(alloc, text)?;
     let moved = Text::from(String::from_str(alloc, text)?);
@@ -135,7 +136,7 @@ fn labels_events(rt: HostRuntime) -> Result<(), Fail> {
     Ok(())
 }
 
-// Whether thread ids and names are shown, and what then stands before a line of the thread 7, main.
+// Whether thread ids and names are shown, and the prefix of a line of thread 7, main.
 const PREFIXES: [(bool, bool, &str); 3] = [
     (true, false, "7"),
     (true, true, "7:main"),
@@ -180,7 +181,7 @@ fn indented(
     Ok(Rows { answer, bufs })
 }
 
-// Whether the rows are written, and nothing is left of them.
+// Returns whether the rows are written, and nothing is left of them.
 fn is_flushed(alloc: Global, bufs: &mut Buffers, rows: &str) -> bool {
     let mut tape = Tape::new(alloc);
     bufs.flush_current_buf(&mut tape).is_ok()
@@ -216,7 +217,7 @@ fn moves_the_rows(rt: HostRuntime) -> Result<(), Fail> {
     Ok(())
 }
 
-// Lines, a mode and a level at which the rows are too wide.
+// Lines on or off, with a mode and a level whose rows are too wide.
 const TOO_WIDE: [(bool, SpanMode, usize); 2] = [
     (false, SpanMode::Event, 2),
     (true, SpanMode::PostClose, 1),
@@ -234,7 +235,7 @@ fn refuses_what_is_too_wide(rt: HostRuntime) -> Result<(), Fail> {
     Ok(())
 }
 
-// What a timer appends at the start of 1970, and for an elapsed nanosecond.
+// Returns what a timer appends at the start of 1970, and for an elapsed nanosecond.
 fn texts_of_timer<F: FormatTime>(alloc: Global, timer: &F) -> Result<String, TimeFault> {
     let mut text = String::new(alloc);
     timer.format_time(&at(None).moment, &mut text)?;
@@ -255,7 +256,7 @@ fn no_timer_appends_nothing(rt: HostRuntime) {
     );
 }
 
-// Appends a field, and returns whether a comma stands before the next one.
+// Appends a field, and returns whether a comma comes before the next one.
 fn listed(
     alloc: Global,
     list: &mut FmtEvent<'_>,

@@ -13,7 +13,7 @@ use tracing_tree::style::Level;
 use tracing_tree::time::{FormatTime, Moment, Uptime, UtcDateTime};
 use tracing_tree_for_tests::{Answer, Step, run, told};
 
-// A layered over memory, with lines and this timer.
+// Returns a layered over memory, with lines and this timer.
 fn timed<FT: FormatTime + Drop>(
     alloc: Global,
     timer: FT,
@@ -24,7 +24,7 @@ fn timed<FT: FormatTime + Drop>(
     Ok(Box::new(alloc, Layered::new(alloc, layer))?)
 }
 
-// The call at another moment.
+// Returns the call at another moment.
 fn then(mut call: Call, mono: u64, nanosecond: i128) -> Call {
     let wall = Timestamp::from_nanosecond(nanosecond).unwrap_or(Timestamp::UNIX_EPOCH);
     let moment = Moment { mono, wall };
@@ -38,7 +38,7 @@ fn then(mut call: Call, mono: u64, nanosecond: i128) -> Call {
     call
 }
 
-// Whether a layered with this timer accepts the calls and draws this.
+// Returns whether a layered with this timer accepts the calls and draws this.
 fn draws<FT: FormatTime + Drop>(
     alloc: Global,
     timer: FT,
@@ -51,7 +51,7 @@ fn draws<FT: FormatTime + Drop>(
     Ok(accepted && layered.writer().bytes() == wanted.as_bytes())
 }
 
-// These calls, each at a moment of the clock that only goes forward.
+// Returns these calls, each at a moment of the monotonic clock.
 fn calls_at(alloc: Global, steps: &[(Step<'_>, u64)]) -> Result<Vec<Call>, AllocError> {
     let mut calls = Vec::new(alloc);
     for (step, mono) in steps {
@@ -60,7 +60,7 @@ fn calls_at(alloc: Global, steps: &[(Step<'_>, u64)]) -> Result<Vec<Call>, Alloc
     Ok(calls)
 }
 
-// An INFO event outside every span, at an instant of a leap day.
+// Returns an INFO event outside every span, at an instant of a leap day.
 fn dated(alloc: Global) -> Result<Vec<Call>, AllocError> {
     let call = then(
         told(alloc, Level::Info, "x", None)?,
@@ -103,7 +103,8 @@ fn times_an_event_in_a_span(rt: HostRuntime) -> Result<(), Fail> {
     Ok(())
 }
 
-// A root, its child, which begins after the event in it, and an event of a current span that isn't live.
+// A root, its child, which begins after the event in it, and an event of a current span that isn't
+// live.
 const EARLY_EVENT: [(Step<'static>, u64); 4] = [
     (Step::New("a", None), 1_000_000_000),
     (Step::New("b", Some(1)), 5_000_000_000),
@@ -128,7 +129,7 @@ fn takes_a_timer_of_ones_own(rt: HostRuntime) -> Result<(), Fail> {
     Ok(())
 }
 
-// Calls, and how often a timer has been asked after each.
+// Calls, and how often a timer has been called after each.
 const ASKING: [(Step<'static>, u32); 14] = [
     (Step::New("a", None), 0),
     (Step::Told(Level::Info, "x", Some(1)), 1),
@@ -146,7 +147,8 @@ const ASKING: [(Step<'static>, u32); 14] = [
     (Step::Told(Level::Info, "x", Some(1)), 7),
 ];
 
-// A layered with this timer, under the settings of the Rust crate's test `format_time_num_calls`.
+// Returns a layered with this timer, under the settings of the Rust crate's test
+// `format_time_num_calls`.
 fn asking(alloc: Global, asked: &Asked) -> Result<Box<Layered<Tape, &Asked>>, AllocError> {
     let layer = HierarchicalLayer::new(alloc, 2, false, Tape::new(alloc))
         .with_indent_lines(true)
@@ -196,7 +198,8 @@ const TIMED_OUT_ANSWERS: [Answer; 3] = [
     Err(Refusal::Failed),
 ];
 
-// Whether an event at 7 in a span that began at 2 is the fault of this timer, which leaves nothing but a failed layer.
+// Returns whether an event at 7 in a span that began at 2 is the fault of this timer, which leaves
+// nothing but a failed layer.
 fn fails(alloc: Global, timer: StopAt) -> Result<bool, AllocError> {
     let mut layered = timed(alloc, timer)?;
     let calls = calls_at(alloc, TIMED_OUT.as_slice())?;

@@ -1,4 +1,4 @@
-//! Timers of one's own: each is one impl.
+//! Custom timers: each is one impl.
 
 use std::alloc::AllocError;
 use std::cell::Cell;
@@ -35,7 +35,7 @@ impl FormatTime for Seconds {
     }
 }
 
-/// Shows nothing, and counts how often it is asked for a moment.
+/// A timer that shows nothing, and counts how often it is called for a moment.
 #[derive(Drop)]
 pub struct Asked {
     pub times: Cell<u32>,
@@ -61,7 +61,8 @@ impl FormatTime for Asked {
     }
 }
 
-/// Shows nothing, and faults at one moment of the clock that only goes forward, and at one elapsed time.
+/// A timer that shows nothing, and faults at one moment of the monotonic clock, and at one elapsed
+/// time.
 #[derive(Drop)]
 pub struct StopAt {
     pub moment: u64,

@@ -1,4 +1,4 @@
-//! A registry of one's own that lists a child before its root.
+//! A custom registry that lists a child before its root.
 
 use std::alloc::{AllocError, Global};
 use std::process::Abort;

@@ -9,7 +9,7 @@ use std::alloc::{AllocError, Global};
 use std::marker::Model;
 use std::{mem, slice};
 
-/// A field: its name, and the text of its value.
+/// A field: its name, and its value as a string.
 #[derive(Clone, Debug, Drop, PartialEq, Eq)]
 pub struct Field {
     pub name: Text,
@@ -17,7 +17,11 @@ pub struct Field {
 }
 
 impl Field {
-    /// A field whose value is kept as it is. `AllocError` where memory is refused.
+    /// Returns a field with this value, unchanged.
+    ///
+    /// # Errors
+    ///
+    /// `AllocError` if an allocation fails.
     pub fn rendered(alloc: Global, name: &str, value: &str) -> Result<Field, AllocError>
         ensures { IfOk result (λ field. field ≡ rendered_field name.now value.now) }
     {
@@ -27,7 +31,11 @@ impl Field {
         })
     }
 
-    /// A field whose value is a whole number, in decimal digits. `AllocError` where memory is refused.
+    /// Returns a field whose value is a whole number, in decimal digits.
+    ///
+    /// # Errors
+    ///
+    /// `AllocError` if an allocation fails.
     pub fn whole(alloc: Global, name: &str, value: i128) -> Result<Field, AllocError>
         ensures { IfOk result (λ field. field ≡ whole_field name.now value) }
     {
@@ -37,16 +45,23 @@ impl Field {
         })
     }
 
-    /// A field whose value is `true` or `false`. `AllocError` where memory is refused.
+    /// Returns a field whose value is `true` or `false`.
+    ///
+    /// # Errors
+    ///
+    /// `AllocError` if an allocation fails.
     pub fn truth(alloc: Global, name: &str, value: bool) -> Result<Field, AllocError>
         ensures { IfOk result (λ field. field ≡ truth_field name.now value) }
     {
         Field::rendered(alloc, name, if value { "true" } else { "false" })
     }
 
-    /// A field whose value is a text in Rust's debug form, between quotes and with escapes. The
-    /// caller must ensure that the text is ASCII.
-    /// `AllocError` where memory is refused.
+    /// Returns a field whose value is a string in Rust's debug form, in quotes and with escapes.
+    /// The caller must ensure that the string is ASCII.
+    ///
+    /// # Errors
+    ///
+    /// `AllocError` if an allocation fails.
     pub fn text(alloc: Global, name: &str, value: &str) -> Result<Field, AllocError>
         requires { IsAscii value.now }
         ensures { IfOk result (λ field. field ≡ text_field name.now value.now) }
@@ -58,7 +73,7 @@ impl Field {
     }
 }
 
-// An ASCII text in Rust's debug form.
+// Returns an ASCII string in Rust's debug form.
 fn quoted(alloc: Global, text: &str) -> Result<String, AllocError>
     requires { IsAscii text.now }
     ensures { IfOk result (λ made. string_bytes made ≡ quoted text.now) }
@@ -72,7 +87,7 @@ fn quoted(alloc: Global, text: &str) -> Result<String, AllocError>
     Ok(out)
 }
 
-// An ASCII character as Rust's debug form of a text shows it.
+// Appends an ASCII character as in the debug form of a string.
 fn push_escaped(out: &mut String, byte: u8) -> Result<(), AllocError>
     requires { byte < 128 }
     ensures { OnOk result (string_bytes out.new ≡ string_bytes out.old ++ escaped byte) }
@@ -89,7 +104,7 @@ fn push_escaped(out: &mut String, byte: u8) -> Result<(), AllocError>
     }
 }
 
-// A character by its code, in lowercase hexadecimal digits.
+// Appends the escape of a character: its code in lowercase hexadecimal digits.
 fn push_code(out: &mut String, byte: u8) -> Result<(), AllocError>
     ensures { OnOk result
         (string_bytes out.new ≡ string_bytes out.old ++ codes "\\u{" ++ digits 16 false byte
@@ -100,20 +115,21 @@ fn push_code(out: &mut String, byte: u8) -> Result<(), AllocError>
     out.push_str("}")
 }
 
-// A list of more than one field begins with room for four.
+// The first capacity of a list of several fields.
 const ROOM: usize = 4;
 
-/// A list of fields in order, which contracts see as that list. Equal names stay side by side.
+/// A list of fields in order, which contracts see as that list. Fields with the same name are all
+/// kept.
 ///
-/// One field alone lies in the value itself, so that it lies in the record of its span. No contract speaks of the place where
-/// fields lie.
+/// A single field is stored inline, and so in the record of its span. Contracts don't distinguish
+/// the two forms.
 #[derive(Debug, Drop)]
 pub struct Fields {
     alloc: Global,
     kept: Kept,
 }
 
-// Where fields lie.
+// How fields are stored.
 #[derive(Debug, Drop)]
 enum Kept {
     One(Field),
@@ -131,7 +147,7 @@ impl Model for Fields {
 }
 
 impl Fields {
-    /// No fields. Takes no memory.
+    /// Returns an empty list. Never allocates.
     pub fn new(alloc: Global) -> Fields
         ensures { result ≡ [] }
     {
@@ -141,7 +157,7 @@ impl Fields {
         }
     }
 
-    /// One field. Takes no memory.
+    /// Returns a list of one field. Never allocates.
     pub fn one(alloc: Global, field: Field) -> Fields
         ensures { result ≡ field ∷ [] }
     {
@@ -151,7 +167,7 @@ impl Fields {
         }
     }
 
-    /// The fields.
+    /// Returns the fields.
     pub fn as_slice(&self) -> &[Field]
         ensures { result.now ≡ self.now }
     {
@@ -161,7 +177,12 @@ impl Fields {
         }
     }
 
-    /// Puts the fields at the end. `AllocError` where memory is refused; the list is then as it was, and the fields are gone.
+    /// Appends the fields.
+    ///
+    /// # Errors
+    ///
+    /// `AllocError` if an allocation fails. The list is unchanged then, and the fields to append
+    /// are dropped.
     pub fn append(&mut self, fields: Fields) -> Result<(), AllocError>
         ensures ok { OnOk result (self.new ≡ self.old ++ fields) }
         ensures err { OnErr result (self.new ≡ self.old) }
@@ -175,7 +196,7 @@ impl Fields {
         appended
     }
 
-    // The fields in a list of their own. Nothing has changed where memory is refused.
+    // Takes the fields out, as a separate list. If an allocation fails, nothing has changed.
     fn take_list(&mut self) -> Result<Vec<Field>, AllocError>
         ensures ok { IfOk result (λ list. list.items ≡ self.old) }
         ensures err { OnErr result (self.new ≡ self.old) }
@@ -190,7 +211,7 @@ impl Fields {
         Ok(list)
     }
 
-    // Puts the fields at the end of the list, which is as it was where memory is refused.
+    // Appends the fields to the list. If an allocation fails, the list is unchanged.
     fn move_to(self, list: &mut Vec<Field>) -> Result<(), AllocError>
         ensures ok { OnOk result (list.new.items ≡ list.old.items ++ self) }
         ensures err { OnErr result (list.new.items ≡ list.old.items) }
@@ -203,7 +224,7 @@ impl Fields {
     }
 }
 
-/// Takes no memory.
+/// Never allocates.
 impl From<Vec<Field>> for Fields {
     ghost use Rattle.std.specs.Prelude.{◌≡◌};
 

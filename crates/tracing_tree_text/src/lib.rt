@@ -1,4 +1,4 @@
-//! Texts, fields of names and values, styles and levels: what a call tells, and how it is painted.
+//! Strings, fields, styles and levels: what a call records, and how it is painted.
 #![tactic(auto)]
 
 pub mod field;

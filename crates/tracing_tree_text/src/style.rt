@@ -14,7 +14,7 @@ use thiserror::Error;
 /// A style of text on a terminal.
 #[derive(Clone, Copy, Debug, PartialEq, Eq)]
 pub enum Style {
-    /// The text as it is.
+    /// Unchanged text.
     Plain,
     Dimmed,
     BoldGreen,
@@ -26,7 +26,7 @@ pub enum Style {
 }
 
 impl Style {
-    // The escape sequence that starts the style.
+    // Returns the escape sequence that starts the style.
     fn start(self) -> &'static str
         ensures text { result.now ≡ 27 ∷ 91 ∷ style_code self ++ 109 ∷ [] }
         ensures short { length result.now ≤ 23 }
@@ -43,8 +43,13 @@ impl Style {
     }
 }
 
-/// The text in a style, between the escape sequences that start and end it. Without ansi, and in the plain style, it stays
-/// as it is. `AllocError` where memory is refused. (The styles are those of docs/FORMATS.md, "Styles".)
+/// Returns the text in a style, between the escape sequences that start and end it. If `ansi` is
+/// off, or the style is `Plain`, the text is unchanged. (docs/FORMATS.md, "Styles", defines the
+/// styles.)
+///
+/// # Errors
+///
+/// `AllocError` if an allocation fails.
 pub fn styled(alloc: Global, ansi: bool, style: Style, text: &str) -> Result<String, AllocError>
     ensures { IfOk result (λ made. string_bytes made ≡ styled ansi style text.now) }
 {
@@ -53,7 +58,11 @@ pub fn styled(alloc: Global, ansi: bool, style: Style, text: &str) -> Result<Str
     Ok(painted)
 }
 
-/// Appends the text in a style, as `styled` makes it. On `AllocError` nothing is appended.
+/// Appends the text in a style, like [`styled`].
+///
+/// # Errors
+///
+/// `AllocError` if an allocation fails. `out` is unchanged then.
 #[inline(always)]
 pub fn push_styled(out: &mut String, ansi: bool, style: Style, text: &str) -> Result<(), AllocError>
     ensures ok { OnOk result (string_bytes out.new
@@ -70,8 +79,8 @@ pub fn push_styled(out: &mut String, ansi: bool, style: Style, text: &str) -> Re
     out.push_str("\x1b[0m")
 }
 
-/// How much an event matters. As in `tracing`, the more verbose level is the greater one: `Error` is the least, `Trace` the
-/// greatest.
+/// The severity of an event. As in `tracing`, a more verbose level is greater: `Error` is the least
+/// level, and `Trace` the greatest.
 #[derive(Clone, Copy, Debug, PartialEq, Eq, PartialOrd, Ord, Hash)]
 pub enum Level {
     Error,
@@ -82,7 +91,7 @@ pub enum Level {
 }
 
 impl Level {
-    /// The level's name in capitals, as `tracing` shows it.
+    /// Returns the level's name in capitals, as `tracing` shows it.
     pub fn as_str(&self) -> &'static str
         ensures { result.now ≡ level_text self.now }
     {
@@ -96,7 +105,7 @@ impl Level {
     }
 }
 
-/// Shows a level's name, padded as the format asks.
+/// Displays a level's name, padded as the format says.
 impl fmt::Display for Level {
     ghost use Rattle.std.specs.Prelude.{Some};
     ghost use Rattle.std.specs.Fmt.{padded};
@@ -111,12 +120,16 @@ impl fmt::Display for Level {
     }
 }
 
-/// A text is no level's name.
+/// The string isn't a level's name.
 #[derive(Clone, Copy, Debug, PartialEq, Eq, Error)]
 #[error("expected TRACE, DEBUG, INFO, WARN or ERROR")]
 pub struct ParseLevelError;
 
-/// Reads a level's name, as `as_str` shows it. `ParseLevelError` where the text is another, in small letters too.
+/// Parses a level's name, as `as_str` returns it.
+///
+/// # Errors
+///
+/// `ParseLevelError` for any other string, including a name in lowercase.
 impl FromStr for Level {
     ghost use Rattle.tracing_tree_text.specs.Style.{ReadsLevel};
 
@@ -136,7 +149,7 @@ impl FromStr for Level {
     }
 }
 
-// A level in its colour.
+// Returns the level in its colour, right-aligned in five columns.
 pub(crate) fn painted(level: &Level) -> &'static str
     ensures { result.now ≡ color_level_text level.now }
 {
@@ -149,7 +162,12 @@ pub(crate) fn painted(level: &Level) -> &'static str
     }
 }
 
-/// Appends a level as an event shows it: painted with ansi, else its name. On `AllocError` nothing is appended.
+/// Appends a level as an event shows it. If `ansi` is on, it is in colour and right-aligned in five
+/// columns. Otherwise it is the name.
+///
+/// # Errors
+///
+/// `AllocError` if an allocation fails. `out` is unchanged then.
 pub fn push_level(out: &mut String, ansi: bool, level: Level) -> Result<(), AllocError>
     ensures ok { OnOk result (string_bytes out.new
         ≡ string_bytes out.old ++ shown_level ansi level) }
@@ -158,7 +176,7 @@ pub fn push_level(out: &mut String, ansi: bool, level: Level) -> Result<(), Allo
     if ansi {
         return out.push_str(painted(&level));
     }
-    // Each name as a constant, which is written without a copy of unknown length.
+    // Each name is a separate constant, so no copy has an unknown length.
     match level {
         Level::Trace => out.push_str("TRACE"),
         Level::Debug => out.push_str("DEBUG"),

@@ -1,4 +1,4 @@
-//! Text, which contracts see as its bytes.
+//! Strings, which contracts see as their bytes.
 
 ghost use Rattle.std.specs.Prelude.{◌≡◌, ◌≤◌, IfOk, IsOk, length};
 
@@ -6,19 +6,19 @@ use arrayvec::ArrayString;
 use std::alloc::{AllocError, Global};
 use std::marker::Model;
 
-// Names, targets and most values have at most 16 bytes. They then lie in the value itself.
+// Names, targets and most values have at most 16 bytes, and are stored inline.
 const SHORT: usize = 16;
 
-/// A text, which contracts see as its bytes.
+/// A string, which contracts see as its bytes.
 ///
-/// At most 16 bytes lie in the value itself and take no memory. No contract speaks of the place where a text lies, so that two
-/// equal texts are equal values.
+/// A string of at most 16 bytes is stored inline and never allocates. Contracts don't distinguish
+/// the two forms, so equal strings are equal values.
 #[derive(Debug, Drop)]
 pub struct Text {
     kept: Kept,
 }
 
-// Where a text lies.
+// How a string is stored.
 #[derive(Debug, Drop)]
 enum Kept {
     Short(ArrayString<SHORT>),
@@ -35,7 +35,11 @@ impl Model for Text {
 }
 
 impl Text {
-    /// A copy of the characters. `AllocError` where memory is refused, which at most 16 bytes never ask for.
+    /// Returns a copy of a string.
+    ///
+    /// # Errors
+    ///
+    /// `AllocError` if an allocation fails. A string of at most 16 bytes never allocates.
     pub fn from_str(alloc: Global, text: &str) -> Result<Text, AllocError>
         ensures copy { IfOk result (λ copy. copy ≡ text.now) }
         ensures short { length text.now ≤ 16 → IsOk result }
@@ -47,7 +51,7 @@ impl Text {
         Ok(Text { kept })
     }
 
-    /// The characters.
+    /// Returns the string.
     pub fn as_str(&self) -> &str
         ensures { result.now ≡ self.now }
     {
@@ -58,7 +62,7 @@ impl Text {
     }
 }
 
-/// Takes no memory.
+/// Never allocates.
 impl From<String> for Text {
     ghost use Rattle.std.specs.Prelude.{◌≡◌, string_bytes};
 

@@ -1,4 +1,4 @@
-//! Dates, times and offsets as text.
+//! Appends dates, times and offsets.
 
 ghost use Rattle.std.specs.Prelude.{◌≡◌, ◌+◌, ◌^◌, ◌<◌, ◌≤◌, ◌++◌, ◌∷◌, decimal, length};
 ghost use Rattle.tracing_tree_time.specs.Clock.{date_text, time_text, fraction_text, offset_text};
@@ -7,7 +7,7 @@ use super::short::ShortText;
 use jiff::civil::{Date, Time};
 use jiff::tz::Offset;
 
-/// Appends `2000-02-29`.
+/// Appends a date, as `2000-02-29`.
 pub(super) fn push_date(text: &mut ShortText, date: Date)
     requires { length text.old + 11 ≤ 40 }
     ensures text { text.new ≡ text.old ++ date_text date.year date.month date.day }
@@ -23,7 +23,7 @@ pub(super) fn push_date(text: &mut ShortText, date: Date)
     text.push_pair(date.day().unsigned_abs() as u64);
 }
 
-/// Appends `12:34:56.05`, with a space before it.
+/// Appends a space and a time, as `12:34:56.05`.
 pub(super) fn push_time(text: &mut ShortText, time: Time)
     requires { length text.old + 19 ≤ 40 }
     ensures text { text.new ≡ text.old
@@ -40,7 +40,7 @@ pub(super) fn push_time(text: &mut ShortText, time: Time)
     push_fraction(text, time.subsec_nanosecond().unsigned_abs());
 }
 
-// An hour has one digit or two.
+// Appends an hour in one digit or two.
 fn push_hour(text: &mut ShortText, hour: u64)
     requires below { hour < 100 }
     requires room { length text.old + 2 ≤ 40 }
@@ -54,7 +54,7 @@ fn push_hour(text: &mut ShortText, hour: u64)
     }
 }
 
-/// Appends `+05:30:00`, with a space before it.
+/// Appends a space and an offset, as `+05:30:00`.
 pub(super) fn push_offset(text: &mut ShortText, offset: Offset)
     requires { length text.old + 10 ≤ 40 }
     ensures { text.new ≡ text.old ++ 32 ∷ offset_text offset.seconds }
@@ -69,7 +69,7 @@ pub(super) fn push_offset(text: &mut ShortText, offset: Offset)
     text.push_pair(seconds % 60);
 }
 
-// The nine digits of a fraction, without the zeros at its end; one digit stays.
+// Appends the nine digits of a fraction, without the zeros at its end. One digit stays.
 fn push_fraction(text: &mut ShortText, nanosecond: u32)
     requires below { nanosecond < 1_000_000_000 }
     requires room { length text.old + 9 ≤ 40 }

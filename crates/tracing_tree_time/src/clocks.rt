@@ -1,14 +1,14 @@
-//! A timer that is chosen when the program runs.
+//! A timer that is chosen at run time.
 
 use super::local::LocalDateTime;
 use super::uptime::Uptime;
 use super::utc::UtcDateTime;
 use super::{FormatTime, Moment, TimeFault};
 
-/// A timer that is chosen when the program runs. It shows what the chosen one shows.
+/// A timer that is chosen at run time. It shows what the chosen timer shows.
 #[derive(Drop)]
 pub enum Clock<'a> {
-    /// Shows nothing, as `()`.
+    /// Shows nothing, like `()`.
     None,
 
     /// Date and time at offset zero.

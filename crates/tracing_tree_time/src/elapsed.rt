@@ -1,4 +1,4 @@
-//! Elapsed times.
+//! Appends elapsed times.
 
 ghost use Rattle.std.specs.Prelude.{◌≡◌, ◌≤◌, Some, string_bytes};
 ghost use Rattle.tracing_tree_time.specs.Clock.{dimmed_pair, elapsed_text, hundredths_text, nearest_count};
@@ -8,8 +8,12 @@ ghost use Rattle.tracing_tree_time.specs.Pieces.{pieces_text, ShowsWhole, ShowsH
 use super::TimeFault;
 use super::pieces::{Piece, append};
 
-/// Appends an elapsed time, in nanoseconds, painted with ansi: with two decimals in higher precision, else in whole units.
-/// On `Memory` the text is as it was.
+/// Appends an elapsed time in nanoseconds, dimmed if `ansi` is on. It has two decimals in higher
+/// precision, otherwise whole units.
+///
+/// # Errors
+///
+/// `Memory` if an allocation fails. `out` is unchanged then.
 pub(super) fn style_timestamp(
     ansi: bool,
     higher_precision: bool,
@@ -29,7 +33,8 @@ pub(super) fn style_timestamp(
     }
 }
 
-// Appends a number and a unit, each dimmed by itself with ansi. On `Memory` the text is as it was.
+// Appends a number and a unit. If `ansi` is on, each is dimmed separately. If an allocation fails,
+// `out` is unchanged.
 fn append_dimmed(
     out: &mut String,
     ansi: bool,
@@ -49,7 +54,8 @@ fn append_dimmed(
     append(out, &[&[start], number, &[between, unit, end]])
 }
 
-// Whole milliseconds below a second, whole seconds below a minute, else whole minutes, with their unit.
+// Returns the time with its unit: whole milliseconds below a second, whole seconds below a minute,
+// otherwise whole minutes.
 fn whole_in_unit(elapsed_ns: u64) -> (u64, &'static str)
     ensures { ShowsWhole elapsed_ns result.0 result.1.now }
 {
@@ -64,7 +70,8 @@ fn whole_in_unit(elapsed_ns: u64) -> (u64, &'static str)
     }
 }
 
-// Hundredths of a microsecond below a millisecond, of a millisecond below a second, else of a second, with their unit.
+// Returns the time in hundredths, with its unit: of a microsecond below a millisecond, of a
+// millisecond below a second, otherwise of a second.
 fn hundredths_in_unit(elapsed_ns: u64) -> (u64, &'static str)
     ensures { ShowsHundredths elapsed_ns result.0 result.1.now }
 {
@@ -77,7 +84,7 @@ fn hundredths_in_unit(elapsed_ns: u64) -> (u64, &'static str)
     }
 }
 
-// The count of the unit that is nearest to the time; of two that are as near, the even one.
+// Returns the nearest whole number of units. Of two equally near, it is the even one.
 fn nearest_count(unit: u64, elapsed_ns: u64) -> u64
     requires low { 2 ≤ unit }
     requires high { unit ≤ 10_000_000 }
@@ -92,7 +99,7 @@ fn nearest_count(unit: u64, elapsed_ns: u64) -> u64
     }
 }
 
-// A number with two decimals after a space.
+// Returns a space, and a number with two decimals.
 fn decimal_pieces(hundredths: u64) -> [Piece; 4]
     ensures { pieces_text result ≡ hundredths_text hundredths }
 {

@@ -1,7 +1,8 @@
-//! Timers: what a layer shows of the moment of an event, and of the time since a span began.
+//! Timers: what a layer shows of the moment of an event, and of the time since a span started.
 //!
-//! [`UtcDateTime`], [`LocalDateTime`] and [`Uptime`] are timers, `()` is the one that shows nothing, and [`Clock`] is any of these, chosen
-//! while the program runs. Any other [`FormatTime`] will do.
+//! [`UtcDateTime`], [`LocalDateTime`] and [`Uptime`] are timers, and `()` is a timer that shows
+//! nothing. [`Clock`] is any of these, chosen at run time. To show time differently, implement
+//! [`FormatTime`].
 #![tactic(auto)]
 
 mod civil;

@@ -9,9 +9,11 @@ use super::short::ShortText;
 use super::{FormatTime, Moment, TimeFault};
 use jiff::tz::{Offset, TimeZone};
 
-/// Shows the date and the time at an offset or in a zone, and the offset then, as `2000-02-29 18:04:56.05 +05:30:00`.
+/// A timer that shows the date and the time at an offset or in a zone, and the offset, as
+/// `2000-02-29 18:04:56.05 +05:30:00`.
 ///
-/// `jiff` has a date and a time for each of its instants at each of its offsets, so it never faults.
+/// `jiff` has a date and a time for each of its instants at each of its offsets, so it never
+/// returns `Fault`.
 #[derive(Drop)]
 pub struct LocalDateTime<'a> {
     /// Whether an elapsed time is shown with two decimals.
@@ -20,7 +22,7 @@ pub struct LocalDateTime<'a> {
 }
 
 impl<'a> LocalDateTime<'a> {
-    /// At an offset.
+    /// Returns a timer at this offset.
     pub fn with_offset(offset: Offset, higher_precision: bool) -> LocalDateTime<'a>
         ensures timer { local_clock_timer result
             ≡ local_timer higher_precision (λ instant. offset.seconds) }
@@ -32,7 +34,7 @@ impl<'a> LocalDateTime<'a> {
         }
     }
 
-    /// At the offset that a zone has at each instant.
+    /// Returns a timer at the zone's offset at each instant.
     pub fn with_zone(zone: TimeZone<'a>, higher_precision: bool) -> LocalDateTime<'a>
         ensures { result ≡ local_in_zone zone.entry higher_precision }
     {

@@ -1,4 +1,5 @@
-//! Texts of timers, put together from pieces. They are appended whole or not at all, and need no memory but the text's own.
+//! Texts of timers, made from pieces. They are appended whole or not at all, and allocate only for
+//! the output.
 
 ghost use Rattle.std.specs.Prelude.{◌≡◌, ◌<◌, ◌++◌, Some, OnOk, replicate, decimal, string_bytes};
 ghost use Rattle.tracing_tree_time.specs.Timers.{AppendsStated};
@@ -12,32 +13,32 @@ use std::alloc::AllocError;
 /// A piece of a timer's text.
 #[derive(Clone, Copy)]
 pub(super) enum Piece {
-    // A text as it is.
+    // A string, unchanged.
     Text(&'static str),
 
     // A number in at least `places` digits.
     Digits { number: u64, places: usize },
 
-    // A number at the right end of `places` places.
+    // A number, right-aligned in `places` places.
     Right { number: u64, places: usize },
 }
 
 impl Piece {
-    /// A number in at least `places` digits, with zeros at its front.
+    /// Returns a number in at least `places` digits, with leading zeros.
     pub(super) fn digits(places: usize, number: u64) -> Piece
         ensures { piece_text result ≡ digits_in places number }
     {
         Piece::Digits { number, places }
     }
 
-    /// A number at the right end of `places` places, with spaces before it.
+    /// Returns a number, right-aligned with spaces in `places` places.
     pub(super) fn right(places: usize, number: u64) -> Piece
         ensures { piece_text result ≡ right_in places (decimal number) }
     {
         Piece::Right { number, places }
     }
 
-    /// A number.
+    /// Returns a number.
     #[tactic(auto, using(crate::proofs::Numbers::digits_in_one))]
     pub(super) fn number(number: u64) -> Piece
         ensures { piece_text result ≡ decimal number }
@@ -46,7 +47,11 @@ impl Piece {
     }
 }
 
-/// Appends the pieces of all groups. On `Memory` the text is as it was.
+/// Appends the pieces of all groups.
+///
+/// # Errors
+///
+/// `Memory` if an allocation fails. `out` is unchanged then.
 #[tactic(auto, using(tracing_tree_text::proofs::Extended::cuts_back))]
 pub(super) fn append(out: &mut String, groups: &[&[Piece]]) -> Result<(), TimeFault>
     ensures { AppendsStated (Some (groups_text groups.now))
@@ -62,7 +67,7 @@ pub(super) fn append(out: &mut String, groups: &[&[Piece]]) -> Result<(), TimeFa
     }
 }
 
-// Appends the pieces of all groups, or the first of them.
+// Appends the pieces of all groups. If an allocation fails, a part of them may be appended.
 fn push_groups(out: &mut String, groups: &[&[Piece]]) -> Result<(), AllocError>
     ensures ok { OnOk result
         (string_bytes out.new ≡ string_bytes out.old ++ groups_text groups.now) }
@@ -74,7 +79,7 @@ fn push_groups(out: &mut String, groups: &[&[Piece]]) -> Result<(), AllocError>
     Ok(())
 }
 
-// Appends the pieces, or the first of them.
+// Appends the pieces. If an allocation fails, a part of them may be appended.
 fn push_pieces(out: &mut String, pieces: &[Piece]) -> Result<(), AllocError>
     ensures ok { OnOk result
         (string_bytes out.new ≡ string_bytes out.old ++ pieces_text pieces.now) }
@@ -86,7 +91,7 @@ fn push_pieces(out: &mut String, pieces: &[Piece]) -> Result<(), AllocError>
     Ok(())
 }
 
-// Appends the piece, or some of it.
+// Appends the piece. If an allocation fails, a part of it may be appended.
 fn push_piece(out: &mut String, piece: Piece) -> Result<(), AllocError>
     ensures ok { OnOk result (string_bytes out.new ≡ string_bytes out.old ++ piece_text piece) }
     ensures extended { IsExtended (string_bytes out.old) (string_bytes out.new) }
@@ -98,7 +103,8 @@ fn push_piece(out: &mut String, piece: Piece) -> Result<(), AllocError>
     }
 }
 
-// Appends a number at the right end of `places` places, with the character before it, or some of it.
+// Appends a number, right-aligned in `places` places with the character `fill`. If an allocation
+// fails, a part of it may be appended.
 fn push_number(out: &mut String, fill: char, places: usize, number: u64) -> Result<(), AllocError>
     requires { fill < 128 }
     ensures ok { OnOk result (string_bytes out.new
@@ -114,7 +120,7 @@ fn push_number(out: &mut String, fill: char, places: usize, number: u64) -> Resu
     out.push(char::from(b'0' + (number % 10) as u8))
 }
 
-// Appends the character `times` times, or fewer.
+// Appends the character `times` times. If an allocation fails, fewer may be appended.
 fn push_fill(out: &mut String, fill: char, times: usize) -> Result<(), AllocError>
     requires { fill < 128 }
     ensures ok { OnOk result (string_bytes out.new ≡ string_bytes out.old ++ replicate times fill) }

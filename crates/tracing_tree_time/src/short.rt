@@ -1,4 +1,5 @@
-//! Short ASCII texts on the stack. A date and a time are put together in one, and appended at once.
+//! Short ASCII strings on the stack. A date and a time are put together in one, and appended at
+//! once.
 
 ghost use Rattle.std.specs.Prelude.{◌≡◌, ◌+◌, ◌^◌, ◌<◌, ◌≤◌, ◌++◌, ◌∷◌, [], Some, length, string_bytes};
 ghost use Rattle.tracing_tree_time.specs.Timers.{AppendsStated};
@@ -11,7 +12,7 @@ use std::str;
 // A date, a time and an offset together have at most 40 bytes.
 const ROOM: usize = 40;
 
-/// An ASCII text of at most 40 bytes.
+/// An ASCII string of at most 40 bytes.
 #[derive(Drop)]
 pub(super) struct ShortText {
     bytes: [u8; ROOM],
@@ -30,7 +31,7 @@ impl Model for ShortText {
 }
 
 impl ShortText {
-    /// An empty text.
+    /// Returns an empty string.
     pub(super) fn new() -> ShortText
         ensures { result ≡ [] }
     {
@@ -80,7 +81,11 @@ impl ShortText {
         self.push_pair(number % 100);
     }
 
-    /// Appends the text to another. On `Memory` that is as it was.
+    /// Appends the string to another.
+    ///
+    /// # Errors
+    ///
+    /// `Memory` if an allocation fails. `out` is unchanged then.
     pub(super) fn append_to(&self, out: &mut String) -> Result<(), TimeFault>
         ensures { AppendsStated (Some self.now)
             (string_bytes out.old) (string_bytes out.new) result }

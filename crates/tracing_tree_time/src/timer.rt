@@ -1,4 +1,4 @@
-//! What a timer writes, and why it may write nothing.
+//! The trait of timers, and their faults.
 
 ghost use Rattle.std.specs.Prelude.{string_bytes};
 ghost use Rattle.tracing_tree_time.specs.Clock.{Timer, no_timer};
@@ -9,10 +9,10 @@ use tracing_tree_context::{Moment, Refusal};
 /// Why a timer wrote nothing.
 #[derive(Clone, Copy, Debug, PartialEq, Eq)]
 pub enum TimeFault {
-    /// No memory.
+    /// An allocation failed.
     Memory,
 
-    /// The timer has no text for this moment or elapsed time.
+    /// The timer can't show this moment or elapsed time.
     Fault,
 }
 
@@ -29,7 +29,7 @@ impl From<TimeFault> for Refusal {
     }
 }
 
-/// A timer: what it writes at a moment, and after an elapsed time. (`FormatTime` of the Rust crate.)
+/// A timer: shows a moment and an elapsed time. (`FormatTime` of the Rust crate.)
 ///
 /// A timer that shows a star before each event:
 /// ```rust
@@ -56,17 +56,22 @@ impl From<TimeFault> for Refusal {
 /// }
 /// ```
 pub trait FormatTime {
-    /// The texts that it states, and where it faults.
+    /// What it shows of each moment and each elapsed time. `None` is a fault.
     ghost timer: { Self → Timer };
 
-    /// Appends the text of the moment. `Fault` exactly where the timer has none; `Memory` where memory is refused, and only
-    /// where there is a text that isn't empty. After either, `out` is as it was.
+    /// Appends the moment.
+    ///
+    /// # Errors
+    ///
+    /// `Fault` exactly if the timer can't show this moment. `Memory` if an allocation fails, which
+    /// can't happen if the timer shows nothing. `out` is unchanged after both.
     fn format_time(&self, moment: &Moment, out: &mut String) -> Result<(), TimeFault>
         ensures stated { AppendsStated ((timer self.now).moment_text moment.now)
             (string_bytes out.old) (string_bytes out.new) result }
         ensures memory { AsksForText ((timer self.now).moment_text moment.now) result };
 
-    /// Appends the text of an elapsed time, in nanoseconds, painted with ansi. Errors as of `format_time`.
+    /// Appends an elapsed time in nanoseconds, dimmed if `ansi` is on. The errors are those of
+    /// `format_time`.
     fn style_timestamp(
         &self,
         ansi: bool,

@@ -6,8 +6,8 @@ use super::elapsed::style_timestamp;
 use super::pieces::{Piece, append};
 use super::{FormatTime, Moment, TimeFault};
 
-/// Shows the time since an epoch, as `   3.000042s`: seconds in four places with six decimals, and zero before the epoch. It
-/// never faults.
+/// A timer that shows the time since an epoch, as `   3.000042s`: seconds in four places with six
+/// decimals, and zero before the epoch. It never returns `Fault`.
 #[derive(Clone, Copy, PartialEq, Eq)]
 pub struct Uptime {
     /// Whether an elapsed time is shown with two decimals.
@@ -15,7 +15,7 @@ pub struct Uptime {
     epoch: u64,
 }
 
-/// From an epoch in nanoseconds on the clock of `Moment::mono`, with lower precision.
+/// Starts at an epoch in nanoseconds on the clock of `Moment::mono`, with lower precision.
 impl From<u64> for Uptime {
     ghost use Rattle.std.specs.Prelude.{◌≡◌};
     ghost use Rattle.tracing_tree_time.specs.Clock.{uptime_from};

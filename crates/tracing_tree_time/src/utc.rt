@@ -6,7 +6,8 @@ use super::short::ShortText;
 use super::{FormatTime, Moment, TimeFault};
 use jiff::tz::Offset;
 
-/// Shows the date and the time at offset zero, as `2000-02-29 12:34:56.05`. It never faults.
+/// A timer that shows the date and the time at offset zero, as `2000-02-29 12:34:56.05`. It never
+/// returns `Fault`.
 #[derive(Clone, Copy, PartialEq, Eq)]
 pub struct UtcDateTime {
     /// Whether an elapsed time is shown with two decimals.

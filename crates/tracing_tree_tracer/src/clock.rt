@@ -1,4 +1,4 @@
-//! Clocks, which tell the moment of each call.
+//! Clocks, which return the moment of each call.
 
 ghost use Rattle.std.specs.Prelude.{◌≡◌, Some};
 
@@ -12,15 +12,15 @@ pub trait Now: Drop {
     ghost use Rattle.std.specs.Prelude.{Option};
     ghost use Rattle.tracing_tree_context.specs.declared.context.Moment.{Moment};
 
-    /// What it may tell: a moment, or none.
+    /// The possible results: a moment, or `None`.
     ghost tells: { Self → Option Moment → Type 0 };
 
-    /// The moment that it is now. `None` where it can't be told.
+    /// Returns the current moment, or `None` if the clock can't be read.
     fn now(&self) -> Option<Moment>
         ensures { tells self.now result };
 }
 
-/// A clock that stands still at this moment: for tests, and where nothing shows times.
+/// A clock that always returns this moment, for tests and for layers that don't show times.
 impl Now for Moment {
     ghost use Rattle.std.specs.Prelude.{◌≡◌, Some};
 
@@ -33,7 +33,7 @@ impl Now for Moment {
     }
 }
 
-/// The clocks of the machine. The one that only goes forward counts from where this was started.
+/// The system's clocks. The monotonic clock counts from the start of this value.
 #[derive(Drop)]
 pub struct SystemClock<'a, R: Clock> {
     rt: &'a R,
@@ -41,14 +41,18 @@ pub struct SystemClock<'a, R: Clock> {
 }
 
 impl<'a, R: Clock> SystemClock<'a, R> {
-    /// Starts now. `io::Error` where the clock can't be read.
+    /// Starts the clock now.
+    ///
+    /// # Errors
+    ///
+    /// `io::Error` if the clock can't be read.
     pub fn start(rt: &'a R) -> io::Result<SystemClock<'a, R>> {
         let started = Instant::now(rt)?;
         Ok(SystemClock { rt, started })
     }
 }
 
-/// No moment is told where one of the clocks can't be read.
+/// `now` returns `None` if one of the clocks can't be read.
 impl<R: Clock> Now for SystemClock<'_, R> {
     ghost use Rattle.std.specs.Prelude.{⊤};
 

@@ -1,5 +1,6 @@
-//! What a service writes its tree with: it opens and closes spans, and tells events in them. The rest of each call is handed in by a
-//! `Tracer`: the current span, the thread, the moment and the target. Its calls go to a `Layered`, or to whatever else takes `Calls`.
+//! Writes the tree of a service: opens and closes spans, and records events in them. A `Tracer`
+//! adds the rest of each call: the current span, the thread, the moment and the target. Its calls
+//! go to a `Layered`, or to any other `Calls`.
 #![tactic(auto)]
 
 pub mod clock;

@@ -1,4 +1,4 @@
-//! What is done within a span, which closes however that ends.
+//! Runs a closure in a span, which always closes.
 
 ghost use Rattle.std.specs.Fn.{FnOnceReturnsAtMut};
 ghost use Rattle.tracing_tree_tracer.specs.Values.{fields_of};
@@ -8,9 +8,13 @@ use crate::spans::Spans;
 use crate::tracer::TraceFault;
 use crate::value::Value;
 
-/// Opens a span, does this in it, and closes it however that ends. Spans that it left open are closed before.
+/// Opens a span, calls `body` in it, and closes the span when `body` returns, even on an error.
+/// Spans that `body` left open are closed first.
 ///
-/// A fault of the open or of the closes is the error, unless what was done failed: its own error comes first.
+/// # Errors
+///
+/// Returns the error of `body` if it failed, otherwise the fault of the open or of the closes. If
+/// the span can't be opened, `body` isn't called.
 pub fn within<S: Spans, T: Drop, E: From<TraceFault>, F: FnOnce(&mut S) -> Result<T, E>>(
     spans: &mut S,
     name: &str,

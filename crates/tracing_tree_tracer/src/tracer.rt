@@ -1,4 +1,4 @@
-//! A tracer: what takes its calls, the spans in which a service is, and what each call is handed.
+//! A tracer: a receiver of calls, the open spans of a service, and the context of each call.
 
 ghost use Rattle.std.specs.Prelude.{◌≡◌, [], ◌∷◌, Some, None, IfOk, MatchResult, length};
 ghost use Rattle.tracing_tree_tracer.specs.Values.{fields_of, message_field};
@@ -17,18 +17,19 @@ use tracing_tree_text::style::Level;
 use tracing_tree_text::text::Text;
 use tracing_tree_time::Moment;
 
-/// Why a tracer did nothing. After the first three no call was made, and nothing has changed.
+/// Why a tracer's method failed. After the first three faults no call was made, and nothing has
+/// changed.
 #[derive(Clone, Copy, Debug, PartialEq, Eq, Error)]
 pub enum TraceFault {
     /// No span is open.
     #[error("no span is open")]
     NoSpan,
 
-    /// The clock told no moment. Never with a clock that stands still.
+    /// The clock could not be read. A `Moment` as the clock never causes this.
     #[error("no moment")]
     NoMoment,
 
-    /// Memory was refused before the call was made.
+    /// An allocation failed before the call was made.
     #[error("memory")]
     Memory,
 
@@ -59,8 +60,9 @@ impl From<AllocError> for TraceFault {
     }
 }
 
-/// What a service, or one of its threads, writes its tree with. It has the spans in which the service is, outermost first: the last is
-/// the current one. Its calls go to a `Layered`, or to whatever else takes calls.
+/// Opens and closes spans and records events for one thread, or for a whole service. It has the
+/// open spans, outermost first. The last is the current one. Its calls go to a `Layered`, or to any
+/// other receiver of calls.
 #[derive(Drop)]
 pub struct Tracer<C: Calls, N: Now> {
     layered: C,
@@ -86,7 +88,8 @@ impl<C: Calls, N: Now> Model for Tracer<C, N> {
 }
 
 impl<C: Calls, N: Now> Tracer<C, N> {
-    /// A tracer in no span, of thread 1, which has no name, with the empty text as its target. The layer may hold spans.
+    /// Returns a tracer without open spans. Its thread is 1 without a name, and its target is
+    /// empty. The layer may already have spans.
     pub fn new(alloc: Global, layered: C, clock: N) -> Tracer<C, N>
         ensures { result ≡ record {
           layered = layered;
@@ -106,7 +109,7 @@ impl<C: Calls, N: Now> Tracer<C, N> {
         }
     }
 
-    /// With this target of all that it tells from now on.
+    /// Sets the target of all further spans and events.
     pub fn with_target(mut self, target: Text) -> Tracer<C, N>
         ensures { result ≡ record self { teller = record self.teller { target = target } } }
     {
@@ -114,7 +117,7 @@ impl<C: Calls, N: Now> Tracer<C, N> {
         self
     }
 
-    /// In this thread from now on.
+    /// Sets the thread of all further calls.
     pub fn with_thread(mut self, id: u64, name: Option<Text>) -> Tracer<C, N>
         ensures { result ≡ record self {
           teller = record self.teller { thread_id = id; thread_name = name };
@@ -125,35 +128,41 @@ impl<C: Calls, N: Now> Tracer<C, N> {
         self
     }
 
-    /// The current span: the innermost that is open.
+    /// Returns the current span: the innermost open one.
     pub fn current(&self) -> Option<Id>
         ensures { result ≡ current_of self.now.spans }
     {
         self.spans.as_slice().last().copied()
     }
 
-    /// How many spans are open.
+    /// Returns the number of open spans.
     pub fn depth(&self) -> usize
         ensures { result ≡ length self.now.spans }
     {
         self.spans.len()
     }
 
-    /// What takes the calls: the registry with its layer, or a thread's way to one.
+    /// Returns the receiver of the calls: the registry with its layer, or a thread's receiver over
+    /// a shared one.
     pub fn layered(&self) -> &C
         ensures { result.now ≡ self.now.layered }
     {
         &self.layered
     }
 
-    /// What takes the calls. Spans that are open stay so.
+    /// Returns the receiver of the calls. Open spans stay open.
     pub fn into_layered(self) -> C
         ensures { result ≡ self.layered }
     {
         self.layered
     }
 
-    /// Opens a span with these fields in the current one, and returns its id. From now on it is the current one.
+    /// Opens a span with these fields in the current one, and returns its id. It becomes the
+    /// current span.
+    ///
+    /// # Errors
+    ///
+    /// `NoMoment`, `Memory` or `Refused`. No span was opened then.
     pub fn open(&mut self, name: &str, fields: &[(&str, Value<'_>)]) -> Result<Id, TraceFault>
         ensures { IsOpened C.answers N.tells name.now (fields_of fields.now)
             result self.old self.new }
@@ -167,10 +176,13 @@ impl<C: Calls, N: Now> Tracer<C, N> {
         Ok(id)
     }
 
-    /// Closes the current span, and returns whether it went: it stays where a span in it lives. Either way the span around it is
-    /// the current one from now on.
+    /// Closes the current span, and returns whether it was removed. It isn't removed while it has a
+    /// live child. Either way its parent becomes the current span.
     ///
-    /// `NoSpan` where no span is open.
+    /// # Errors
+    ///
+    /// `NoSpan` if no span is open. `NoMoment`, `Memory` or `Refused`: the span is still open
+    /// then.
     pub fn close(&mut self) -> Result<bool, TraceFault>
         ensures { IsClosed C.answers N.tells result self.old self.new }
     {
@@ -184,7 +196,11 @@ impl<C: Calls, N: Now> Tracer<C, N> {
         Ok(was_removed)
     }
 
-    /// Tells an event with a message and these fields, in the current span.
+    /// Records an event with a message and these fields in the current span.
+    ///
+    /// # Errors
+    ///
+    /// `NoMoment`, `Memory` or `Refused`.
     pub fn event(
         &mut self,
         level: Level,
@@ -201,7 +217,7 @@ impl<C: Calls, N: Now> Tracer<C, N> {
         Ok(())
     }
 
-    /// Tells an event of level TRACE, as `event` does.
+    /// Records an event of level TRACE, like `event`.
     pub fn trace(&mut self, message: &str, fields: &[(&str, Value<'_>)]) -> Result<(), TraceFault>
         ensures { IsTold C.answers N.tells Level.Trace message.now
             (fields_of fields.now) result self.old self.new }
@@ -209,7 +225,7 @@ impl<C: Calls, N: Now> Tracer<C, N> {
         self.event(Level::Trace, message, fields)
     }
 
-    /// Tells an event of level DEBUG, as `event` does.
+    /// Records an event of level DEBUG, like `event`.
     pub fn debug(&mut self, message: &str, fields: &[(&str, Value<'_>)]) -> Result<(), TraceFault>
         ensures { IsTold C.answers N.tells Level.Debug message.now
             (fields_of fields.now) result self.old self.new }
@@ -217,7 +233,7 @@ impl<C: Calls, N: Now> Tracer<C, N> {
         self.event(Level::Debug, message, fields)
     }
 
-    /// Tells an event of level INFO, as `event` does.
+    /// Records an event of level INFO, like `event`.
     pub fn info(&mut self, message: &str, fields: &[(&str, Value<'_>)]) -> Result<(), TraceFault>
         ensures { IsTold C.answers N.tells Level.Info message.now
             (fields_of fields.now) result self.old self.new }
@@ -225,7 +241,7 @@ impl<C: Calls, N: Now> Tracer<C, N> {
         self.event(Level::Info, message, fields)
     }
 
-    /// Tells an event of level WARN, as `event` does.
+    /// Records an event of level WARN, like `event`.
     pub fn warn(&mut self, message: &str, fields: &[(&str, Value<'_>)]) -> Result<(), TraceFault>
         ensures { IsTold C.answers N.tells Level.Warn message.now
             (fields_of fields.now) result self.old self.new }
@@ -233,7 +249,7 @@ impl<C: Calls, N: Now> Tracer<C, N> {
         self.event(Level::Warn, message, fields)
     }
 
-    /// Tells an event of level ERROR, as `event` does.
+    /// Records an event of level ERROR, like `event`.
     pub fn error(&mut self, message: &str, fields: &[(&str, Value<'_>)]) -> Result<(), TraceFault>
         ensures { IsTold C.answers N.tells Level.Error message.now
             (fields_of fields.now) result self.old self.new }
@@ -241,9 +257,11 @@ impl<C: Calls, N: Now> Tracer<C, N> {
         self.event(Level::Error, message, fields)
     }
 
-    /// Puts these fields at the end of the current span's.
+    /// Appends these fields to those of the current span.
     ///
-    /// `NoSpan` where no span is open.
+    /// # Errors
+    ///
+    /// `NoSpan` if no span is open. `Memory` or `Refused`.
     pub fn record(&mut self, fields: &[(&str, Value<'_>)]) -> Result<(), TraceFault>
         ensures { IsRecorded C.answers (fields_of fields.now) result self.old
             self.new }
@@ -256,7 +274,12 @@ impl<C: Calls, N: Now> Tracer<C, N> {
         Ok(())
     }
 
-    /// Closes spans, innermost first, until no more than `depth` are open. At the first that can't be closed it ends.
+    /// Closes spans, innermost first, until at most `depth` are open.
+    ///
+    /// # Errors
+    ///
+    /// Returns the fault of the first span that can't be closed. That span and its ancestors are
+    /// still open.
     pub fn close_to(&mut self, depth: usize) -> Result<(), TraceFault>
         ensures { AreClosedTo C.answers N.tells depth result self.old self.new }
     {
@@ -274,7 +297,7 @@ impl<C: Calls, N: Now> Tracer<C, N> {
         self.clock.now().ok_or(TraceFault::NoMoment)
     }
 
-    // What a span that opens in the current one is made of.
+    // Returns the attributes of a span that opens in the current one.
     fn attributes(&self, name: &str, fields: &[(&str, Value<'_>)]) -> Result<Attributes, AllocError>
         ensures { IfOk result (λ attributes. attributes ≡ record {
           name = name.now;
@@ -291,7 +314,7 @@ impl<C: Calls, N: Now> Tracer<C, N> {
         })
     }
 
-    // An event in the current span.
+    // Returns an event in the current span.
     fn new_event(
         &self,
         level: Level,
@@ -313,7 +336,7 @@ impl<C: Calls, N: Now> Tracer<C, N> {
         })
     }
 
-    // The span around the current one, which is the current one once that is closed.
+    // Returns the span that is the current one after the next close.
     fn outer(&self) -> Option<Id>
         ensures { result ≡ current_of (outer_of self.now.spans) }
     {

@@ -7,13 +7,13 @@ use std::alloc::{AllocError, Global};
 use tracing_tree_text::field::{Field, Fields};
 use tracing_tree_text::text::Text;
 
-/// The value of a field, as it is handed in beside the field's name.
+/// The value of a field, passed with the field's name.
 #[derive(Clone, Copy, Debug, PartialEq, Eq)]
 pub enum Value<'a> {
-    /// A text, which is drawn between quotes and with escapes.
+    /// A string that is drawn in quotes and with escapes.
     Quoted(&'a str),
 
-    /// A text, which is drawn as it is.
+    /// A string that is drawn unchanged.
     Plain(&'a str),
 
     /// A whole number.
@@ -23,7 +23,7 @@ pub enum Value<'a> {
     Truth(bool),
 }
 
-// The field of this name.
+// Returns the field with this name.
 fn field(alloc: Global, name: &str, value: Value<'_>) -> Result<Field, AllocError>
     ensures { IfOk result (λ field. field ≡ field_of name.now value.entry) }
 {
@@ -38,7 +38,7 @@ fn field(alloc: Global, name: &str, value: Value<'_>) -> Result<Field, AllocErro
     }
 }
 
-// A text between quotes.
+// Returns a string in quotes.
 fn quoted(alloc: Global, text: &str) -> Result<String, AllocError>
     ensures { IfOk result (λ made. string_bytes made ≡ quoted_text text.now) }
 {
@@ -58,7 +58,8 @@ fn push_escaped_text(out: &mut String, text: &str) -> Result<(), AllocError>
     Ok(())
 }
 
-// A character between quotes. What has a name of its own is shown by that, and other control characters by their code.
+// Appends a character of a quoted string. Quotes, backslashes, `\t`, `\n`, `\r` and `\0` have their
+// short escapes. Other control characters are shown by their code.
 fn push_escaped(out: &mut String, c: char) -> Result<(), AllocError>
     ensures { OnOk result (string_bytes out.new ≡ string_bytes out.old ++ escaped_char c) }
 {
@@ -74,7 +75,7 @@ fn push_escaped(out: &mut String, c: char) -> Result<(), AllocError>
     }
 }
 
-// A character by its code, in lowercase hexadecimal digits.
+// Appends the escape of a character: its code in lowercase hexadecimal digits.
 fn push_code(out: &mut String, code: u32) -> Result<(), AllocError>
     ensures { OnOk result (string_bytes out.new ≡ string_bytes out.old ++ escaped_code code) }
 {
@@ -83,7 +84,7 @@ fn push_code(out: &mut String, code: u32) -> Result<(), AllocError>
     out.push_str("}")
 }
 
-// Puts the fields at the end of a list.
+// Appends the fields to a list.
 fn push_fields(list: &mut Vec<Field>, fields: &[(&str, Value<'_>)]) -> Result<(), AllocError>
     ensures { OnOk result (list.new.items ≡ list.old.items ++ fields_of fields.now) }
 {
@@ -94,7 +95,7 @@ fn push_fields(list: &mut Vec<Field>, fields: &[(&str, Value<'_>)]) -> Result<()
     Ok(())
 }
 
-// The fields of a span.
+// Returns the fields of a span.
 pub(crate) fn span_fields(alloc: Global, fields: &[(&str, Value<'_>)]) -> Result<Fields, AllocError>
     ensures { IfOk result (λ made. made ≡ fields_of fields.now) }
 {
@@ -103,7 +104,7 @@ pub(crate) fn span_fields(alloc: Global, fields: &[(&str, Value<'_>)]) -> Result
     Ok(Fields::from(list))
 }
 
-// The fields of an event: its message first.
+// Returns the fields of an event, its message first.
 pub(crate) fn event_fields(
     alloc: Global,
     message: &str,

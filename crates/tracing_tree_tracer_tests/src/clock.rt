@@ -1,4 +1,4 @@
-//! How often a tracer asks its clock.
+//! How often a tracer calls its clock.
 
 use crate::lined::lined;
 use crate::steps::{Given, Line, Step, first_unlike};
@@ -9,7 +9,7 @@ use tracing_tree_core::style::Level;
 use tracing_tree_core::time::Moment;
 use tracing_tree_tracer::{Now, Tracer};
 
-// A clock that counts how often it is asked.
+// A clock that counts its calls.
 #[derive(Drop)]
 struct Asked<'a> {
     count: &'a Cell<u32>,

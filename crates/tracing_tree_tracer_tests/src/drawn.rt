@@ -34,7 +34,7 @@ fn serve(tracer: &mut Tracer<Layered<Tape, ()>, Moment>) -> Result<(), TraceFaul
     Ok(())
 }
 
-// The registry and the layer, once the tracer is done with.
+// Returns the registry and the layer, once the tracer is done with.
 fn into_layered(tracer: Tracer<Layered<Tape, ()>, Moment>) -> Layered<Tape, ()> {
     tracer.into_layered()
 }
@@ -110,13 +110,13 @@ fn a_deferred_span_shows_what_was_recorded(rt: HostRuntime) -> Result<(), Fail> 
     Ok(())
 }
 
-// Three seconds later, by the clock that only goes forward.
+// Three seconds later, by the monotonic clock.
 const THIRD_SECOND: Moment = Moment {
     mono: 3_000_000_000,
     wall: Timestamp::UNIX_EPOCH,
 };
 
-// A layer that shows threads, targets and the time.
+// Returns a layer that shows threads, targets and the time.
 fn telling(alloc: Global) -> Layered<Tape, Uptime> {
     let layer = HierarchicalLayer::new(alloc, 2, false, Tape::new(alloc))
         .with_indent_lines(true)
@@ -127,7 +127,7 @@ fn telling(alloc: Global) -> Layered<Tape, Uptime> {
     Layered::new(alloc, layer)
 }
 
-// A tracer of the thread 7, main, in its third second.
+// Returns a tracer of the thread 7, main, in its third second.
 fn in_thread(alloc: Global) -> Result<Tracer<Layered<Tape, Uptime>, Moment>, AllocError> {
     let target = Text::from_str(alloc, "web")?;
     let name = Text::from_str(alloc, "main")?;
@@ -151,13 +151,13 @@ fn shows_thread_target_and_moment(rt: HostRuntime) -> Result<(), Fail> {
     Ok(())
 }
 
-// Two moments, one after the other. None where one of them can't be told.
+// Returns two moments, one after the other, or `None` if one of them can't be read.
 fn moments(clock: &impl Now) -> Option<(Moment, Moment)> {
     let first = clock.now()?;
     Some((first, clock.now()?))
 }
 
-// Tells an event at a moment of this clock.
+// Records an event at a moment of this clock.
 fn tell_by(alloc: Global, clock: impl Now) -> Result<(), TraceFault> {
     let mut tracer = Tracer::new(alloc, lined(alloc), clock);
     tell(&mut tracer, Level::Info, "x", &[])

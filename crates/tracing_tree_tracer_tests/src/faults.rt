@@ -1,4 +1,4 @@
-//! What a tracer does where it can't.
+//! The faults of a tracer.
 
 use crate::lined::{lined, lined_over};
 use crate::steps::{Given, Line, Step, close, depth, first_unlike, open, tell, text};
@@ -35,7 +35,7 @@ fn nothing_is_closed_outside_spans(rt: HostRuntime) -> Result<(), Fail> {
     Ok(())
 }
 
-// A clock that stands broken.
+// A clock that always fails.
 #[derive(Drop)]
 struct Broken;
 
@@ -62,7 +62,7 @@ fn without_a_moment_no_call_is_made(rt: HostRuntime) -> Result<(), Fail> {
     Ok(())
 }
 
-// A writer that takes so many writes and refuses each later one.
+// A writer that takes `left` writes and refuses each later one.
 #[derive(Drop)]
 struct Halting {
     left: u64,

@@ -11,7 +11,7 @@ use tracing_tree_layer::{HierarchicalLayer, Layered};
 use tracing_tree_tracer::Value::Plain;
 use tracing_tree_tracer::{TraceFault, Tracer};
 
-// A tracer whose rows aren't indented.
+// Returns a tracer whose rows aren't indented.
 fn flat(alloc: Global) -> Tracer<Layered<Tape, ()>, Moment> {
     let start = Moment {
         mono: 0,

@@ -1,5 +1,5 @@
-//! What is done with a tracer, by functions and as lines of a table. The functions have no clauses, so that a test that calls them is soon
-//! proved.
+//! What is done with a tracer, by functions and as lines of a table. The functions have no clauses,
+//! so that a test that calls them is soon proved.
 
 use tracing_tree_core::format::{Id, Tape};
 use tracing_tree_core::style::Level;
@@ -57,7 +57,7 @@ pub fn record<C: Calls, N: Now>(
     tracer.record(fields)
 }
 
-/// Tells an event by the method that is named after its level.
+/// Records an event by the method that is named after its level.
 pub fn tell<C: Calls, N: Now>(
     tracer: &mut Tracer<C, N>,
     level: Level,
@@ -81,12 +81,12 @@ fn event<C: Calls, N: Now>(
     tracer.event(level, message, &[])
 }
 
-/// How many spans are open.
+/// Returns how many spans are open.
 pub fn depth<C: Calls, N: Now>(tracer: &Tracer<C, N>) -> usize {
     tracer.depth()
 }
 
-/// What was written.
+/// Returns what was written.
 pub fn text<N: Now>(tracer: &Tracer<Layered<Tape, ()>, N>) -> &[u8] {
     tracer.layered().writer().bytes()
 }
@@ -101,8 +101,8 @@ fn take<C: Calls, N: Now>(tracer: &mut Tracer<C, N>, step: Step<'_>) -> Answer {
     }
 }
 
-/// Makes the calls up to the first that is answered, or leaves open, otherwise than its line says: returns that line's place, with what it
-/// was answered and how many spans were open.
+/// Makes the calls up to the first that is answered, or leaves open, otherwise than its line says:
+/// returns that line's place, with what it was answered and how many spans were open.
 pub fn first_unlike<C: Calls, N: Now>(
     tracer: &mut Tracer<C, N>,
     lines: &[Line<'_>],

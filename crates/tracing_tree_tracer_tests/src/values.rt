@@ -1,4 +1,4 @@
-//! Values of fields as they are drawn.
+//! Values of fields, as drawn.
 
 use crate::lined::lined;
 use crate::steps::{tell, text as drawn};
@@ -10,7 +10,7 @@ use tracing_tree_core::time::Moment;
 use tracing_tree_tracer::Value::{Plain, Quoted, Truth, Whole};
 use tracing_tree_tracer::{Tracer, Value};
 
-// Whether an event with this value of the field `k` is drawn as this text.
+// Returns whether an event with this value of the field `k` is drawn as this text.
 fn is_drawn(alloc: Global, value: Value<'_>, text: &str) -> bool {
     let moment = Moment {
         mono: 0,

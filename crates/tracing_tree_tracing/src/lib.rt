@@ -1,6 +1,6 @@
-//! The JSON lines of Rust's tracing-subscriber, drawn as a tree.
+//! Draws the JSON lines of Rust's tracing-subscriber as a tree.
 //!
-//! [`Tracing`] tells what the lines mean, and `tracing_tree_sources::draw_source` draws it.
+//! [`Tracing`] turns the lines into calls, and `tracing_tree_sources::draw_source` draws it.
 #![tactic(auto)]
 
 pub mod tracing;

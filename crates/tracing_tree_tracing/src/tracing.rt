@@ -1,4 +1,4 @@
-//! Lines of Rust's tracing: what tracing-subscriber's JSON format writes.
+//! Lines of Rust's tracing, in tracing-subscriber's JSON format.
 
 ghost use Rattle.std.specs.Prelude.{◌≡◌, ◌++◌, ◌∷◌, [], IfOk, None, OnOk, Some, length, map, option_map, position};
 ghost use Rattle.json.specs.Value.{value_view};
@@ -29,37 +29,38 @@ use tracing_tree_text::style::Level;
 use tracing_tree_text::text::Text;
 use tracing_tree_time::Moment;
 
-// A span that lives.
+// A live span.
 #[derive(Drop)]
 struct Live {
     id: Id,
-    // The span in which it opened.
+    // The parent's span, when it opened.
     above: Option<Id>,
-    // As it was first listed.
+    // The span as first listed.
     first: Listed,
-    // The fields that were recorded later, in the order in which lines listed them.
+    // The fields that were recorded later, in the order of the lines that listed them.
     late: Fields,
-    // That of the line with which it opened, empty where the line doesn't tell it.
+    // The thread of the line that opened it. Empty if the line doesn't have one.
     thread: Text,
-    // Whether it was told by `new`.
+    // Whether a `new` reported it.
     is_told: bool,
 }
 
-// How many of the spans that no `new` reported are known at most, beside those of a line. A span that
-// comes back after that opens again.
+// At most this many spans that weren't reported by a `new` are remembered, in addition to those of
+// a line. A span that appears again after that opens again.
 const KNOWN: usize = 64;
 
-/// What is known of the spans that live. A span is identified by its position in the list of spans, its name and its fields.
+/// The live spans in the lines of tracing-subscriber. A span is identified by its position in the
+/// list of spans, its name and its fields. Later lines may list more fields of it.
 #[derive(Drop)]
 pub struct Tracing {
     alloc: Global,
-    // The id that the next span gets.
+    // The id of the next span.
     next: u64,
-    // That of the last line.
+    // The moment of the last line.
     moment: Moment,
     // How the thread of the last line is shown.
     thread_shown: Option<Text>,
-    // The oldest first.
+    // The live spans, oldest first.
     live: Vec<Live>,
     // The last span of the last line.
     at: Option<Id>,
@@ -82,7 +83,8 @@ impl Model for Tracing {
 }
 
 impl Tracing {
-    /// No span lives yet. The next span gets this id, and calls are made at this moment until a line tells a time.
+    /// Returns the state before the first line. The next span gets the id `next`, and calls are
+    /// made at `moment` until a line has a time.
     pub fn new(alloc: Global, next: u64, moment: Moment) -> Tracing
         ensures { result ≡ nothing_open next moment }
     {
@@ -97,7 +99,7 @@ impl Tracing {
         }
     }
 
-    // Goes on to the moment and the thread of a line.
+    // Advances to the moment and the thread of a line.
     fn place(&mut self, value: &Value<'_>) -> Result<(), AllocError>
         ensures { OnOk result (self.new ≡ placed (value_view value.now) self.old) }
     {
@@ -106,7 +108,7 @@ impl Tracing {
         Ok(())
     }
 
-    // Hands out the calls.
+    // Returns the calls, and empties the list.
     fn told(&mut self) -> Vec<Call>
         ensures told { result.items ≡ self.old.calls }
         ensures rest { self.new ≡ record self.old { calls = [] } }
@@ -130,7 +132,8 @@ impl Tracing {
         }
     }
 
-    // Comes to the span of a line: its parent, if it names one, otherwise the last of its spans.
+    // Finds the span of a line: its parent, if it names one, otherwise the last of its spans. Opens
+    // spans that aren't live.
     fn locate(&mut self, kind: Kind, value: &Value<'_>) -> Result<Option<Id>, AllocError>
         ensures { IfOk result (λ at. located kind (value_view value.now) self.old ≡ record { at = at; state = self.new }) }
     {
@@ -142,7 +145,7 @@ impl Tracing {
         }
     }
 
-    // The newest span that this entry may be. Opens a root if there is none.
+    // Returns the newest span that may be the one of this entry. Opens a root if there isn't one.
     fn find_parent(&mut self, listed: Listed, thread: &str) -> Result<Id, AllocError>
         ensures { IfOk result (λ id. parent_found thread.now listed self.old ≡ record { at = Some id; state = self.new }) }
     {
@@ -154,7 +157,8 @@ impl Tracing {
         }
     }
 
-    // Comes to the last of these spans from the root on. Those that don't live open.
+    // Returns the last of these spans, following them from the root on. Opens those that aren't
+    // live.
     fn reach(&mut self, path: Vec<Listed>, thread: &str) -> Result<Option<Id>, AllocError>
         ensures { IfOk result (λ at. reached (length path.items) thread.now path.items None self.old ≡ record { at = at; state = self.new }) }
     {
@@ -166,7 +170,7 @@ impl Tracing {
         Ok(at)
     }
 
-    // The span of this entry in the one above; it opens unless it lives.
+    // Returns the span of this entry in the parent `above`. Opens it unless it is live.
     fn step(
         &mut self,
         depth: usize,
@@ -184,7 +188,7 @@ impl Tracing {
         }
     }
 
-    // Records the fields of this entry that aren't known of the span.
+    // Records the fields of this entry that are new for the span.
     fn meet(&mut self, id: Option<Id>, listed: &Listed) -> Result<(), AllocError>
         ensures { OnOk result (self.new ≡ met id listed.now self.old) }
     {
@@ -197,7 +201,7 @@ impl Tracing {
         }
     }
 
-    // Records these fields of a span, which come after those that it has.
+    // Records these fields of a span, after those that it has.
     fn learn(&mut self, id: Id, late: Fields) -> Result<(), AllocError>
         ensures { OnOk result (self.new ≡ learned id late self.old) }
     {
@@ -210,7 +214,7 @@ impl Tracing {
         Ok(())
     }
 
-    // Opens a span that no `new` reported, of a line that lists `depth` spans.
+    // Opens a span that wasn't reported by a `new`, for a line that lists `depth` spans.
     fn begin(
         &mut self,
         depth: usize,
@@ -224,7 +228,7 @@ impl Tracing {
         self.open(false, listed, thread, above)
     }
 
-    // Forgets the oldest of the spans that no `new` reported if too many of them are known.
+    // Forgets the oldest span that wasn't reported by a `new`, if there are too many of them.
     fn spare(&mut self, depth: usize)
         ensures { self.new ≡ spared depth self.old }
     {
@@ -264,7 +268,7 @@ impl Tracing {
         Ok(id)
     }
 
-    // An event in this span.
+    // Records an event in this span.
     fn push_event(
         &mut self,
         level: Level,
@@ -287,7 +291,7 @@ impl Tracing {
         Ok(())
     }
 
-    // Ends the span whose close a line tells.
+    // Closes the span whose close a line reports.
     fn close_told(
         &mut self,
         level: Level,
@@ -309,7 +313,8 @@ impl Tracing {
         }
     }
 
-    // The span of this entry, whose close is told: the one in the span above, else one that stands elsewhere. Where none lives it opens.
+    // Returns the span of this entry, whose close is reported: the one in the parent `above`,
+    // otherwise one elsewhere. Opens it if it isn't live.
     fn closing(&mut self, listed: Listed, thread: &str, above: Option<Id>) -> Result<Id, AllocError>
         ensures { IfOk result (λ id. closing thread.now listed above self.old ≡ record { at = Some id; state = self.new }) }
     {
@@ -321,7 +326,8 @@ impl Tracing {
         }
     }
 
-    // Ends a span: an event shows its times and its late fields, if there are any, and it closes.
+    // Ends a span: records an event with its times and its late fields, if it has any, and closes
+    // it.
     fn end(&mut self, level: Level, fields: Fields, id: Id) -> Result<(), AllocError>
         ensures { OnOk result (self.new ≡ ended level fields id self.old) }
     {
@@ -333,7 +339,7 @@ impl Tracing {
         self.close(id)
     }
 
-    // Takes a line that isn't a JSON object: an event in the last span of the line before it.
+    // Takes a line that isn't a JSON object, as an event in the last span of the line before it.
     fn take_plain(&mut self, line: &str) -> Result<(), AllocError>
         ensures { OnOk result (self.new ≡ plain_told line.now self.old) }
     {
@@ -342,7 +348,7 @@ impl Tracing {
         Ok(self.calls.push(call)?)
     }
 
-    // Closes a span with all that live in it.
+    // Closes a span and all live spans in it.
     fn close(&mut self, id: Id) -> Result<(), AllocError>
         ensures { OnOk result (self.new ≡ closed id self.old) }
     {
@@ -357,7 +363,7 @@ impl Tracing {
         mem::replace(&mut self.live, Vec::new(self.alloc))
     }
 
-    // Closes a span and those in it among these, and keeps the others.
+    // Closes a span and those of `live` in it, and keeps the others.
     fn part(&mut self, live: Vec<Live>, id: Id) -> Result<(), AllocError>
         ensures { OnOk result (self.new ≡ parted live.items (id ∷ []) self.old) }
     {
@@ -369,7 +375,7 @@ impl Tracing {
         Ok(())
     }
 
-    // Closes a span that goes with these, or keeps it.
+    // Closes a span if it is one of these or nested in one. Otherwise keeps it.
     fn part_one(&mut self, one: Live, gone: &mut Vec<Id>) -> Result<(), AllocError>
         ensures { OnOk result (parted_one one gone.old.items self.old ≡ record { gone = gone.new.items; state = self.new }) }
     {
@@ -381,7 +387,7 @@ impl Tracing {
     }
 }
 
-// Whether a span is one of these or stands in one.
+// Returns whether a span is one of these or a child of one.
 fn goes_with(one: &Live, gone: &[Id]) -> bool
     ensures { result ≡ goes_with one.now gone.now }
 {
@@ -397,14 +403,14 @@ fn is_in(above: Option<Id>, gone: &[Id]) -> bool
     }
 }
 
-// Whether the id is among these.
+// Returns whether the id is among these.
 fn contains(ids: &[Id], id: Id) -> bool
     ensures { result ≡ list_any (same_id id) ids.now }
 {
     ids.iter().any(|other| id == *other)
 }
 
-// The newest span in the one above that an entry may be.
+// Returns the newest child of `above` that may be the span of an entry.
 fn child(live: &[Live], above: Option<Id>, listed: &Listed) -> Option<Id>
     ensures { result ≡ child live.now above listed.now }
 {
@@ -415,7 +421,7 @@ fn child(live: &[Live], above: Option<Id>, listed: &Listed) -> Option<Id>
     Some(found.id)
 }
 
-// The newest span that an entry may be.
+// Returns the newest span that may be the one of an entry.
 fn anywhere(live: &[Live], listed: &Listed) -> Option<Id>
     ensures { result ≡ anywhere live.now listed.now }
 {
@@ -426,7 +432,7 @@ fn anywhere(live: &[Live], listed: &Listed) -> Option<Id>
     Some(found.id)
 }
 
-// The newest span in the one above that opened on this thread.
+// Returns the newest child of `above` that opened on this thread.
 fn child_of_thread(live: &[Live], above: Option<Id>, thread: &str) -> Option<Id>
     ensures { result ≡ child_of_thread live.now above thread.now }
 {
@@ -437,7 +443,7 @@ fn child_of_thread(live: &[Live], above: Option<Id>, thread: &str) -> Option<Id>
     Some(found.id)
 }
 
-// The span of an entry in the one above, otherwise one anywhere.
+// Returns the span of an entry in the parent `above`, otherwise one anywhere.
 fn found(live: &[Live], above: Option<Id>, listed: &Listed) -> Option<Id>
     ensures { result ≡ found live.now above listed.now }
 {
@@ -512,7 +518,7 @@ impl Source for Tracing {
     }
 }
 
-// The span with this id, if it is live.
+// Returns the span with this id, if it is live.
 fn span_of(live: &[Live], id: Id) -> Option<&Live>
     ensures { option_map (λ one. one.now) result ≡ span_of live.now id }
 {
@@ -522,7 +528,7 @@ fn span_of(live: &[Live], id: Id) -> Option<&Live>
     })
 }
 
-// This id if its span is live.
+// Returns this id if its span is live.
 fn if_live(id: Option<Id>, live: &[Live]) -> Option<Id>
     ensures { result ≡ if_live id live.now }
 {
@@ -531,7 +537,7 @@ fn if_live(id: Option<Id>, live: &[Live]) -> Option<Id>
     Some(one.id)
 }
 
-// The fields of an entry that aren't known of the span with this id.
+// Returns the fields of an entry that are new for the span with this id.
 fn late_in(alloc: Global, id: Id, listed: &Listed, live: &[Live]) -> Result<Fields, AllocError>
     ensures { IfOk result (λ late. late ≡ late_in id listed.now live.now) }
 {
@@ -566,7 +572,7 @@ fn is_known(one: &Live, field: &Field) -> bool
     one.first.fields.as_slice().contains(field) || one.late.as_slice().contains(field)
 }
 
-// The fields of a span that were recorded late.
+// Returns the fields of a span that were recorded late.
 fn late_of(alloc: Global, id: Id, live: &[Live]) -> Result<Fields, AllocError>
     ensures { IfOk result (λ late. late ≡ late_of id live.now) }
 {
@@ -576,7 +582,7 @@ fn late_of(alloc: Global, id: Id, live: &[Live]) -> Result<Fields, AllocError>
     }
 }
 
-// These spans, of which the one with this id has these fields at its end.
+// Returns these spans, with these fields appended to the one with this id.
 fn with_late_all(
     alloc: Global,
     id: Id,
@@ -602,10 +608,10 @@ fn with_late(id: Id, late: &Fields, one: Live) -> Result<Live, AllocError>
     Ok(one)
 }
 
-// Lets go of a span.
+// Drops a span.
 fn forget(_one: Live) {}
 
-// The place of the oldest span that no `new` reported.
+// Returns the index of the oldest span that wasn't reported by a `new`.
 fn oldest_untold(live: &[Live]) -> Option<usize>
     ensures { result ≡ position is_untold live.now }
 {
@@ -621,7 +627,7 @@ fn is_untold(one: &Live) -> bool
     !one.is_told
 }
 
-// How many spans were reported by no `new`.
+// Returns how many spans weren't reported by a `new`.
 fn untold_count(live: &[Live]) -> usize
     ensures { result ≡ untold_from 0 live.now }
 {

@@ -213,7 +213,7 @@ fn draw_failed<R: AllocGlobal + Eprint + Print, I: Read + Drop>(
     Ok(with_tests(status, source.into_source().into_source().has_failed()))
 }
 
-// The status of a run of tests, of which one may have failed.
+// Returns the status of a run of tests, given whether one has failed.
 fn with_tests(status: Status, has_failed: bool) -> Status {
     if has_failed {
         status.worse(Status::Failure)
@@ -310,7 +310,7 @@ fn draw_document<R: AllocGlobal + Eprint + Print, I: Read + Drop>(
     }
 }
 
-// The format of a document. What looks like a trace line by line may be an object of OTLP.
+// Returns the format of a document. What looks like a trace line by line may be an object of OTLP.
 fn format_of_document(format: Format, text: &str, options: &Options<'_>) -> Format {
     match format {
         Format::Chrome if options.from.is_none() && is_otlp(text.as_bytes()) => Format::Otlp,

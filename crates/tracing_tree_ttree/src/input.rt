@@ -24,7 +24,8 @@ pub enum Detected {
     Fault(LineFault),
 }
 
-// The lines that were read to detect the format, with their line ends and without a byte order mark.
+// The lines that were read to detect the format, with their line ends and without a byte order
+// mark.
 #[derive(Drop)]
 pub struct Head {
     bytes: Vec<u8>,
@@ -37,7 +38,8 @@ pub struct Head {
 }
 
 impl Head {
-    // Reads lines until one determines the format. If an option names it, only the first line is read.
+    // Reads lines until one determines the format. If an option names it, only the first line is
+    // read.
     pub fn read<R: Read>(
         alloc: Global,
         lines: &mut BufReader<R>,
@@ -119,8 +121,8 @@ impl Head {
         }
     }
 
-    // Sets where the lines of the format begin if the line at this place determined it. Lines of
-    // settings and calls may begin with an empty object before it.
+    // Sets the start of the format's lines, if the line at this place determined it. Lines of
+    // settings and calls may start with an empty object before it.
     fn begin(&mut self, format: Format, place: usize, number: u64) {
         match format {
             Format::Lines if self.start < place => {}
@@ -135,8 +137,8 @@ impl Head {
         }
     }
 
-    // Keeps where lines of settings and calls would begin: at an empty object, which may be settings,
-    // if only blank lines come after it.
+    // Records the possible start of lines of settings and calls: an empty object, which may be
+    // settings, if only blank lines follow it.
     fn hold(&mut self, place: usize, number: u64, line: &[u8]) {
         if is_empty_object(line) {
             self.start = place;
@@ -147,12 +149,12 @@ impl Head {
         }
     }
 
-    // All lines.
+    // Returns all lines.
     pub fn whole(&self) -> &[u8] {
         self.bytes.as_slice()
     }
 
-    // The lines before those of the format.
+    // Returns the lines before those of the format.
     pub fn preamble(&self) -> &[u8] {
         match self.bytes.as_slice().get(..self.start) {
             Some(bytes) => bytes,
@@ -160,7 +162,7 @@ impl Head {
         }
     }
 
-    // The lines of the format.
+    // Returns the lines of the format.
     pub fn body(&self) -> &[u8] {
         match self.bytes.as_slice().get(self.start..) {
             Some(bytes) => bytes,
@@ -168,7 +170,7 @@ impl Head {
         }
     }
 
-    // Whether all lines are blank.
+    // Returns whether all lines are blank.
     pub fn is_blank(&self) -> bool {
         is_blank(self.bytes.as_slice())
     }
@@ -183,10 +185,10 @@ fn read_through<R: Read>(lines: &mut BufReader<R>, line: &mut Vec<u8>) -> Result
     }
 }
 
-// The marks, in the order in which they are tried.
+// The marks, in the order of the attempts.
 const MARKS: [Mark; 3] = [Mark::Bar, Mark::Bracket, Mark::Time];
 
-// The format of a line that has a prefix before an object, and the mark of the prefix.
+// Returns the format of a line that has a prefix before an object, and the mark of the prefix.
 fn prefixed_format(alloc: Global, line: &[u8]) -> Result<Option<(Format, Mark)>, AllocError> {
     let Ok(line) = from_utf8(line) else {
         return Ok(None);
@@ -199,7 +201,7 @@ fn prefixed_format(alloc: Global, line: &[u8]) -> Result<Option<(Format, Mark)>,
     Ok(None)
 }
 
-// The format of the object after a prefix.
+// Returns the format of the object after a prefix.
 fn format_after(alloc: Global, mark: Mark, line: &str) -> Result<Option<Format>, AllocError> {
     let Some((_, rest)) = mark.split(line) else {
         return Ok(None);
@@ -210,7 +212,7 @@ fn format_after(alloc: Global, mark: Mark, line: &str) -> Result<Option<Format>,
     }
 }
 
-// Whether the lines of a format may have prefixes.
+// Returns whether the lines of a format may have prefixes.
 fn has_prefixes(format: Format) -> bool {
     matches!(format, Format::GoTest | Format::Tracing | Format::Logs)
 }
@@ -222,18 +224,18 @@ fn without_line_end(line: &[u8]) -> &[u8] {
     }
 }
 
-// Whether these bytes are blanks and line ends.
+// Returns whether these bytes are blanks and line ends.
 fn is_blank(bytes: &[u8]) -> bool {
     bytes.iter().all(|byte| *byte == b' ' || *byte == b'\t' || *byte == b'\r' || *byte == b'\n')
 }
 
-// Whether gzip compressed these bytes (RFC 1952).
+// Returns whether gzip compressed these bytes (RFC 1952).
 pub fn is_gzip(bytes: &[u8]) -> bool {
     matches!(bytes, [0x1f, 0x8b, ..])
 }
 
-// The string of these bytes, without an unfinished character at their end. A line end there, which
-// the first line gets, doesn't count.
+// Returns the string of these bytes, without an unfinished character at their end. A line end
+// there, which the first line gets, doesn't count.
 pub fn whole_characters(bytes: &[u8]) -> Option<&str>
     ensures { option_map (λ t. t.now) result ≡ whole_characters bytes.now }
 {

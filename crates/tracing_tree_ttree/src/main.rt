@@ -37,7 +37,7 @@ fn main(rt: HostRuntime) -> ExitCode {
     }
 }
 
-// What standard output is. If it isn't a terminal, it has neither colours nor a width.
+// Returns what standard output is. If it isn't a terminal, it has no colours and no width.
 fn terminal(rt: &HostRuntime) -> Terminal {
     let is_terminal = rt.stdout().is_terminal();
     Terminal {
@@ -46,12 +46,12 @@ fn terminal(rt: &HostRuntime) -> Terminal {
     }
 }
 
-// The number that COLUMNS is set to.
+// Returns the number that COLUMNS is set to.
 fn columns<R: AllocGlobal + Env>(rt: &R) -> Option<usize> {
     env::var(rt, "COLUMNS").ok()?.as_str().parse().ok()
 }
 
-// Whether NO_COLOR is set and not empty, or the terminal has no colours.
+// Returns whether NO_COLOR is set and not empty, or the terminal has no colours.
 fn is_colour_unwanted<R: AllocGlobal + Env>(rt: &R) -> bool {
     let is_dumb = match env::var(rt, "TERM") {
         Ok(terminal) => terminal.as_str() == "dumb",
@@ -69,7 +69,7 @@ fn no_memory(rt: &impl Eprint) -> ExitCode {
     out_of_memory(rt, Origin { file: None }).exit_code()
 }
 
-// The arguments of the command line, the program's name first.
+// Returns the arguments of the command line, the program's name first.
 fn args<R: AllocGlobal + Env>(rt: &R) -> io::Result<Vec<String>> {
     Ok(std::env::args(rt)?.collect(rt.alloc())?)
 }

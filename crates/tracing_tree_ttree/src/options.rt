@@ -49,7 +49,7 @@ pub struct Options<'a> {
     // The inputs, one drawn after another; - is standard input.
     pub files: Vec<&'a str>,
 
-    // The options that not every format has, as far as they are given.
+    // The given options, of those that only some formats have.
     given: Vec<&'a str>,
 }
 
@@ -78,7 +78,7 @@ const OPTIONS: [&str; 10] = [
 ];
 
 impl<'a> Options<'a> {
-    // The settings of the drawing.
+    // Returns the settings of the drawing.
     pub fn config(&self) -> Config {
         let style = self.style;
         Config::default()
@@ -97,7 +97,7 @@ impl<'a> Options<'a> {
         self.min_level.unwrap_or(Level::Trace)
     }
 
-    // An option that is given and has no meaning without a drawing.
+    // Returns an option that is given and has no meaning without a drawing.
     pub fn without_drawing(&self) -> Option<&'a str> {
         self.given
             .iter()
@@ -105,7 +105,7 @@ impl<'a> Options<'a> {
             .find(|option| is_option_of_drawing(option))
     }
 
-    // An option that is given and has no meaning for this format.
+    // Returns an option that is given and has no meaning for this format.
     pub fn without_meaning(&self, format: Format) -> Option<&'a str> {
         self.given
             .iter()
@@ -114,7 +114,7 @@ impl<'a> Options<'a> {
     }
 }
 
-// Whether a format has this option.
+// Returns whether a format has this option.
 fn is_option_of(format: Format, option: &str) -> bool {
     match option {
         "failed" => format == Format::GoTest,
@@ -129,7 +129,7 @@ fn is_option_of(format: Format, option: &str) -> bool {
     }
 }
 
-// Whether only a drawing has this option.
+// Returns whether only a drawing has this option.
 fn is_option_of_drawing(option: &str) -> bool {
     matches!(
         option,
@@ -186,7 +186,7 @@ fn style_of(matches: &ArgMatches<'_>, is_coloured: bool) -> Style {
     }
 }
 
-// The files, or standard input without any.
+// Returns the files, or standard input without any.
 fn files<'a>(alloc: Global, matches: &ArgMatches<'a>) -> Result<Vec<&'a str>, AllocError> {
     let mut files = Vec::new(alloc);
     match matches.get_strs("file") {
@@ -200,7 +200,7 @@ fn files<'a>(alloc: Global, matches: &ArgMatches<'a>) -> Result<Vec<&'a str>, Al
     Ok(files)
 }
 
-// The options that not every format has, as far as they are given.
+// Returns the given options, of those that only some formats have.
 fn given<'a>(alloc: Global, matches: &ArgMatches<'a>) -> Result<Vec<&'a str>, AllocError> {
     let mut given = Vec::new(alloc);
     for option in OPTIONS {
@@ -337,7 +337,7 @@ fn title_option<'a>(alloc: Global) -> Arg<'a> {
         .help("The title of the page; without it, the name of the file")
 }
 
-// What is written in place of a drawing, if anything is.
+// Returns what is written in place of a drawing, if anything is.
 fn form(alloc: Global, matches: &ArgMatches<'_>, files: usize) -> Result<Option<LineForm>, Error> {
     match (matches.get_flag("html"), matches.get_flag("json")) {
         (true, true) => Err(conflict(alloc, "the argument '--html' cannot be used with '--json'")?),
@@ -355,7 +355,7 @@ fn conflict(alloc: Global, message: &str) -> Result<Error, AllocError> {
     command(alloc)?.error(ErrorKind::ArgumentConflict, message)
 }
 
-// The nanoseconds of a length of time; none without a word.
+// Returns a duration in nanoseconds, or 0 without a word.
 fn shortest(alloc: Global, word: Option<&str>) -> Result<u64, Error> {
     let Some(word) = word else {
         return Ok(0);
@@ -378,7 +378,7 @@ fn no_time(alloc: Global) -> Result<Error, AllocError> {
     )
 }
 
-// The name of a format, as --from takes it.
+// Returns the name of a format, as --from takes it.
 pub fn name_of(format: Format) -> &'static str {
     match format {
         Format::Lines => "lines",
@@ -392,7 +392,7 @@ pub fn name_of(format: Format) -> &'static str {
     }
 }
 
-// The format of this name.
+// Returns the format of this name.
 fn format(name: Option<&str>) -> Option<Format> {
     match name? {
         "lines" => Some(Format::Lines),
@@ -406,7 +406,7 @@ fn format(name: Option<&str>) -> Option<Format> {
     }
 }
 
-// The level of this name.
+// Returns the level of this name.
 fn level_of(name: &str) -> Level {
     match name {
         "error" => Level::Error,

@@ -10,7 +10,7 @@ use tracing_tree::lines::BLOCK;
 // Standard output, as the drawings write to it.
 pub type Output<W> = Narrow<BufWriter<Pipe<W>>>;
 
-// An output whose lines are cut at this many columns, if there is a number and it isn't 0.
+// Returns an output whose lines are cut at this many columns, if there is a number and it isn't 0.
 pub fn output<W: Write + Drop>(
     alloc: Global,
     writer: W,
@@ -60,7 +60,7 @@ pub enum Flush {
     Done,
     Failed,
 
-    // The output's reader has gone away.
+    // The output's reader has closed it.
     Closed,
 }
 

@@ -20,7 +20,7 @@ use tracing_tree_viewer::{HEAD, TAIL};
 // What writes the lines.
 type Steps<W> = StepWriter<Wrap<Output<W>>>;
 
-// Writes the lines of a source. `AllocError` if there is no memory for the buffers.
+// Writes the lines of a source. `AllocError` if the buffers can't be allocated.
 pub fn write_input<R: AllocGlobal + Eprint + Print, I: Read + Drop, S: Source>(
     rt: &R,
     origin: Origin<'_>,
@@ -146,7 +146,7 @@ fn write_calls<W: Write + Drop>(read: TraceCalls, steps: &mut Steps<W>) -> Sourc
     }
 }
 
-// What a run leaves that this ended.
+// Returns the result of a run that ended with this cause.
 fn ended(unknown: u64, cause: LineCause) -> SourceRun {
     SourceRun {
         unknown,
@@ -154,8 +154,8 @@ fn ended(unknown: u64, cause: LineCause) -> SourceRun {
     }
 }
 
-// Writes the end after a whole run, and reports what went wrong. A page without an end shows that it
-// is cut short.
+// Writes the end after a complete run, and reports errors. A page without an end shows that it is
+// truncated.
 fn finish<R: Eprint, W: Write + Drop>(
     run: SourceRun,
     steps: Steps<W>,
@@ -172,7 +172,7 @@ fn finish<R: Eprint, W: Write + Drop>(
     report_written(&run, steps.into_writer(), reporter)
 }
 
-// What comes before the data: the beginning of a page.
+// Returns what comes before the data: the beginning of a page.
 fn before_data(form: LineForm) -> &'static str {
     match form {
         LineForm::Arrays => HEAD,
@@ -180,7 +180,7 @@ fn before_data(form: LineForm) -> &'static str {
     }
 }
 
-// What comes after the data.
+// Returns what comes after the data.
 fn after_data(form: LineForm) -> &'static str {
     match form {
         LineForm::Arrays => TAIL,
@@ -188,7 +188,7 @@ fn after_data(form: LineForm) -> &'static str {
     }
 }
 
-// The title: that of the command line, or the name of the file.
+// Returns the title: that of the command line, or the name of the file.
 fn title<'a>(origin: Origin<'a>, options: &Options<'a>) -> &'a str {
     match (options.title, origin.file) {
         (Some(title), _) => title,
@@ -197,7 +197,7 @@ fn title<'a>(origin: Origin<'a>, options: &Options<'a>) -> &'a str {
     }
 }
 
-// The part of a path after its last slash.
+// Returns the part of a path after its last slash.
 fn file_name(path: &str) -> &str {
     match path.rsplit_once('/') {
         Some((_, name)) => name,

@@ -28,12 +28,12 @@ pub enum Status {
     // The input, or an option, can't be used at all.
     Usage,
 
-    // The output's reader has gone away, so nothing more can be shown.
+    // The output's reader has closed it, so nothing more can be shown.
     Closed,
 }
 
 impl Status {
-    // The worse of two inputs' statuses.
+    // Returns the worse of two inputs' statuses.
     pub fn worse(self, other: Status) -> Status {
         match (self, other) {
             (Status::Closed, _) | (_, Status::Closed) => Status::Closed,
@@ -43,7 +43,7 @@ impl Status {
         }
     }
 
-    // The program's exit status: 0, 1 or 2.
+    // Returns the program's exit status: 0, 1 or 2.
     pub fn exit_code(self) -> ExitCode {
         match self {
             Status::Success | Status::Closed => ExitCode::SUCCESS,
@@ -217,7 +217,8 @@ impl fmt::Display for Reason {
     }
 }
 
-// Reports on standard error what is skipped. A fault of standard error itself changes nothing.
+// A reporter on standard error of what is skipped. A fault of standard error itself changes
+// nothing.
 #[derive(Drop)]
 pub struct Reporter<'a, R> {
     rt: &'a R,
@@ -270,8 +271,8 @@ impl<'a, R: Eprint> Reporter<'a, R> {
         };
     }
 
-    // Reports how a run ended. A line that may not be skipped was reported before. A fault of a trace
-    // has no line.
+    // Reports how a run ended. A line that may not be skipped was reported before. A fault of a
+    // trace has no line.
     fn report_end(&self, fault: Option<LineFault>, flush: Flush) -> Status {
         match (self.unit, fault) {
             (

@@ -18,7 +18,7 @@ use tracing_tree_chrome::run_trace;
 use tracing_tree_otlp::run_otlp;
 use tracing_tree_sources::{Source, draw_source};
 
-// The moment of the calls before a source knows one.
+// Returns the moment of the calls before a source knows one.
 pub fn some_moment() -> Moment {
     Moment {
         mono: 0,
@@ -26,7 +26,7 @@ pub fn some_moment() -> Moment {
     }
 }
 
-// Draws the lines of a source, with this clock. `AllocError` if there is no memory for the buffers.
+// Draws the lines of a source, with this clock. `AllocError` if the buffers can't be allocated.
 pub fn draw_input<R: AllocGlobal + Eprint + Print, I: Read + Drop, S: Source>(
     rt: &R,
     origin: Origin<'_>,
@@ -61,7 +61,7 @@ pub fn draw_calls<R: AllocGlobal + Eprint + Print, I: Read + Drop>(
     Ok(report(rt, origin, &fault, flush_output(run.writer)))
 }
 
-// A fault by its line of the input, if so many lines come before those of the run.
+// Returns a fault with its line in the input, if `lines_before` lines come before those of the run.
 fn after_lines(fault: Option<LineFault>, lines_before: u64) -> Option<LineFault> {
     let fault = fault?;
     Some(LineFault {
@@ -110,7 +110,7 @@ pub fn draw_otlp<R: AllocGlobal + Eprint + Print>(
     Ok(report_run(&run, layered, &reporter))
 }
 
-// What events show of time.
+// Returns what events show of time.
 pub fn clock(is_timed: bool) -> Clock<'static> {
     if is_timed {
         Clock::Utc(UtcDateTime {
@@ -121,7 +121,7 @@ pub fn clock(is_timed: bool) -> Clock<'static> {
     }
 }
 
-// What events of a trace show of time: that on the trace's clock.
+// Returns what events of a trace show of time: that on the trace's clock.
 fn trace_clock(is_timed: bool) -> Clock<'static> {
     if !is_timed {
         return Clock::None;

@@ -91,7 +91,8 @@ fn write_cut<W: Write>(writer: &mut W, line: &str, width: usize) -> io::Result<(
     Ok(())
 }
 
-// The byte at which a line is cut, one column before `width`. None if the line isn't wider.
+// Returns the byte at which a line is cut, one column before `width`, or `None` if the line isn't
+// wider.
 fn place_of_cut(line: &str, width: usize) -> Option<usize> {
     let mut column = 0usize;
     let mut cut = 0;
@@ -114,7 +115,7 @@ fn place_of_cut(line: &str, width: usize) -> Option<usize> {
     None
 }
 
-// How many columns a character takes at this column. A tab reaches the next multiple of 8.
+// Returns how many columns a character takes at this column. A tab reaches the next multiple of 8.
 fn columns(c: char, column: usize) -> usize {
     match c {
         '\t' => 8 - column % 8,

@@ -32,7 +32,8 @@ pub(crate) enum Until {
     // What may come after a reference.
     Reference,
 
-    // What isn't read as it is written: a return, and in text and in attributes also a reference.
+    // Bytes that aren't read unchanged: a carriage return, and in content and in attributes also a
+    // reference.
     Verbatim,
 
     Content,
@@ -41,7 +42,7 @@ pub(crate) enum Until {
     Value,
 }
 
-// Whether such a piece ends at this byte.
+// Returns whether such a piece ends at this byte.
 fn ends_at(until: Until, byte: u8) -> bool
     ensures value { result ≡ ends_at until byte }
 {
@@ -61,14 +62,14 @@ fn ends_at(until: Until, byte: u8) -> bool
     }
 }
 
-// Whether XML has a byte as a blank.
+// Returns whether XML has a byte as a blank.
 fn is_blank(byte: u8) -> bool
     ensures { result ≡ is_blank byte }
 {
     byte == b' ' || byte == b'\t' || byte == b'\n' || byte == b'\r'
 }
 
-// Where the first piece of this kind ends.
+// Returns where the first piece of this kind ends.
 fn length_until(bytes: &[u8], until: Until) -> usize
     ensures { result ≡ position_or_len (ends_at until) bytes.now }
 {
@@ -84,7 +85,7 @@ fn length_until(bytes: &[u8], until: Until) -> usize
     count
 }
 
-// Splits a text where its first piece of this kind ends.
+// Splits a string where its first piece of this kind ends.
 pub(crate) fn cut(text: &str, until: Until) -> (&str, &str)
     ensures before { result.0.now ≡ take (position_or_len (ends_at until) text.now) text.now }
     ensures after { result.1.now ≡ drop (position_or_len (ends_at until) text.now) text.now }
@@ -92,7 +93,7 @@ pub(crate) fn cut(text: &str, until: Until) -> (&str, &str)
     text.split_at(length_until(text.as_bytes(), until))
 }
 
-// How many blanks come first.
+// Returns how many blanks come first.
 fn blank_count(bytes: &[u8]) -> usize
     ensures { result ≡ blank_count bytes.now }
 {
@@ -108,7 +109,7 @@ fn blank_count(bytes: &[u8]) -> usize
     count
 }
 
-// What comes after the blanks at the front.
+// Returns what comes after the blanks at the front.
 pub(crate) fn after_blanks(text: &str) -> &str
     ensures { result.now ≡ after_blanks text.now }
 {
@@ -116,14 +117,14 @@ pub(crate) fn after_blanks(text: &str) -> &str
     rest
 }
 
-// What comes after this mark at the front of a text.
+// Returns what follows this prefix of a string.
 pub(crate) fn after_mark<'a>(text: &'a str, mark: &str) -> Option<&'a str>
     ensures { option_map (λ s. s.now) result ≡ after_mark mark.now text.now }
 {
     text.strip_prefix(mark)
 }
 
-// A text without this mark at its end.
+// Removes this suffix from a string.
 pub(crate) fn without_end<'a>(text: &'a str, mark: &str) -> Option<&'a str>
     ensures { option_map (λ s. s.now) result ≡ without_end mark.now text.now }
 {

@@ -6,10 +6,10 @@ ghost use Rattle.tracing_tree_xml.specs.Decoded.{attribute_decoded, cdata_decode
 use crate::cut::{Until, after_mark, cut};
 use std::alloc::AllocError;
 
-/// Appends a run of text, decoded: its references are replaced, and its lines end with `\n`.
+/// Appends a run of content, decoded: its references are replaced, and its lines end with `\n`.
 ///
-/// A reference stays as it is written if XML doesn't define its entity, or if its number is that of
-/// no character.
+/// A reference is unchanged if XML doesn't define its entity, or if its number isn't that of a
+/// character.
 ///
 /// # Errors
 ///
@@ -21,7 +21,7 @@ pub fn push_text(out: &mut String, run: &str) -> Result<(), AllocError>
     push_decoded(out, Until::Content, run)
 }
 
-/// Appends the value of an attribute, decoded as text is. A tab or a line end is a space.
+/// Appends the value of an attribute, decoded like content. A tab or a line end is a space.
 ///
 /// # Errors
 ///
@@ -45,7 +45,8 @@ pub fn push_cdata(out: &mut String, part: &str) -> Result<(), AllocError>
     push_decoded(out, Until::Verbatim, part)
 }
 
-// Each turn reads a byte or more, so that as many turns as bytes are enough.
+// Appends a string, decoded. Each turn reads at least one byte, so as many turns as bytes are
+// enough.
 fn push_decoded(out: &mut String, until: Until, text: &str) -> Result<(), AllocError>
     ensures { OnOk result
         (string_bytes out.new ≡ string_bytes out.old ++ decoded until text.now) }
@@ -62,7 +63,7 @@ fn push_decoded(out: &mut String, until: Until, text: &str) -> Result<(), AllocE
     Ok(())
 }
 
-// Appends what the mark at the front stands for, and returns what comes after it.
+// Appends what the special characters at the start mean, and returns what follows them.
 fn push_special<'a>(out: &mut String, until: Until, text: &'a str) -> Result<&'a str, AllocError>
     ensures pushed { OnOk result
         (string_bytes out.new ≡ string_bytes out.old ++ (special until text.now).0) }
@@ -87,7 +88,7 @@ fn push_special<'a>(out: &mut String, until: Until, text: &'a str) -> Result<&'a
     }
 }
 
-// What a line end is read as.
+// Returns what a line end is read as.
 fn line_end(until: Until) -> &'static str
     ensures { result.now ≡ line_end until }
 {
@@ -97,7 +98,7 @@ fn line_end(until: Until) -> &'static str
     }
 }
 
-// Appends what a reference stands for, whose `&` comes before this text.
+// Appends what a reference means, whose `&` comes before this string.
 fn push_reference<'a>(out: &mut String, text: &'a str) -> Result<&'a str, AllocError>
     ensures pushed { OnOk result
         (string_bytes out.new ≡ string_bytes out.old ++ (reference text.now).0) }
@@ -120,7 +121,7 @@ fn push_reference<'a>(out: &mut String, text: &'a str) -> Result<&'a str, AllocE
     }
 }
 
-// The character that a reference of this name stands for.
+// Returns the character of a reference with this name.
 fn entity(name: &str) -> Option<char>
     ensures { result ≡ entity name.now }
 {
@@ -134,7 +135,7 @@ fn entity(name: &str) -> Option<char>
     }
 }
 
-// The character of a number, as `#65` or `#x41`.
+// Returns the character of a number, as `#65` or `#x41`.
 fn numbered(name: &str) -> Option<char>
     ensures { result ≡ numbered name.now }
 {
@@ -153,7 +154,7 @@ fn char_of(number: u32) -> Option<char>
     char::from_u32(number)
 }
 
-// The number that digits write, if a character may have it.
+// Returns the number that digits write, if a character may have it.
 fn number_of(radix: u32, digits: &[u8]) -> Option<u32>
     requires { radix ≤ 16 }
     ensures { result ≡ number_of radix digits.now }
@@ -174,7 +175,7 @@ fn number_of(radix: u32, digits: &[u8]) -> Option<u32>
     Some(number)
 }
 
-// What a digit counts; 16 if it is none.
+// Returns the value of a digit, or 16 if it isn't one.
 fn digit_of(byte: u8) -> u32
     ensures value { result ≡ digit_of byte }
     ensures small { result ≤ 16 }

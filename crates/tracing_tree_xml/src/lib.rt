@@ -1,8 +1,9 @@
 //! A reader of XML, token by token.
 //!
-//! [`Reader`] yields the tokens of a document, which borrow from it, and [`push_text`], [`push_attribute`]
-//! and [`push_cdata`] decode them. It doesn't validate, and it loads nothing: a document type declaration is skipped,
-//! and a reference to an entity that XML doesn't define stays as it is written.
+//! [`Reader`] yields the tokens of a document, which borrow from it, and [`push_text`],
+//! [`push_attribute`] and [`push_cdata`] decode them. It doesn't validate, and it loads nothing. A
+//! document type declaration is skipped, and a reference to an entity that XML doesn't define is
+//! unchanged.
 #![tactic(auto)]
 
 mod cut;

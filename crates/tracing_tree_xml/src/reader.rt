@@ -8,7 +8,7 @@ use crate::cut::{Until, after_blanks, after_mark, cut, without_end};
 use std::marker::Model;
 use thiserror::Error;
 
-/// A token of a document. Its strings are as they are written: `push_text`, `push_attribute` and
+/// A token of a document. Its strings are not decoded: `push_text`, `push_attribute` and
 /// `push_cdata` of this crate decode them.
 #[derive(Clone, Copy, Debug)]
 pub enum Token<'a> {
@@ -33,8 +33,8 @@ pub enum Token<'a> {
     /// A part of a CDATA section.
     Cdata(&'a str),
 
-    /// A part of a comment, of a processing instruction or of a document type declaration, or a
-    /// mark at which such a thing begins.
+    /// A part of a comment, of a processing instruction or of a document type declaration, or the
+    /// mark that starts one.
     Skipped,
 }
 
@@ -80,7 +80,7 @@ enum Place {
     SubsetComment,
 }
 
-/// Reads a document token by token.
+/// A reader of a document, token by token.
 ///
 /// After an error it is unchanged, so that it returns the error again.
 #[derive(Debug, Drop)]
@@ -164,7 +164,7 @@ impl<'a> Reader<'a> {
     }
 }
 
-// The step at a place.
+// Returns the step at a place.
 fn step_in(place: Place, rest: &str) -> Result<Step<'_>, Unfinished>
     ensures { result ≡ step_in place rest.now }
 {
@@ -209,7 +209,7 @@ fn text_step(text: &str) -> Step<'_>
     step_to(Token::Text(run), Place::Content, rest)
 }
 
-// What comes after a `<`.
+// Returns what comes after a `<`.
 fn markup_step(text: &str) -> Step<'_>
     ensures { result ≡ markup_step text.now }
 {
@@ -224,7 +224,7 @@ fn markup_step(text: &str) -> Step<'_>
     }
 }
 
-// What comes after a `<!`.
+// Returns what comes after a `<!`.
 fn declaration_step(text: &str) -> Step<'_>
     ensures { result ≡ declaration_step text.now }
 {
@@ -253,7 +253,7 @@ fn end_tag_step(text: &str) -> Step<'_>
 
 // ---- tags
 
-// What comes in a tag, from its first byte on that is no blank.
+// Reads the next token in a tag, after its blanks.
 fn tag_step(text: &str) -> Result<Step<'_>, Unfinished>
     ensures { result ≡ tag_step text.now }
 {
@@ -305,7 +305,7 @@ fn quoted_step<'a>(
     }
 }
 
-// The end of an end tag.
+// Returns the end of an end tag.
 fn end_tag_end_step(text: &str) -> Result<Step<'_>, Unfinished>
     ensures { result ≡ end_tag_end_step text.now }
 {
@@ -318,7 +318,7 @@ fn end_tag_end_step(text: &str) -> Result<Step<'_>, Unfinished>
 
 // ---- what is skipped
 
-// A part of a comment, up to its next `>`.
+// Returns a part of a comment, up to its next `>`.
 fn comment_step(inside: Place, outside: Place, text: &str) -> Result<Step<'_>, Unfinished>
     ensures { result ≡ comment_step inside outside text.now }
 {
@@ -358,7 +358,7 @@ fn doctype_step(text: &str) -> Result<Step<'_>, Unfinished>
     }
 }
 
-// A part of the internal subset, up to what comes next of a literal, a comment and the end.
+// Returns a part of the internal subset, up to what comes next of a literal, a comment and the end.
 fn subset_step(text: &str) -> Result<Step<'_>, Unfinished>
     ensures { result ≡ subset_step text.now }
 {
@@ -374,7 +374,7 @@ fn subset_step(text: &str) -> Result<Step<'_>, Unfinished>
     }
 }
 
-// A literal between quotes in a document type declaration.
+// Returns a literal between quotes in a document type declaration.
 fn literal_step(place: Place, text: &str) -> Result<Step<'_>, Unfinished>
     ensures { result ≡ literal_step place text.now }
 {
@@ -404,7 +404,7 @@ fn literal_end_step<'a>(
 
 // ---- CDATA
 
-// A part of a CDATA section, up to its next `>`.
+// Returns a part of a CDATA section, up to its next `>`.
 fn cdata_step(text: &str) -> Result<Step<'_>, Unfinished>
     ensures { result ≡ cdata_step text.now }
 {
@@ -418,7 +418,7 @@ fn cdata_step(text: &str) -> Result<Step<'_>, Unfinished>
     }
 }
 
-// A `>` in a CDATA section.
+// Returns a `>` in a CDATA section.
 fn greater_step(text: &str) -> Result<Step<'_>, Unfinished>
     ensures { result ≡ greater_step text.now }
 {

@@ -1,4 +1,4 @@
-//! Where events are handed in.
+//! The receivers of events.
 
 use super::hand::Hand;
 use std::alloc::Global;
@@ -10,7 +10,7 @@ use tracing_tree::format::{Config, Refusal, Tape};
 use tracing_tree_shared::{Counted, Draft, Pass, SharedLayer, StreamingLayer};
 
 pub trait Desk {
-    // An event as it will be handed in: a draft, where drafts are made before the time is taken.
+    // Returns an event as it will be passed: a draft, if drafts are made before the time is taken.
     fn hand(&self, _alloc: Global, call: Call) -> Result<Hand, Refusal> {
         Ok(Hand::Call(call))
     }

@@ -1,4 +1,4 @@
-//! What is timed, and the events that are handed in.
+//! The timed works, and the events that are passed.
 
 use std::alloc::{AllocError, Global};
 use tracing_tree::call::Call;
@@ -14,7 +14,7 @@ pub enum Work {
     // The events are made and dropped.
     Idle,
 
-    // One thread with a layer of its own.
+    // One thread with a separate layer.
     Alone,
 
     // Threads with a lock round a layer: an event is drawn under the lock.
@@ -23,19 +23,19 @@ pub enum Work {
     // Threads with a layer that keeps the history.
     Shared,
 
-    // The same, where the drafts are made before.
+    // Like `Shared`, but the drafts are made before.
     SharedDrafted,
 
     // Threads with a layer that keeps no history.
     Streaming,
 
-    // The same, where the drafts are made before.
+    // Like `Streaming`, but the drafts are made before.
     StreamingDrafted,
 
     // What a layer without a history does under its lock, with drafts that were made before.
     Counted,
 
-    // The same with drafts under other settings, so that each event is drawn anew.
+    // Like `Counted`, but drafted with other settings, so each event is drawn again.
     CountedAnew,
 }
 
@@ -78,7 +78,7 @@ pub enum Hand {
     Draft(Draft),
 }
 
-// An event in span 1 with `count` fields, of which the first is the message.
+// Returns an event in span 1 with `count` fields. The first is the message.
 pub fn event(alloc: Global, count: usize) -> Result<Call, AllocError> {
     let mut fields = vec![in alloc; Field::rendered(alloc, "message", "something happened")?]?;
     for _ in 1..count {

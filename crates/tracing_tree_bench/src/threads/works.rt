@@ -19,7 +19,7 @@ use tracing_tree_shared::{Counted, SharedLayer, StreamingLayer};
 // How many threads there are at most.
 const MOST: usize = 64;
 
-// How many threads, how many events each of them tells, and how many fields an event has.
+// The number of threads, of events of each thread, and of fields of an event.
 #[derive(Clone, Copy)]
 pub struct Size {
     pub threads: usize,
@@ -34,7 +34,7 @@ pub struct Timed {
     pub nanos: u64,
 }
 
-// What one thread hands in, where, and how many of it were accepted.
+// The events of one thread, their receiver, and how many were accepted.
 #[derive(Drop)]
 struct Seat<D: Desk> {
     alloc: Global,
@@ -69,7 +69,7 @@ impl<D: Desk> Seat<D> {
     }
 }
 
-// Has each thread hand in what it has. One thread is this one.
+// Passes each thread's events. One thread is this one.
 fn time<R: Threads + Wait + Clock + Sync, D: Desk + Send + Drop>(
     rt: &R,
     mut seats: Vec<Seat<D>>,
@@ -96,7 +96,7 @@ fn fresh(alloc: Global) -> Layered<Tape, ()>
     Layered::new(alloc, layer)
 }
 
-// The same with the span of the events.
+// Like `fresh`, with the span of the events.
 fn rooted(alloc: Global) -> Result<Layered<Tape, ()>, AllocError> {
     let mut layered = fresh(alloc);
     let root = made(alloc, "span", None)?;
@@ -192,7 +192,7 @@ pub fn counted<R: AllocGlobal + Threads + Wait + Clock + Sync>(
     let alloc = rt.alloc();
     let desk = UnderLock {
         counted: Counted::new(rooted(alloc)?),
-        // Under colours the layer's own settings differ, and it draws each event anew.
+        // With ansi on, the layer's own settings differ, and it draws each event again.
         config: Config::new(2, work == Work::CountedAnew),
     };
     let seat = Seat::new(alloc, desk, size)?;

@@ -1,4 +1,4 @@
-//! Settings.
+//! The settings of a layer.
 
 ghost use Rattle.std.specs.Prelude.{◌≡◌, ◌+◌, ◌^◌, ◌++◌, ◌<◌, [], Ok, Err, IfOk, OnOk, string_bytes, if◌then◌else◌};
 ghost use Rattle.tracing_tree_drawing.specs.Format.Picture.{is_too_wide, unnamed_row, wrapped_level};
@@ -12,10 +12,10 @@ use std::alloc::AllocError;
 use std::marker::Model;
 use tracing_tree_context::{Context, Refusal};
 
-/// The settings of a layer, under the names of the Rust crate. `Config::default` has ansi on, two columns a level, no
-/// wraparound below `usize::MAX`, and all else off.
+/// The settings of a layer, with the names of the Rust crate. `Config::default` has ansi on, two
+/// columns per level and a wraparound of `usize::MAX`. All other settings are off.
 ///
-/// A layer with lines, four columns a level and targets:
+/// A layer with lines, four columns per level and targets:
 /// ```rust
 /// let config = Config::new(4, false)
 ///     .with_indent_lines(true)
@@ -90,7 +90,7 @@ impl Default for Config {
 }
 
 impl Config {
-    /// The default settings, but for the amount (columns a level) and ansi.
+    /// Returns the default settings, with this amount (columns per level) and this ansi.
     pub fn new(indent_amount: usize, ansi: bool) -> Config
         ensures { result ≡ record default_settings { indent_amount = indent_amount; ansi = ansi } }
     {
@@ -101,14 +101,14 @@ impl Config {
         }
     }
 
-    /// Paints text for a terminal, or leaves it plain.
+    /// Sets whether text is painted with ANSI escapes for a terminal.
     pub fn with_ansi(self, ansi: bool) -> Config
         ensures { result ≡ record self { ansi = ansi } }
     {
         Config { ansi, ..self }
     }
 
-    /// Draws the tree with lines, or with spaces alone.
+    /// Sets whether the tree is drawn with lines, or only with spaces.
     pub fn with_indent_lines(self, indent_lines: bool) -> Config
         ensures { result ≡ record self { indent_lines = indent_lines } }
     {
@@ -128,14 +128,14 @@ impl Config {
         }
     }
 
-    /// Shows the targets of spans and events.
+    /// Sets whether spans and events show their targets.
     pub fn with_targets(self, targets: bool) -> Config
         ensures { result ≡ record self { targets = targets } }
     {
         Config { targets, ..self }
     }
 
-    /// Begins each line with the thread's number.
+    /// Sets whether each line starts with the thread's number.
     pub fn with_thread_ids(self, thread_ids: bool) -> Config
         ensures { result ≡ record self { render_thread_ids = thread_ids } }
     {
@@ -145,7 +145,7 @@ impl Config {
         }
     }
 
-    /// Begins each line with the thread's name, if it has one.
+    /// Sets whether each line starts with the thread's name, if it has one.
     pub fn with_thread_names(self, thread_names: bool) -> Config
         ensures { result ≡ record self { render_thread_names = thread_names } }
     {
@@ -155,7 +155,8 @@ impl Config {
         }
     }
 
-    /// Begins the indent anew after this many levels. The caller must ensure that the number isn't 0.
+    /// Sets after how many levels the indent starts at the left edge again. The caller must ensure
+    /// that the number isn't 0.
     pub fn with_wraparound(self, wraparound: usize) -> Config
         requires { 0 < wraparound }
         ensures { result ≡ record self { wraparound = wraparound } }
@@ -163,7 +164,7 @@ impl Config {
         Config { wraparound, ..self }
     }
 
-    /// Shows the parent again before a child is entered.
+    /// Sets whether the parent is shown again before a child is entered.
     pub fn with_verbose_entry(self, verbose_entry: bool) -> Config
         ensures { result ≡ record self { verbose_entry = verbose_entry } }
     {
@@ -173,7 +174,7 @@ impl Config {
         }
     }
 
-    /// Shows a closing span whole, and its parent again after it.
+    /// Sets whether a closing span is shown in full, and its parent again after it.
     pub fn with_verbose_exit(self, verbose_exit: bool) -> Config
         ensures { result ≡ record self { verbose_exit = verbose_exit } }
     {
@@ -183,7 +184,8 @@ impl Config {
         }
     }
 
-    /// Shows the spans above an event or a new span again where the last span is another.
+    /// Sets whether the ancestors of an event or a new span are shown again if another span was
+    /// shown last.
     pub fn with_span_retrace(self, span_retrace: bool) -> Config
         ensures { result ≡ record self { span_retrace = span_retrace } }
     {
@@ -193,7 +195,8 @@ impl Config {
         }
     }
 
-    /// Shows a span only once it, or one below it, is the current span of an event.
+    /// Sets whether a span is drawn only when the first event occurs in it or in one of its
+    /// descendants.
     pub fn with_deferred_spans(self, deferred_spans: bool) -> Config
         ensures { result ≡ record self { deferred_spans = deferred_spans } }
     {
@@ -203,9 +206,9 @@ impl Config {
         }
     }
 
-    /// Shows the spans above a closing span again where its parent isn't on the path of the last
-    /// span. It has no effect unless `span_retrace` or `deferred_spans` is on. (The Rust crate
-    /// has no such setting.)
+    /// Sets whether a closing span and its ancestors are shown again if its parent isn't on the
+    /// path of the last span shown. It has no effect unless `span_retrace` or `deferred_spans` is
+    /// on. (The Rust crate has no such setting.)
     pub fn with_close_retrace(self, close_retrace: bool) -> Config
         ensures { result ≡ record self { close_retrace = close_retrace } }
     {
@@ -215,14 +218,14 @@ impl Config {
         }
     }
 
-    /// Labels rows of spans with their mode.
+    /// Sets whether rows of spans are labelled with their mode.
     pub fn with_span_modes(self, span_modes: bool) -> Config
         ensures { result ≡ record self { span_modes = span_modes } }
     {
         Config { span_modes, ..self }
     }
 
-    /// Puts a span's fields in braces.
+    /// Sets whether a span's fields are in braces.
     pub fn with_bracketed_fields(self, bracketed_fields: bool) -> Config
         ensures { result ≡ record self { bracketed_fields = bracketed_fields } }
     {
@@ -232,49 +235,49 @@ impl Config {
         }
     }
 
-    /// Whether text is painted for a terminal.
+    /// Returns whether text is painted for a terminal.
     pub fn ansi(&self) -> bool
         ensures { result ≡ self.now.ansi }
     {
         self.ansi
     }
 
-    /// Whether the tree is drawn with lines; else with spaces alone.
+    /// Returns whether the tree is drawn with lines. Otherwise it is drawn with spaces only.
     pub fn indent_lines(&self) -> bool
         ensures { result ≡ self.now.indent_lines }
     {
         self.indent_lines
     }
 
-    /// How many columns a level takes.
+    /// Returns how many columns a level takes.
     pub fn indent_amount(&self) -> usize
         ensures { result ≡ self.now.indent_amount }
     {
         self.indent_amount
     }
 
-    /// Whether spans and events show their targets.
+    /// Returns whether spans and events show their targets.
     pub fn targets(&self) -> bool
         ensures { result ≡ self.now.targets }
     {
         self.targets
     }
 
-    /// Whether each line begins with the thread's number.
+    /// Returns whether each line starts with the thread's number.
     pub fn render_thread_ids(&self) -> bool
         ensures { result ≡ self.now.render_thread_ids }
     {
         self.render_thread_ids
     }
 
-    /// Whether each line begins with the thread's name, if it has one.
+    /// Returns whether each line starts with the thread's name, if it has one.
     pub fn render_thread_names(&self) -> bool
         ensures { result ≡ self.now.render_thread_names }
     {
         self.render_thread_names
     }
 
-    /// After how many levels the indent begins anew; at least 1.
+    /// Returns after how many levels the indent starts at the left edge again. It is at least 1.
     pub fn wraparound(&self) -> usize
         ensures value { result ≡ self.now.wraparound }
         ensures positive { 0 < result }
@@ -282,59 +285,64 @@ impl Config {
         self.wraparound
     }
 
-    /// Whether the parent is shown again before a child is entered.
+    /// Returns whether the parent is shown again before a child is entered.
     pub fn verbose_entry(&self) -> bool
         ensures { result ≡ self.now.verbose_entry }
     {
         self.verbose_entry
     }
 
-    /// Whether a closing span is shown whole, and its parent again after it.
+    /// Returns whether a closing span is shown in full, and its parent again after it.
     pub fn verbose_exit(&self) -> bool
         ensures { result ≡ self.now.verbose_exit }
     {
         self.verbose_exit
     }
 
-    /// Whether the spans above an event or a new span are shown again where the last span is another.
+    /// Returns whether the ancestors of an event or a new span are shown again if another span was
+    /// shown last.
     pub fn span_retrace(&self) -> bool
         ensures { result ≡ self.now.span_retrace }
     {
         self.span_retrace
     }
 
-    /// Whether a span's fields stand in braces.
+    /// Returns whether a span's fields are in braces.
     pub fn bracketed_fields(&self) -> bool
         ensures { result ≡ self.now.bracketed_fields }
     {
         self.bracketed_fields
     }
 
-    /// Whether a span is shown only once it, or one below it, is the current span of an event.
+    /// Returns whether a span is drawn only when the first event occurs in it or in one of its
+    /// descendants.
     pub fn deferred_spans(&self) -> bool
         ensures { result ≡ self.now.deferred_spans }
     {
         self.deferred_spans
     }
 
-    /// Whether rows of spans are labelled with their mode.
+    /// Returns whether rows of spans are labelled with their mode.
     pub fn span_modes(&self) -> bool
         ensures { result ≡ self.now.span_modes }
     {
         self.span_modes
     }
 
-    /// Whether the spans above a closing span are shown again where its parent isn't on the path of
-    /// the last span.
+    /// Returns whether a closing span and its ancestors are shown again if its parent isn't on the
+    /// path of the last span shown.
     pub fn close_retrace(&self) -> bool
         ensures { result ≡ self.now.close_retrace }
     {
         self.close_retrace
     }
 
-    /// Returns whether a row of this mode at this level can be drawn: `TooWide` exactly where the
-    /// level used (which wraps round, and is one more for a parent's row with lines) times the
-    /// amount passes `usize`.
+    /// Checks that a row of this mode at this level can be drawn. Its width is the level used times
+    /// the amount. The level used wraps round, and is one more for a parent's row with lines.
+    ///
+    /// # Errors
+    ///
+    /// `TooWide` if the width exceeds `usize::MAX` columns.
     pub fn check_width(&self, mode: SpanMode, level: usize) -> Result<(), Refusal>
         ensures { let row = unnamed_row mode level [] [] in
             result ≡ (if is_too_wide self.now row then Err Refusal.TooWide else Ok tt) }
@@ -349,7 +357,8 @@ impl Config {
         Ok(())
     }
 
-    // The level that counts for the indent. Few levels wrap round, and the others need no division.
+    // Returns the level that the indent is counted by. Few levels wrap round, so most need no
+    // division.
     pub(crate) fn wrapped_level(&self, level: usize) -> usize
         ensures value { result ≡ wrapped_level self.now level }
         ensures below { result + 1 < 2 ^ 64 }
@@ -361,7 +370,8 @@ impl Config {
         }
     }
 
-    // Appends the prefix, or a beginning of it. Most settings show none.
+    // Appends the prefix. If an allocation fails, a part of it may be appended. Most settings have
+    // no prefix.
     #[inline(always)]
     pub(crate) fn push_prefix(&self, out: &mut String, context: &Context) -> Result<(), AllocError>
         ensures ok { let prefix = prefix_text self.now context.now in
@@ -374,7 +384,8 @@ impl Config {
         Ok(())
     }
 
-    // Appends number and name of the thread, as far as they are shown, or a beginning of that.
+    // Appends the thread's number and name, if they are shown. If an allocation fails, a part of
+    // them may be appended.
     fn push_thread(&self, out: &mut String, context: &Context) -> Result<(), AllocError>
         ensures ok { let prefix = prefix_text self.now context.now in
             OnOk result (string_bytes out.new ≡ string_bytes out.old ++ prefix) }

@@ -1,4 +1,4 @@
-//! The drawing of rows: what docs/FORMATS.md, "Drawing", says of frames, lines and wrap marks.
+//! Draws rows: frames, lines and wrap marks (docs/FORMATS.md, "Drawing").
 
 ghost use Rattle.std.specs.List.{repeat};
 ghost use Rattle.std.specs.Prelude.{◌≡◌, ◌+◌, ◌*◌, ◌^◌, ◌<◌, ◌++◌, ◌∷◌, [], true, false, length, take, drop, Some, Err, OnOk, OnErr, IfOk, IfErr, IsTrue, string_bytes, encode_utf8, if◌then◌else◌};
@@ -13,36 +13,37 @@ use memchr::memchr;
 use std::alloc::AllocError;
 use tracing_tree_context::{Context, Refusal};
 
-// Spaces that stand ready. More of them are appended so many at a time.
+// More spaces than these are appended in several pieces.
 const SPACES: &str = "                                                                ";
 
-/// A row that is being drawn: everything but its block.
+/// A row that is being drawn, without its block.
 #[derive(Clone, Copy)]
 pub struct RowDrawing<'a> {
     /// The settings.
     pub config: &'a Config,
 
-    /// The context of the call, for what each line begins with.
+    /// The context of the call, for the prefix of each line.
     pub context: &'a Context,
 
     /// What the row shows.
     pub mode: SpanMode,
 
-    /// A number of spans, whatever the settings' wraparound.
+    /// The row's level: a number of spans, before it wraps round.
     pub level: usize,
 }
 
-/// Where a row was begun in a text, in bytes.
+/// The place of a row in the output, in bytes.
 #[derive(Clone, Copy)]
 pub struct RowPlace {
-    /// Where the row begins.
+    /// The start of the row.
     pub start: usize,
 
-    /// Where its block begins.
+    /// The start of its block.
     pub block: usize,
 }
 
-// What stands between the prefix and the text of a line: spaces, a branch, a filler a number of times, and a corner.
+// The frame of a line, between its prefix and its text: spaces, a branch, a filler repeated
+// `filled` times, and a corner.
 #[derive(Clone, Copy)]
 struct FramePieces {
     spaces: usize,
@@ -53,7 +54,7 @@ struct FramePieces {
 }
 
 impl FramePieces {
-    // Spaces and a branch alone.
+    // Returns a frame of spaces and a branch.
     fn plain(spaces: usize, branch: &'static str) -> FramePieces
         ensures { pushed_text result ≡ frame_pieces spaces branch.now [] 0 [] }
     {
@@ -66,7 +67,8 @@ impl FramePieces {
         }
     }
 
-    // Two corners in these columns, with a line between them. `near` are both with one column of it, as they mostly stand.
+    // Returns a frame with two corners in these columns and a line between them. `near` has both
+    // corners with one column of line between them, the most common case.
     fn corners(
         left: &'static str,
         right: &'static str,
@@ -90,8 +92,8 @@ impl FramePieces {
         }
     }
 
-    // The corners of a span's row. If it is verbose they stand half an amount further right; an amount of 1 leaves no room for
-    // them then.
+    // Returns the corners of a span's row. In a verbose row the first one is half an amount further
+    // right. If the amount is 1, a verbose row has spaces instead.
     fn span(
         left: &'static str,
         right: &'static str,
@@ -114,7 +116,7 @@ impl FramePieces {
         FramePieces::corners(left, right, near, before + amount / 2, before + amount)
     }
 
-    // Appends the pieces in order, or some of them.
+    // Appends the pieces in order. If an allocation fails, a part of them may be appended.
     #[inline(always)]
     fn push(&self, out: &mut String) -> Result<(), AllocError>
         ensures ok { OnOk result
@@ -133,7 +135,7 @@ impl FramePieces {
     }
 }
 
-// At the left edge only the corner of a span's row is drawn.
+// Returns the frame at the left edge: only the corner of a span's row.
 fn edge_frame(mode: SpanMode) -> FramePieces
     ensures { pushed_text result ≡ edge_frame mode }
 {
@@ -144,7 +146,8 @@ fn edge_frame(mode: SpanMode) -> FramePieces
     }
 }
 
-// The first line of a row further right, where `before` columns stand before the branch.
+// Returns the frame of the first line of a row further right, with `before` columns before the
+// branch.
 fn first_frame(mode: SpanMode, amount: usize, before: usize) -> FramePieces
     requires amount { 0 < amount }
     requires fits { before + amount < 2 ^ 64 }
@@ -169,7 +172,7 @@ fn first_frame(mode: SpanMode, amount: usize, before: usize) -> FramePieces
     }
 }
 
-// A later line of a row further right.
+// Returns the frame of a later line of a row further right.
 fn later_frame(mode: SpanMode, amount: usize, before: usize) -> FramePieces
     ensures { pushed_text result ≡ later_frame mode amount before }
 {
@@ -187,7 +190,8 @@ fn later_frame(mode: SpanMode, amount: usize, before: usize) -> FramePieces
     }
 }
 
-// The frame of the first line, or that of each later one, of a row that is drawn with lines at this wrapped level.
+// Returns the frame of the first line, or of each later line, of a row that is drawn with lines at
+// this wrapped level.
 fn lined_frame(mode: SpanMode, amount: usize, wrapped: usize, first: bool) -> FramePieces
     requires level { wrapped + shift_of mode < 2 ^ 64 }
     requires width { (wrapped + shift_of mode) * amount < 2 ^ 64 }
@@ -212,9 +216,12 @@ fn lined_frame(mode: SpanMode, amount: usize, wrapped: usize, first: bool) -> Fr
     }
 }
 
-/// Appends what stands before the text of a row's first line, or of each later one, where rows are drawn with lines. The level
-/// isn't wrapped; the caller must ensure that its columns fit `usize`. `AllocError` where memory is refused; `out` is as before
-/// then.
+/// Appends the frame of a row's first line, or of each later line, with lines on. The level isn't
+/// wrapped. The caller must ensure that the width in columns fits `usize`.
+///
+/// # Errors
+///
+/// `AllocError` if an allocation fails. `out` is unchanged then.
 #[tactic(auto, using(tracing_tree_text::proofs::Extended::cuts_back))]
 pub fn push_frame(
     out: &mut String,
@@ -240,7 +247,7 @@ pub fn push_frame(
     }
 }
 
-// The corner of the wrap mark that stands before a row that closes.
+// Returns the corner of the wrap mark before a row that closes.
 fn corner_before(mode: SpanMode) -> Option<char>
     ensures { result ≡ mark_before_corner mode }
 {
@@ -250,7 +257,7 @@ fn corner_before(mode: SpanMode) -> Option<char>
     }
 }
 
-// The corner of the wrap mark that stands after a row that opens.
+// Returns the corner of the wrap mark after a row that opens.
 fn corner_after(mode: SpanMode) -> Option<char>
     ensures { result ≡ mark_after_corner mode }
 {
@@ -260,7 +267,7 @@ fn corner_after(mode: SpanMode) -> Option<char>
     }
 }
 
-// Appends a text, or nothing. Many texts are empty, as that of a plain close.
+// Appends a string. Many are empty, as that of a plain close.
 #[inline(always)]
 fn push_text(out: &mut String, text: &str) -> Result<(), AllocError>
     ensures ok { OnOk result (string_bytes out.new ≡ string_bytes out.old ++ text.now) }
@@ -272,7 +279,7 @@ fn push_text(out: &mut String, text: &str) -> Result<(), AllocError>
     out.push_str(text)
 }
 
-// Appends a text `times` times, or fewer, with one growth.
+// Appends a string `times` times, with one growth. If an allocation fails, fewer may be appended.
 fn push_repeated(out: &mut String, text: &str, times: usize) -> Result<(), AllocError>
     ensures ok { OnOk result
         (string_bytes out.new ≡ string_bytes out.old ++ repeat times text.now) }
@@ -286,7 +293,7 @@ fn push_repeated(out: &mut String, text: &str, times: usize) -> Result<(), Alloc
     Ok(())
 }
 
-// Appends `count` spaces, or fewer.
+// Appends `count` spaces. If an allocation fails, fewer may be appended.
 #[inline(always)]
 fn push_spaces(out: &mut String, count: usize) -> Result<(), AllocError>
     ensures ok { OnOk result
@@ -302,7 +309,7 @@ fn push_spaces(out: &mut String, count: usize) -> Result<(), AllocError>
     out.push_str(&SPACES[..count])
 }
 
-// The same, of any number. It stands apart, since few rows are so wide.
+// Like `push_spaces`, for any number. Few rows are so far right, so this isn't inlined.
 #[inline(never)]
 fn push_many_spaces(out: &mut String, count: usize) -> Result<(), AllocError>
     ensures ok { OnOk result
@@ -313,15 +320,20 @@ fn push_many_spaces(out: &mut String, count: usize) -> Result<(), AllocError>
     out.push_str(&SPACES[..count % SPACES.len()])
 }
 
-// A line before a line end loses one carriage return.
+// Removes one carriage return from the end of a line.
 fn without_return(line: &str) -> &str
     ensures { result.now ≡ strip_carriage_return line.now }
 {
     line.strip_suffix('\r').unwrap_or(line)
 }
 
-/// Appends the picture of a row with this block at this level (a number of spans, whatever the settings' wraparound). `TooWide`
-/// and `Memory` change nothing.
+/// Appends the picture of a row with this block at this level. The level is a number of spans,
+/// before it wraps round.
+///
+/// # Errors
+///
+/// `TooWide` if the row's width exceeds `usize::MAX` columns. `Memory` if an allocation fails.
+/// `out` is unchanged after both.
 #[tactic(auto, using(tracing_tree_text::proofs::Extended::cuts_back))]
 pub fn push_row(
     out: &mut String,
@@ -359,8 +371,13 @@ pub fn push_row(
 }
 
 impl RowDrawing<'_> {
-    /// Appends what stands before the row's block, and returns where that is. The caller then appends the block, and calls
-    /// [`RowDrawing::end`]. `TooWide` and `Memory` change nothing.
+    /// Appends everything before the row's block, and returns where the row and its block begin.
+    /// The caller then appends the block, and calls [`RowDrawing::end`].
+    ///
+    /// # Errors
+    ///
+    /// `TooWide` if the row's width exceeds `usize::MAX` columns. `Memory` if an allocation fails.
+    /// `out` is unchanged after both.
     #[inline(always)]
     pub fn begin(&self, out: &mut String) -> Result<RowPlace, Refusal>
         ensures ok { OnOk result (string_bytes out.new ≡ string_bytes out.old
@@ -385,9 +402,13 @@ impl RowDrawing<'_> {
         Ok(RowPlace { start, block })
     }
 
-    /// Ends a row: what [`RowDrawing::begin`] appended at this place, and the block after it, become the picture of the row. The caller
-    /// must ensure that `begin` gave this place, and that the text before the block is as it left it. On `AllocError` the text ends where
-    /// the row began.
+    /// Finishes a row: replaces what [`RowDrawing::begin`] appended at this place, and the block
+    /// after it, by the row's picture. The caller must ensure that `begin` returned this place, and
+    /// that the output before the block is unchanged since.
+    ///
+    /// # Errors
+    ///
+    /// `AllocError` if an allocation fails. The whole row is removed from `out` then.
     #[inline(always)]
     pub fn end(&self, out: &mut String, place: RowPlace) -> Result<(), AllocError>
         requires { IsBegun self.now place (string_bytes out.old) }
@@ -403,7 +424,7 @@ impl RowDrawing<'_> {
         Ok(())
     }
 
-    // Ends a row. Where memory is refused, a beginning of it may be left.
+    // Finishes a row. If an allocation fails, a part of the row may be left.
     #[inline(always)]
     fn finish(&self, out: &mut String, place: RowPlace) -> Result<(), AllocError>
         requires { IsBegun self.now place (string_bytes out.old) }
@@ -419,7 +440,8 @@ impl RowDrawing<'_> {
         self.draw_anew(out, place)
     }
 
-    // Ends a row whose block isn't one line as it is: takes it out, and draws it anew.
+    // Finishes a row whose block isn't one line that can stay unchanged: removes the block, and
+    // draws the row again.
     #[inline(never)]
     fn draw_anew(&self, out: &mut String, place: RowPlace) -> Result<(), AllocError>
         requires { IsBegun self.now place (string_bytes out.old) }
@@ -433,7 +455,7 @@ impl RowDrawing<'_> {
         self.row(out, block.as_str())
     }
 
-    // Whether a block is one line as it is.
+    // Returns whether the block is one line and can stay unchanged.
     #[inline(always)]
     fn is_line(&self, block: &str) -> bool
         ensures { IsTrue result
@@ -448,7 +470,7 @@ impl RowDrawing<'_> {
         !block.is_empty()
     }
 
-    // Appends what stands before the block, or a beginning of it.
+    // Appends everything before the block. If an allocation fails, a part of it may be appended.
     #[inline(always)]
     fn push_start(&self, out: &mut String) -> Result<(), AllocError>
         requires { is_too_wide self.now.config.now (row_of self.now []) ≡ false }
@@ -461,7 +483,8 @@ impl RowDrawing<'_> {
         self.frame(true).push(out)
     }
 
-    // Appends the lines of a block, and before or after them the row's wrap mark, or a beginning of that.
+    // Appends the lines of a block, and the row's wrap mark before or after them. If an allocation
+    // fails, a part of them may be appended.
     fn row(&self, out: &mut String, block: &str) -> Result<(), AllocError>
         requires { is_too_wide self.now.config.now (row_of self.now block.now) ≡ false }
         ensures ok { OnOk result
@@ -474,8 +497,9 @@ impl RowDrawing<'_> {
         self.mark(out, corner_after(self.mode))
     }
 
-    // Appends the lines of a block, or a beginning of them. With lines an empty last part is a line too, and also the last loses
-    // its carriage return.
+    // Appends the lines of a block. If an allocation fails, a part of them may be appended. With
+    // lines on, what follows the last line end is a line even if it is empty, and it too loses its
+    // carriage return.
     fn lines(&self, out: &mut String, block: &str) -> Result<(), AllocError>
         requires { HasRoom self.now }
         ensures ok { OnOk result
@@ -499,7 +523,7 @@ impl RowDrawing<'_> {
         self.line(out, &frame, rest)
     }
 
-    // Appends one line, or a beginning of it.
+    // Appends one line. If an allocation fails, a part of it may be appended.
     #[inline(always)]
     fn line(&self, out: &mut String, frame: &FramePieces, text: &str) -> Result<(), AllocError>
         ensures ok { OnOk result (string_bytes out.new ≡ string_bytes out.old
@@ -513,7 +537,7 @@ impl RowDrawing<'_> {
         out.push('\n')
     }
 
-    // The level that counts for the indent.
+    // Returns the level that the indent is counted by.
     fn wrapped_level(&self) -> usize
         ensures value { result ≡ wrapped_level self.now.config.now self.now.level }
         ensures below { result + 1 < 2 ^ 64 }
@@ -521,7 +545,7 @@ impl RowDrawing<'_> {
         self.config.wrapped_level(self.level)
     }
 
-    // The frame of the first line, or that of each later one.
+    // Returns the frame of the first line, or of each later line.
     #[inline(always)]
     fn frame(&self, first: bool) -> FramePieces
         requires { HasRoom self.now }
@@ -537,7 +561,7 @@ impl RowDrawing<'_> {
         lined_frame(self.mode, amount, wrapped, first)
     }
 
-    // Whether the levels wrap round after this one.
+    // Returns whether the levels wrap round after this one.
     fn is_last_before_wrap(&self) -> bool
         ensures { result ≡ is_last_before_wrap self.now.config.now self.now.level }
     {
@@ -545,7 +569,8 @@ impl RowDrawing<'_> {
         self.config.indent_lines() && self.level > 0 && self.wrapped_level() == last
     }
 
-    // Where the levels wrap round after this one, appends the row's wrap mark, if it has one, or a beginning of that.
+    // Appends the row's wrap mark, if it has one and the levels wrap round after this one. If an
+    // allocation fails, a part of it may be appended.
     #[inline(always)]
     fn mark(&self, out: &mut String, corner: Option<char>) -> Result<(), AllocError>
         requires { HasRoom self.now }
@@ -560,7 +585,8 @@ impl RowDrawing<'_> {
         }
     }
 
-    // Appends a line up to the indent and the corner, or a beginning of that.
+    // Appends a line of `─` as wide as the indent, and the corner. If an allocation fails, a part
+    // of it may be appended.
     fn mark_line(&self, out: &mut String, corner: char) -> Result<(), AllocError>
         requires room { HasRoom self.now }
         requires last { is_last_before_wrap self.now.config.now self.now.level ≡ true }

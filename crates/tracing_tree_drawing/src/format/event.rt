@@ -1,4 +1,4 @@
-//! The fields of spans and events, as they stand in a row.
+//! Appends the fields of spans and events to a row.
 
 ghost use Rattle.std.specs.Prelude.{◌≡◌, ◌++◌, OnOk, OnErr, string_bytes};
 ghost use Rattle.tracing_tree_text.specs.Field.{rendered_field};
@@ -7,8 +7,13 @@ ghost use Rattle.tracing_tree_drawing.specs.Format.Texts.{comma_after, event_fie
 use std::alloc::AllocError;
 use tracing_tree_text::field::Field;
 
-/// Appends a field of an event after a space, and after a comma if another field stands before it, and notes whether a comma stands
-/// before the next one. A field whose name begins with `log.` is skipped. On `AllocError` nothing has changed.
+/// Appends a field of an event after a space, or after a comma and a space if `comma` is on. Turns
+/// `comma` on for the next field. A field named `message` is appended as its value only. A field
+/// whose name starts with `log.` is skipped, and changes nothing.
+///
+/// # Errors
+///
+/// `AllocError` if an allocation fails. `out` and `comma` are unchanged then.
 pub fn push_event_field(out: &mut String, comma: &mut bool, field: &Field) -> Result<(), AllocError>
     ensures text { OnOk result (string_bytes out.new
         ≡ string_bytes out.old ++ event_field comma.old field.now) }
@@ -19,7 +24,11 @@ pub fn push_event_field(out: &mut String, comma: &mut bool, field: &Field) -> Re
     push_event_texts(out, comma, field.name.as_str(), field.value.as_str())
 }
 
-/// Appends a field as [`push_event_field`] does, from a name and a value that are lent. On `AllocError` nothing has changed.
+/// Appends a field like [`push_event_field`], from a borrowed name and value.
+///
+/// # Errors
+///
+/// `AllocError` if an allocation fails. `out` and `comma` are unchanged then.
 pub fn push_event_texts(
     out: &mut String,
     comma: &mut bool,
@@ -46,8 +55,11 @@ pub fn push_event_texts(
     out.push_str(value)
 }
 
-/// Appends a field as `name=value`, and a field named `message` as its value alone. On `AllocError`
-/// nothing is appended.
+/// Appends a field as `name=value`. A field named `message` is appended as its value only.
+///
+/// # Errors
+///
+/// `AllocError` if an allocation fails. `out` is unchanged then.
 pub fn push_shown(out: &mut String, field: &Field) -> Result<(), AllocError>
     ensures ok { OnOk result (string_bytes out.new
         ≡ string_bytes out.old ++ shown_field field.now) }
@@ -59,7 +71,11 @@ pub fn push_shown(out: &mut String, field: &Field) -> Result<(), AllocError>
     push_named(out, field)
 }
 
-/// Appends a field as `name=value`. On `AllocError` nothing is appended.
+/// Appends a field as `name=value`.
+///
+/// # Errors
+///
+/// `AllocError` if an allocation fails. `out` is unchanged then.
 #[inline(always)]
 pub fn push_named(out: &mut String, field: &Field) -> Result<(), AllocError>
     ensures ok { OnOk result (string_bytes out.new

@@ -1,5 +1,5 @@
-//! What the Rust crate has besides, and no call of the layer uses: its buffers, `FmtEvent`, and the prefix as a text of its own. All of
-//! it works by the functions that draw a call.
+//! API of the Rust crate that no call of the layer uses: its buffers, `FmtEvent`, and the prefix as
+//! a separate string. It works with the same functions that draw a call.
 
 ghost use Rattle.std.specs.Prelude.{◌≡◌, ◌<◌, ◌++◌, [], None, IfOk, OnOk, OnErr, string_bytes};
 ghost use Rattle.tracing_tree_output.specs.Writers.{WritesWhole, emptied_when_ok, seen_writer};
@@ -17,17 +17,17 @@ use tracing_tree_context::{Context, Id, Refusal};
 use tracing_tree_output::{Output, OutputFault, write_whole};
 use tracing_tree_text::field::Field;
 
-/// The texts of a call while it is built, and the last span. (`Buffers` of the Rust crate.)
+/// The texts of a call while it is built, and the last span shown. (`Buffers` of the Rust crate.)
 #[derive(Drop)]
 pub struct Buffers {
-    /// The block of the row being built, or the text that is ready to be written.
+    /// The block of the row that is being built, or the text that is ready to be written.
     pub current_buf: String,
 
-    /// The rows that are drawn already.
+    /// The rows that have been drawn.
     pub indent_buf: String,
 
-    /// The last span, the one that a call reached last: a span that opened, one that an event or a close was retraced to, or the parent
-    /// of one that closed. It may be gone.
+    /// The last span shown: a span that opened, a span that an event or a close was retraced to, or
+    /// the parent of a span that closed. It may have closed since.
     pub current_span: Option<Id>,
 }
 
@@ -45,7 +45,7 @@ impl Model for Buffers {
 }
 
 impl Buffers {
-    /// Two empty texts, and no span. Takes no memory.
+    /// Returns two empty strings, and no span. Never allocates.
     pub fn new(alloc: Global) -> Buffers
         ensures { result ≡ record { current_buf = []; indent_buf = []; current_span = None } }
     {
@@ -56,8 +56,13 @@ impl Buffers {
         }
     }
 
-    /// Has the output keep `current_buf`, or else writes it whole and empties it. On a fault the buffers stay; what was written is
-    /// then a beginning that isn't the whole, and nothing where the output's writes are whole.
+    /// Passes `current_buf` to the output, and empties it. The output keeps the string, or it is
+    /// written in full.
+    ///
+    /// # Errors
+    ///
+    /// `OutputFault` if a write fails. The buffers are unchanged then. Only a first part of the
+    /// string was written, or nothing if the output takes each write whole.
     pub fn flush_current_buf<O: Output>(&mut self, out: &mut O) -> Result<(), OutputFault>
         requires { O.fault_count out.old < u64.MAX }
         ensures written { WritesWhole self.old.current_buf result
@@ -68,8 +73,12 @@ impl Buffers {
         write_whole(&mut self.current_buf, out)
     }
 
-    /// Moves `indent_buf` to the end of `current_buf`. `AllocError` where memory is refused; nothing has changed then. Where
-    /// `current_buf` is empty it takes no memory.
+    /// Moves `indent_buf` to the end of `current_buf`.
+    ///
+    /// # Errors
+    ///
+    /// `AllocError` if an allocation fails. Nothing has changed then. If `current_buf` is empty, it
+    /// never allocates.
     pub fn flush_indent_buf(&mut self) -> Result<(), AllocError>
         ensures ok { OnOk result (self.new ≡ record self.old {
           current_buf = self.old.current_buf ++ self.old.indent_buf;
@@ -87,8 +96,14 @@ impl Buffers {
         Ok(())
     }
 
-    /// Makes `current_buf`, a block of text, the picture of its row at this level (a number of spans, whatever the settings'
-    /// wraparound). `TooWide` and `Memory` change nothing. (`indent_current` of the Rust crate.)
+    /// Replaces the block in `current_buf` by the picture of its row at this level.
+    /// (`indent_current` of the Rust crate.) The level is a number of spans, before it wraps round.
+    /// The caller must ensure that `indent_buf` is empty.
+    ///
+    /// # Errors
+    ///
+    /// `TooWide` if the row's width exceeds `usize::MAX` columns. `Memory` if an allocation fails.
+    /// The buffers are unchanged after both.
     pub fn indent_current(
         &mut self,
         indent: usize,
@@ -110,19 +125,24 @@ impl Buffers {
     }
 }
 
-/// Appends the fields of an event to the block of its row, one after another. (`FmtEvent` of the Rust crate.)
+/// A writer of an event's fields to the block of its row, in the order of the calls. (`FmtEvent` of
+/// the Rust crate.)
 #[derive(Drop)]
 pub struct FmtEvent<'a> {
-    /// The fields go to the end of `current_buf`.
+    /// The buffers. Fields are appended to `current_buf`.
     pub bufs: &'a mut Buffers,
 
-    /// Whether a comma stands before the next field.
+    /// Whether a comma comes before the next field.
     pub comma: bool,
 }
 
 impl FmtEvent<'_> {
-    /// Appends a field after a space, and after a comma if another field stands before it. A field
-    /// whose name begins with `log.` is skipped. On `AllocError` nothing has changed.
+    /// Appends a field after a space, or after a comma and a space if `comma` is on. A field whose
+    /// name starts with `log.` is skipped.
+    ///
+    /// # Errors
+    ///
+    /// `AllocError` if an allocation fails. Nothing has changed then.
     pub fn record(&mut self, field: &Field) -> Result<(), AllocError>
         ensures ok { let old = self.old in
             let text = old.bufs.now.current_buf ++ event_field old.comma field.now in
@@ -138,8 +158,12 @@ impl FmtEvent<'_> {
 }
 
 impl Config {
-    /// What each line of a call's rows begins with: the thread's number and name, as far as the settings show them.
-    /// `AllocError` where memory is refused. (`prefix` of the Rust crate.)
+    /// Returns the prefix of each line of a call's rows: the thread's number and name, if the
+    /// settings show them. (`prefix` of the Rust crate.)
+    ///
+    /// # Errors
+    ///
+    /// `AllocError` if an allocation fails.
     pub fn prefix(&self, alloc: Global, context: &Context) -> Result<String, AllocError>
         ensures { IfOk result (λ prefix. string_bytes prefix ≡ prefix_text self.now context.now) }
     {

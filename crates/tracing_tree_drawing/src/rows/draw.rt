@@ -1,4 +1,4 @@
-//! Rows drawn from their lines.
+//! Draws rows from their lines.
 
 ghost use Rattle.std.specs.Prelude.{◌≡◌, ◌++◌, ◌≤◌, false, OnOk, IsTrue, string_bytes};
 ghost use Rattle.tracing_tree_drawing.specs.Rows.RowText.{is_row_too_wide, is_text_row, mode_of, row_text};
@@ -9,14 +9,15 @@ use crate::format::{SpanMode, push_frame};
 use std::alloc::{AllocError, Global};
 use thiserror::Error;
 
-/// Why rows aren't drawn.
+/// Why rows could not be drawn.
 #[derive(Clone, Copy, Debug, PartialEq, Eq, Error)]
 pub enum DrawFault {
-    /// A row's level, or one more for the rows of a parent, or its product with the amount passes `usize`.
+    /// A row is too far right: its level, or one more for a parent's row, or that number times the
+    /// amount exceeds `usize::MAX`.
     #[error("too wide")]
     TooWide,
 
-    /// Memory was refused.
+    /// An allocation failed.
     #[error("memory")]
     Memory,
 }
@@ -32,9 +33,12 @@ impl From<AllocError> for DrawFault {
     }
 }
 
-/// The text of rows, drawn with this amount of columns a level. The caller must ensure that the amount is 2 or more.
+/// Returns the text of rows, drawn with `amount` columns per level. The caller must ensure that
+/// `amount` is 2 or more.
 ///
-/// `TooWide` where a row is too wide, whichever; `Memory` where memory is refused.
+/// # Errors
+///
+/// `TooWide` if any row is too wide. `Memory` if an allocation fails.
 pub fn draw_rows(alloc: Global, rows: &[Row], amount: usize) -> Result<String, DrawFault>
     requires { 2 ≤ amount }
     ensures { AnswersText amount rows.now result }
@@ -49,14 +53,14 @@ pub fn draw_rows(alloc: Global, rows: &[Row], amount: usize) -> Result<String, D
     Ok(text)
 }
 
-// Whether one of the rows is too wide.
+// Returns whether one of the rows is too wide.
 fn are_too_wide(rows: &[Row], amount: usize) -> bool
     ensures { result ≡ are_too_wide amount rows.now }
 {
     rows.iter().any(|row| is_too_wide(row, amount))
 }
 
-// Whether a row's level or its width passes `usize`.
+// Returns whether a row's level or its width exceeds `usize::MAX`.
 fn is_too_wide(row: &Row, amount: usize) -> bool
     ensures { result ≡ is_row_too_wide amount row.now }
 {
@@ -86,7 +90,7 @@ fn draw_row(out: &mut String, row: &Row, amount: usize) -> Result<(), AllocError
     Ok(())
 }
 
-// The mode of the rows of this shape, of which open and retrace are alike.
+// Returns the mode of the rows of this shape. Open and retrace rows have one shape.
 fn mode_of(shape: Shape) -> SpanMode
     ensures { result ≡ mode_of shape }
 {

@@ -1,4 +1,4 @@
-//! Where the ancestors of events stand in the text of a drawing.
+//! Finds the ancestors of events in the text of a drawing.
 
 ghost use Rattle.std.specs.List.{range_with_len};
 ghost use Rattle.std.specs.Prelude.{◌≡◌, ℕ, ◌+◌, ◌++◌, ◌∷◌, ◌<◌, ◌≤◌, ◌==◌, ◌^◌, List, [], Some, map, IfOk, IfErr, OnOk, OnErr, if◌then◌else◌};
@@ -12,7 +12,7 @@ use super::row::{Row, Shape};
 use std::alloc::{AllocError, Global};
 use std::marker::Model;
 
-/// Places in a list of rows, from 0, or none. Contracts see them as a list.
+/// Indices in a list of rows, from 0, each of which may be missing. Contracts see them as a list.
 #[derive(Drop)]
 pub struct Places {
     inner: Vec<Option<usize>>,
@@ -27,7 +27,7 @@ impl Model for Places {
 }
 
 impl Places {
-    /// The places, in order.
+    /// Returns the places, in order.
     pub fn as_slice(&self) -> &[Option<usize>]
         ensures { result.now ≡ self.now }
     {
@@ -35,7 +35,7 @@ impl Places {
     }
 }
 
-/// Takes no memory.
+/// Never allocates.
 impl From<Vec<Option<usize>>> for Places {
     ghost use Rattle.std.specs.Prelude.{◌≡◌};
 
@@ -46,7 +46,7 @@ impl From<Vec<Option<usize>>> for Places {
     }
 }
 
-/// Takes no memory.
+/// Never allocates.
 impl From<Places> for Vec<Option<usize>> {
     ghost use Rattle.std.specs.Prelude.{◌≡◌};
 
@@ -58,17 +58,18 @@ impl From<Places> for Vec<Option<usize>> {
     }
 }
 
-/// An event, and where its ancestors stand in the list of rows.
+/// An event and its ancestors, as indices in the list of rows.
 #[derive(Drop)]
 pub struct EventPath {
-    /// The event's place.
+    /// The event's index in the list of rows.
     pub event: usize,
 
-    /// For each level below the event's the place of the last row above it that opens that very level, if there is one.
+    /// For each level below the event's: the index of the last row before the event that opens this
+    /// level, if there is one.
     pub ancestors: Places,
 }
 
-/// For each level where the last row stands that opens it: what an event's path is found in, row by row.
+/// The last row that opens each level. An event's path is found in it, row by row.
 #[derive(Drop)]
 pub struct Ancestry {
     opened: Vec<Option<usize>>,
@@ -83,7 +84,7 @@ impl Model for Ancestry {
 }
 
 impl Ancestry {
-    /// Before the first row. Takes no memory.
+    /// Returns the state before the first row. Never allocates.
     pub fn new(alloc: Global) -> Ancestry
         ensures { result ≡ [] }
     {
@@ -92,8 +93,11 @@ impl Ancestry {
         }
     }
 
-    /// Takes the next row, which stands at this place, and returns its path if it is an event's. `AllocError` where memory is
-    /// refused; the row isn't taken then.
+    /// Adds the next row, whose index is `place`, and returns its path if it is an event's.
+    ///
+    /// # Errors
+    ///
+    /// `AllocError` if an allocation fails. The row isn't added then.
     pub fn take(
         &mut self,
         alloc: Global,
@@ -116,7 +120,7 @@ impl Ancestry {
         }))
     }
 
-    // A row at this place opens this level.
+    // Records that the row at this place opens this level.
     fn open(&mut self, place: usize, level: usize) -> Result<(), AllocError>
         ensures ok { OnOk result ((k : ℕ) →
             place_at self.new k ≡ (if level == k then Some place else place_at self.old k)) }
@@ -129,7 +133,7 @@ impl Ancestry {
         Ok(())
     }
 
-    // The places of the levels below this one.
+    // Returns the places of the levels below this one.
     fn above(&self, alloc: Global, level: usize) -> Result<Places, AllocError>
         ensures { IfOk result (λ places.
             places ≡ map (place_at self.now) (range_with_len 0 level)) }
@@ -144,14 +148,14 @@ impl Ancestry {
     }
 }
 
-// Whether rows of this shape open a span.
+// Returns whether rows of this shape open a span.
 fn opens(shape: Shape) -> bool
     ensures { result ≡ is_opening shape }
 {
     matches!(shape, Shape::OpenRoot | Shape::Open(_))
 }
 
-// Whether rows of this shape are of events.
+// Returns whether rows of this shape are events.
 fn is_event(shape: Shape) -> bool
     ensures { result ≡ is_event shape }
 {
@@ -167,7 +171,7 @@ struct Paths {
 }
 
 impl Paths {
-    // Takes the next row.
+    // Adds the next row.
     fn take(&mut self, alloc: Global, row: &Row) -> Result<(), AllocError>
         requires { self.old.rows + 1 < 2 ^ 64 }
         ensures counted { OnOk result (self.new.rows ≡ self.old.rows + 1) }
@@ -184,11 +188,14 @@ impl Paths {
     }
 }
 
-/// The events of a drawing in order, each with the places of its ancestors in the rows that `read_rows` returns: as many entries
-/// as its level, of which each has the last row above the event that opens that very level, if there is one. The caller must
-/// ensure that the amount is 2 or more.
+/// Returns the events of a drawing in order. Each has the indices of its ancestors in the rows that
+/// `read_rows` returns, one entry for each level below the event's. An entry is the last row before
+/// the event that opens this level, if there is one. The caller must ensure that `amount` is 2 or
+/// more.
 ///
-/// `Line` and `Memory` as `read_rows`.
+/// # Errors
+///
+/// `Line` and `Memory`, as for `read_rows`.
 pub fn read_event_paths(
     alloc: Global,
     text: &str,

@@ -1,4 +1,4 @@
-//! Rows read back from the text of a drawing.
+//! Parses rows from the text of a drawing.
 
 ghost use Rattle.std.specs.Prelude.{◌≡◌, ℕ, ◌+◌, ◌≤◌, ◌<◌, ◌^◌, List, None, Some, Ok, false, IfOk, IfErr, IsTrue, MatchOption};
 ghost use Rattle.tracing_tree_drawing.specs.Rows.Line.{after_run, one_line_row, read_corners, read_event, read_first, read_later, read_root};
@@ -21,7 +21,7 @@ struct FirstLine<'a> {
     text: &'a str,
 }
 
-// The second of two corners, and the shapes whose rows begin with both.
+// The second of two corners, and the shapes whose rows start with both.
 #[derive(Clone, Copy)]
 struct Corners {
     corner: char,
@@ -30,7 +30,7 @@ struct Corners {
     verbose: Shape,
 }
 
-// What follows `count` `─` and the corner.
+// Returns what follows `count` `─` and the corner.
 fn after_run(text: &str, count: usize, corner: char) -> Option<&str>
     ensures { MatchOption result (after_run count corner text.now ≡ None)
         (λ x. after_run count corner text.now ≡ Some x.now) }
@@ -38,8 +38,9 @@ fn after_run(text: &str, count: usize, corner: char) -> Option<&str>
     after_character(after_repeated(text, "─", count)?, corner)
 }
 
-// After the first of two corners: the count of `─` up to the second tells a row of a span from one of a parent, and half an
-// amount more of spaces tells a verbose one.
+// Parses a line after the first of two corners. The number of `─` before the second corner shows
+// whether it is the row of a span or of a parent. Half an amount of extra spaces shows that it is
+// verbose.
 fn read_corners(corners: Corners, amount: usize, spaces: usize, text: &str) -> Option<FirstLine<'_>>
     requires amount { 2 ≤ amount }
     requires fits { spaces + 1 < 2 ^ 64 }
@@ -75,7 +76,7 @@ fn read_corners(corners: Corners, amount: usize, spaces: usize, text: &str) -> O
     })
 }
 
-// After a corner at the left edge.
+// Parses a line after a corner at the left edge.
 fn read_root(shape: Shape, spaces: usize, text: &str) -> Option<FirstLine<'_>>
     ensures { MatchOption result (read_root shape spaces text.now ≡ None)
         (λ x. read_root shape spaces text.now ≡ Some (one_line_row x.shape x.level x.text.now)) }
@@ -90,7 +91,7 @@ fn read_root(shape: Shape, spaces: usize, text: &str) -> Option<FirstLine<'_>>
     })
 }
 
-// After a branch.
+// Parses a line after a branch.
 fn read_event(amount: usize, spaces: usize, text: &str) -> Option<FirstLine<'_>>
     requires amount { 2 ≤ amount }
     requires fits { spaces + 1 < 2 ^ 64 }
@@ -108,7 +109,7 @@ fn read_event(amount: usize, spaces: usize, text: &str) -> Option<FirstLine<'_>>
     })
 }
 
-// The row that begins with this line.
+// Parses the first line of a row.
 fn read_first(line: &str, amount: usize) -> Option<FirstLine<'_>>
     requires { 2 ≤ amount }
     ensures { MatchOption result (read_first amount line.now ≡ None)
@@ -153,7 +154,7 @@ fn read_first(line: &str, amount: usize) -> Option<FirstLine<'_>>
     })
 }
 
-// How many levels further right the rows of this shape stand.
+// Returns by how many levels the rows of this shape are drawn further right.
 fn shift(shape: Shape) -> usize
     ensures { result ≡ shift_of (mode_of shape) }
 {
@@ -163,7 +164,7 @@ fn shift(shape: Shape) -> usize
     }
 }
 
-// How far a later line's bar stands right of the branch.
+// Returns how many columns right of the branch the bar of a later line is.
 fn bar_shift(shape: Shape) -> usize
     ensures { result ≡ continuation_shift (mode_of shape) }
 {
@@ -174,7 +175,7 @@ fn bar_shift(shape: Shape) -> usize
     }
 }
 
-// The text of a later line of a row of this shape and level.
+// Returns the text of a later line of a row of this shape and level.
 fn read_later(line: &str, amount: usize, shape: Shape, level: usize) -> Option<&str>
     requires { 2 ≤ amount }
     ensures { MatchOption result (read_later amount shape level line.now ≡ None)
@@ -190,20 +191,20 @@ fn read_later(line: &str, amount: usize, shape: Shape, level: usize) -> Option<&
     after_repeated(text, " ", amount)
 }
 
-/// What a line is to the rows before it.
+/// The kind of a line, given the rows before it.
 #[derive(Drop)]
 pub enum Taken {
-    /// The first line of a row. The row before it is complete, if there is one.
+    /// The first line of a row. Has the row before it, if there is one, which is now complete.
     First(Option<Row>),
 
-    /// One more line of the row before it.
+    /// A later line of the current row.
     Later,
 
-    /// No line of a row.
+    /// Not a line of a row.
     Neither,
 }
 
-/// Reads rows line by line, and keeps the last one, which may go on.
+/// A reader of rows, line by line. It holds the last row, which may get more lines.
 #[derive(Drop)]
 pub struct Reader {
     amount: usize,
@@ -222,7 +223,8 @@ impl Model for Reader {
 }
 
 impl Reader {
-    /// Reads rows that were drawn with this amount. The caller must ensure that it is 2 or more.
+    /// Returns a reader of rows that were drawn with this amount. The caller must ensure that it is
+    /// 2 or more.
     pub fn new(amount: usize) -> Reader
         requires { 2 ≤ amount }
         ensures { result ≡ record { amount = amount; last = None } }
@@ -230,8 +232,12 @@ impl Reader {
         Reader { amount, last: None }
     }
 
-    /// Takes the next line, without its line end. A line that holds one is no line of a row. `AllocError` where memory is
-    /// refused; the reader is as before then, and after `Neither`.
+    /// Takes the next line, without its line end. A line that contains a line end is `Neither`. The
+    /// reader is unchanged after `Neither`.
+    ///
+    /// # Errors
+    ///
+    /// `AllocError` if an allocation fails. The reader is unchanged then.
     pub fn take(&mut self, alloc: Global, line: &str) -> Result<Taken, AllocError>
         ensures taken { IsTrue (is_unbroken line.now) →
             TakesTextLine self.old line.now result self.new }
@@ -244,7 +250,7 @@ impl Reader {
         self.take_unbroken(alloc, line)
     }
 
-    // The same of a line that is known to hold no line end.
+    // Like `take`, for a line that contains no line end.
     fn take_unbroken(&mut self, alloc: Global, line: &str) -> Result<Taken, AllocError>
         requires { IsTrue (is_unbroken line.now) }
         ensures { TakesTextLine self.old line.now result self.new }
@@ -259,7 +265,7 @@ impl Reader {
         Ok(Taken::First(self.last.replace(row)))
     }
 
-    // Takes the line if it is one more of the last row, and returns whether it is.
+    // Takes the line if it is a later line of the last row, and returns whether it is.
     fn take_later(&mut self, alloc: Global, line: &str) -> Result<bool, AllocError>
         requires { IsTrue (is_unbroken line.now) }
         ensures { TriesLater self.old line.now result self.new }
@@ -274,7 +280,7 @@ impl Reader {
         Ok(true)
     }
 
-    /// The last row, if there is one.
+    /// Returns the last row, if there is one.
     pub fn finish(self) -> Option<Row>
         ensures { result ≡ self.last }
     {
@@ -283,14 +289,14 @@ impl Reader {
     }
 }
 
-/// Why a drawing isn't read.
+/// Why a drawing could not be read.
 #[derive(Clone, Copy, Debug, PartialEq, Eq, Error)]
 pub enum ReadFault {
-    /// The first line, from 1, that is no line of a row.
+    /// The number (from 1) of the first line that isn't a line of a row or has no line end.
     #[error("line {0}: not a row")]
     Line(u64),
 
-    /// Memory was refused.
+    /// An allocation failed.
     #[error("memory")]
     Memory,
 }
@@ -337,7 +343,7 @@ impl<'a> Model for TextReader<'a> {
 }
 
 impl<'a> TextReader<'a> {
-    // No line has been read.
+    // Returns a reader before the first line.
     pub(super) fn new(text: &'a str, amount: usize) -> TextReader<'a>
         requires { 2 ≤ amount }
         ensures { result ≡ all_left amount text.now }
@@ -349,7 +355,7 @@ impl<'a> TextReader<'a> {
         }
     }
 
-    // Takes the next line, if there is one. It is never `Neither`.
+    // Takes the next line, if there is one. Never returns `Neither`.
     pub(super) fn take_line(&mut self, alloc: Global) -> Result<Option<Taken>, ReadFault>
         ensures next { (text : List ℕ) (rows : List TextRow) → IsReadTo text rows self.old →
             TakesNext text rows self.old result self.new }
@@ -370,7 +376,7 @@ impl<'a> TextReader<'a> {
         }
     }
 
-    // The last row, if there is one.
+    // Returns the last row, if there is one.
     pub(super) fn finish(self) -> Option<Row>
         ensures { result ≡ self.entry.reader.last }
     {
@@ -383,15 +389,21 @@ impl<'a> TextReader<'a> {
     }
 }
 
-/// The rows whose drawing the text is: no other rows have that text. The caller must ensure that the amount is 2 or more.
-///
-/// `Line(n)` where line n, from 1, is the first that is no line of a row, or the last one without a line end; `Memory` where memory
-/// is refused. A drawing that isn't readable (docs/FORMATS.md, 'Rows and their reader'), as one with prefixes, wrap marks or another
-/// amount, may be read as other rows than were drawn.
+/// Parses a drawing. Drawing the rows yields the same text, and no other rows have that text. The
+/// caller must ensure that `amount` is 2 or more.
 ///
 /// ```rust
 /// read_rows(alloc, "┐a\n├─ INFO x\n┘\n", 2) // `OpenRoot`, `Event` of level 1, `CloseRoot`
 /// ```
+///
+/// # Errors
+///
+/// `Line(n)` if line `n` (from 1) is the first that isn't a line of a row or has no line end.
+/// `Memory` if an allocation fails.
+///
+/// A drawing that isn't readable (docs/FORMATS.md, 'Rows and their reader') may be read as other
+/// rows than were drawn. Examples are drawings with prefixes, with wrap marks or with another
+/// amount.
 pub fn read_rows(alloc: Global, text: &str, amount: usize) -> Result<Vec<Row>, ReadFault>
     requires { 2 ≤ amount }
     ensures rows { IfOk result (λ rows. IsOnlyReading amount text.now rows.items) }

@@ -9,7 +9,7 @@ use super::text::{has_line_end, is_bare_text};
 use std::alloc::{AllocError, Global};
 use std::marker::Model;
 
-/// The shape of a row. The truth value says whether the row is verbose; open and retrace are alike.
+/// A row's shape. The `bool` says whether the row is verbose. Open and retrace rows have one shape.
 #[derive(Clone, Copy, Debug, PartialEq, Eq)]
 pub enum Shape {
     /// The parent of a span that opens, shown again.
@@ -34,7 +34,7 @@ pub enum Shape {
     Event,
 }
 
-/// The texts of a row's lines, without frames and line ends. Contracts see them as a list of texts.
+/// The strings of a row's lines, without frames and line ends. Contracts see them as a list.
 #[derive(Drop)]
 pub struct Lines {
     inner: Vec<String>,
@@ -49,14 +49,14 @@ impl Model for Lines {
 }
 
 impl Lines {
-    /// The texts, in order.
+    /// Returns the strings, in order.
     pub fn as_slice(&self) -> &[String]
         ensures { map (λ s. string_bytes s) result.now ≡ self.now }
     {
         self.inner.as_slice()
     }
 
-    // A text more.
+    // Appends a line.
     fn push(&mut self, alloc: Global, text: &str) -> Result<(), AllocError>
         ensures ok { IfOk result (λ done. self.new ≡ self.old ++ text.now ∷ []) }
         ensures err { OnErr result (self.new ≡ self.old) }
@@ -67,7 +67,7 @@ impl Lines {
     }
 }
 
-/// Takes no memory.
+/// Never allocates.
 impl From<Vec<String>> for Lines {
     ghost use Rattle.std.specs.Prelude.{◌≡◌, map, string_bytes};
 
@@ -78,7 +78,7 @@ impl From<Vec<String>> for Lines {
     }
 }
 
-/// Takes no memory.
+/// Never allocates.
 impl From<Lines> for Vec<String> {
     ghost use Rattle.std.specs.Prelude.{◌≡◌, map, string_bytes};
 
@@ -90,7 +90,8 @@ impl From<Lines> for Vec<String> {
     }
 }
 
-/// A row: its shape, its level and its lines. It has at least one line, and no line holds a line end.
+/// A row: its shape, its level and its lines. It has at least one line, and no line contains a line
+/// end.
 #[derive(Drop)]
 pub struct Row {
     shape: Shape,
@@ -114,11 +115,13 @@ impl Model for Row {
 }
 
 impl Row {
-    /// The row of this shape and level with these lines, if there is such a row. Takes no memory.
+    /// Returns the row of this shape and level with these lines, or `None` if there is no such row.
+    /// Never allocates.
     ///
-    /// There is none without lines, or with a line end in a line. `OpenRoot` and `CloseRoot` stand at level 0 and have one line;
-    /// `Open` and `Close` stand at level 1 or more. An `Event` at level 0 has one line, whose first character past spaces exists
-    /// and is none of `┐┘└┌├│`.
+    /// A row has at least one line, and no line contains a line end. `OpenRoot` and `CloseRoot`
+    /// have level 0 and one line. `Open` and `Close` have level 1 or more. An `Event` at level 0
+    /// has one line. It contains a character other than a space, and the first one isn't any of
+    /// `┐┘└┌├│`.
     pub fn new(shape: Shape, level: usize, lines: Vec<String>) -> Option<Row>
         ensures { result ≡ made_row (record {
           shape = shape;
@@ -136,7 +139,7 @@ impl Row {
         })
     }
 
-    /// The row's shape.
+    /// Returns the row's shape.
     pub fn shape(&self) -> Shape
         ensures shape { result ≡ self.now.shape }
         ensures proper { IsTrue (is_text_row self.now) }
@@ -144,14 +147,15 @@ impl Row {
         self.shape
     }
 
-    /// The row's level: that of the span that it shows, or how many spans an event stands in.
+    /// Returns the row's level: that of the span that it shows, or the number of spans that an
+    /// event is nested in.
     pub fn level(&self) -> usize
         ensures { result ≡ self.now.level }
     {
         self.level
     }
 
-    /// The texts of the row's lines.
+    /// Returns the strings of the row's lines.
     pub fn lines(&self) -> &Lines
         ensures lines { result.now ≡ self.now.lines }
         ensures proper { IsTrue (is_text_row self.now) }
@@ -159,7 +163,7 @@ impl Row {
         &self.lines
     }
 
-    // A row of one line.
+    // Makes a row of one line.
     pub(super) fn of_line(
         alloc: Global,
         shape: Shape,
@@ -179,7 +183,7 @@ impl Row {
         })
     }
 
-    // A line more.
+    // Appends a line.
     pub(super) fn push(&mut self, alloc: Global, text: &str) -> Result<(), AllocError>
         requires { IsTrue (is_text_row (with_line self.old text.now)) }
         ensures ok { IfOk result (λ done. self.new ≡ with_line self.old text.now) }
@@ -189,7 +193,7 @@ impl Row {
     }
 }
 
-// Whether a row may have this shape and level and these lines.
+// Returns whether a row may have this shape, this level and these lines.
 fn is_row(shape: Shape, level: usize, lines: &[String]) -> bool
     ensures { result ≡ is_text_row (record {
       shape = shape;
@@ -203,14 +207,14 @@ fn is_row(shape: Shape, level: usize, lines: &[String]) -> bool
     fits_shape(shape, level, lines)
 }
 
-// Whether no line holds a line end.
+// Returns whether no line contains a line end.
 fn are_unbroken(lines: &[String]) -> bool
     ensures { result ≡ list_all (λ s. is_unbroken (string_bytes s)) lines.now }
 {
     lines.iter().all(|line| !has_line_end(line.as_str()))
 }
 
-// Whether a row of this shape may have this level and these lines.
+// Returns whether a row of this shape may have this level and these lines.
 fn fits_shape(shape: Shape, level: usize, lines: &[String]) -> bool
     ensures { result ≡ fits_shape shape level (map (λ s. string_bytes s) lines.now) }
 {
@@ -222,7 +226,7 @@ fn fits_shape(shape: Shape, level: usize, lines: &[String]) -> bool
     }
 }
 
-// Whether there is one line, and it is an event's at level 0.
+// Returns whether there is one line, and it is an event's at level 0.
 fn is_bare_line(lines: &[String]) -> bool
     ensures { result ≡ is_bare_line (map (λ s. string_bytes s) lines.now) }
 {

@@ -1,4 +1,4 @@
-//! Beginnings of texts.
+//! Prefixes of strings.
 
 ghost use Rattle.std.specs.Char.{encode_utf8};
 ghost use Rattle.std.specs.List.{repeat, starts_with};
@@ -7,7 +7,7 @@ ghost use Rattle.tracing_tree_drawing.specs.Rows.Line.{after_front, start_spaces
 ghost use Rattle.tracing_tree_drawing.specs.Rows.RowText.{begins_with_any, drawing_marks, is_bare_text, without_start_spaces};
 ghost use Rattle.tracing_tree_drawing.specs.Format.Picture.{has_line_end};
 
-// What follows this beginning, if the text has it.
+// Returns what follows this prefix, if the string has it.
 pub(super) fn after<'a>(text: &'a str, front: &str) -> Option<&'a str>
     ensures { MatchOption result (after_front front.now text.now ≡ None)
         (λ x. after_front front.now text.now ≡ Some x.now) }
@@ -15,7 +15,7 @@ pub(super) fn after<'a>(text: &'a str, front: &str) -> Option<&'a str>
     text.strip_prefix(front)
 }
 
-// What follows the piece `count` times, if the text begins so.
+// Returns what follows `count` copies of the piece, if the string starts with them.
 pub(super) fn after_repeated<'a>(text: &'a str, piece: &str, count: usize) -> Option<&'a str>
     ensures { MatchOption result (after_front (repeat count piece.now) text.now ≡ None)
         (λ x. after_front (repeat count piece.now) text.now ≡ Some x.now) }
@@ -27,7 +27,7 @@ pub(super) fn after_repeated<'a>(text: &'a str, piece: &str, count: usize) -> Op
     Some(rest)
 }
 
-// What follows this character, if the text begins with it.
+// Returns what follows this character, if the string starts with it.
 pub(super) fn after_character(text: &str, character: char) -> Option<&str>
     ensures { MatchOption result (after_front (encode_utf8 character) text.now ≡ None)
         (λ x. after_front (encode_utf8 character) text.now ≡ Some x.now) }
@@ -35,7 +35,7 @@ pub(super) fn after_character(text: &str, character: char) -> Option<&str>
     text.strip_prefix(character)
 }
 
-// The text without the spaces at its start.
+// Removes the spaces at the start.
 pub(super) fn without_spaces(text: &str) -> &str
     ensures rest { result.now ≡ without_start_spaces text.now }
     ensures count { length text.now ≡ start_spaces text.now + length result.now }
@@ -43,14 +43,15 @@ pub(super) fn without_spaces(text: &str) -> &str
     text.trim_start_matches(" ")
 }
 
-// Whether the text holds a line end.
+// Returns whether the string contains a line end.
 pub(super) fn has_line_end(text: &str) -> bool
     ensures { result ≡ has_line_end text.now }
 {
     text.as_bytes().contains(&b'\n')
 }
 
-// Whether the text has a first character past its spaces, which no drawing begins with.
+// Returns whether the string has a first character other than a space, and no row with a frame
+// starts with it.
 pub(super) fn is_bare_text(text: &str) -> bool
     ensures { result ≡ is_bare_text text.now }
 {
@@ -58,7 +59,7 @@ pub(super) fn is_bare_text(text: &str) -> bool
     !rest.is_empty() && !begins_with_mark(rest)
 }
 
-// Whether the text begins with a character that drawings begin with.
+// Returns whether the string starts with a character that frames start with.
 fn begins_with_mark(text: &str) -> bool
     ensures { result ≡ begins_with_any drawing_marks text.now }
 {
@@ -67,7 +68,7 @@ fn begins_with_mark(text: &str) -> bool
         .any(|mark| begins_with(text, *mark))
 }
 
-// Whether the text begins with this character.
+// Returns whether the string starts with this character.
 fn begins_with(text: &str, character: char) -> bool
     ensures { result ≡ starts_with (λ x y. x == y) text.now (encode_utf8_all (character ∷ [])) }
 {

@@ -1,4 +1,4 @@
-//! What builds print: it is told once it is known whether the build fails.
+//! The output of builds, which is reported once it is known whether the build fails.
 
 ghost use Rattle.std.specs.Prelude.{◌≡◌, ◌++◌, ◌∷◌, [], IfOk, OnOk};
 ghost use Rattle.tracing_tree_go_test.specs.Names.{named};
@@ -14,7 +14,7 @@ use tracing_tree_lines::lines::is_skipped;
 use tracing_tree_text::style::Level;
 use tracing_tree_text::text::Text;
 
-// Strings, in the order in which they came.
+// Strings in their order.
 #[derive(Drop)]
 pub(super) struct Texts {
     texts: Vec<Text>,
@@ -50,7 +50,7 @@ impl Texts {
     }
 }
 
-// What the build of a package has printed that isn't told yet.
+// The output of a package's build that hasn't been reported yet.
 #[derive(Drop)]
 pub(super) struct Build {
     path: Text,
@@ -67,7 +67,7 @@ impl Build {
         })
     }
 
-    // Adds a text.
+    // Adds a string.
     fn push(&mut self, alloc: Global, text: &str) -> Result<(), AllocError>
         ensures { OnOk result (self.new ≡ more_built text.now self.old) }
     {
@@ -76,7 +76,7 @@ impl Build {
 }
 
 impl GoTest {
-    // A build prints.
+    // Adds output of a build.
     pub(super) fn print_build(&mut self, path: &str, text: &str) -> Result<(), AllocError>
         ensures { OnOk result (self.new ≡ build_printed path.now text.now self.old) }
     {
@@ -85,7 +85,7 @@ impl GoTest {
         self.put_build(path, build)
     }
 
-    // Takes out what a build has printed.
+    // Takes out the output of a build.
     fn take_build(&mut self, path: &str) -> Result<Build, AllocError>
         ensures build { IfOk result (λ build. build ≡ build_of path.now self.old) }
         ensures rest { OnOk result (self.new ≡ without_build path.now self.old) }
@@ -96,7 +96,7 @@ impl GoTest {
         }
     }
 
-    // Puts back what a build has printed.
+    // Puts back the output of a build.
     fn put_build(&mut self, path: &str, build: Build) -> Result<(), AllocError>
         ensures { OnOk result (self.new ≡ with_build path.now build self.old) }
     {
@@ -104,7 +104,7 @@ impl GoTest {
         self.builds.put(path, build)
     }
 
-    // Tells what the build of a package printed, in its package.
+    // Reports the output of a package's build, in its package.
     pub(super) fn tell_build(&mut self, level: Level, path: &str) -> Result<(), AllocError>
         ensures { OnOk result (self.new ≡ build_told level path.now self.old) }
     {
@@ -114,7 +114,7 @@ impl GoTest {
         }
     }
 
-    // Takes out what a build has printed, if it has.
+    // Takes out the output of a build, if there is any.
     fn take_known_build(&mut self, path: &str) -> Option<Build>
         ensures build { result ≡ named path.now self.old.builds }
         ensures rest { self.new ≡ without_build path.now self.old }
@@ -122,7 +122,7 @@ impl GoTest {
         self.builds.take(path.as_bytes())
     }
 
-    // Tells what each of these builds printed.
+    // Reports the output of each of these builds.
     pub(super) fn tell_builds(&mut self, builds: Named<Build>) -> Result<(), AllocError>
         ensures { OnOk result (self.new ≡ builds_told builds self.old) }
     {
@@ -133,7 +133,7 @@ impl GoTest {
         Ok(())
     }
 
-    // Tells what a build printed in its package.
+    // Reports the output of a build in its package.
     fn tell_texts(&mut self, level: Level, build: &Build) -> Result<(), AllocError>
         ensures { OnOk result (self.new ≡ texts_told level build.now self.old) }
     {
@@ -159,7 +159,7 @@ impl GoTest {
         Ok(())
     }
 
-    // Tells a text of a build, unless nothing is left of it without its heading.
+    // Reports a string of a build, unless it is blank without its heading.
     fn say_text(&mut self, level: Level, owner: &mut Running, text: &str) -> Result<(), AllocError>
         ensures { OnOk result (holds owner.new self.new
             ≡ build_said level text.now (holds owner.old self.old)) }
@@ -173,7 +173,7 @@ impl GoTest {
     }
 }
 
-// A text without its first line, if that names the package.
+// Removes the first line of a string, if it names the package.
 fn without_heading(text: &str) -> &str
     ensures { result.now ≡ without_heading text.now }
 {

@@ -1,4 +1,4 @@
-//! What runs: tests, and their packages.
+//! Running tests and their packages.
 
 ghost use Rattle.std.specs.Prelude.{◌≡◌, ◌++◌, [], false, IfOk, OnOk, ◌||◌, length, ◌≤◌, option_map};
 ghost use Rattle.tracing_tree_go_test.specs.GoTest.{begun, fails_as, is_framing, kind_named, name_at_first, noted, outer_within, owner, placed, placed_in, shown_at, shown_name, span_in, span_of, whole_name, with_span};
@@ -10,41 +10,43 @@ use std::mem;
 use tracing_tree_context::Id;
 use tracing_tree_text::text::Text;
 
-// A test that runs, or its package, which has no test's name.
+// A running test, or a running package, whose test name is empty.
 #[derive(Drop)]
 pub(super) struct Running {
     pub(super) path: Text,
     pub(super) test: Text,
-    // The name that its span or the event of its end shows: in the span of an outer test what comes after that one's name.
+    // The name shown in its span, or in the event of its end. In the span of a parent test it is
+    // the rest after the parent's name.
     pub(super) name: Text,
-    // The span in which it stands, looked up where it is taken out, since what it stood in may have ended.
+    // The parent's span. It is looked up each time this value is taken out, since the parent may
+    // have ended.
     pub(super) above: Option<Id>,
-    // Its own, once it has told something.
+    // Its span, once it has printed something.
     pub(super) span: Option<Id>,
-    // The beginning of a line whose end isn't printed yet.
+    // The first part of a line whose end hasn't been printed yet.
     pub(super) part: Text,
     // Whether a string of that line is an error.
     pub(super) is_error: bool,
-    // Whether it has begun, and not only its build.
+    // Whether it has started, and not only its build.
     pub(super) has_begun: bool,
-    // Whether a package's result is one of an earlier run.
+    // Whether a package's result is from an earlier run.
     pub(super) is_cached: bool,
-    // How much of a package was covered, as a percentage; empty where nothing says so.
+    // How much of a package was covered, as a percentage. Empty if unknown.
     pub(super) coverage: Text,
 }
 
-// What a line says that its string is.
+// The kind of a line's output.
 #[derive(Clone, Copy)]
 pub(super) enum Kind {
     Plain,
-    // It only frames.
+    // Only a frame.
     Frame,
     // An error of a test.
     Failure,
 }
 
 impl Kind {
-    // What this word at `OutputType` says.
+    // Returns the kind for a value of `OutputType`.
     pub(super) fn named(word: &str) -> Kind
         ensures { result ≡ kind_named word.now }
     {
@@ -63,7 +65,7 @@ impl Kind {
         matches!(self, Kind::Failure)
     }
 
-    // Whether a string of this test, or of its package, only frames.
+    // Returns whether a string of this test, or of its package, is only a frame.
     pub(super) fn is_framing(self, test: &str, text: &str) -> bool
         ensures { result ≡ is_framing self test.now text.now }
     {
@@ -75,7 +77,7 @@ impl Kind {
 }
 
 impl Running {
-    // A test begins, or a package, which has no test's name.
+    // Starts a test, or a package, whose test name is empty.
     pub(super) fn begun(alloc: Global, path: &str, test: &str) -> Result<Running, AllocError>
         ensures { IfOk result (λ one. one ≡ begun path.now test.now) }
     {
@@ -94,7 +96,7 @@ impl Running {
         })
     }
 
-    // The whole name of a test, or the path of a package.
+    // Returns the whole name of a test, or the path of a package.
     fn whole_name(&self) -> &str
         ensures { result.now ≡ whole_name self.now }
     {
@@ -105,7 +107,7 @@ impl Running {
         }
     }
 
-    // The name that is shown in the span of this test, or in the package.
+    // Returns the name that is shown in the span of this parent test, or in the package.
     fn shown_name(&self, outer: Option<&Running>) -> &str
         ensures { result.now ≡ shown_name (option_map (λ o. o.now) outer.entry) self.now }
     {
@@ -115,7 +117,8 @@ impl Running {
         }
     }
 
-    // Looks up the span in which it stands, in what else runs of its package, which has this span.
+    // Looks up the parent's span among the others that are running in its package, which has
+    // `package_span`.
     pub(super) fn place(
         &mut self,
         alloc: Global,
@@ -128,7 +131,7 @@ impl Running {
         self.place_in(alloc, package_span, outer)
     }
 
-    // Stands in the span of this test, or in the package's.
+    // Sets the parent's span: that of this test, or the package's.
     fn place_in(
         &mut self,
         alloc: Global,
@@ -145,7 +148,7 @@ impl Running {
         Ok(())
     }
 
-    // Takes what is printed of a line, and forgets that it is an error.
+    // Takes out the part of a line that was printed, and resets its error flag.
     pub(super) fn take_part(&mut self, alloc: Global) -> Result<Text, AllocError>
         ensures part { IfOk result (λ part. part ≡ self.old.part) }
         ensures rest { OnOk result (self.new ≡ record self.old { part = []; is_error = false }) }
@@ -155,7 +158,7 @@ impl Running {
         Ok(mem::replace(&mut self.part, empty))
     }
 
-    // Puts a string behind what is printed of a line.
+    // Appends a string to the part of a line that was printed.
     pub(super) fn add_to_part(
         &mut self,
         alloc: Global,
@@ -174,7 +177,7 @@ impl Running {
         Ok(())
     }
 
-    // Notes what a line of a package says of its end.
+    // Records what a line of a package says about its end.
     pub(super) fn note(&mut self, alloc: Global, line: &str) -> Result<(), AllocError>
         ensures { OnOk result (self.new ≡ noted line.now self.old) }
     {
@@ -186,14 +189,15 @@ impl Running {
     }
 }
 
-// The name that is shown until a span around a test is known: the whole name of a test, or the path of a package.
+// Returns the name that is shown until a parent span is known: the whole name of a test, or the
+// path of a package.
 fn name_at_first<'a>(path: &'a str, test: &'a str) -> &'a str
     ensures { result.now ≡ name_at_first path.now test.now }
 {
     if test.is_empty() { path } else { test }
 }
 
-// The span of a test in which another stands, or the package's.
+// Returns the span of the parent test, or the package's.
 fn span_of(package_span: Option<Id>, outer: Option<&Running>) -> Option<Id>
     ensures { result ≡ span_of package_span (option_map (λ o. o.now) outer.entry) }
 {
@@ -203,7 +207,8 @@ fn span_of(package_span: Option<Id>, outer: Option<&Running>) -> Option<Id>
     }
 }
 
-// The longest beginning of a name, at a `/`, that runs; else the empty name, which is the package's.
+// Returns the longest prefix of a name, split at a `/`, that is running. Otherwise returns the
+// empty name, which is the package's.
 pub(super) fn owner<'t>(tests: &Named<Running>, test: &'t [u8]) -> &'t [u8]
     ensures { result.now ≡ owner tests.now test.now }
 {
@@ -217,7 +222,7 @@ pub(super) fn owner<'t>(tests: &Named<Running>, test: &'t [u8]) -> &'t [u8]
     &test[..length]
 }
 
-// The longest beginning of a name, at a `/`, that runs and has a span.
+// Returns the longest prefix of a name, split at a `/`, that is running and has a span.
 fn outer_in<'t>(tests: &'t Named<Running>, test: &[u8]) -> Option<&'t Running>
     ensures { option_map (λ o. o.now) result ≡ outer_within tests.now test.now (length test.now) }
 {
@@ -231,7 +236,8 @@ fn outer_in<'t>(tests: &'t Named<Running>, test: &[u8]) -> Option<&'t Running>
     None
 }
 
-// What runs under the beginning of a name that is so long and ends at a `/`, if it has a span.
+// Returns what is running under the first `size` bytes of a name, if they end at a `/` or at the
+// end of the name and it has a span.
 fn shown_at<'t>(tests: &'t Named<Running>, test: &[u8], size: usize) -> Option<&'t Running>
     requires { size ≤ length test.now }
     ensures { option_map (λ o. o.now) result ≡ shown_at tests.now test.now size }
@@ -242,7 +248,7 @@ fn shown_at<'t>(tests: &'t Named<Running>, test: &[u8], size: usize) -> Option<&
     with_span(tests.get(&test[..size]))
 }
 
-// What has a span.
+// Returns the value if it has a span.
 fn with_span(one: Option<&Running>) -> Option<&Running>
     ensures { option_map (λ o. o.now) result ≡ with_span (option_map (λ o. o.now) one.entry) }
 {
@@ -252,7 +258,7 @@ fn with_span(one: Option<&Running>) -> Option<&Running>
     }
 }
 
-// The span of what has this name, if it runs and has one.
+// Returns the span of this name, if it is running and has one.
 pub(super) fn span_in(tests: &Named<Running>, name: &[u8]) -> Option<Id>
     ensures { result ≡ span_in tests.now name.now }
 {

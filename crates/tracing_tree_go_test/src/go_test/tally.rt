@@ -1,4 +1,4 @@
-//! How tests and packages end, and how many came to which end.
+//! How tests and packages end, and the counts of each end.
 
 ghost use Rattle.std.specs.Prelude.{◌≡◌, ◌++◌, codes, IfOk, OnOk, string_bytes};
 ghost use Rattle.tracing_tree_go_test.specs.GoTest.{counts_failure, failing_fields, left_as, level_of, more_names, more_text, names_field, no_counts, tally_fields, word_of};
@@ -9,28 +9,28 @@ use tracing_tree_text::field::Field;
 use tracing_tree_text::style::Level;
 use tracing_tree_text::text::Text;
 
-// How many names of what failed are told.
+// At most this many names of failed tests or packages are reported.
 const MOST_NAMES: u64 = 10;
 
-/// How many tests and packages came to which end.
+/// The counts of tests and packages, by how they ended.
 #[derive(Clone, Copy, Debug)]
 pub struct Tally {
-    /// Tests that passed. A benchmark without an end whose package passed is one.
+    /// Tests that passed. They include tests without an end whose package passed, as benchmarks.
     pub passed: u64,
     /// Tests that failed.
     pub failed: u64,
     /// Tests that were skipped.
     pub skipped: u64,
-    /// Tests that began and didn't end.
+    /// Tests that started and didn't end.
     pub unfinished: u64,
-    /// Packages, whatever their end.
+    /// Packages, with any end.
     pub packages: u64,
     /// Packages that failed or didn't end.
     pub packages_failed: u64,
 }
 
 impl Tally {
-    // Nothing is counted yet.
+    // Returns counts of 0.
     pub(super) fn new() -> Tally
         ensures { result ≡ no_counts }
     {
@@ -51,7 +51,7 @@ impl Tally {
         self.failed != 0 || self.packages_failed != 0
     }
 
-    // The fields that tell the counts.
+    // Returns the fields with the counts.
     pub(super) fn fields(&self, alloc: Global) -> Result<Vec<Field>, AllocError>
         ensures { IfOk result (λ fields. fields.items ≡ tally_fields self.now) }
     {
@@ -66,7 +66,7 @@ impl Tally {
     }
 }
 
-// The names of what failed: the first ten, with a space between two.
+// The names of failed packages and tests: the first ten, separated by spaces.
 #[derive(Drop)]
 pub(super) struct Failing {
     pub(super) packages: Text,
@@ -74,7 +74,7 @@ pub(super) struct Failing {
 }
 
 impl Failing {
-    // Appends the fields that tell the names.
+    // Appends the fields with the names.
     pub(super) fn push_fields(
         &self,
         alloc: Global,
@@ -95,7 +95,7 @@ impl Failing {
     }
 }
 
-// Appends the field with these names, if there is one, and how many more there are.
+// Appends the field with these names, if there are any, and how many more there are.
 fn push_names(
     alloc: Global,
     key: &str,
@@ -118,7 +118,7 @@ fn push_names(
     Ok(fields.push(field)?)
 }
 
-// Appends how many of these aren't named.
+// Appends how many more there are than names.
 fn push_more(text: &mut String, count: u64) -> Result<(), AllocError>
     ensures { OnOk result (string_bytes text.new ≡ string_bytes text.old ++ more_text count) }
 {
@@ -129,7 +129,7 @@ fn push_more(text: &mut String, count: u64) -> Result<(), AllocError>
     write!(text, " and {more} more")
 }
 
-// The names with one more, unless there are ten already.
+// Returns the names with one more, unless there are ten already.
 pub(super) fn more_names(
     alloc: Global,
     count: u64,
@@ -181,7 +181,7 @@ impl Ending {
         }
     }
 
-    // How a test ends that still runs when its package ends so.
+    // Returns how a test ends that is still running when its package ends like this.
     pub(super) fn of_left(self) -> Ending
         ensures { result ≡ left_as self }
     {

@@ -1,4 +1,4 @@
-//! What is told of a test or a package: its lines, its span, and its end.
+//! Reports a test or a package: its lines, its span and its end.
 
 ghost use Rattle.std.specs.Prelude.{◌≡◌, ◌++◌, ◌∷◌, [], IfOk, OnOk, option_map};
 ghost use Rattle.tracing_tree_go_test.specs.GoTest.{cached_fields, coverage_fields, elapsed_fields, event_told, finished, frame_printed, framed, holds, level_of_line, line_of, line_told, opened, part_told, quiet_told, span_ended, string_printed, text_printed, told};
@@ -17,7 +17,7 @@ use tracing_tree_text::style::Level;
 use tracing_tree_text::text::Text;
 
 impl GoTest {
-    // A string of a test or its package.
+    // Takes a string of a test or its package.
     pub(super) fn print_string(
         &mut self,
         owner: &mut Running,
@@ -33,7 +33,7 @@ impl GoTest {
         self.print_text(owner, kind.is_failure(), text)
     }
 
-    // A frame ends the line before it.
+    // Takes a frame, which ends the line before it.
     fn print_frame(&mut self, owner: &mut Running, text: &str) -> Result<(), AllocError>
         ensures { OnOk result (holds owner.new self.new
             ≡ frame_printed text.now (holds owner.old self.old)) }
@@ -42,7 +42,7 @@ impl GoTest {
         self.frame(owner, without_line_end(text))
     }
 
-    // A string that isn't a frame.
+    // Takes a string that isn't a frame.
     fn print_text(
         &mut self,
         owner: &mut Running,
@@ -59,7 +59,7 @@ impl GoTest {
         Ok(())
     }
 
-    // Tells the line that a test has printed, if there is one.
+    // Reports the line that a test has printed, if there is one.
     pub(super) fn tell_part(&mut self, owner: &mut Running) -> Result<(), AllocError>
         ensures { OnOk result (holds owner.new self.new ≡ part_told (holds owner.old self.old)) }
     {
@@ -69,7 +69,7 @@ impl GoTest {
         self.tell_printed(owner)
     }
 
-    // Tells the line that a test has printed, but for one that only frames.
+    // Reports the line that a test has printed, unless it is only a frame.
     fn tell_printed(&mut self, owner: &mut Running) -> Result<(), AllocError>
         ensures { OnOk result (holds owner.new self.new ≡ line_told (holds owner.old self.old)) }
     {
@@ -78,7 +78,7 @@ impl GoTest {
         self.tell_line(owner, level, part.as_str())
     }
 
-    // Tells this line of what runs, unless it only frames.
+    // Reports this line of a test or package, unless it is only a frame.
     fn tell_line(&mut self, owner: &mut Running, level: Level, text: &str) -> Result<(), AllocError>
         ensures { OnOk result (holds owner.new self.new
             ≡ line_of level text.now (holds owner.old self.old)) }
@@ -91,7 +91,7 @@ impl GoTest {
         self.push_event(level, line, owner.span)
     }
 
-    // A line that only frames: of a package it may say how that ended.
+    // Takes a line that is only a frame. For a package it may say how the package ended.
     fn frame(&self, owner: &mut Running, line: &str) -> Result<(), AllocError>
         ensures { OnOk result (holds owner.new self.now
             ≡ framed line.now (holds owner.old self.now)) }
@@ -102,7 +102,8 @@ impl GoTest {
         Ok(())
     }
 
-    // What runs no longer: its end is told in its span, which closes, or where it told nothing in one line in the span above.
+    // Ends a test or a package. If it has a span, its end is reported there and the span closes.
+    // Otherwise its end is one event in the parent's span.
     pub(super) fn finish(
         &mut self,
         one: Running,
@@ -119,7 +120,7 @@ impl GoTest {
         self.end_span(&one, ending, rest)
     }
 
-    // Tells the end with these fields.
+    // Reports the end with these fields.
     fn end_span(
         &mut self,
         one: &Running,
@@ -139,7 +140,7 @@ impl GoTest {
         }
     }
 
-    // The end of a test that told nothing.
+    // Reports the end of a test that printed nothing.
     pub(super) fn push_quiet(
         &mut self,
         ending: Ending,
@@ -156,7 +157,7 @@ impl GoTest {
         self.push_fields(ending.level(), text.as_str(), rest, above)
     }
 
-    // An event in this span, unless its text is blank.
+    // Records an event in this span, unless its message is blank.
     pub(super) fn push_event(
         &mut self,
         level: Level,
@@ -169,7 +170,7 @@ impl GoTest {
         self.push_fields(level, text, rest, above)
     }
 
-    // An event with these further fields in this span, unless its text is blank.
+    // Records an event with these further fields in this span, unless its message is blank.
     fn push_fields(
         &mut self,
         level: Level,
@@ -188,7 +189,7 @@ impl GoTest {
         self.push(above, call)
     }
 
-    // A call, after which this is the last span.
+    // Adds a call, and makes `last` the span of the last call.
     fn push(&mut self, last: Option<Id>, call: Call) -> Result<(), AllocError>
         ensures { OnOk result (self.new ≡ told last call self.old) }
     {
@@ -197,7 +198,7 @@ impl GoTest {
         Ok(())
     }
 
-    // Opens the span of what runs, unless it is open.
+    // Opens the span of a test or package, unless it is open.
     pub(super) fn open(&mut self, one: &mut Running) -> Result<(), AllocError>
         ensures { OnOk result (holds one.new self.new ≡ opened (holds one.old self.old)) }
     {
@@ -219,14 +220,14 @@ impl GoTest {
     }
 }
 
-// The level of a line of which a string is an error, or none.
+// Returns the level of a line, given whether a string of it is an error.
 fn level_of_line(is_error: bool) -> Level
     ensures { result ≡ level_of_line is_error }
 {
     if is_error { Level::Error } else { Level::Info }
 }
 
-// How long a test took, as a field.
+// Returns how long a test took, as a field.
 pub(super) fn elapsed_fields(alloc: Global, elapsed: Option<&str>) -> Result<Vec<Field>, AllocError>
     ensures { IfOk result (λ fields. fields.items
         ≡ elapsed_fields (option_map (λ e. e.now) elapsed.entry)) }
@@ -238,7 +239,7 @@ pub(super) fn elapsed_fields(alloc: Global, elapsed: Option<&str>) -> Result<Vec
     Ok(fields)
 }
 
-// Appends what else the end of a package shows.
+// Appends the other fields of a package's end.
 fn push_notes(alloc: Global, one: &Running, fields: &mut Vec<Field>) -> Result<(), AllocError>
     ensures { OnOk result (fields.new.items ≡ fields.old.items
         ++ (cached_fields one.now.is_cached ++ coverage_fields one.now.coverage)) }

@@ -1,11 +1,11 @@
-//! Texts of Go's tests: names, lines that only frame, and how a package ended.
+//! Names of Go's tests, lines that are only frames, and lines about a package's end.
 
 ghost use Rattle.std.specs.Prelude.{◌≡◌, option_map};
 ghost use Rattle.tracing_tree_go_test.specs.Texts.{after_path, after_tab, coverage_in, coverage_of, ends_line, ends_word, frames, is_cached, is_end_frame, is_frame, is_frame_line, is_name_frame, is_package_frame, is_step_frame, is_summary, is_test_frame, own_name, percent, up_to_space, without_line_end, without_spaces};
 
 use tracing_tree_sources::marks::after_mark;
 
-// Whether nothing or this byte begins what is left.
+// Returns whether the rest is empty or starts with this byte.
 pub(super) fn ends_word(byte: u8, rest: &[u8]) -> bool
     ensures { result ≡ ends_word byte rest.now }
 {
@@ -15,7 +15,7 @@ pub(super) fn ends_word(byte: u8, rest: &[u8]) -> bool
     }
 }
 
-// What stands before the first space.
+// Returns the part before the first space.
 pub(super) fn up_to_space(text: &str) -> &str
     ensures { result.now ≡ up_to_space text.now }
 {
@@ -25,7 +25,7 @@ pub(super) fn up_to_space(text: &str) -> &str
     }
 }
 
-// The name of a test as it is shown in the span of this outer test.
+// Returns the name of a test as shown in the span of this parent test.
 pub(super) fn own_name<'t>(outer: &str, test: &'t str) -> &'t str
     ensures { result.now ≡ own_name outer.now test.now }
 {
@@ -56,14 +56,15 @@ pub(super) fn without_line_end(text: &str) -> &str
     }
 }
 
-// Whether a string is a whole line that only frames what the test of this name, or a package, prints.
+// Returns whether a string is a whole line that is only a frame of this test's output, or of a
+// package's.
 pub(super) fn is_frame_line(test: &str, text: &str) -> bool
     ensures { result ≡ is_frame_line test.now text.now }
 {
     ends_line(text.as_bytes()) && is_frame(test, without_line_end(text))
 }
 
-// Whether a line only frames what the test of this name, or a package, prints.
+// Returns whether a line is only a frame of this test's output, or of a package's.
 pub(super) fn is_frame(test: &str, line: &str) -> bool
     ensures { result ≡ is_frame test.now line.now }
 {
@@ -73,14 +74,14 @@ pub(super) fn is_frame(test: &str, line: &str) -> bool
     is_test_frame(test.as_bytes(), without_spaces(line.as_bytes()))
 }
 
-// Whether a line only frames what the test of this name prints.
+// Returns whether a line is only a frame of this test's output.
 fn is_test_frame(test: &[u8], line: &[u8]) -> bool
     ensures { result ≡ is_test_frame test.now line.now }
 {
     is_step_frame(test, line) || is_end_frame(test, line) || is_name_frame(test, line)
 }
 
-// Whether a line tells that the test goes on or waits, or what belongs to it.
+// Returns whether a line says that the test starts, waits or continues, or what belongs to it.
 fn is_step_frame(test: &[u8], line: &[u8]) -> bool
     ensures { result ≡ is_step_frame test.now line.now }
 {
@@ -92,7 +93,7 @@ fn is_step_frame(test: &[u8], line: &[u8]) -> bool
         || frames(line, "=== ARTIFACTS ", test)
 }
 
-// Whether a line tells how the test ended.
+// Returns whether a line says how the test ended.
 fn is_end_frame(test: &[u8], line: &[u8]) -> bool
     ensures { result ≡ is_end_frame test.now line.now }
 {
@@ -102,14 +103,14 @@ fn is_end_frame(test: &[u8], line: &[u8]) -> bool
         || frames(line, "--- BENCH: ", test)
 }
 
-// Whether a line is a benchmark's name by itself.
+// Returns whether a line is only a benchmark's name.
 fn is_name_frame(test: &[u8], line: &[u8]) -> bool
     ensures { result ≡ is_name_frame test.now line.now }
 {
     test.starts_with("Benchmark".as_bytes()) && line == test
 }
 
-// What stands from the first byte on that is no space.
+// Removes the spaces at the start.
 fn without_spaces(line: &[u8]) -> &[u8]
     ensures { result.now ≡ without_spaces line.now }
 {
@@ -120,7 +121,7 @@ fn without_spaces(line: &[u8]) -> &[u8]
     rest
 }
 
-// Whether the line is this mark, the test's name and nothing more, or a time after it.
+// Returns whether the line is this mark and the test's name, with nothing or a space after it.
 fn frames(line: &[u8], mark: &str, test: &[u8]) -> bool
     ensures { result ≡ frames line.now test.now mark.now }
 {
@@ -141,14 +142,14 @@ pub(super) fn is_package_frame(line: &[u8]) -> bool
         || line.starts_with("?   \t".as_bytes())
 }
 
-// Whether a line of a package only frames, or says how it was covered.
+// Returns whether a line of a package is only a frame, or has its coverage.
 fn is_summary(line: &str) -> bool
     ensures { result ≡ is_summary line.now }
 {
     is_package_frame(line.as_bytes()) || coverage_in(line).is_some()
 }
 
-// What comes after the first tab.
+// Returns the part after the first tab.
 fn after_tab(text: &str) -> &str
     ensures { result.now ≡ after_tab text.now }
 {
@@ -158,21 +159,21 @@ fn after_tab(text: &str) -> &str
     }
 }
 
-// What comes after a package's status and path.
+// Returns the part after a package's status and path.
 fn after_path(line: &str) -> &str
     ensures { result.now ≡ after_path line.now }
 {
     after_tab(after_tab(line))
 }
 
-// Whether the result of a package is one of an earlier run.
+// Returns whether the result of a package is from an earlier run.
 pub(super) fn is_cached(line: &str) -> bool
     ensures { result ≡ is_cached line.now }
 {
     after_path(line).starts_with("(cached)")
 }
 
-// The percentage in a line that says it by itself, or behind a package's time.
+// Returns the percentage in a line that has only the coverage, or has it after a package's time.
 #[tactic(auto, unfolding(crate::specs::Texts::coverage_in))]
 pub(super) fn coverage_in(line: &str) -> Option<&str>
     ensures { option_map (λ s. s.now) result ≡ coverage_in line.now }
@@ -189,7 +190,7 @@ fn coverage_of(text: &str) -> Option<&str>
     percent(after_mark(text, "coverage: ")?)
 }
 
-// The word before the first space, if it is a percentage.
+// Returns the word before the first space, if it is a percentage.
 fn percent(text: &str) -> Option<&str>
     ensures { option_map (λ s. s.now) result ≡ percent text.now }
 {

@@ -1,4 +1,4 @@
-//! Calls on a layer alone, over each kind of live spans.
+//! Calls on a layer without a registry, over each kind of live spans.
 
 use std::alloc::Global;
 use tracing_tree::call::Call;
@@ -53,7 +53,7 @@ impl Keeps for Walked {
     }
 }
 
-// The calls on the layer stand in functions of their own, whose contracts say nothing: what is looked at is what is drawn.
+// The calls on the layer are in separate functions without contracts: only what is drawn is tested.
 
 type Layer = HierarchicalLayer<Tape, ()>;
 

@@ -33,7 +33,7 @@ const DEFERRED: Settings = Settings {
     ..RETRACED
 };
 
-// Spans, each the parent of the next, of which the first gets this id.
+// Opens spans, each the parent of the next. The first gets this id.
 fn push_chain(steps: &mut Vec<Step<'static>>, first: u64, depth: u64) -> Result<(), AllocError> {
     steps.push(Step::New("s", None))?;
     for place in 1..depth {
@@ -63,7 +63,8 @@ fn a_long_chain_closes_at_once(rt: HostRuntime) -> Result<(), Fail> {
     Ok(())
 }
 
-// Two chains, with an event in the last span of each by turns. Returns whether each call is accepted.
+// Two chains, with an event in the last span of each by turns. Returns whether each call is
+// accepted.
 fn alternates(alloc: Global, settings: Settings, depth: u64) -> Result<bool, AllocError> {
     let mut steps = Vec::new(alloc);
     push_chain(&mut steps, 1, depth)?;
@@ -131,7 +132,7 @@ fn a_wrap_mark_is_wide(rt: HostRuntime) -> Result<(), Fail> {
     Ok(())
 }
 
-// How many calls of these lines are accepted, and what ends the run.
+// Returns how many calls of these lines are accepted, and what ends the run.
 fn ran(alloc: Global, input: &str) -> (u64, Option<LineFault>) {
     let run = run_lines(alloc, input.as_bytes(), Tape::new(alloc));
     (run.accepted, run.fault)

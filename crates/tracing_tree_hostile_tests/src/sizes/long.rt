@@ -20,7 +20,7 @@ use tracing_tree::text::Text;
 use tracing_tree::time::{FormatTime, Uptime};
 use tracing_tree_for_tests::{Answer, at, attributes, made, recorded};
 
-// Whether a text of so many bytes is kept and copied.
+// Returns whether a string of `bytes` bytes is stored and copied.
 fn is_kept(alloc: Global, bytes: usize) -> Result<bool, AllocError> {
     let long = "x".repeat(alloc, bytes)?;
     let text = Text::from_str(alloc, long.as_str())?;
@@ -41,7 +41,7 @@ fn texts_are_kept_and_copied(rt: HostRuntime) -> Result<(), Fail> {
     Ok(())
 }
 
-// How long a field shows a text of so many bytes, and itself.
+// Returns the lengths of a field that shows a string of `bytes` bytes, quoted and unchanged.
 fn lengths_shown(alloc: Global, bytes: usize) -> Result<(usize, usize), AllocError> {
     let long = "x".repeat(alloc, bytes)?;
     if !long.as_str().is_ascii() {
@@ -61,7 +61,7 @@ fn fields_show_long_texts(rt: HostRuntime) -> Result<(), Fail> {
     Ok(())
 }
 
-// How many fields there are after so many were appended to so many.
+// Returns how many fields there are after `second` fields were appended to `first`.
 fn appended(alloc: Global, first: u64, second: u64) -> Result<usize, AllocError> {
     let mut fields = Fields::from(numbered(alloc, first)?);
     fields.append(Fields::from(numbered(alloc, second)?))?;
@@ -83,7 +83,8 @@ fn fields_are_appended(rt: HostRuntime) -> Result<(), Fail> {
     Ok(())
 }
 
-// How long a text of so many bytes is after the uptime `   0.000000s` was appended, if it was.
+// Returns the length of a string of `bytes` bytes after the uptime `   0.000000s` was appended, if
+// it was.
 fn timed(alloc: Global, bytes: usize) -> Result<usize, AllocError> {
     let mut text = "x".repeat(alloc, bytes)?;
     match Uptime::from(0).format_time(&at(None).moment, &mut text) {
@@ -100,7 +101,7 @@ fn times_are_appended_to_long_texts(rt: HostRuntime) -> Result<(), Fail> {
     Ok(())
 }
 
-// A layer over memory without lines.
+// Returns a layer over memory without lines.
 fn spaced(alloc: Global, amount: usize) -> Result<Box<Layered<Tape, ()>>, AllocError> {
     let layer = HierarchicalLayer::new(alloc, amount, false, Tape::new(alloc));
     Ok(Box::new(alloc, Layered::new(alloc, layer))?)
@@ -110,7 +111,8 @@ fn answer(layered: &mut Layered<Tape, ()>, call: Call) -> Answer {
     layered.call(call)
 }
 
-// How many spans, each in the one before it, are accepted of so many with this amount, and how many bytes they draw.
+// Nests `depth` spans with this amount. Returns how many are accepted, and how many bytes they
+// draw.
 fn nested(alloc: Global, amount: usize, depth: u64) -> Result<(u64, usize), AllocError> {
     let mut layered = spaced(alloc, amount)?;
     let mut accepted = 0_u64;
@@ -133,7 +135,7 @@ fn spans_are_deep_or_wide(rt: HostRuntime) -> Result<(), Fail> {
     Ok(())
 }
 
-// So many clones of a span that isn't there.
+// Returns `count` clones of a span that isn't there.
 fn clones(alloc: Global, count: u64) -> Result<Vec<Call>, AllocError> {
     let mut calls = Vec::new(alloc);
     for _ in 0..count {
@@ -142,7 +144,7 @@ fn clones(alloc: Global, count: u64) -> Result<Vec<Call>, AllocError> {
     Ok(calls)
 }
 
-// How many answers a run of them has, of which each is the same.
+// Returns how many answers a run of them has. All must be equal.
 fn answered(alloc: Global, count: u64) -> Result<usize, AllocError> {
     let calls = clones(alloc, count)?;
     let answers: Vec<Answer> = spaced(alloc, 2)?.run(alloc, calls)?;
@@ -164,7 +166,7 @@ fn an_event_has_many_fields(rt: HostRuntime) -> Result<(), Fail> {
     Ok(())
 }
 
-// What a run draws of settings and of a line with so many spaces and a call.
+// Draws settings and a line with `spaces` spaces and a call. Returns the number of bytes.
 fn drawn_behind(alloc: Global, spaces: usize) -> Result<usize, AllocError> {
     let mut input = String::from_str(alloc, "{}\n")?;
     input.push_str(" ".repeat(alloc, spaces)?.as_str())?;
@@ -200,7 +202,7 @@ fn printed(alloc: Global, text: &[u8], writer: &mut Counted) -> Result<(), RowFa
     rows_to_json(alloc, text, writer, 2)
 }
 
-// How many bytes are printed of an event of so many bytes outside every span.
+// Returns how many bytes are printed for an event of `bytes` bytes outside all spans.
 fn printed_of(alloc: Global, bytes: usize) -> Result<usize, AllocError> {
     let mut text = "x".repeat(alloc, bytes)?;
     text.push_str("\n")?;
@@ -211,7 +213,7 @@ fn printed_of(alloc: Global, bytes: usize) -> Result<usize, AllocError> {
     }
 }
 
-// Besides the text of the event 56 bytes are printed.
+// In addition to the event, 56 bytes are printed.
 #[test]
 fn rows_are_long(rt: HostRuntime) -> Result<(), Fail> {
     for bytes in [1_usize, 70, 4_096, 65_537, 1_000_000] {
@@ -224,7 +226,7 @@ fn rows(alloc: Global, text: &str) -> Result<Vec<Row>, ReadFault> {
     read_rows(alloc, text, 2)
 }
 
-// How many rows so many lines are read as.
+// Returns how many rows are read from `lines` lines.
 fn rows_read(alloc: Global, lines: usize) -> Result<usize, AllocError> {
     let text = "x\n".repeat(alloc, lines)?;
     match rows(alloc, text.as_str()) {
@@ -245,7 +247,7 @@ fn paths(alloc: Global, text: &str) -> Result<Vec<EventPath>, ReadFault> {
     read_paths(alloc, text, 2)
 }
 
-// How many ancestors the one event has of a span at this level that alone is shown.
+// Returns how many ancestors the one event has, if only a span at this level is shown.
 fn ancestors(alloc: Global, level: usize) -> Result<usize, AllocError> {
     let above = " ".repeat(alloc, level.saturating_sub(1).saturating_mul(2))?;
     let text = format!(in alloc; "{above}└─┐b \n{above}  ├─x\n")?;
@@ -259,7 +261,7 @@ fn ancestors(alloc: Global, level: usize) -> Result<usize, AllocError> {
     }
 }
 
-// Of the span's level and the root's.
+// One for each level up to the span's, with the root's.
 #[test]
 fn drawings_are_deep(rt: HostRuntime) -> Result<(), Fail> {
     for level in [1_usize, 2, 69, 70, 127, 128, 129, 2_001] {
@@ -268,7 +270,7 @@ fn drawings_are_deep(rt: HostRuntime) -> Result<(), Fail> {
     Ok(())
 }
 
-// A registry of so many spans, as far as they are accepted.
+// Returns a registry of `count` spans, or of those that are accepted.
 fn roots(alloc: Global, count: u64) -> Result<Registry, AllocError> {
     let mut registry = Registry::new(alloc);
     for _ in 0..count {
@@ -290,7 +292,7 @@ fn many_spans_live(rt: HostRuntime) -> Result<(), Fail> {
     Ok(())
 }
 
-// How many fields a span has onto which so many were recorded, one by one.
+// Returns how many fields a span has after `count` were recorded, one by one.
 fn recorded_onto(alloc: Global, count: usize) -> Result<usize, AllocError> {
     let mut registry = roots(alloc, 1)?;
     for _ in 0..count {

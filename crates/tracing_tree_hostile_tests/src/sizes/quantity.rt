@@ -14,7 +14,7 @@ pub enum Quantity {
     /// Spans, each in the one before it. They close from the last on.
     Depth,
 
-    /// The same, but they close at once with the last.
+    /// Like `Depth`, but they close together with the last.
     AtOnce,
 
     /// Roots that live at once.
@@ -46,7 +46,7 @@ pub enum Quantity {
 }
 
 impl Quantity {
-    /// A run of this size.
+    /// Returns a run of this size.
     pub fn run(self, alloc: Global, size: u64) -> Result<Run, AllocError> {
         let mut run = Run::new(alloc);
         self.fill(&mut run, size)?;
@@ -70,7 +70,8 @@ impl Quantity {
     }
 }
 
-// So many spans, the first with this id and below this one, each further one in the one before it.
+// Opens `size` spans. The first has this id and this parent, and each further one is nested in the
+// one before it.
 fn chain(
     run: &mut Run,
     size: u64,
@@ -95,7 +96,7 @@ fn unwind(run: &mut Run, size: u64, first: u64, level: u64) -> Result<(), AllocE
     Ok(())
 }
 
-// The span of this number, if there is one.
+// Returns the span of this number, if there is one.
 fn numbered_span(number: u64) -> Option<u64> {
     if number == 0 { None } else { Some(number) }
 }
@@ -170,7 +171,8 @@ fn branches(run: &mut Run, size: u64) -> Result<(), AllocError> {
     unwind(run, 1, 1, 0)
 }
 
-// The closes of a branch at which the drawing wasn't. It is shown again where its last span's parent is in it.
+// Closes a branch that isn't the current one. It is shown again if the parent of the last span
+// shown is in it.
 fn unwind_branch(run: &mut Run, size: u64, first: u64) -> Result<(), AllocError> {
     if size > 1 {
         shows(run, size)?;

@@ -1,4 +1,4 @@
-//! Calls, and the text that they are to draw.
+//! Calls, and the text that they must draw.
 
 use std::alloc::{AllocError, Global};
 use tracing_tree::call::Call;
@@ -31,13 +31,13 @@ impl Run {
         Ok(())
     }
 
-    /// A new span `n` below the current one, which is to be drawn at this level.
+    /// A new span `n` below the current one, drawn at this level.
     pub fn open(&mut self, current: Option<u64>, level: u64) -> Result<(), AllocError> {
         self.calls.push(span(self.alloc, "n", 0, current)?)?;
         self.show(level)
     }
 
-    /// An event `x` in the current span, which is to be drawn at this level.
+    /// An event `x` in the current span, drawn at this level.
     pub fn tell(&mut self, current: Option<u64>, level: u64) -> Result<(), AllocError> {
         self.calls.push(event(self.alloc, "x", 0, current)?)?;
         if level == 0 {
@@ -62,7 +62,7 @@ impl Run {
         self.draw(level.wrapping_sub(1), "┌─┘\n")
     }
 
-    /// A row behind the spaces of so many levels.
+    /// A row after the spaces of `levels` levels.
     pub fn draw(&mut self, levels: u64, row: &str) -> Result<(), AllocError> {
         for _ in 0..levels {
             self.wanted.push_str("  ")?;
@@ -71,7 +71,7 @@ impl Run {
     }
 }
 
-/// A new span of this name with so many fields.
+/// Returns a new span with this name and `fields` fields.
 pub fn span(
     alloc: Global,
     name: &str,
@@ -87,7 +87,7 @@ pub fn span(
     Ok(Call::New(attributes, at(current)))
 }
 
-/// An event with this message and so many fields.
+/// Returns an event with this message and `fields` fields.
 pub fn event(
     alloc: Global,
     message: &str,
@@ -105,7 +105,7 @@ pub fn event(
     Ok(Call::Event(event, at(current)))
 }
 
-/// So many fields `k=v`.
+/// Returns `count` fields `k=v`.
 pub fn numbered(alloc: Global, count: u64) -> Result<Vec<Field>, AllocError> {
     let mut fields = Vec::new(alloc);
     for _ in 0..count {
@@ -114,7 +114,7 @@ pub fn numbered(alloc: Global, count: u64) -> Result<Vec<Field>, AllocError> {
     Ok(fields)
 }
 
-/// How they are shown, with commas between them.
+/// Returns how they are shown, with commas between them.
 pub fn shown(alloc: Global, count: u64) -> Result<String, AllocError> {
     let mut text = String::new(alloc);
     for place in 0..count {

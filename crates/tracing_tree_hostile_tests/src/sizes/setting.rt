@@ -1,4 +1,4 @@
-//! Settings of a layer: those of which a run's text is known, and others by numbers.
+//! Settings of a layer: some for which a run's text is known, and others by numbers.
 
 ghost use Rattle.std.specs.Prelude.{◌≡◌, None, false};
 
@@ -17,7 +17,7 @@ pub enum Settings {
 }
 
 impl Settings {
-    /// A layer over memory with these settings.
+    /// Returns a layer over memory with these settings.
     pub fn layer(self, alloc: Global) -> HierarchicalLayer<Tape, ()>
         ensures last { result.last ≡ None }
         ensures sound { result.failed ≡ false }
@@ -58,13 +58,13 @@ fn drawn(alloc: Global, number: u64) -> HierarchicalLayer<Tape, ()>
         .with_wraparound(around.saturating_add(1))
 }
 
-// The eight digits that decide most.
+// Returns the eight digits that decide most.
 fn digits(number: u64) -> [bool; 8] {
     let [_, _, _, _, _, _, _, byte] = number.to_be_bytes();
     [1, 2, 4, 8, 16, 32, 64, 128].map(|digit: u8| byte & digit != 0)
 }
 
-/// The number after this one, as if drawn by chance.
+/// Returns the number after this one, as if drawn by chance.
 pub fn next(number: u64) -> u64 {
     number
         .wrapping_mul(6_364_136_223_846_793_005)

@@ -1,4 +1,5 @@
-//! Each quantity at each size: what is drawn is what it must be, over each kind of live spans, and it is read back.
+//! Each quantity at each size: what is drawn is what it must be, over each kind of live spans, and
+//! it is read back.
 
 use crate::sizes::bare::{Keeps, make_all};
 use crate::sizes::quantity::Quantity;
@@ -19,14 +20,14 @@ enum Way {
     // As one run.
     Run,
 
-    // On a layer alone, over a registry that keeps paths.
+    // On a layer without a registry, over a registry that stores paths.
     Kept,
 
-    // The same over one that walks them.
+    // Like `Kept`, over a registry that walks them.
     Walked,
 }
 
-// What is drawn, or the first refusal.
+// Returns what is drawn, or the first refusal.
 fn text(
     alloc: Global,
     way: Way,
@@ -75,7 +76,7 @@ fn draw(alloc: Global, rows: &[Row]) -> Result<String, DrawFault> {
     draw_rows(alloc, rows, 2)
 }
 
-// Whether a text is read, and drawn again.
+// Returns whether a text is read, and drawn again.
 fn is_read_back(alloc: Global, bytes: &[u8]) -> bool {
     let Ok(text) = str::from_utf8(bytes) else {
         return false;
@@ -89,7 +90,7 @@ fn is_read_back(alloc: Global, bytes: &[u8]) -> bool {
     }
 }
 
-// Whether a run of this size draws what it must in this way.
+// Returns whether a run of this size draws what it must in this way.
 fn is_drawn(alloc: Global, quantity: Quantity, size: u64, way: Way) -> Result<bool, AllocError> {
     let run = quantity.run(alloc, size)?;
     let Ok(tape) = text(alloc, way, Settings::Plain, run.calls) else {
@@ -98,7 +99,7 @@ fn is_drawn(alloc: Global, quantity: Quantity, size: u64, way: Way) -> Result<bo
     Ok(tape.bytes() == run.wanted.as_bytes() && is_read_back(alloc, tape.bytes()))
 }
 
-// Whether a run of this size draws under these settings in this way what it draws as a run.
+// Returns whether a run of this size draws under these settings in this way what it draws as a run.
 fn is_alike(
     alloc: Global,
     quantity: Quantity,
@@ -117,7 +118,7 @@ fn is_alike(
     Ok(tape.bytes() == wanted.bytes())
 }
 
-// A size in one way after another, under the settings of which the text is known and under others.
+// Tries a size in one way after another, with settings for which the text is known and with others.
 fn try_size(
     rt: &(impl Abort + AllocGlobal),
     quantity: Quantity,

@@ -1,4 +1,4 @@
-//! Calls on a layer alone, over live spans that something else keeps.
+//! Calls on a layer without a registry, over live spans that are stored elsewhere.
 
 ghost use Rattle.std.specs.Prelude.{◌≡◌, IfOk, length};
 ghost use Rattle.tracing_tree_spans.specs.Registry.Forest.{unless_live, if_live, path_of_any};
@@ -13,14 +13,20 @@ use tracing_tree_spans::registry::{Event, LookupSpan, Record};
 use tracing_tree_time::FormatTime;
 
 /// A layer can be called without a [`Layered`](crate::Layered), over any [`LookupSpan`]. The caller
-/// then makes and removes the spans. Each call is refused with `Failed` after one was refused for
-/// the timer or the writer. After every other refusal the spans, their marks and the last span are
-/// as before, and nothing was written; after `Writer` a beginning of the call's text may be out.
+/// then makes and removes the spans.
+///
+/// # Errors
+///
+/// After a call was refused for the timer or the writer, each call is refused with `Failed`. After
+/// every other refusal the spans, their marks and the last span are unchanged, and nothing was
+/// written. After `Writer` a first part of the call's text may have been written.
 impl<W: Output, FT: FormatTime> HierarchicalLayer<W, FT> {
     /// Draws a span that was just made. (`on_new_span` of the Rust crate.)
     ///
-    /// `NotHeld` of a span that isn't live; `TooWide`, `Memory`, `Writer` and `Failed` as
-    /// [`Layered::call`](crate::Layered::call) has them.
+    /// # Errors
+    ///
+    /// `NotHeld` if the span isn't live. `TooWide`, `Memory`, `Writer` and `Failed`, as for
+    /// [`Layered::call`](crate::Layered::call).
     pub fn on_new_span<S: LookupSpan>(
         &mut self,
         id: Id,
@@ -36,10 +42,12 @@ impl<W: Output, FT: FormatTime> HierarchicalLayer<W, FT> {
         self.write_new_span(id, spans, context)
     }
 
-    /// Puts the fields at the end of the span's, and draws nothing. A span that isn't live is
+    /// Appends the fields to those of the span, and draws nothing. An id that isn't live is
     /// accepted, and nothing happens. (`on_record` of the Rust crate.)
     ///
-    /// `Memory` where memory is refused; `Failed` after a fault.
+    /// # Errors
+    ///
+    /// `Memory` if an allocation fails. `Failed` after a fault.
     pub fn on_record<S: LookupSpan>(
         &mut self,
         id: Id,
@@ -63,8 +71,10 @@ impl<W: Output, FT: FormatTime> HierarchicalLayer<W, FT> {
 
     /// Draws an event. (`on_event` of the Rust crate.)
     ///
-    /// `TooWide`, `Timer`, `Memory`, `Writer` and `Failed` as
-    /// [`Layered::call`](crate::Layered::call) has them.
+    /// # Errors
+    ///
+    /// `TooWide`, `Timer`, `Memory`, `Writer` and `Failed`, as for
+    /// [`Layered::call`](crate::Layered::call).
     pub fn on_event<S: LookupSpan>(
         &mut self,
         event: &Event,
@@ -84,11 +94,13 @@ impl<W: Output, FT: FormatTime> HierarchicalLayer<W, FT> {
         self.write_event(event, None, depth, spans, context)
     }
 
-    /// Draws the close of this one span, which stays live: the caller removes it afterwards.
+    /// Draws the close of this span. The span stays live: the caller removes it afterwards.
     /// (`on_close` of the Rust crate.)
     ///
-    /// `NotHeld` of a span that isn't live; `TooWide`, `Memory`, `Writer` and `Failed` as
-    /// [`Layered::call`](crate::Layered::call) has them.
+    /// # Errors
+    ///
+    /// `NotHeld` if the span isn't live. `TooWide`, `Memory`, `Writer` and `Failed`, as for
+    /// [`Layered::call`](crate::Layered::call).
     pub fn on_close<S: LookupSpan>(
         &mut self,
         id: Id,
@@ -104,7 +116,7 @@ impl<W: Output, FT: FormatTime> HierarchicalLayer<W, FT> {
         self.write_closes(&[id], spans, context)
     }
 
-    // Whether the layer may draw, and the span is live.
+    // Checks that the layer may draw, and that the span is live.
     fn check<S: LookupSpan>(&self, id: Id, spans: &S) -> Result<(), Refusal>
         ensures { IsChecked self.now.failed (unless_live (S.forest spans.now) id) result }
     {
@@ -116,8 +128,8 @@ impl<W: Output, FT: FormatTime> HierarchicalLayer<W, FT> {
     }
 }
 
-// How many spans lead down to the span, itself among them; 0 where it isn't there or isn't live. Memory is taken
-// only for a path that isn't kept.
+// Returns the length of the path down to the span, including it. It is 0 if the id is missing or
+// isn't live. Allocates only for a path that isn't stored.
 fn depth<S: LookupSpan>(alloc: Global, spans: &S, id: Option<Id>) -> Result<usize, AllocError>
     ensures { let forest = S.forest spans.now in
         IfOk result (λ depth. depth ≡ length (path_of_any forest (if_live forest id))) }

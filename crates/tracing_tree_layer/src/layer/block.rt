@@ -1,4 +1,4 @@
-//! The blocks of text of rows, before they are drawn.
+//! The blocks of rows, before they are drawn.
 
 ghost use Rattle.std.specs.Prelude.{◌≡◌, ◌++◌, ◌∷◌, true, false, OnOk, OnErr, codes, string_bytes};
 ghost use Rattle.tracing_tree_drawing.specs.Format.Texts.{label, named_value, shown_field, span_fields};
@@ -12,7 +12,7 @@ use tracing_tree_spans::registry::SpanRef;
 use tracing_tree_text::field::Field;
 use tracing_tree_text::style::push_level;
 
-// The fields of a span. Only in the first place is a message shown alone.
+// Appends the fields of a span. A message is shown as its value only if it is the first field.
 fn push_span_fields(out: &mut String, fields: &[Field]) -> Result<(), AllocError>
     ensures { OnOk result (string_bytes out.new ≡ string_bytes out.old ++ span_fields fields.now) }
 {
@@ -27,7 +27,7 @@ fn push_span_fields(out: &mut String, fields: &[Field]) -> Result<(), AllocError
     Ok(())
 }
 
-// Target, name and fields of a span.
+// Appends the target, name and fields of a span.
 fn push_span_text(out: &mut String, config: &Config, span: &SpanRef) -> Result<(), AllocError>
     ensures { OnOk result
         (string_bytes out.new ≡ string_bytes out.old
@@ -46,7 +46,7 @@ fn push_span_text(out: &mut String, config: &Config, span: &SpanRef) -> Result<(
     }
 }
 
-// What stands before the fields of a span, with ansi. Codes that follow each other are one piece.
+// Appends everything before the fields of a span, with ansi. Consecutive codes are one string.
 fn push_painted_head(out: &mut String, config: &Config, span: &SpanRef) -> Result<(), AllocError>
     requires { config.now.ansi ≡ true }
     ensures { OnOk result
@@ -58,7 +58,7 @@ fn push_painted_head(out: &mut String, config: &Config, span: &SpanRef) -> Resul
     push_painted_brace(out, config)
 }
 
-// The target of a span, if targets are on, and the code that starts its name, with ansi.
+// Appends the target of a span, if targets are on, and the code that starts its name, with ansi.
 fn push_painted_target(out: &mut String, config: &Config, span: &SpanRef) -> Result<(), AllocError>
     requires { config.now.ansi ≡ true }
     ensures { OnOk result
@@ -73,7 +73,7 @@ fn push_painted_target(out: &mut String, config: &Config, span: &SpanRef) -> Res
     out.push_str("\x1b[0m::\x1b[1;32m")
 }
 
-// The code that ends a name, and the brace before the fields or a space, with ansi.
+// Appends the code that ends a name, and a brace or a space before the fields, with ansi.
 fn push_painted_brace(out: &mut String, config: &Config) -> Result<(), AllocError>
     requires { config.now.ansi ≡ true }
     ensures { let brace = shown_brace config.now (codes "{") (codes " ") in
@@ -86,7 +86,7 @@ fn push_painted_brace(out: &mut String, config: &Config) -> Result<(), AllocErro
     }
 }
 
-// What stands before the fields of a span, without ansi.
+// Appends everything before the fields of a span, without ansi.
 fn push_plain_head(out: &mut String, config: &Config, span: &SpanRef) -> Result<(), AllocError>
     requires { config.now.ansi ≡ false }
     ensures { OnOk result
@@ -105,8 +105,8 @@ fn push_plain_head(out: &mut String, config: &Config, span: &SpanRef) -> Result<
     }
 }
 
-// Appends the block of a span's row: its label, if labels are on, then target, name and fields, of
-// which a plain close shows none. After an error a beginning may stand in `out`.
+// Appends the block of a span's row: its label, if labels are on, then its target, name and fields.
+// A plain close doesn't show these three. After an error, a part of the block may be in `out`.
 pub(super) fn push_span_block(
     out: &mut String,
     config: &Config,
@@ -126,8 +126,11 @@ pub(super) fn push_span_block(
     push_span_text(out, config, span)
 }
 
-/// Appends level, target and fields of an event, as they stand after the timer's texts. After an
-/// error a beginning may stand in `out`.
+/// Appends the level, target and fields of an event, which come after the timer's texts.
+///
+/// # Errors
+///
+/// `AllocError` if an allocation fails. A part of them may be in `out` then.
 pub fn push_event_tail<E: ToldEvent>(
     out: &mut String,
     config: &Config,

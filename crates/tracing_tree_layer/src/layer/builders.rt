@@ -1,4 +1,4 @@
-//! The builders of the layer: each changes one setting.
+//! The builders of the layer. Each changes one setting.
 
 ghost use Rattle.std.specs.Prelude.{◌≡◌, ◌<◌};
 
@@ -7,7 +7,7 @@ use tracing_tree_output::Output;
 use tracing_tree_time::FormatTime;
 
 impl<W: Output, FT: FormatTime> HierarchicalLayer<W, FT> {
-    /// Paints text for a terminal, or leaves it plain.
+    /// Sets whether text is painted with ANSI escapes for a terminal.
     pub fn with_ansi(mut self, ansi: bool) -> HierarchicalLayer<W, FT>
         ensures { result ≡ record self { settings = record self.settings { ansi = ansi } } }
     {
@@ -15,7 +15,7 @@ impl<W: Output, FT: FormatTime> HierarchicalLayer<W, FT> {
         self
     }
 
-    /// Draws the tree with lines, or with spaces alone.
+    /// Sets whether the tree is drawn with lines, or only with spaces.
     pub fn with_indent_lines(mut self, indent_lines: bool) -> HierarchicalLayer<W, FT>
         ensures { result ≡ record self {
           settings = record self.settings { indent_lines = indent_lines };
@@ -35,7 +35,7 @@ impl<W: Output, FT: FormatTime> HierarchicalLayer<W, FT> {
         self
     }
 
-    /// Shows the targets of spans and events.
+    /// Sets whether spans and events show their targets.
     pub fn with_targets(mut self, targets: bool) -> HierarchicalLayer<W, FT>
         ensures { result ≡ record self { settings = record self.settings { targets = targets } } }
     {
@@ -43,7 +43,7 @@ impl<W: Output, FT: FormatTime> HierarchicalLayer<W, FT> {
         self
     }
 
-    /// Begins each line with the thread's number.
+    /// Sets whether each line starts with the thread's number.
     pub fn with_thread_ids(mut self, thread_ids: bool) -> HierarchicalLayer<W, FT>
         ensures { result ≡ record self {
           settings = record self.settings { render_thread_ids = thread_ids };
@@ -53,7 +53,7 @@ impl<W: Output, FT: FormatTime> HierarchicalLayer<W, FT> {
         self
     }
 
-    /// Begins each line with the thread's name, if it has one.
+    /// Sets whether each line starts with the thread's name, if it has one.
     pub fn with_thread_names(mut self, thread_names: bool) -> HierarchicalLayer<W, FT>
         ensures { result ≡ record self {
           settings = record self.settings { render_thread_names = thread_names };
@@ -63,7 +63,8 @@ impl<W: Output, FT: FormatTime> HierarchicalLayer<W, FT> {
         self
     }
 
-    /// Begins the indent anew after this many levels. The caller must ensure that the number isn't 0.
+    /// Sets after how many levels the indent starts at the left edge again. The caller must ensure
+    /// that the number isn't 0.
     pub fn with_wraparound(mut self, wraparound: usize) -> HierarchicalLayer<W, FT>
         requires { 0 < wraparound }
         ensures { result ≡ record self {
@@ -74,7 +75,7 @@ impl<W: Output, FT: FormatTime> HierarchicalLayer<W, FT> {
         self
     }
 
-    /// Shows the parent again before a child is entered.
+    /// Sets whether the parent is shown again before a child is entered.
     pub fn with_verbose_entry(mut self, verbose_entry: bool) -> HierarchicalLayer<W, FT>
         ensures { result ≡ record self {
           settings = record self.settings { verbose_entry = verbose_entry };
@@ -84,7 +85,7 @@ impl<W: Output, FT: FormatTime> HierarchicalLayer<W, FT> {
         self
     }
 
-    /// Shows a closing span whole, and its parent again after it.
+    /// Sets whether a closing span is shown in full, and its parent again after it.
     pub fn with_verbose_exit(mut self, verbose_exit: bool) -> HierarchicalLayer<W, FT>
         ensures { result ≡ record self {
           settings = record self.settings { verbose_exit = verbose_exit };
@@ -94,7 +95,7 @@ impl<W: Output, FT: FormatTime> HierarchicalLayer<W, FT> {
         self
     }
 
-    /// Labels rows of spans with their mode.
+    /// Sets whether rows of spans are labelled with their mode.
     pub fn with_span_modes(mut self, span_modes: bool) -> HierarchicalLayer<W, FT>
         ensures { result ≡ record self {
           settings = record self.settings { span_modes = span_modes };
@@ -104,7 +105,7 @@ impl<W: Output, FT: FormatTime> HierarchicalLayer<W, FT> {
         self
     }
 
-    /// Puts a span's fields in braces.
+    /// Sets whether a span's fields are in braces.
     pub fn with_bracketed_fields(mut self, bracketed_fields: bool) -> HierarchicalLayer<W, FT>
         ensures { result ≡ record self {
           settings = record self.settings { bracketed_fields = bracketed_fields };
@@ -114,7 +115,8 @@ impl<W: Output, FT: FormatTime> HierarchicalLayer<W, FT> {
         self
     }
 
-    /// Shows the spans above an event or a new span again where the last span is another.
+    /// Sets whether the ancestors of an event or a new span are shown again if another span was
+    /// shown last.
     pub fn with_span_retrace(mut self, span_retrace: bool) -> HierarchicalLayer<W, FT>
         ensures { result ≡ record self {
           settings = record self.settings { span_retrace = span_retrace };
@@ -124,7 +126,8 @@ impl<W: Output, FT: FormatTime> HierarchicalLayer<W, FT> {
         self
     }
 
-    /// Shows a span only once it, or one below it, is the current span of an event.
+    /// Sets whether a span is drawn only when the first event occurs in it or in one of its
+    /// descendants.
     pub fn with_deferred_spans(mut self, deferred_spans: bool) -> HierarchicalLayer<W, FT>
         ensures { result ≡ record self {
           settings = record self.settings { deferred_spans = deferred_spans };
@@ -134,9 +137,9 @@ impl<W: Output, FT: FormatTime> HierarchicalLayer<W, FT> {
         self
     }
 
-    /// Shows the spans above a closing span again where its parent isn't on the path of the last
-    /// span. It has no effect unless `span_retrace` or `deferred_spans` is on. (The Rust crate
-    /// has no such setting.)
+    /// Sets whether a closing span and its ancestors are shown again if its parent isn't on the
+    /// path of the last span shown. It has no effect unless `span_retrace` or `deferred_spans` is
+    /// on. (The Rust crate has no such setting.)
     pub fn with_close_retrace(mut self, close_retrace: bool) -> HierarchicalLayer<W, FT>
         ensures { result ≡ record self {
           settings = record self.settings { close_retrace = close_retrace };
@@ -146,7 +149,7 @@ impl<W: Output, FT: FormatTime> HierarchicalLayer<W, FT> {
         self
     }
 
-    /// Takes the texts of moments and elapsed times from this timer, in place of the one before.
+    /// Sets the timer that shows moments and elapsed times, in place of the previous one.
     pub fn with_timer<FT2: FormatTime>(self, timer: FT2) -> HierarchicalLayer<W, FT2>
     where
         FT: Drop,
@@ -170,8 +173,8 @@ impl<W: Output, FT: FormatTime> HierarchicalLayer<W, FT> {
         }
     }
 
-    /// Writes to this writer from now on, and drops the one before. The caller must ensure that the
-    /// writer has no faults.
+    /// Replaces the writer, and drops the previous one. The caller must ensure that the new writer
+    /// has no faults.
     pub fn with_writer<Other: Output>(self, writer: Other) -> HierarchicalLayer<Other, FT>
     where
         W: Drop,

@@ -1,4 +1,4 @@
-//! The rows of a call, planned and then drawn one after another.
+//! Plans the rows of a call, and then draws them one after another.
 
 ghost use Rattle.std.specs.Prelude.{◌≡◌, ◌++◌, ◌∷◌, ◌-◌, [], false, if◌then◌else◌, OnOk, IfOk, IfErr, IfSome, is_none, length, string_bytes, unwrap_or};
 ghost use Rattle.tracing_tree_spans.specs.Registry.Forest.{if_live, path_of_any};
@@ -17,7 +17,7 @@ use tracing_tree_drawing::format::{Config, RowDrawing, SpanMode};
 use tracing_tree_spans::registry::LookupSpan;
 use tracing_tree_time::FormatTime;
 
-// A call that is being drawn: the settings, the live spans, the last of them, and what was handed in with the call.
+// A call that is being drawn: the settings, the live spans, the last span, and the call's context.
 #[derive(Drop)]
 pub(super) struct CallDrawing<'a, S: LookupSpan> {
     config: &'a Config,
@@ -48,7 +48,7 @@ impl<'a, S: LookupSpan> CallDrawing<'a, S> {
         }
     }
 
-    // A new span.
+    // Draws a new span.
     pub(super) fn new_span(&self, page: &mut String, plan: &mut Plan, id: Id) -> Result<(), Refusal>
         ensures { let settings = self.now.config.now in
             let forest = S.forest self.now.spans.now in
@@ -61,7 +61,7 @@ impl<'a, S: LookupSpan> CallDrawing<'a, S> {
         self.rows(page, plan.rows())
     }
 
-    // Spans that close one after another.
+    // Draws spans that close one after another.
     pub(super) fn closes(
         &self,
         page: &mut String,
@@ -79,9 +79,8 @@ impl<'a, S: LookupSpan> CallDrawing<'a, S> {
         self.rows(page, plan.rows())
     }
 
-    // An event that stands in `depth` spans, after the rows of these, where they are to
-    // be shown. Its own width is tested before any memory is taken. A tail that was drawn before is
-    // used.
+    // Draws an event that is nested in `depth` spans, after the rows of the spans that it shows.
+    // Its own width is checked before any allocation. Uses the tail, if it was drawn before.
     pub(super) fn event<FT: FormatTime, E: ToldEvent>(
         &self,
         page: &mut String,
@@ -122,7 +121,7 @@ impl<'a, S: LookupSpan> CallDrawing<'a, S> {
         }
     }
 
-    // Planned rows, one after another.
+    // Draws planned rows, one after another.
     #[inline(always)]
     fn rows(&self, page: &mut String, rows: &[PlannedRow]) -> Result<(), Refusal>
         ensures { let settings = self.now.config.now in
@@ -137,7 +136,8 @@ impl<'a, S: LookupSpan> CallDrawing<'a, S> {
         Ok(())
     }
 
-    // A planned row. It stands apart, so that little is done where none is planned.
+    // Draws a planned row. It is a separate function, so that a call without planned rows does
+    // little.
     #[inline(never)]
     fn row(&self, page: &mut String, row: PlannedRow) -> Result<(), Refusal>
         ensures { let settings = self.now.config.now in
@@ -153,7 +153,7 @@ impl<'a, S: LookupSpan> CallDrawing<'a, S> {
         Ok(())
     }
 
-    // A row of the call.
+    // Returns a row of the call.
     fn drawing(&self, mode: SpanMode, level: usize) -> RowDrawing<'_>
         ensures { result ≡ record {
           config = self.now.config;
@@ -176,7 +176,7 @@ impl<'a, S: LookupSpan> CallDrawing<'a, S> {
             let block = block_of self.now.config.now forest mode id in
             OnOk result (string_bytes out.new ≡ string_bytes out.old ++ block) }
     {
-        // A plain close without labels shows nothing of its span.
+        // A plain close without labels doesn't show its span.
         if mode == (SpanMode::Close { verbose: false }) && !self.config.span_modes() {
             return Ok(());
         }
@@ -186,7 +186,7 @@ impl<'a, S: LookupSpan> CallDrawing<'a, S> {
         }
     }
 
-    // The row of an event at this level, which isn't too wide.
+    // Draws the row of an event at this level, which isn't too wide.
     fn event_row<FT: FormatTime, E: ToldEvent>(
         &self,
         page: &mut String,
@@ -217,7 +217,8 @@ impl<'a, S: LookupSpan> CallDrawing<'a, S> {
         Ok(())
     }
 
-    // An event stands one level below its parent, but without lines at the same level.
+    // Returns an event's level. With lines it is one below its parent's, otherwise it is the
+    // parent's.
     fn event_level(&self, depth: usize) -> usize
         ensures { let indent_lines = self.now.config.now.indent_lines in
             result ≡ (if indent_lines then depth else depth - 1) }
@@ -229,7 +230,7 @@ impl<'a, S: LookupSpan> CallDrawing<'a, S> {
         }
     }
 
-    // Appends the block of an event's row: the timer's texts, level, target and fields.
+    // Appends the block of an event's row: the timer's texts, the level, the target and the fields.
     fn event_block<FT: FormatTime, E: ToldEvent>(
         &self,
         out: &mut String,
@@ -261,7 +262,7 @@ impl<'a, S: LookupSpan> CallDrawing<'a, S> {
         Ok(())
     }
 
-    // The timer's text of the moment, and a space if it has one.
+    // Appends the timer's text of the moment, and a space if the text isn't empty.
     fn moment<FT: FormatTime>(&self, out: &mut String, timer: &FT) -> Result<(), Refusal>
         ensures ok { let shown = (FT.timer timer.now).moment_text self.now.context.now.moment in
             OnOk result
@@ -279,7 +280,8 @@ impl<'a, S: LookupSpan> CallDrawing<'a, S> {
         Ok(())
     }
 
-    // The timer's text of the time since the current span was made, if that is live, and a space.
+    // Appends the timer's text of the time since the current span was made, if that span is live,
+    // and a space.
     fn elapsed<FT: FormatTime>(&self, out: &mut String, timer: &FT) -> Result<(), Refusal>
         ensures ok { let forest = S.forest self.now.spans.now in
             let since = time_in_current forest self.now.context.now in

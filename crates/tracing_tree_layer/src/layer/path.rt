@@ -1,11 +1,11 @@
-//! Paths of spans, lent or walked.
+//! Paths of spans, borrowed or walked.
 
 ghost use Rattle.std.specs.Prelude.{◌≡◌, length};
 ghost use Rattle.tracing_tree_layer.specs.Layer.Plan.{ids_of};
 
 use tracing_tree_context::Id;
 
-// The ids on a path, root first: as they are kept with the span, or as they were found by walking up.
+// The ids on a path, root first: as stored with the span, or found by walking up.
 #[derive(Drop)]
 pub(super) enum Path<'a> {
     Kept(&'a [Id]),

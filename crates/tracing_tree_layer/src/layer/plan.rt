@@ -1,5 +1,5 @@
-//! What a call is going to do, before any of it is done: its rows about spans, the spans that become
-//! printed, and the last span afterwards.
+//! Plans a call before any of it is done: its rows about spans, the spans that become printed, and
+//! the last span afterwards.
 
 ghost use Rattle.std.specs.Prelude.{◌≡◌, ◌≢◌, ◌≤◌, ◌-◌, ◌++◌, ◌∷◌, [], true, Some, None, OnOk, OnErr, IfOk, drop, length};
 ghost use Rattle.std.specs.List.{common_prefix_len, list_any};
@@ -18,7 +18,7 @@ use tracing_tree_context::{Context, Id};
 use tracing_tree_drawing::format::{Config, SpanMode};
 use tracing_tree_spans::registry::{LookupSpan, common};
 
-// A row about a live span, which is to be drawn.
+// A row about a live span, to be drawn.
 #[derive(Clone, Copy)]
 pub(super) struct PlannedRow {
     pub(super) mode: SpanMode,
@@ -27,7 +27,7 @@ pub(super) struct PlannedRow {
 }
 
 // The rows about spans, the spans that become printed, and the last span afterwards. The layer
-// keeps one for all its calls, so that its lists grow once.
+// reuses one for all its calls, so its lists grow only once.
 #[derive(Drop)]
 pub(super) struct Plan {
     rows: Vec<PlannedRow>,
@@ -54,7 +54,7 @@ impl Plan {
         }
     }
 
-    // Forgets the call before, and keeps its room.
+    // Clears the plan for the next call, and keeps its capacity.
     pub(super) fn begin(&mut self, last: Option<Id>)
         ensures { self.new ≡ empty_plan last }
     {
@@ -92,14 +92,14 @@ impl Plan {
         Ok(())
     }
 
-    // The spans become printed.
+    // Plans that the spans become printed.
     fn print(&mut self, ids: &[Id]) -> Result<(), AllocError>
         ensures { OnOk result (self.new ≡ record self.old { fresh = self.old.fresh ++ ids.now }) }
     {
         self.fresh.extend_from_slice(ids)
     }
 
-    // The span becomes printed.
+    // Plans that the span becomes printed.
     fn print_one(&mut self, id: Id) -> Result<(), AllocError>
         ensures { OnOk result (self.new ≡ record self.old { fresh = self.old.fresh ++ id ∷ [] }) }
     {
@@ -107,7 +107,7 @@ impl Plan {
         Ok(())
     }
 
-    // The span is the last one from now on.
+    // Plans that the span becomes the last one.
     fn reach(&mut self, id: Id)
         ensures { self.new ≡ record self.old { last = Some id } }
     {
@@ -115,8 +115,8 @@ impl Plan {
     }
 }
 
-// Plans calls by the settings and the live spans. After an error the plan is good for nothing but
-// `begin`.
+// A planner of calls, from the settings and the live spans. After an error only `begin` may be
+// called on the plan.
 #[derive(Drop)]
 pub(super) struct Planner<'a, S: LookupSpan> {
     pub(super) config: &'a Config,
@@ -124,7 +124,7 @@ pub(super) struct Planner<'a, S: LookupSpan> {
 }
 
 impl<S: LookupSpan> Planner<'_, S> {
-    // A new span, which becomes printed at once unless spans are deferred.
+    // Plans a new span. It becomes printed at once unless spans are deferred.
     pub(super) fn new_span(&self, plan: &mut Plan, id: Id) -> Result<(), AllocError>
         ensures { let forest = S.forest self.now.spans.now in
             OnOk result (plan.new ≡ plan_of_new self.now.config.now forest id plan.old) }
@@ -143,7 +143,7 @@ impl<S: LookupSpan> Planner<'_, S> {
         Ok(())
     }
 
-    // What comes before an event's row: its current span is retraced to, if it is live.
+    // Plans what comes before an event's row: its current span is retraced to, if it is live.
     pub(super) fn event(&self, plan: &mut Plan, context: &Context) -> Result<(), AllocError>
         ensures { let forest = S.forest self.now.spans.now in
             let current = current_of forest context.now in
@@ -158,7 +158,7 @@ impl<S: LookupSpan> Planner<'_, S> {
         Ok(())
     }
 
-    // Spans that close one after another.
+    // Plans spans that close one after another.
     pub(super) fn closes(&self, plan: &mut Plan, ids: &[Id]) -> Result<(), AllocError>
         ensures ok { let forest = S.forest self.now.spans.now in
             OnOk result (plan.new ≡ plan_of_closes self.now.config.now forest ids.now plan.old) }
@@ -170,7 +170,7 @@ impl<S: LookupSpan> Planner<'_, S> {
         Ok(())
     }
 
-    // A span that closes: nothing if it was deferred and never printed.
+    // Plans a span that closes: nothing if it was deferred and never printed.
     fn close(&self, plan: &mut Plan, id: Id) -> Result<(), AllocError>
         ensures { let forest = S.forest self.now.spans.now in
             OnOk result (plan.new ≡ plan_of_close self.now.config.now forest id plan.old) }
@@ -184,7 +184,7 @@ impl<S: LookupSpan> Planner<'_, S> {
         self.close_rows(plan, id)
     }
 
-    // The rows of a close, after which the parent is the last span.
+    // Plans the rows of a close. The parent then becomes the last span.
     fn close_rows(&self, plan: &mut Plan, id: Id) -> Result<(), AllocError>
         ensures { let forest = S.forest self.now.spans.now in
             OnOk result (plan.new ≡ closed_plan self.now.config.now forest id plan.old) }
@@ -198,8 +198,8 @@ impl<S: LookupSpan> Planner<'_, S> {
         Ok(())
     }
 
-    // Whether a close retraces first: the span is printed, and its parent isn't on the path of the
-    // last span.
+    // Returns whether a close retraces first: the span is printed, and its parent isn't on the path
+    // of the last span.
     fn retraces_before_close(&self, plan: &Plan, id: Id) -> Result<bool, AllocError>
         ensures { let marked = marked_by plan.now (S.forest self.now.spans.now) in
             let last = plan.now.last in
@@ -216,15 +216,15 @@ impl<S: LookupSpan> Planner<'_, S> {
         Ok(!contains(path.as_slice(), parent))
     }
 
-    // Spans are shown again at all.
+    // Returns whether any spans are shown again.
     fn retraces(&self) -> bool
         ensures { result ≡ retraces self.now.config.now }
     {
         self.config.span_retrace() || self.config.deferred_spans()
     }
 
-    // Shows the spans on the path to the span that the last path lacks. They become printed, and
-    // the span is the last one.
+    // Shows the spans on the path of this one after its common prefix with the path of the last
+    // span. They become printed, and this span becomes the last one.
     fn retrace_to(&self, plan: &mut Plan, id: Id) -> Result<(), AllocError>
         ensures { let forest = S.forest self.now.spans.now in
             OnOk result (plan.new ≡ retraced_plan self.now.config.now forest id plan.old) }
@@ -238,7 +238,8 @@ impl<S: LookupSpan> Planner<'_, S> {
         self.retrace_apart(plan, id)
     }
 
-    // The same where the paths have to be compared. It stands apart, since it is rare and takes room for two paths.
+    // Like `retrace_to`, if the paths have to be compared. It is a separate function, since this is
+    // rare and needs space for two paths.
     #[inline(never)]
     fn retrace_apart(&self, plan: &mut Plan, id: Id) -> Result<(), AllocError>
         ensures { let forest = S.forest self.now.spans.now in
@@ -250,7 +251,8 @@ impl<S: LookupSpan> Planner<'_, S> {
         self.show(plan, fresh, id)
     }
 
-    // Returns whether the span stands right below the last span, or is a root and the last span has gone. It alone is fresh then.
+    // Returns whether the span is a child of the last span, or is a root and the last span isn't
+    // live. Then only this span is fresh.
     fn follows_last(&self, plan: &Plan, id: Id) -> bool
         ensures { let fresh = fresh_after (S.forest self.now.spans.now) id plan.now in
             result ≡ true → fresh ≡ id ∷ [] }
@@ -266,7 +268,7 @@ impl<S: LookupSpan> Planner<'_, S> {
         }
     }
 
-    // Shows a span that alone is fresh. It becomes printed, and is the last one.
+    // Shows a span that is the only fresh one. It becomes printed, and the last one.
     fn show_alone(&self, plan: &mut Plan, fresh: Id) -> Result<(), AllocError>
         ensures { let forest = S.forest self.now.spans.now in
             let marked = marked_by plan.old forest in
@@ -283,7 +285,8 @@ impl<S: LookupSpan> Planner<'_, S> {
         Ok(())
     }
 
-    // Shows these fresh spans on the way to a span. They become printed, and the span is the last one.
+    // Shows these fresh spans on the path to a span. They become printed, and the span becomes the
+    // last one.
     fn show(&self, plan: &mut Plan, fresh: &[Id], id: Id) -> Result<(), AllocError>
         ensures { let forest = S.forest self.now.spans.now in
             let marked = marked_by plan.old forest in
@@ -300,7 +303,7 @@ impl<S: LookupSpan> Planner<'_, S> {
         Ok(())
     }
 
-    // The rows of fresh spans.
+    // Plans the rows of fresh spans.
     fn fresh_rows(&self, plan: &mut Plan, ids: &[Id]) -> Result<(), AllocError>
         ensures { let forest = S.forest self.now.spans.now in
             let marked = marked_by plan.old forest in
@@ -317,7 +320,8 @@ impl<S: LookupSpan> Planner<'_, S> {
         Ok(())
     }
 
-    // The row of the first fresh span, and before it that of its parent, if entries are verbose.
+    // Plans the row of the first fresh span, and before it that of its parent, if entries are
+    // verbose.
     #[inline(always)]
     fn first_fresh_row(&self, plan: &mut Plan, id: Id) -> Result<(), AllocError>
         ensures { let forest = S.forest self.now.spans.now in
@@ -331,7 +335,7 @@ impl<S: LookupSpan> Planner<'_, S> {
         self.fresh_row(plan, shown, id)
     }
 
-    // The row of a fresh span: a span that was printed before is retraced, and another opens.
+    // Plans the row of a fresh span. A span that was printed before is retraced, and another opens.
     #[inline(always)]
     fn fresh_row(&self, plan: &mut Plan, verbose: bool, id: Id) -> Result<(), AllocError>
         ensures { let forest = S.forest self.now.spans.now in
@@ -346,7 +350,7 @@ impl<S: LookupSpan> Planner<'_, S> {
         self.row(plan, mode, id)
     }
 
-    // The parent of a span, if it is to be shown and there is one.
+    // Plans the row of a span's parent, if `shown` is on and there is one.
     #[inline(always)]
     fn parent(&self, plan: &mut Plan, shown: bool, mode: SpanMode, id: Id) -> Result<(), AllocError>
         ensures { let rows = planned_parent shown (S.forest self.now.spans.now) mode id in
@@ -361,7 +365,7 @@ impl<S: LookupSpan> Planner<'_, S> {
         }
     }
 
-    // A row about a span.
+    // Plans a row about a span.
     #[inline(always)]
     fn row(&self, plan: &mut Plan, mode: SpanMode, id: Id) -> Result<(), AllocError>
         ensures { let row = planned_row (S.forest self.now.spans.now) mode id in
@@ -371,7 +375,7 @@ impl<S: LookupSpan> Planner<'_, S> {
         plan.push(PlannedRow { mode, id, level })
     }
 
-    // How many spans stand above the span.
+    // Returns the number of the span's ancestors.
     #[inline(always)]
     fn level(&self, alloc: Global, id: Id) -> Result<usize, AllocError>
         ensures { let path = path_of (S.forest self.now.spans.now) id in
@@ -384,7 +388,7 @@ impl<S: LookupSpan> Planner<'_, S> {
         Ok(length.saturating_sub(1))
     }
 
-    // Whether the span is printed already, or becomes printed by what is planned so far.
+    // Returns whether the span is already printed, or becomes printed by the plan so far.
     fn is_printed(&self, plan: &Plan, id: Id) -> bool
         ensures { result ≡ is_printed (marked_by plan.now (S.forest self.now.spans.now)) id }
     {
@@ -394,7 +398,7 @@ impl<S: LookupSpan> Planner<'_, S> {
         }
     }
 
-    // The path of a span; empty where there is none.
+    // Returns the path of a span. It is empty if there isn't one.
     fn path(&self, alloc: Global, id: Option<Id>) -> Result<Path<'_>, AllocError>
         ensures path { let forest = S.forest self.now.spans.now in
             IfOk result (λ path. ids_of path ≡ path_of_any forest id) }
@@ -410,7 +414,7 @@ impl<S: LookupSpan> Planner<'_, S> {
     }
 }
 
-// Whether the id is among these.
+// Returns whether the id is among these.
 fn contains(ids: &[Id], id: Id) -> bool
     ensures { result ≡ list_any (same_id id) ids.now }
 {
@@ -418,7 +422,7 @@ fn contains(ids: &[Id], id: Id) -> bool
 }
 
 #[tactic(auto, using(crate::proofs::Plans::common_within))]
-// What the new path has beyond its common beginning with the old one.
+// Returns the part of the new path after its common prefix with the old one.
 fn beyond<'a>(old: &[Id], new: &'a [Id]) -> &'a [Id]
     requires { PartOnce old.now new.now }
     ensures { result.now ≡ drop (common_prefix_len same_id old.now new.now) new.now }

@@ -1,4 +1,4 @@
-//! Events whose texts are lent.
+//! Events whose strings are borrowed.
 
 ghost use Rattle.std.specs.Prelude.{◌≡◌, IfOk};
 
@@ -11,7 +11,7 @@ use tracing_tree_text::field::{Field, Fields};
 use tracing_tree_text::style::Level;
 use tracing_tree_text::text::Text;
 
-/// A field whose texts the caller lends. Contracts see the field.
+/// A field whose strings the caller lends. Contracts see the field.
 #[derive(Drop)]
 pub struct FieldTexts<'a> {
     pub name: &'a str,
@@ -27,7 +27,11 @@ impl<'a> Model for FieldTexts<'a> {
 }
 
 impl FieldTexts<'_> {
-    /// The field, with texts of its own. `AllocError` where memory is refused.
+    /// Returns the field, with copies of its strings.
+    ///
+    /// # Errors
+    ///
+    /// `AllocError` if an allocation fails.
     pub fn to_field(&self, alloc: Global) -> Result<Field, AllocError>
         ensures { IfOk result (λ field. field ≡ self.now) }
     {
@@ -35,7 +39,7 @@ impl FieldTexts<'_> {
     }
 }
 
-/// An event whose texts the caller lends, since nothing of it is kept. Contracts see the event.
+/// An event whose strings the caller lends, since no part of it is stored. Contracts see the event.
 ///
 /// ```rust
 /// let event = EventTexts {
@@ -103,7 +107,7 @@ impl ToldEvent for EventTexts<'_> {
     }
 }
 
-// These fields, with texts of their own.
+// Returns these fields, with copies of their strings.
 fn to_fields(alloc: Global, texts: &[FieldTexts<'_>]) -> Result<Fields, AllocError>
     ensures { IfOk result (λ fields. fields ≡ texts.now) }
 {

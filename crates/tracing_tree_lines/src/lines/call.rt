@@ -1,4 +1,4 @@
-//! The call that a line spells.
+//! The call of a line.
 
 ghost use Rattle.std.specs.Prelude.{◌≡◌, [], Some, codes, option_and_then, option_map, IfOk};
 ghost use Rattle.serde_json.specs.Find.{as_str};
@@ -30,7 +30,8 @@ use tracing_tree_text::style::Level;
 use tracing_tree_text::text::Text;
 use tracing_tree_time::FormatTime;
 
-// Makes the call that a line spells. `NotACall` where it spells none, `Memory` where memory is refused before.
+// Makes the call of a line. `NotACall` if the line isn't one, `Memory` if an allocation fails
+// before the call.
 pub(super) fn make_call<W: Output, FT: FormatTime>(
     alloc: Global,
     line: &str,
@@ -46,7 +47,7 @@ pub(super) fn make_call<W: Output, FT: FormatTime>(
     make_call_of(alloc, &parts, layered)
 }
 
-// Makes the call that the parts of a line spell.
+// Makes the call that the parts of a line encode.
 fn make_call_of<W: Output, FT: FormatTime>(
     alloc: Global,
     parts: &Parts<'_>,
@@ -60,7 +61,7 @@ fn make_call_of<W: Output, FT: FormatTime>(
     make_call_of_kind(alloc, kind, parts, &context, layered)
 }
 
-// The calls by their words.
+// The kinds of calls.
 enum Kind {
     New,
     Clone,
@@ -69,7 +70,7 @@ enum Kind {
     Close,
 }
 
-// Which call the parts name. None where they name none.
+// Returns the kind of call that the parts name, or `None` if its name is unknown or missing.
 #[tactic(auto, using(crate::proofs::LineParts::at_call))]
 fn kind_in(parts: &Parts<'_>) -> Option<Kind>
     ensures { IsKindIn (parts_data parts.now) result }
@@ -116,8 +117,8 @@ fn make_call_of_kind<W: Output, FT: FormatTime>(
     }
 }
 
-// Makes a new handle of a span. Clones and records are rare. As functions of their own they keep their values out of the caller's frame,
-// which is set to zero for each line.
+// Makes a new handle of a span. Clones and records are rare. As separate functions, they keep their
+// values out of the caller's frame, which is zeroed for each line.
 #[inline(never)]
 fn make_clone<W: Output, FT: FormatTime>(
     parts: &Parts<'_>,
@@ -147,7 +148,8 @@ fn make_record<W: Output, FT: FormatTime>(
     Ok(layered.call(Call::Record(id, Record { fields }))?)
 }
 
-// What a new span is made of. `NotACall` where it can't be read, `Memory` where memory is refused.
+// Reads the attributes of a new span. `NotACall` if they are invalid, `Memory` if an allocation
+// fails.
 fn attributes_in(alloc: Global, parts: &Parts<'_>) -> Result<Attributes, LineCause>
     ensures { IsReadAs (attributes_in (parts_data parts.now)) result }
 {
@@ -163,7 +165,7 @@ fn attributes_in(alloc: Global, parts: &Parts<'_>) -> Result<Attributes, LineCau
     })
 }
 
-// An event, whose texts stay where they are. None where it can't be read.
+// Reads an event, without a copy of its strings. `None` if it is invalid.
 fn event_in<'a>(parts: &'a Parts<'a>) -> Option<EventTexts<'a>>
     ensures { result ≡ event_in (parts_data parts.now) }
 {
@@ -175,7 +177,7 @@ fn event_in<'a>(parts: &'a Parts<'a>) -> Option<EventTexts<'a>>
     })
 }
 
-// The span that a call is about. None where it isn't there or can't be read.
+// Reads the id of the call's span. `None` if it is missing or invalid.
 #[tactic(auto, using(crate::proofs::LineParts::at_id))]
 fn id_in(parts: &Parts<'_>) -> Option<Id>
     ensures { result ≡ id_in (parts_data parts.now) }
@@ -183,7 +185,7 @@ fn id_in(parts: &Parts<'_>) -> Option<Id>
     id_value(parts.id.unless_null()?)
 }
 
-// The name of a span. None where it isn't there or can't be read.
+// Reads the name of a span. `None` if it is missing or invalid.
 #[tactic(auto, using(crate::proofs::LineParts::at_name))]
 fn name_in<'a>(parts: &Parts<'a>) -> Option<&'a str>
     ensures { option_map (λ name. name.now) result
@@ -192,7 +194,7 @@ fn name_in<'a>(parts: &Parts<'a>) -> Option<&'a str>
     parts.name.unless_null()?.as_str()
 }
 
-// The level of an event. None where it isn't there or can't be read.
+// Reads the level of an event. `None` if it is missing or invalid.
 #[tactic(auto, using(crate::proofs::LineParts::at_level))]
 fn level_in(parts: &Parts<'_>) -> Option<Level>
     ensures { result ≡ read_or None (λ v. option_and_then level_named (as_str v)) (codes "level")
@@ -201,7 +203,7 @@ fn level_in(parts: &Parts<'_>) -> Option<Level>
     level_value(parts.level.unless_null()?)
 }
 
-// A target, empty where it isn't there. None where it can't be read.
+// Reads a target. It is empty if it is missing. `None` if it is invalid.
 #[tactic(auto, using(crate::proofs::LineParts::at_target))]
 fn target_in<'a>(parts: &Parts<'a>) -> Option<&'a str>
     ensures { option_map (λ target. target.now) result
@@ -213,7 +215,7 @@ fn target_in<'a>(parts: &Parts<'a>) -> Option<&'a str>
     }
 }
 
-// A parent; the current span where it isn't there. None where it can't be read.
+// Reads a parent. It is the current span if it is missing. `None` if it is invalid.
 #[tactic(auto, using(crate::proofs::LineParts::at_parent))]
 fn parent_in(parts: &Parts<'_>) -> Option<Parent>
     ensures { result ≡ read_or (Some Current) parent_value (codes "parent") (parts_data parts.now) }
@@ -224,7 +226,7 @@ fn parent_in(parts: &Parts<'_>) -> Option<Parent>
     }
 }
 
-// The fields; none where they aren't there. None where they can't be read.
+// Reads the fields. The list is empty if they are missing. `None` if they are invalid.
 #[tactic(auto, using(crate::proofs::LineParts::at_fields))]
 fn fields_in<'a>(parts: &'a Parts<'a>) -> Option<&'a [FieldTexts<'a>]>
     ensures { option_map (λ fields. fields.now) result
@@ -233,14 +235,14 @@ fn fields_in<'a>(parts: &'a Parts<'a>) -> Option<&'a [FieldTexts<'a>]>
     parts.fields.as_fields()
 }
 
-// A copy of fields.
+// Copies fields.
 fn copied(alloc: Global, fields: &[FieldTexts<'_>]) -> Result<Fields, AllocError>
     ensures { IfOk result (λ made. made ≡ fields.now) }
 {
     if let [field] = fields {
         return Ok(Fields::one(alloc, field.to_field(alloc)?));
     }
-    // Not of the exact size: so the list has room for the first fields that are recorded later.
+    // Grown by `push`, so the list has capacity for the first fields that are recorded later.
     let mut list = Vec::new(alloc);
     for field in fields {
         list.push(field.to_field(alloc)?)?;
@@ -248,14 +250,14 @@ fn copied(alloc: Global, fields: &[FieldTexts<'_>]) -> Result<Fields, AllocError
     Ok(Fields::from(list))
 }
 
-// A level by its name. None where the part names none.
+// Parses a level's name. `None` if it is unknown.
 fn level_value(part: &Part<'_>) -> Option<Level>
     ensures { result ≡ option_and_then level_named (as_str (part_data part.now)) }
 {
     part.as_str()?.parse().ok()
 }
 
-// `root`, `current` or a span's number.
+// Reads a parent: `root`, `current` or a span's number.
 fn parent_value(part: &Part<'_>) -> Option<Parent>
     ensures { result ≡ parent_value (part_data part.now) }
 {

@@ -1,4 +1,4 @@
-//! What goes with each call.
+//! The context of each call.
 
 ghost use Rattle.std.specs.Prelude.{◌≡◌, None, Some, codes, option_map, pos};
 ghost use Rattle.std.specs.Option.{option_map_or};
@@ -16,7 +16,8 @@ use tracing_tree_context::{Context, Id};
 use tracing_tree_text::text::Text;
 use tracing_tree_time::Moment;
 
-// What the parts spell of the context of their call. `NotACall` where a part can't be read, `Memory` where memory is refused.
+// Reads the context of a call. `NotACall` if a part of it is invalid, `Memory` if an allocation
+// fails.
 pub(super) fn context_in(alloc: Global, parts: &Parts<'_>) -> Result<Context, LineCause>
     ensures { ReadsContext (parts_data parts.now) result }
 {
@@ -35,7 +36,7 @@ pub(super) fn context_in(alloc: Global, parts: &Parts<'_>) -> Result<Context, Li
     })
 }
 
-// The current span, if there is one. None where it can't be read.
+// Reads the current span, if there is one. `None` if it is invalid.
 #[tactic(auto, using(crate::proofs::LineParts::at_current))]
 fn current_in(parts: &Parts<'_>) -> Option<Option<Id>>
     ensures { result ≡ read_or (Some None) (λ v. option_map Some (id_value v)) (codes "current")
@@ -47,7 +48,7 @@ fn current_in(parts: &Parts<'_>) -> Option<Option<Id>>
     }
 }
 
-// The number of the thread, 1 where it isn't there. None where it can't be read.
+// Reads the number of the thread. It is 1 if it is missing. `None` if it is invalid.
 #[tactic(auto, using(crate::proofs::LineParts::at_thread))]
 fn thread_in(parts: &Parts<'_>) -> Option<u64>
     ensures { result ≡ read_or (Some 1) whole_value (codes "thread") (parts_data parts.now) }
@@ -55,7 +56,7 @@ fn thread_in(parts: &Parts<'_>) -> Option<u64>
     whole_or(1, &parts.thread)
 }
 
-// The name of the thread, if it has one. None where it can't be read.
+// Reads the name of the thread, if it has one. `None` if it is invalid.
 #[tactic(auto, using(crate::proofs::LineParts::at_thread_name))]
 fn thread_name_in<'a>(parts: &Parts<'a>) -> Option<Option<&'a str>>
     ensures { option_map (option_map (λ name. name.now)) result
@@ -68,7 +69,7 @@ fn thread_name_in<'a>(parts: &Parts<'a>) -> Option<Option<&'a str>>
     }
 }
 
-// When the call happens. None where it can't be read.
+// Reads the time of the call. `None` if it is invalid.
 fn moment_in(parts: &Parts<'_>) -> Option<Moment>
     ensures { ReadsMoment (parts_data parts.now) result }
 {
@@ -78,7 +79,8 @@ fn moment_in(parts: &Parts<'_>) -> Option<Moment>
     Some(Moment { mono, wall })
 }
 
-// Nanoseconds on the monotonic clock. None where they can't be read.
+// Reads the time in nanoseconds on the monotonic clock. It is 0 if it is missing. `None` if it is
+// invalid.
 #[tactic(auto, using(crate::proofs::LineParts::at_mono))]
 fn mono_in(parts: &Parts<'_>) -> Option<u64>
     ensures { result ≡ read_or (Some 0) whole_value (codes "mono") (parts_data parts.now) }
@@ -86,7 +88,8 @@ fn mono_in(parts: &Parts<'_>) -> Option<u64>
     whole_or(0, &parts.mono)
 }
 
-// Nanoseconds on the wall's clock since 1970. None where they can't be read.
+// Reads the time in nanoseconds since 1970 on the wall clock. It is 0 if it is missing. `None` if
+// it is invalid.
 #[tactic(auto, using(crate::proofs::LineParts::at_wall))]
 fn wall_in(parts: &Parts<'_>) -> Option<i64>
     ensures { result ≡ read_or (Some (pos 0)) signed_value (codes "wall") (parts_data parts.now) }
@@ -97,7 +100,7 @@ fn wall_in(parts: &Parts<'_>) -> Option<i64>
     }
 }
 
-// A whole number of 64 bits, or `absent` where nothing stands there. None where it can't be read.
+// Reads a whole number of 64 bits, or returns `absent` if it is missing. `None` if it is invalid.
 fn whole_or(absent: u64, part: &Part<'_>) -> Option<u64>
     ensures { result ≡ option_map_or whole_value (unless_null (part_data part.now)) (Some absent) }
 {
@@ -107,7 +110,7 @@ fn whole_or(absent: u64, part: &Part<'_>) -> Option<u64>
     }
 }
 
-// A span's number.
+// Reads a span's number.
 pub(super) fn id_value(part: &Part<'_>) -> Option<Id>
     ensures { result ≡ id_value (part_data part.now) }
 {

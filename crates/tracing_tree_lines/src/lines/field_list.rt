@@ -7,16 +7,16 @@ use std::marker::Model;
 use std::slice;
 use tracing_tree_layer::told::FieldTexts;
 
-// A list of more than one field begins with room for four.
+// The first capacity of a list of several fields.
 const ROOM: usize = 4;
 
-// The fields of a line, in order. Most lines have one, which lies in the value itself and takes no memory.
+// The fields of a line, in order. Most lines have one. It is stored inline and never allocates.
 #[derive(Drop)]
 pub(super) struct FieldList<'a> {
     kept: Kept<'a>,
 }
 
-// Where fields lie.
+// How fields are stored.
 #[derive(Drop)]
 enum Kept<'a> {
     None,
@@ -35,7 +35,7 @@ impl<'a> Model for FieldList<'a> {
 }
 
 impl<'a> FieldList<'a> {
-    // No fields.
+    // Returns an empty list.
     #[inline(always)]
     pub(super) fn new() -> FieldList<'a>
         ensures { result ≡ [] }
@@ -43,7 +43,8 @@ impl<'a> FieldList<'a> {
         FieldList { kept: Kept::None }
     }
 
-    // Puts a field at the end. A first one takes no memory. `AllocError` where memory is refused; the list is then as it was.
+    // Appends a field. The first one never allocates. `AllocError` if an allocation fails. The list
+    // is unchanged then.
     #[inline(always)]
     pub(super) fn push(&mut self, alloc: Global, field: FieldTexts<'a>) -> Result<(), AllocError>
         ensures ok { OnOk result (self.new ≡ self.old ++ field.entry ∷ []) }
@@ -53,7 +54,7 @@ impl<'a> FieldList<'a> {
             Kept::None => self.kept = Kept::One(field),
             Kept::One(first) => {
                 let mut list = Vec::with_capacity(alloc, ROOM)?;
-                // It only lends its texts, so it is made again from them.
+                // `first` is borrowed, so a new field is made from its strings.
                 list.push_reserved(FieldTexts {
                     name: first.name,
                     value: first.value,
@@ -66,7 +67,7 @@ impl<'a> FieldList<'a> {
         Ok(())
     }
 
-    // The fields.
+    // Returns the fields.
     #[inline(always)]
     pub(super) fn as_slice(&self) -> &[FieldTexts<'a>]
         ensures { result.now ≡ self.now }

@@ -1,4 +1,4 @@
-//! Inputs of lines, which may have to be waited for.
+//! Inputs of lines, whose next line may take time to arrive.
 
 ghost use Rattle.std.specs.Prelude.{◌≡◌};
 ghost use Rattle.tracing_tree_lines.specs.Lines.Reads.{ReadsHeld};
@@ -9,38 +9,39 @@ use std::io::{BufRead, BufReader, Read};
 use tracing_tree_layer::calls::Calls;
 use tracing_tree_layer::flushed::Flushed;
 
-/// A buffered input of lines. The next line may have to be waited for, as in a pipe.
+/// A buffered input of lines. The next line may take time to arrive, as in a pipe.
 ///
 /// A run is generic over its input, so it can read by these methods only. [`LineInput::read_line`],
-/// the only one that may wait, takes a receiver that was flushed: whoever follows a live input sees
-/// what each line drew before the next line is waited for.
+/// the only one that may wait, takes a receiver that was flushed. So a reader of a live input's
+/// drawing sees what each line drew before the next line is waited for.
 pub trait LineInput {
     ghost use Rattle.std.specs.Prelude.{◌≡◌, List, ℕ, Option};
     ghost use Rattle.tracing_tree_lines.specs.Lines.Inputs.{DropsHeld, HoldsFront};
     ghost use Rattle.tracing_tree_lines.specs.Lines.Reads.{ReadsNext};
 
-    /// The bytes that are left, if they are known.
+    /// The remaining bytes, if they are known.
     ghost remaining: { Self → Option (List ℕ) };
 
     /// The first of them, which are in the buffer.
     ghost held: { Self → List ℕ };
 
-    /// Returns the bytes in the buffer, which are read without a wait.
+    /// Returns the bytes in the buffer, without waiting.
     fn held(&self) -> &[u8]
         ensures held { result.now ≡ held self.now }
         ensures front { HoldsFront (held self.now) (remaining self.now) };
 
-    /// Removes the first `count` bytes from the buffer. They must be there.
+    /// Removes the first `count` bytes from the buffer. The caller must ensure that it has that
+    /// many.
     fn consume(&mut self, count: usize)
         ensures { DropsHeld count (held self.old) (remaining self.old) (remaining self.new) };
 
-    /// Reads the next line without its line end, in place of what `line` held. Returns whether there
-    /// was one: what follows the last line end is a line if it isn't empty. The read may wait, so the
-    /// receiver was flushed.
+    /// Reads the next line without its line end, and replaces the content of `line` by it. Returns
+    /// whether there was a line. What follows the last line end is a line if it isn't empty. The
+    /// read may wait, so the receiver was flushed.
     ///
     /// # Errors
     ///
-    /// `Read` or `Memory`.
+    /// `Read` if the input can't be read. `Memory` if an allocation fails.
     fn read_line<C: Calls>(
         &mut self,
         line: &mut Vec<u8>,
@@ -49,7 +50,7 @@ pub trait LineInput {
         ensures { ReadsNext (remaining self.old) (remaining self.new) line.new.items result };
 }
 
-/// Bytes of a reader, which are read in blocks.
+/// The bytes of a reader, read in blocks.
 impl<R: Read> LineInput for BufReader<R> {
     ghost use Rattle.std.specs.Io.Buffered.{reader_buffer, reader_remaining};
 
@@ -74,8 +75,8 @@ impl<R: Read> LineInput for BufReader<R> {
     }
 }
 
-/// Reads the next line without its line end, in place of what `line` held, if the buffer holds it
-/// with its line end. Returns whether it does. It never waits.
+/// Reads the next line without its line end, if the buffer has it with its line end, and replaces
+/// the content of `line` by it. Returns whether the buffer had such a line. Never waits.
 ///
 /// # Errors
 ///

@@ -8,7 +8,7 @@ ghost use Rattle.tracing_tree_lines.specs.Lines.Parts.{IsNumberPart};
 use super::part::Part;
 use fast_float::Numeral;
 
-// The part of a number with this text. None where it isn't a whole number of 64 bits.
+// Returns the part for a number in this form. `None` if it isn't a whole number of 64 bits.
 #[inline(always)]
 pub(super) fn number_part<'a>(text: &str) -> Option<Part<'a>>
     ensures { IsNumberPart text.now result }
@@ -22,7 +22,7 @@ pub(super) fn number_part<'a>(text: &str) -> Option<Part<'a>>
     Some(Part::Whole(number))
 }
 
-// The number after a minus. None where it isn't whole or out of range; `-0` is a float.
+// Returns the number after a minus. `None` if it isn't whole or is out of range. `-0` is a float.
 fn negative_number(numeral: &Numeral<'_>) -> Option<i64>
     ensures { result ≡ option_and_then as_i64 (number_from true numeral.now) }
 {
@@ -32,14 +32,14 @@ fn negative_number(numeral: &Numeral<'_>) -> Option<i64>
     }
 }
 
-// The number without a minus. None where it isn't whole or out of range.
+// Returns the number without a minus. `None` if it isn't whole or is out of range.
 fn whole_number(numeral: &Numeral<'_>) -> Option<u64>
     ensures { result ≡ option_and_then as_u64 (number_from false numeral.now) }
 {
     numeral.to_u64()
 }
 
-// Whether a minus comes first.
+// Returns whether a minus comes first.
 fn has_minus(bytes: &[u8]) -> bool
     ensures value { result ≡ (slice_index bytes.now 0 == 45) }
     ensures some { IsTrue result → 0 < length bytes.now }

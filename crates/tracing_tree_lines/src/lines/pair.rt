@@ -1,4 +1,4 @@
-//! Pairs of texts, which are fields.
+//! Pairs of strings, which are fields.
 
 ghost use Rattle.std.specs.Prelude.{◌≡◌, None, MatchResult, option_map};
 ghost use Rattle.json.specs.Json as json;
@@ -11,18 +11,18 @@ use super::skip::{ITEM_DEPTH, skip_rest};
 use json::{Invalid, Reader, Token};
 use tracing_tree_layer::told::FieldTexts;
 
-// The items of an array so far, as far as it may be a pair of texts.
+// The items of an array so far, as long as it may be a pair of strings.
 #[derive(Clone, Copy)]
 enum Texts<'a> {
     None,
     One(&'a str),
     Two(&'a str, &'a str),
-    // No pair begins so.
+    // The items aren't the start of a pair.
     Other,
 }
 
 impl<'a> Texts<'a> {
-    // With one more item: its text, or None where it is another value.
+    // Adds one more item: its string, or `None` if it is another value.
     fn with(self, text: Option<&'a str>) -> Texts<'a>
         ensures { (value : Data) (rest : Items) → option_map (λ t. t.now) text.entry ≡ as_str value
             → pair_with result rest ≡ pair_with self.entry (item value rest) }
@@ -34,7 +34,7 @@ impl<'a> Texts<'a> {
         }
     }
 
-    // The pair, where these are all items.
+    // Returns the pair, if these are all items.
     fn pair(self) -> Option<FieldTexts<'a>>
         ensures { result ≡ pair_with self.entry no_items }
     {
@@ -45,8 +45,9 @@ impl<'a> Texts<'a> {
     }
 }
 
-// The texts of the next value, where it is an array of two texts. `is_whole` becomes false where a number in it isn't a whole number of
-// 64 bits; so it does in `read_texts` and `read_text`.
+// Reads the next value, and returns its strings if it is an array of two strings. `is_whole`
+// becomes false if a number in it isn't a whole number of 64 bits, also in `read_texts` and
+// `read_text`.
 pub(super) fn read_pair<'a>(
     reader: &mut Reader<'a>,
     is_whole: &mut bool,
@@ -64,7 +65,8 @@ pub(super) fn read_pair<'a>(
     }
 }
 
-// The texts of an array of two texts whose `[` was read. None where it is another array.
+// Reads the rest of an array after its `[`, and returns its strings. `None` if it isn't an array of
+// two strings.
 fn read_texts<'a>(
     reader: &mut Reader<'a>,
     is_whole: &mut bool,
@@ -80,7 +82,7 @@ fn read_texts<'a>(
     Ok(texts.pair())
 }
 
-// The text of the next value. None where it is another value.
+// Reads the next value, and returns its string. `None` if it is another value.
 fn read_text<'a>(reader: &mut Reader<'a>, is_whole: &mut bool) -> Result<Option<&'a str>, Invalid>
     ensures { MatchResult result
         (λ text. IsTextTaken reader.old reader.new is_whole.old is_whole.new

@@ -1,4 +1,4 @@
-//! What stands at a key of a line's object.
+//! The value at a key of a line's object.
 
 ghost use Rattle.std.specs.Prelude.{◌≡◌, [], Some, option_map};
 ghost use Rattle.std.specs.Option.{option_map_or};
@@ -9,22 +9,22 @@ ghost use Rattle.tracing_tree_lines.specs.Lines.Spelled.{fields_value, signed_va
 use super::field_list::FieldList;
 use tracing_tree_layer::told::FieldTexts;
 
-// What a call is read from, but for its fields.
+// A value that a call is read from, except for its fields.
 #[derive(Clone, Copy, Drop)]
 pub(super) enum Part<'a> {
-    // Nothing, or a null.
+    // Missing, or a null.
     Absent,
     Text(&'a str),
     // A whole number of 64 bits.
     Whole(u64),
-    // A whole number of 64 bits below zero.
+    // A negative whole number of 64 bits.
     Negative(i64),
-    // Another value. No part of a call is read from it.
+    // Another value. Every part of a call rejects it.
     Other,
 }
 
 impl<'a> Part<'a> {
-    // The part itself. None where it is absent.
+    // Returns the part itself, or `None` if it is absent.
     pub(super) fn unless_null(&self) -> Option<&Part<'a>>
         ensures { option_map (λ part. part_data part.now) result ≡ unless_null (part_data self.now) }
     {
@@ -34,7 +34,7 @@ impl<'a> Part<'a> {
         }
     }
 
-    // The text. None where it is none.
+    // Returns the string, or `None` if it isn't one.
     pub(super) fn as_str(&self) -> Option<&'a str>
         ensures { option_map (λ text. text.now) result ≡ as_str (part_data self.now) }
     {
@@ -44,7 +44,7 @@ impl<'a> Part<'a> {
         }
     }
 
-    // The whole number of 64 bits. None where it is none.
+    // Returns the unsigned number, or `None` if it isn't one.
     pub(super) fn as_whole(&self) -> Option<u64>
         ensures { result ≡ whole_value (part_data self.now) }
     {
@@ -54,7 +54,7 @@ impl<'a> Part<'a> {
         }
     }
 
-    // The whole number of 64 bits with a sign. None where it is none.
+    // Returns the number if it fits `i64`, otherwise `None`.
     pub(super) fn as_signed(&self) -> Option<i64>
         ensures { result ≡ signed_value (part_data self.now) }
     {
@@ -66,19 +66,19 @@ impl<'a> Part<'a> {
     }
 }
 
-// What the fields of a call are read from.
+// The value that the fields of a call are read from.
 #[derive(Drop)]
 pub(super) enum FieldsPart<'a> {
-    // Nothing, or a null.
+    // Missing, or a null.
     Absent,
-    // An array of pairs of texts.
+    // An array of pairs of strings.
     Fields(FieldList<'a>),
-    // Another value. No fields are read from it.
+    // Another value, which isn't a list of fields.
     Other,
 }
 
 impl<'a> FieldsPart<'a> {
-    // The fields, none of them where nothing stands there. None where they can't be read.
+    // Returns the fields. The list is empty if they are missing. `None` if they are invalid.
     #[tactic(auto, using(crate::proofs::LineParts::fields_read))]
     pub(super) fn as_fields(&'a self) -> Option<&'a [FieldTexts<'a>]>
         ensures { option_map (λ fields. fields.now) result

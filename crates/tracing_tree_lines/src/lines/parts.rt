@@ -1,4 +1,4 @@
-//! What a line's object has at the keys of a call, read in one pass.
+//! The values at the keys of a call in a line's object, read in one pass.
 
 ghost use Rattle.std.specs.Prelude.{◌≡◌, codes, true, None, MatchResult};
 ghost use Rattle.json.specs.Json as json;
@@ -16,7 +16,7 @@ use super::value::has_float;
 use json::{Invalid, Reader, Scratch, Token};
 use std::alloc::Global;
 
-// What stands at the keys of a call. The last of several members with one key counts.
+// The values at the keys of a call. If a key appears several times, the last member counts.
 #[derive(Drop)]
 pub(super) struct Parts<'a> {
     pub(super) call: Part<'a>,
@@ -31,7 +31,8 @@ pub(super) struct Parts<'a> {
     pub(super) thread_name: Part<'a>,
     pub(super) mono: Part<'a>,
     pub(super) wall: Part<'a>,
-    // Whether each number of the line is a whole number of 64 bits. Where one isn't, the line may have a float.
+    // Whether each number of the line is a whole number of 64 bits. If it is false, the line may
+    // have a float.
     pub(super) is_whole: bool,
 }
 
@@ -57,8 +58,8 @@ impl<'a> Parts<'a> {
         }
     }
 
-    // Fills in what stands at a key, whose value is next. It is part of its caller, as is `read_part`: so the reader's state stays in
-    // registers from a key to its value.
+    // Stores the value at a key, which is next. It is inlined, as is `read_part`, so the reader's
+    // state stays in registers from a key to its value.
     #[inline(always)]
     fn read_member(
         &mut self,
@@ -78,7 +79,7 @@ impl<'a> Parts<'a> {
         Ok(())
     }
 
-    // Puts a part at its key, which isn't that of the fields. A key of no call is passed over.
+    // Stores a part at its key, except for the fields. An unknown key is ignored.
     fn set(&mut self, key: &str, part: Part<'a>)
         requires { key.now ≡ codes "fields" → ⊥ }
         ensures put { parts_members self.new
@@ -102,7 +103,8 @@ impl<'a> Parts<'a> {
     }
 }
 
-// Fills in the parts of a line. `NotACall` where the line is no object of JSON, `Memory` where memory is refused.
+// Reads the parts of a line. `NotACall` if the line isn't a JSON object, `Memory` if an allocation
+// fails.
 pub(super) fn read_object<'a>(
     alloc: Global,
     line: &'a str,
@@ -125,15 +127,16 @@ pub(super) fn read_object<'a>(
     Ok(())
 }
 
-// Whether the token opens an object.
+// Returns whether the token opens an object.
 fn opens_object(token: &Token<'_>) -> bool
     ensures { result ≡ opens_object token.now }
 {
     matches!(token, Token::BeginObject)
 }
 
-// Refuses the line of these parts where it has a float: a number that isn't whole, or not of 64 bits, and whose key doesn't come again
-// in its object. `NotACall` then, `Memory` where memory is refused.
+// Refuses the line of these parts with `NotACall` if it has a float. A float is a number that isn't
+// a whole number of 64 bits, and whose key doesn't appear again in its object. `Memory` if an
+// allocation fails.
 pub(super) fn refuse_floats(alloc: Global, line: &[u8], parts: &Parts<'_>) -> Result<(), LineCause>
     requires { IsObjectLine line.now parts.now }
     ensures { ReadsParts line.now parts.now result }
@@ -144,8 +147,8 @@ pub(super) fn refuse_floats(alloc: Global, line: &[u8], parts: &Parts<'_>) -> Re
     refuse_float(alloc, line)
 }
 
-// Reads the line anew, as a tree in which the last member of a key counts, and refuses it where the tree has a float. Few lines come here,
-// so the code for it stays apart from what each line runs.
+// Reads the line again, as a tree that has the last member of each key, and refuses it if the tree
+// has a float. Few lines get here, so this code is separate from what each line runs.
 #[inline(never)]
 fn refuse_float(alloc: Global, line: &[u8]) -> Result<(), LineCause>
     ensures { RefusesFloat line.now result }
@@ -158,7 +161,7 @@ fn refuse_float(alloc: Global, line: &[u8]) -> Result<(), LineCause>
     }
 }
 
-// Fills in the parts of an object whose `{` was read.
+// Reads the parts of an object after its `{`.
 fn read_members<'a>(
     alloc: Global,
     reader: &mut Reader<'a>,
@@ -174,8 +177,8 @@ fn read_members<'a>(
     Ok(())
 }
 
-// The next value. `is_whole` becomes false where a number in it isn't a whole number of 64 bits; so it does in `read_list` and
-// `read_fields`.
+// Reads the next value. `is_whole` becomes false if a number in it isn't a whole number of 64 bits,
+// also in `read_list` and `read_fields`.
 #[inline(always)]
 fn read_part<'a>(reader: &mut Reader<'a>, is_whole: &mut bool) -> Result<Part<'a>, Invalid>
     ensures { MatchResult result (IsTaken reader.old reader.new is_whole.old is_whole.new)
@@ -198,7 +201,7 @@ fn read_part<'a>(reader: &mut Reader<'a>, is_whole: &mut bool) -> Result<Part<'a
     }
 }
 
-// The next value, from which fields are read.
+// Reads the next value as a list of fields.
 fn read_list<'a>(
     alloc: Global,
     reader: &mut Reader<'a>,
@@ -216,7 +219,7 @@ fn read_list<'a>(
     }
 }
 
-// The fields of an array whose `[` was read.
+// Reads the rest of an array of fields after its `[`.
 fn read_fields<'a>(
     alloc: Global,
     reader: &mut Reader<'a>,

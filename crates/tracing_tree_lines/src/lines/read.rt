@@ -9,7 +9,7 @@ use memchr::{memchr, memrchr};
 use std::io::{BufRead, ErrorKind};
 use tracing_tree_output::TRIES;
 
-/// The bytes that are asked of a reader at a time. The programs' writers hold back as many.
+/// How many bytes are read from a reader at a time. The programs' writers buffer as many.
 pub const BLOCK: usize = 64 * 1024;
 
 // Where a part of a line ends.
@@ -24,8 +24,13 @@ enum Part {
     Interrupted,
 }
 
-/// Reads the next line, without its line end, in place of what `line` held. Returns whether there is one: what stands after
-/// the last line end is a line if it isn't empty.
+/// Reads the next line without its line end, and replaces the content of `line` by it. Returns
+/// whether there was a line. What follows the last line end is a line if it isn't empty.
+///
+/// # Errors
+///
+/// `Read` if a read is interrupted for the ninth time in a row or fails with another error, or
+/// after 2^64 - 1 reads of one line. `Memory` if an allocation fails.
 pub fn read_line<B: BufRead>(reader: &mut B, line: &mut Vec<u8>) -> Result<bool, LineCause>
     ensures { ReadsNext (B.remaining reader.old) (B.remaining reader.new) line.new.items result }
 {
@@ -35,7 +40,8 @@ pub fn read_line<B: BufRead>(reader: &mut B, line: &mut Vec<u8>) -> Result<bool,
     Ok(!line.is_empty())
 }
 
-// Reads up to the next line end, or to the end of the input, in place of what `line` held. Returns whether there was a line end.
+// Reads up to the next line end, or to the end of the input, and replaces the content of `line`.
+// Returns whether there was a line end.
 pub(crate) fn read_ended<B: BufRead>(reader: &mut B, line: &mut Vec<u8>) -> Result<bool, LineCause>
     ensures { ReadsEnded (B.remaining reader.old) (B.remaining reader.new) line.new.items result }
 {
@@ -53,7 +59,7 @@ pub(crate) fn read_ended<B: BufRead>(reader: &mut B, line: &mut Vec<u8>) -> Resu
     Err(LineCause::Read)
 }
 
-// Puts what the reader holds of the line at the end of `line`.
+// Appends the part of the line that the reader's buffer has.
 fn read_part<B: BufRead>(reader: &mut B, line: &mut Vec<u8>) -> Result<Part, LineCause>
     ensures { ReadsPart (B.remaining reader.old) (B.remaining reader.new) line.old.items
         line.new.items result }
@@ -86,7 +92,7 @@ fn read_part<B: BufRead>(reader: &mut B, line: &mut Vec<u8>) -> Result<Part, Lin
     }
 }
 
-// Where the first line end stands.
+// Returns the index of the first line end.
 #[tactic(auto, using(crate::proofs::LineEnds::is_place))]
 pub(super) fn line_end(held: &[u8]) -> Option<usize>
     ensures { result ≡ position (λ byte. byte == 10) held.now }
@@ -94,7 +100,7 @@ pub(super) fn line_end(held: &[u8]) -> Option<usize>
     memchr(b'\n', held)
 }
 
-// The whole lines that held bytes begin with.
+// Returns the complete lines at the start of the held bytes.
 pub(super) fn whole_lines(held: &[u8]) -> &[u8]
     ensures { BeginsWithLines held.now result.now }
 {
@@ -104,7 +110,7 @@ pub(super) fn whole_lines(held: &[u8]) -> &[u8]
     }
 }
 
-/// Whether the line is spaces, tabs and carriage returns alone.
+/// Returns whether the line has only spaces, tabs and carriage returns.
 pub fn is_skipped(line: &[u8]) -> bool
     ensures { result ≡ is_skipped line.now }
 {

@@ -1,4 +1,4 @@
-//! The settings that the first line spells.
+//! The settings of the first line.
 
 mod timer;
 
@@ -17,7 +17,7 @@ use timer::{Timer, timer_value};
 use tracing_tree_drawing::format::Config;
 use tracing_tree_time::Clock;
 
-// What the first line asks for.
+// The settings and the timer of the first line.
 #[derive(Drop)]
 pub(super) struct Setup {
     config: Config,
@@ -34,7 +34,7 @@ impl Model for Setup {
 }
 
 impl Setup {
-    // What a line asks for that names no setting.
+    // Returns the setup of an object without settings.
     fn unnamed() -> Setup
         ensures { asked_of result ≡ unnamed_settings }
     {
@@ -44,8 +44,8 @@ impl Setup {
         }
     }
 
-    // The same with one more setting: each key, what reads its value, and what it sets. None where no setting has the key, or
-    // its value can't be read.
+    // Returns the setup with one more setting. `None` if the key is unknown or its value is
+    // invalid.
     fn with(self, key: &str, value: &Value) -> Option<Setup>
         ensures { option_map asked_of result
             ≡ with_setting key.now (view value.now) (asked_of self) }
@@ -75,7 +75,7 @@ impl Setup {
         Some(Setup { config, timer })
     }
 
-    // The same with a member of the object.
+    // Returns the setup with a member of the object. A null changes nothing.
     fn with_member(self, key: &str, value: &Value) -> Option<Setup>
         ensures { option_map asked_of result
             ≡ with_member key.now (view value.now) (asked_of self) }
@@ -86,7 +86,7 @@ impl Setup {
         }
     }
 
-    // The settings and the timer by themselves.
+    // Splits this value into its settings and its timer.
     pub(super) fn into_parts(self) -> (Config, Clock<'static>)
         ensures settings { result.0 ≡ self.0 }
         ensures timer { clock_timer result.1 ≡ asked_timer self.1 }
@@ -96,7 +96,8 @@ impl Setup {
     }
 }
 
-// What a line asks for. `Settings` where it spells no settings, `Memory` where memory is refused.
+// Reads the setup of a line. `Settings` if the line isn't valid settings, `Memory` if an allocation
+// fails.
 pub(super) fn settings_of_line(alloc: Global, line: &[u8]) -> Result<Setup, LineCause>
     ensures { ReadsFirst line.now result }
 {
@@ -107,7 +108,7 @@ pub(super) fn settings_of_line(alloc: Global, line: &[u8]) -> Result<Setup, Line
     }
 }
 
-// What an object asks for.
+// Reads the setup of an object.
 fn settings_of(value: &Value) -> Option<Setup>
     ensures { option_map asked_of result ≡ object_settings (view value.now) }
 {
@@ -118,7 +119,7 @@ fn settings_of(value: &Value) -> Option<Setup>
     Some(setup)
 }
 
-// A whole number that isn't 0.
+// Reads a whole number that isn't 0.
 fn positive_value(value: &Value) -> Option<usize>
     ensures value { result ≡ positive_value (view value.now) }
     ensures positive { IfSome result (λ number. 0 < number) }

@@ -1,4 +1,4 @@
-//! Values that are passed over.
+//! Skips values.
 
 ghost use Rattle.std.specs.Prelude.{◌≡◌, ◌∷◌, None, MatchResult};
 ghost use Rattle.json.specs.Json as json;
@@ -9,14 +9,15 @@ ghost use Rattle.tracing_tree_lines.specs.Lines.Taken.{IsValueTaken};
 use super::number::number_part;
 use json::{Invalid, Reader, Token};
 
-// How deep arrays and objects may nest in what stands at a key. A line may nest 127 deep.
+// How deep arrays and objects may be nested in the value at a key. A line may be nested 127 deep.
 pub(super) const MEMBER_DEPTH: usize = 126;
 
-// How deep they may nest in an item of an array that stands at a key.
+// How deep they may be nested in an item of an array at a key.
 pub(super) const ITEM_DEPTH: usize = 125;
 
-// Passes over what is left of a value whose first token was read. Arrays and objects nest no deeper in it than this, itself among them.
-// `is_whole` becomes false where a number in it isn't a whole number of 64 bits.
+// Skips the rest of a value whose first token was read. Arrays and objects may be nested `depth`
+// deep in it, counting the value itself. `is_whole` becomes false if a number in it isn't a whole
+// number of 64 bits.
 #[cycle(skip)]
 pub(super) fn skip_rest(
     reader: &mut Reader<'_>,
@@ -43,7 +44,7 @@ pub(super) fn skip_rest(
     }
 }
 
-// The same of an array whose `[` was read.
+// Like `skip_rest`, for an array whose `[` was read.
 #[cycle(skip)]
 fn skip_items(reader: &mut Reader<'_>, depth: usize, is_whole: &mut bool) -> Result<(), Invalid>
     ensures { MatchResult result
@@ -58,7 +59,7 @@ fn skip_items(reader: &mut Reader<'_>, depth: usize, is_whole: &mut bool) -> Res
     Ok(())
 }
 
-// The same of an object whose `{` was read.
+// Like `skip_rest`, for an object whose `{` was read.
 #[cycle(skip)]
 fn skip_members(reader: &mut Reader<'_>, depth: usize, is_whole: &mut bool) -> Result<(), Invalid>
     ensures { MatchResult result

@@ -8,7 +8,7 @@ ghost use Rattle.tracing_tree_lines.specs.Lines.Spelled.{read_or, unless_null, w
 
 use serde_json::{Map, Value};
 
-// The value itself. None where it is a null, which counts as absent.
+// Returns the value itself, or `None` if it is a null, which counts as absent.
 pub(super) fn unless_null(value: &Value) -> Option<&Value>
     ensures { option_map (λ found. view found.now) result ≡ unless_null (view value.now) }
 {
@@ -18,7 +18,7 @@ pub(super) fn unless_null(value: &Value) -> Option<&Value>
     }
 }
 
-// The value of a key.
+// Returns the value of a key. `None` if it is missing or null.
 pub(super) fn value_at<'v>(value: &'v Value, key: &str) -> Option<&'v Value>
     ensures { option_map (λ found. view found.now) result
         ≡ option_and_then unless_null (get key.now (view value.now)) }
@@ -26,7 +26,7 @@ pub(super) fn value_at<'v>(value: &'v Value, key: &str) -> Option<&'v Value>
     unless_null(value.get(key)?)
 }
 
-// A truth value, false where the key is absent. None where it can't be read.
+// Reads a `bool`. It is false if the key is absent. `None` if it is invalid.
 pub(super) fn flag(value: &Value, key: &str) -> Option<bool>
     ensures { result ≡ read_or (Some false) as_bool key.now (view value.now) }
 {
@@ -36,7 +36,8 @@ pub(super) fn flag(value: &Value, key: &str) -> Option<bool>
     }
 }
 
-// A whole number of 64 bits, or `absent` where the key is absent. None where it can't be read.
+// Reads a whole number of 64 bits, or returns `absent` if the key is absent. `None` if it is
+// invalid.
 pub(super) fn whole_or(absent: u64, value: &Value, key: &str) -> Option<u64>
     ensures { result ≡ read_or (Some absent) whole_value key.now (view value.now) }
 {
@@ -46,7 +47,8 @@ pub(super) fn whole_or(absent: u64, value: &Value, key: &str) -> Option<u64>
     }
 }
 
-// Whether a float is anywhere in the value: a number that isn't whole, or not of 64 bits.
+// Returns whether the value contains a float at any depth: a number that isn't a whole number of 64
+// bits.
 #[cycle(has_float)]
 pub(super) fn has_float(value: &Value) -> bool
     ensures { result ≡ has_float (view value.now) }

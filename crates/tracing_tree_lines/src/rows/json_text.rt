@@ -1,4 +1,4 @@
-//! The rows of a drawing as lines of JSON, read and written as they come.
+//! Reads the rows of a drawing and writes them as lines of JSON, row by row.
 
 ghost use Rattle.std.specs.Prelude.{◌≡◌, ◌≤◌, ◌<◌, ◌+◌, ◌++◌, ◌∷◌, ◌^◌, ℕ, List, [], Option, Some, OnOk, IfSome, map, false, string_bytes, length};
 ghost use Rattle.serde_json.specs.Data.{string};
@@ -20,7 +20,7 @@ use tracing_tree_output::write_tried;
 /// Why the reading of a drawing ended.
 #[derive(Clone, Copy, Debug, PartialEq, Eq, Error)]
 pub enum RowCause {
-    /// The line is no line of a row, isn't UTF-8, or has no line end.
+    /// The line isn't a line of a row, isn't UTF-8, or has no line end.
     #[error("not a row")]
     NotARow,
 
@@ -28,7 +28,7 @@ pub enum RowCause {
     #[error("read")]
     Read,
 
-    /// Memory was refused.
+    /// An allocation failed.
     #[error("memory")]
     Memory,
 
@@ -59,10 +59,10 @@ impl<T: Drop> From<AllocFailed<T>> for RowCause {
     }
 }
 
-/// The line at which the reading of a drawing ended, and why. It is shown as `line N: CAUSE`.
+/// The line at which the reading of a drawing ended, and why. It is displayed as `line N: CAUSE`.
 #[derive(Clone, Copy, Debug, PartialEq, Eq)]
 pub struct RowFault {
-    /// The line's number; the first line is 1.
+    /// The line's number, from 1.
     pub line: u64,
 
     /// Why it ended there.
@@ -77,16 +77,23 @@ impl fmt::Display for RowFault {
     }
 }
 
-/// Reads a drawing and writes one line of JSON for each row: what `read_rows` returns, and for events the places that
-/// `read_paths` returns. It keeps one row, one line and the places of the open levels. The caller must ensure that the amount is
-/// 2 or more.
+/// Reads a drawing and writes one line of JSON for each row: what `read_rows` returns, and for
+/// events the places that `read_paths` returns. It keeps one row, one line and the places of the
+/// open levels. The caller must ensure that `amount` is 2 or more.
 ///
-/// At the first line that is no line of a row, isn't UTF-8 or has no line end it ends with `NotARow`, after all rows before that
-/// line are written. A read or a write that signals interrupt is tried again at most eight times in a row; `Read` is the cause of
-/// another error, of 2^64 - 1 reads of a line that doesn't end, and of line number 2^64 - 1, which isn't judged; all rows before
-/// the line are written then too. `Writer` is the cause where a write fails, and `Memory` where memory is refused; of line 1
-/// where the buffer of the input can't be made. The last of the rows before the line isn't written then, but that after `Writer`
-/// a beginning of its JSON may be.
+/// A read or a write that is interrupted is tried again at most eight times in a row.
+///
+/// # Errors
+///
+/// - `NotARow` at the first line that isn't a line of a row, isn't UTF-8 or has no line end. All
+///   rows before that line have been written.
+/// - `Read` if a read fails or is interrupted for the ninth time. It is also the cause after 2^64 -
+///   1 reads of a line that doesn't end, and at line number 2^64 - 1, which isn't judged. All rows
+///   before the line have been written.
+/// - `Writer` if a write fails. The last row before the line isn't written then, but a first part
+///   of its JSON may be.
+/// - `Memory` if an allocation fails. The last row before the line isn't written then. If the
+///   buffer of the input can't be allocated, this is at line 1.
 pub fn rows_to_json<R: Read, W: Write>(
     alloc: Global,
     reader: R,
@@ -120,7 +127,7 @@ where
     rows.finish(ended, writer)
 }
 
-// Where the reading of lines ended: at the input's end, or for a cause, at the line of this number.
+// Where the reading of lines ended: at the end of the input, or at this line with a cause.
 struct Ended {
     line: u64,
     cause: Option<RowCause>,
@@ -135,7 +142,7 @@ struct RowsRead {
 }
 
 impl RowsRead {
-    // Reads the lines, and writes each row that is complete.
+    // Reads the lines, and writes each complete row.
     fn read_lines<B: BufRead, W: Write>(&mut self, input: &mut B, writer: &mut W) -> Ended
         ensures { (amount : ℕ) (text rest : List ℕ) (start : Option (List ℕ)) →
             B.remaining input.old ≡ Some rest →
@@ -166,7 +173,8 @@ impl RowsRead {
         }
     }
 
-    // Reads a line, and writes the row before it if that is complete. Returns whether there was a line.
+    // Reads a line, and writes the row before it if that is complete. Returns whether there was a
+    // line.
     fn read_line<B: BufRead, W: Write>(
         &mut self,
         input: &mut B,
@@ -194,7 +202,7 @@ impl RowsRead {
         Err(RowCause::NotARow)
     }
 
-    // Takes a line that a line end ended, and writes the row before it if that is complete.
+    // Takes a line that had a line end, and writes the row before it if that is complete.
     fn take_line<W: Write>(&mut self, line: &[u8], writer: &mut W) -> Result<(), RowCause>
         ensures { (amount : ℕ) (text after : List ℕ) (start : Option (List ℕ)) (count : ℕ) →
             count + 1 < 2 ^ 64 → HasNoLineEnd line.now →
@@ -239,7 +247,7 @@ impl RowsRead {
     }
 }
 
-// Whether the last row isn't written after this cause.
+// Returns whether the last row isn't written after this cause.
 fn drops_last(cause: Option<RowCause>) -> bool
     ensures { result ≡ drops_last cause }
 {
@@ -249,7 +257,7 @@ fn drops_last(cause: Option<RowCause>) -> bool
     }
 }
 
-// The fault of this cause at this line, if there is one.
+// Returns the fault of this cause at this line, if there is one.
 fn fault_at(line: u64, cause: Option<RowCause>) -> Result<(), RowFault>
     ensures { result ≡ fault_at line cause }
 {
@@ -275,7 +283,7 @@ impl JsonRows {
             WritesNext start rows row.now result self.new (W.contents writer.new) }
     {
         let path = self.ancestry.take(alloc, self.place, row)?;
-        // No more rows are written than lines are read, and these are fewer than 2^64.
+        // Each row is read from at least one line, and there are fewer than 2^64 lines.
         self.place = self.place.saturating_add(1);
         self.text.clear();
         push_row_json(alloc, &mut self.text, row, &path)?;
@@ -283,7 +291,7 @@ impl JsonRows {
     }
 }
 
-// Writes a text in as many writes as it takes.
+// Writes a string in as many writes as necessary.
 fn write_text<W: Write>(writer: &mut W, text: &[u8]) -> Result<(), RowCause>
     ensures { WritesText text.now result (W.contents writer.old) (W.contents writer.new) }
 {
@@ -314,7 +322,8 @@ fn push_row_json(
     out.push_str("}\n")
 }
 
-// Appends the beginning of a row's object: the shape, and whether the row is verbose, where its shape says it.
+// Appends the first part of a row's object: the shape, and whether the row is verbose if its shape
+// says so.
 fn push_shape(out: &mut String, shape: Shape) -> Result<(), AllocError>
     ensures { OnOk result (string_bytes out.new ≡ string_bytes out.old ++ shape_text shape) }
 {
@@ -326,14 +335,14 @@ fn push_shape(out: &mut String, shape: Shape) -> Result<(), AllocError>
     Ok(())
 }
 
-// Appends the level, and the beginning of the lines.
+// Appends the level, and the start of the array of lines.
 fn push_level_json(out: &mut String, level: usize) -> Result<(), AllocError>
     ensures { OnOk result (string_bytes out.new ≡ string_bytes out.old ++ level_json level) }
 {
     write!(out, ",\"level\":{level},\"lines\":[")
 }
 
-// Appends the items of an array of texts, and its end.
+// Appends the items of an array of strings, and its end.
 fn push_texts(alloc: Global, out: &mut String, texts: &[String]) -> Result<(), AllocError>
     ensures { OnOk result (string_bytes out.new
         ≡ string_bytes out.old
@@ -350,7 +359,7 @@ fn push_texts(alloc: Global, out: &mut String, texts: &[String]) -> Result<(), A
     out.push_str("]")
 }
 
-// Appends a text in quotes.
+// Appends a string in quotes.
 fn push_text(alloc: Global, out: &mut String, text: &str) -> Result<(), AllocError>
     ensures { OnOk result
         (string_bytes out.new ≡ string_bytes out.old ++ compact_text (string text.now)) }
@@ -400,7 +409,7 @@ fn push_place(out: &mut String, place: Option<usize>) -> Result<(), AllocError>
     }
 }
 
-// The name of a shape, without its truth value.
+// Returns the name of a shape, without its `bool`.
 fn shape_name(shape: Shape) -> &'static str
     ensures { result.now ≡ shape_name shape }
 {

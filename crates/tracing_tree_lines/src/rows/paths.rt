@@ -1,4 +1,4 @@
-//! Where the ancestors of events stand in the text of a run's drawing.
+//! Finds the ancestors of events in the drawing of a run.
 
 ghost use Rattle.std.specs.Prelude.{◌≤◌, IfOk, IfErr};
 ghost use Rattle.tracing_tree_lines.specs.Laws.Ancestry.{FindsInRuns};
@@ -9,11 +9,14 @@ ghost use Rattle.tracing_tree_drawing.specs.Rows.Readable.{ReadsNoDrawing};
 use std::alloc::Global;
 use tracing_tree_drawing::rows::{EventPath, ReadFault};
 
-/// The events of a drawing in order, each with the places of its ancestors in the rows that `read_rows` returns: as many entries
-/// as its level, of which each has the last row above the event that opens that very level, if there is one. The caller must
-/// ensure that the amount is 2 or more.
+/// Returns the events of a drawing in order. Each has the indices of its ancestors in the rows that
+/// `read_rows` returns, one entry for each level below the event's. An entry is the last row before
+/// the event that opens this level, if there is one. The caller must ensure that `amount` is 2 or
+/// more.
 ///
-/// `Line` and `Memory` as `read_rows`.
+/// # Errors
+///
+/// `Line` and `Memory`, as for `read_rows`.
 pub fn read_paths(alloc: Global, text: &str, amount: usize) -> Result<Vec<EventPath>, ReadFault>
     requires { 2 ≤ amount }
     ensures paths { IfOk result (λ paths. AreEventPaths amount text.now paths.items) }

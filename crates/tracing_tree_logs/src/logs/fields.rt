@@ -89,7 +89,7 @@ fn push_inner(
     Ok(())
 }
 
-// An object without members is a field.
+// Appends an object without members as a field.
 fn push_empty(
     alloc: Global,
     fields: &mut Vec<Field>,

@@ -42,14 +42,14 @@ const ERROR_NAMES: [&str; 17] = [
     "0",
 ];
 
-// The level that a word names.
+// Returns the level that a word names.
 pub(super) fn level_named(word: &str) -> Option<Level>
     ensures { result ≡ level_named word.now }
 {
     level_of_name(bare_level(word))
 }
 
-// A level without what Go's slog adds to it.
+// Returns a level without what Go's slog adds to it.
 fn bare_level(word: &str) -> &str
     ensures { result.now ≡ bare_level word.now }
 {
@@ -85,7 +85,7 @@ fn low_level_of_name(name: &str) -> Option<Level>
     }
 }
 
-// Whether a word is one of these, in any case.
+// Returns whether a word is one of these, in any case.
 fn is_one_of(word: &str, names: &[&str]) -> bool
     ensures { result ≡ is_one_of (map (λ n. n.now) names.now) word.now }
 {

@@ -40,7 +40,7 @@ pub(super) const GROUP_KEYS: [&str; 7] = [
     "correlation_id",
 ];
 
-// A string that isn't empty, or a number as it is written.
+// Returns a string that isn't empty, or a number as written.
 fn word_of<'v>(value: &'v Value<'_>) -> Option<&'v str>
     ensures { option_map (λ w. w.now) result ≡ word_of (value_view value.now) }
 {
@@ -51,14 +51,14 @@ fn word_of<'v>(value: &'v Value<'_>) -> Option<&'v str>
     }
 }
 
-// The word at a key.
+// Returns the word at a key.
 pub(super) fn word_at<'v>(value: &'v Value<'_>, key: &str) -> Option<&'v str>
     ensures { option_map (λ w. w.now) result ≡ word_at key.now (value_view value.now) }
 {
     word_of(value.get(key)?)
 }
 
-// The first of these keys at which a word is.
+// Returns the first of these keys that has a word.
 pub(super) fn first_key(keys: &[&'static str], value: &Value<'_>) -> Option<&'static str>
     ensures { option_map (λ k. k.now) result
         ≡ first_key (map (λ k. k.now) keys.now) (value_view value.now) }
@@ -73,7 +73,7 @@ pub(super) fn first_key(keys: &[&'static str], value: &Value<'_>) -> Option<&'st
     None
 }
 
-// The word at the first of these keys that has one.
+// Returns the word at the first of these keys that has one.
 fn first_word<'v>(keys: &[&'static str], value: &'v Value<'_>) -> Option<&'v str>
     ensures { option_map (λ w. w.now) result
         ≡ first_word (map (λ k. k.now) keys.now) (value_view value.now) }
@@ -87,7 +87,7 @@ fn level_at(value: &Value<'_>, key: &str) -> Option<Level>
     level_named(word_at(value, key)?)
 }
 
-// The key at which a line names its level.
+// Returns the key of a line's level.
 fn level_key(value: &Value<'_>) -> Option<&'static str>
     ensures { option_map (λ k. k.now) result ≡ level_key (value_view value.now) }
 {
@@ -99,7 +99,7 @@ fn level_key(value: &Value<'_>) -> Option<&'static str>
     }
 }
 
-// The level of a line; INFO if it names none.
+// Returns the level of a line, or INFO if the line doesn't name one.
 pub(super) fn level_in(value: &Value<'_>) -> Level
     ensures { result ≡ level_in (value_view value.now) }
 {
@@ -109,7 +109,7 @@ pub(super) fn level_in(value: &Value<'_>) -> Level
     }
 }
 
-// The key at which a line tells its time.
+// Returns the key of a line's time.
 fn time_key(value: &Value<'_>) -> Option<&'static str>
     ensures { option_map (λ k. k.now) result ≡ time_key (value_view value.now) }
 {
@@ -130,14 +130,14 @@ fn is_time_at(value: &Value<'_>, key: &str) -> bool
     }
 }
 
-// The moment of a line; that of the line before if it tells none.
+// Returns the moment of a line. Without a valid time, it is the moment of the line before.
 pub(super) fn moment_in(value: &Value<'_>, before: &Moment) -> Moment
     ensures { result ≡ moment_in (value_view value.now) before.now }
 {
     moment_of_word(first_word(&TIME_KEYS, value), before)
 }
 
-// The name of a group's span by the key of its id.
+// Returns the name of a group's span by the key of its id.
 pub(super) fn group_name(key: &str) -> &'static str
     ensures { result.now ≡ group_name key.now }
 {
@@ -148,7 +148,7 @@ pub(super) fn group_name(key: &str) -> &'static str
     }
 }
 
-// What identifies a group.
+// Returns what identifies a group.
 pub(super) fn group_key(alloc: Global, name: &str, id: &str) -> Result<Vec<u8>, AllocError>
     ensures { IfOk result (λ key. key.items ≡ group_key name.now id.now) }
 {
@@ -158,7 +158,7 @@ pub(super) fn group_key(alloc: Global, name: &str, id: &str) -> Result<Vec<u8>, 
     Ok(key)
 }
 
-// The keys that are no fields: those of the level, the time, the message and the group.
+// Returns the keys that aren't fields: those of the level, the time, the message and the group.
 fn used_keys(value: &Value<'_>) -> UsedKeys
     ensures { result ≡ used_keys (value_view value.now) }
 {
@@ -170,7 +170,7 @@ fn used_keys(value: &Value<'_>) -> UsedKeys
     }
 }
 
-// The fields of a line's event: its message, and what else it has.
+// Returns the fields of a line's event: its message, and what else it has.
 pub(super) fn event_fields(alloc: Global, value: &Value<'_>) -> Result<Fields, AllocError>
     ensures { IfOk result (λ fields. fields ≡ event_fields (value_view value.now)) }
 {

@@ -9,7 +9,7 @@ use jiff::Timestamp;
 use tracing_tree_sources::moments::moment_after;
 use tracing_tree_time::Moment;
 
-// The moment that a word tells; that of the line before if it tells none.
+// Returns the moment of a time. If it is missing or invalid, this is the moment of the line before.
 pub(super) fn moment_of_word(word: Option<&str>, before: &Moment) -> Moment
     ensures { result ≡ moment_of_word (option_map (λ w. w.now) word.entry) before.now }
 {
@@ -22,28 +22,28 @@ pub(super) fn moment_of_word(word: Option<&str>, before: &Moment) -> Moment
     }
 }
 
-// Whether a word tells a moment.
+// Returns whether a word is a valid time.
 pub(super) fn is_time(word: &str) -> bool
     ensures { result ≡ is_time word.now }
 {
     nanoseconds_of(word).is_some() || is_instant(word)
 }
 
-// Whether a text is an instant as RFC 3339 writes it.
+// Returns whether a string is an instant in RFC 3339.
 fn is_instant(text: &str) -> bool
     ensures { result ≡ is_some (moment_of text.now) }
 {
     text.parse::<Timestamp>().is_ok()
 }
 
-// The moment that a number tells.
+// Returns the moment of a number.
 fn moment_of_number(text: &str) -> Option<Moment>
     ensures { result ≡ moment_of_number text.now }
 {
     moment_at(nanoseconds_of(text)?)
 }
 
-// The moment this many nanoseconds after 1970.
+// Returns the moment this many nanoseconds after 1970.
 fn moment_at(nanosecond: u64) -> Option<Moment>
     ensures { result ≡ Some (moment_at (pos nanosecond)) }
 {
@@ -56,7 +56,7 @@ fn moment_at(nanosecond: u64) -> Option<Moment>
     }
 }
 
-// The nanoseconds since 1970 of a number, without a sign or an exponent.
+// Returns the nanoseconds since 1970 of a number, without a sign or an exponent.
 fn nanoseconds_of(text: &str) -> Option<u64>
     ensures { result ≡ nanoseconds_of text.now }
 {
@@ -66,7 +66,7 @@ fn nanoseconds_of(text: &str) -> Option<u64>
     }
 }
 
-// The same of a number with a point, by what is before the point and after it.
+// Like `nanoseconds_of`, for a number with a point, given its parts before and after the point.
 fn decimal_of(before: &str, after: &str) -> Option<u64>
     ensures { result ≡ decimal_of before.now after.now }
 {
@@ -76,8 +76,8 @@ fn decimal_of(before: &str, after: &str) -> Option<u64>
     nanoseconds(whole_of(before)?, billionths(after.as_bytes()))
 }
 
-// The nanoseconds of a number and this many billionths, if a u64 holds them: the number's size says
-// whether it counts seconds, milliseconds, microseconds or nanoseconds.
+// Returns the nanoseconds of a number and this many billionths, if a u64 holds them: the number's
+// size says whether it counts seconds, milliseconds, microseconds or nanoseconds.
 fn nanoseconds(whole: u64, part: u64) -> Option<u64>
     ensures { result ≡ nanoseconds whole part }
 {
@@ -92,7 +92,7 @@ fn nanoseconds(whole: u64, part: u64) -> Option<u64>
     }
 }
 
-// The number that digits write, if a u64 holds it.
+// Returns the number that digits write, if a u64 holds it.
 fn whole_of(text: &str) -> Option<u64>
     ensures { result ≡ whole_of text.now }
 {
@@ -102,7 +102,7 @@ fn whole_of(text: &str) -> Option<u64>
     text.parse().ok()
 }
 
-// The billionths that the digits after a point write.
+// Returns the billionths that the digits after a point write.
 fn billionths(digits: &[u8]) -> u64
     ensures { result ≡ billionths digits.now }
 {
@@ -110,7 +110,7 @@ fn billionths(digits: &[u8]) -> u64
     thousandths(digits) * 1_000_000 + thousandths(more) * 1000 + thousandths(after_three(more))
 }
 
-// The thousandths that the first three digits after a point write.
+// Returns the thousandths that the first three digits after a point write.
 fn thousandths(digits: &[u8]) -> u64
     ensures value { result ≡ thousandths digits.now }
     ensures small { result ≤ 30_000 }
@@ -123,7 +123,7 @@ fn thousandths(digits: &[u8]) -> u64
     }
 }
 
-// The digits after the first three.
+// Returns the digits after the first three.
 fn after_three(digits: &[u8]) -> &[u8]
     ensures { result.now ≡ after_three digits.now }
 {
@@ -133,7 +133,7 @@ fn after_three(digits: &[u8]) -> &[u8]
     }
 }
 
-// What a digit counts.
+// Returns what a digit counts.
 fn digit_in(byte: u8) -> u64
     ensures value { result ≡ digit_in byte }
     ensures small { result ≤ 255 }
@@ -141,7 +141,7 @@ fn digit_in(byte: u8) -> u64
     u64::from(byte.saturating_sub(b'0'))
 }
 
-// Whether a text is one digit or more, and nothing else.
+// Returns whether a string has only digits, and at least one.
 fn is_digits(text: &str) -> bool
     ensures { result ≡ is_digits text.now }
 {

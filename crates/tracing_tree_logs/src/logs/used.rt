@@ -1,4 +1,4 @@
-//! The keys of a line that are no fields.
+//! The keys of a line that aren't fields.
 
 ghost use Rattle.std.specs.Prelude.{◌≡◌, bytes_eq, map, option_map};
 ghost use Rattle.std.specs.List.{list_any};
@@ -26,7 +26,7 @@ impl Model for UsedKeys {
 }
 
 impl UsedKeys {
-    // Whether a key is one of them.
+    // Returns whether a key is one of them.
     pub(super) fn has(&self, key: &str) -> bool
         ensures { result ≡ list_any (bytes_eq key.now) self.now }
     {
@@ -46,7 +46,7 @@ fn is_key(one: Option<&'static str>, key: &str) -> bool
     }
 }
 
-// Whether a key is one of these.
+// Returns whether a key is one of these.
 pub(super) fn is_among(key: &str, keys: &[&str]) -> bool
     ensures { result ≡ list_any (bytes_eq key.now) (map (λ k. k.now) keys.now) }
 {

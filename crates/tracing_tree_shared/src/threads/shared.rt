@@ -1,4 +1,4 @@
-//! A thread's receiver over a layer that keeps the history of all threads.
+//! A thread's receiver over a layer with the history of all threads.
 
 ghost use Rattle.std.specs.Prelude.{◌≡◌};
 ghost use Rattle.tracing_tree_shared.specs.Kept.{answer_given};
@@ -16,8 +16,8 @@ use tracing_tree_layer::told::ToldEvent;
 use tracing_tree_spans::registry::{Attributes, Record};
 use tracing_tree_time::FormatTime;
 
-/// Makes the calls of one thread on a [`SharedLayer`], with the thread's pass. It drafts each call
-/// before it waits for the lock. The pass gains the receipt of each accepted call.
+/// A receiver of one thread's calls over a [`SharedLayer`], with the thread's pass. It drafts each
+/// call before it waits for the lock. The pass gains the receipt of each accepted call.
 #[derive(Drop)]
 pub struct SharedCalls<'a, R, FT: FormatTime, L: Ledger> {
     rt: &'a R,
@@ -59,7 +59,7 @@ impl<'a, R, FT: FormatTime, L: Ledger> SharedCalls<'a, R, FT, L> {
         &self.pass
     }
 
-    /// Returns the thread's pass, which `SharedLayer::finish` takes back.
+    /// Returns the thread's pass, for `SharedLayer::finish`.
     pub fn into_pass(self) -> Pass<L>
         ensures { result ≡ self.entry.receipts }
     {
@@ -117,11 +117,11 @@ impl<'a, R: Wait, FT: FormatTime + Drop, L: Ledger> Calls for SharedCalls<'a, R,
         Ok(was_removed)
     }
 
-    // A tape holds nothing back.
+    // A tape has no buffer to flush.
     fn flush(&mut self) {}
 }
 
-// The reply, or the cause for which the draft came back.
+// Returns the reply, or the cause of the refusal.
 fn answer(given: Result<Reply, Refused>) -> Result<Reply, Refusal>
     ensures { result ≡ answer_given given }
 {

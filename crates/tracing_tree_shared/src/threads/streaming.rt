@@ -1,4 +1,4 @@
-//! A thread's receiver over a layer that keeps no history.
+//! A thread's receiver over a layer without a history.
 
 ghost use Rattle.std.specs.Prelude.{◌≡◌};
 ghost use Rattle.tracing_tree_shared.specs.Streamed.{answer_numbered};
@@ -16,8 +16,8 @@ use tracing_tree_output::Output;
 use tracing_tree_spans::registry::{Attributes, Record};
 use tracing_tree_time::FormatTime;
 
-/// Makes the calls of one thread on a [`StreamingLayer`]. It drafts each call before it waits for
-/// the lock.
+/// A receiver of one thread's calls over a [`StreamingLayer`]. It drafts each call before it waits
+/// for the lock.
 #[derive(Drop)]
 pub struct StreamingCalls<'a, R, W: Output, FT: FormatTime> {
     rt: &'a R,
@@ -47,7 +47,7 @@ impl<'a, R, W: Output, FT: FormatTime> StreamingCalls<'a, R, W, FT> {
 }
 
 /// If the layer refuses a call, the answer is the cause, and the draft is dropped. The number of an
-/// accepted call is left out.
+/// accepted call isn't returned.
 impl<'a, R: Wait, W: Output, FT: FormatTime> Calls for StreamingCalls<'a, R, W, FT> {
     ghost use Rattle.tracing_tree_shared.specs.Threads.{IsAnsweredStreaming};
 
@@ -102,7 +102,7 @@ impl<'a, R: Wait, W: Output, FT: FormatTime> Calls for StreamingCalls<'a, R, W, 
     }
 }
 
-// The reply, or the cause for which the draft came back.
+// Returns the reply, or the cause of the refusal.
 fn answer(given: Result<Numbered, Refused>) -> Result<Reply, Refusal>
     ensures { result ≡ answer_numbered given }
 {

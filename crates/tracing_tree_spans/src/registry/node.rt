@@ -1,4 +1,4 @@
-//! A span as it is kept, and a look at it.
+//! A stored span, and a view of it.
 
 ghost use Rattle.std.specs.Prelude.{◌≡◌, ◌<◌, ◌==◌, ◌&&◌, IfOk, OnOk, OnErr};
 ghost use Rattle.tracing_tree_spans.specs.Registry.Spans.{shown_span, handle_more, handle_less, child_more, child_less, kept_printed, fields_more};
@@ -10,21 +10,21 @@ use tracing_tree_context::Id;
 use tracing_tree_text::field::Fields;
 use tracing_tree_text::text::Text;
 
-/// What the layer keeps with a span.
+/// The data that the layer stores with a span.
 #[derive(Debug, Drop)]
 pub struct Data {
-    /// When it was made, in nanoseconds on the clock that only goes forward.
+    /// When it was made, in nanoseconds on the monotonic clock.
     pub start: u64,
 
-    /// Its fields: those that it was made with, and then those of later records.
+    /// Its fields: those that it was made with, followed by those of later records.
     pub fields: Fields,
 
     /// Whether a row of it was printed.
     pub written: bool,
 }
 
-// A span as it is kept: with its path, from its root down to it, and with the number of its live children. What clones, records
-// and closes touch stands at its head, close together in memory.
+// A stored span, with its path from its root down to it and the number of its live children. The
+// fields that clones, records and closes touch come first, close together in memory.
 #[derive(Drop)]
 pub(crate) struct Node {
     pub(crate) id: Id,
@@ -81,14 +81,14 @@ impl Node {
         self.handles
     }
 
-    // Whether one handle keeps the span, and no child.
+    // Returns whether one handle keeps the span live, and no child does.
     pub(crate) fn is_kept_by_a_handle(&self) -> bool
         ensures { result ≡ ((self.now.span.handles == 1) && (self.now.children == 0)) }
     {
         self.handles == 1 && self.children == 0
     }
 
-    // Whether one child keeps the span, and no handle.
+    // Returns whether one child keeps the span live, and no handle does.
     pub(crate) fn is_kept_by_a_child(&self) -> bool
         ensures { result ≡ ((self.now.span.handles == 0) && (self.now.children == 1)) }
     {
@@ -155,7 +155,7 @@ impl Node {
     }
 }
 
-/// A look at a live span. (`SpanRef` of the Rust crate's registry.)
+/// A view of a live span. (`SpanRef` of the Rust crate's registry.)
 #[derive(Drop)]
 pub struct SpanRef<'a> {
     id: Id,
@@ -180,7 +180,7 @@ impl<'a> Model for SpanRef<'a> {
 }
 
 impl<'a> SpanRef<'a> {
-    /// A look at a span of these parts, for a registry of one's own.
+    /// Returns a view of a span with these parts, for a custom registry.
     pub fn new(
         id: Id,
         parent: Option<Id>,
@@ -206,14 +206,14 @@ impl<'a> SpanRef<'a> {
         }
     }
 
-    /// The span's number.
+    /// Returns the span's id.
     pub fn id(&self) -> Id
         ensures { result ≡ self.now.id }
     {
         self.id
     }
 
-    /// The span's name.
+    /// Returns the span's name.
     pub fn name(&self) -> &'a str
         ensures { result.now ≡ self.now.name }
     {
@@ -221,7 +221,7 @@ impl<'a> SpanRef<'a> {
         name.as_str()
     }
 
-    /// The span's target.
+    /// Returns the span's target.
     pub fn target(&self) -> &'a str
         ensures { result.now ≡ self.now.target }
     {
@@ -229,14 +229,14 @@ impl<'a> SpanRef<'a> {
         target.as_str()
     }
 
-    /// The span's parent; none for a root.
+    /// Returns the span's parent, or `None` for a root.
     pub fn parent(&self) -> Option<Id>
         ensures { result ≡ self.now.parent }
     {
         self.parent
     }
 
-    /// What is kept with the span.
+    /// Returns the data that is stored with the span.
     pub fn data(&self) -> &'a Data
         ensures { result.now ≡ self.now.kept }
     {

@@ -15,9 +15,10 @@ use std::marker::Model;
 use tracing_tree_context::Id;
 use tracing_tree_text::field::Fields;
 
-// The live spans. A span that goes leaves a gap, so that nothing moves. Gaps at the end go at once, and the others where the list
-// would have to grow although more than half of it are gaps. The records lie in the list itself: a pointer to each would be one
-// more block of memory to free.
+// The live spans. A removed span leaves a gap, so nothing moves. Gaps at the end are removed at
+// once. The others are removed when the list would have to grow and more than half of it are gaps.
+// The records are stored in the list itself: a pointer to each would be one more block of memory to
+// free.
 #[derive(Drop)]
 pub(crate) struct Nodes {
     slots: Vec<Slot>,
@@ -50,7 +51,7 @@ impl Nodes {
         *self.slots.allocator()
     }
 
-    // The span with this id.
+    // Returns the span with this id.
     pub(crate) fn get(&self, id: Id) -> Option<&Node>
         ensures { option_copied result ≡ kept_at self.now id }
     {
@@ -58,7 +59,7 @@ impl Nodes {
         self.slots[at].node()
     }
 
-    // Puts a span with the greatest id at the end. Nothing has changed where memory is refused.
+    // Appends a span with the greatest id. If an allocation fails, nothing has changed.
     pub(crate) fn push(&mut self, node: Node) -> Result<(), AllocError>
         requires { AreBelow node.span.id.0 self.old }
         ensures ok { OnOk result (self.new ≡ self.old ++ node ∷ []) }
@@ -71,7 +72,7 @@ impl Nodes {
         Ok(())
     }
 
-    // Takes the span with this id out.
+    // Removes the span with this id.
     pub(crate) fn remove(&mut self, id: Id)
         ensures { self.new ≡ leave_out id self.old }
     {
@@ -118,7 +119,7 @@ impl Nodes {
         self.update(id, |node| node.set_written());
     }
 
-    // Changes the span with this id, where it is live.
+    // Changes the span with this id, if it is live.
     fn update<F: FnOnce(&mut Node)>(&mut self, id: Id, change: F)
         requires callable { (node : KeptSpan) → kept_at self.old id ≡ Some node
             → (x : _) → x.now ≡ node → F.pre change x }
@@ -136,7 +137,8 @@ impl Nodes {
         }
     }
 
-    // Nothing has changed where memory is refused, which an id that isn't live never asks for.
+    // Appends fields to those of a span. If an allocation fails, nothing has changed. An id that
+    // isn't live never allocates.
     pub(crate) fn record(&mut self, id: Id, fields: Fields) -> Result<(), AllocError>
         ensures ok { OnOk result (self.new ≡ change_kept (fields_more fields) id self.old) }
         ensures err { OnErr result (self.new ≡ self.old) }
@@ -151,8 +153,9 @@ impl Nodes {
     }
 }
 
-// Where the span of this id lies or lay. Where no gap between it and the newest was closed, it's one look. Each look at another
-// place is a wait for memory where spans are many.
+// Returns the place of the span with this id, or of its gap. If no gap between it and the newest
+// span was removed, this takes one look. Each further look is a wait for memory when there are many
+// spans.
 fn position(slots: &[Slot], id: Id) -> Option<usize>
     requires { AreRising (slot_ids slots.now) }
     ensures { MatchOption result (find (slot_has id) slots.now ≡ None) (λ at.
@@ -165,7 +168,7 @@ fn position(slots: &[Slot], id: Id) -> Option<usize>
     search(slots, id)
 }
 
-// Where the span of this id lies if no gap between it and the newest was closed.
+// Returns the place of the span with this id if no gap between it and the newest span was removed.
 fn likely_place(slots: &[Slot], id: Id) -> usize {
     match slots.last() {
         Some(newest) => {
@@ -176,7 +179,7 @@ fn likely_place(slots: &[Slot], id: Id) -> usize {
     }
 }
 
-// Whether the span of this id lies or lay there.
+// Returns whether the span with this id, or its gap, is at this place.
 fn is_at(slots: &[Slot], place: usize, id: Id) -> bool
     ensures { result ≡ option_map_or (slot_has id) (slice_get slots.now place) false }
 {
@@ -186,8 +189,9 @@ fn is_at(slots: &[Slot], place: usize, id: Id) -> bool
     }
 }
 
-// The same by a search among what is left, which looks in turn where the id lies if gaps were closed evenly there, and in the
-// middle. So it takes few looks where gaps are alike, and never more than twice as many as halving alone.
+// Like `position`, by a search in the whole list. It looks in turn at the place that the id has if
+// gaps were removed evenly, and in the middle. So it takes few looks if the gaps are evenly spread,
+// and never more than twice as many as a binary search.
 fn search(slots: &[Slot], id: Id) -> Option<usize>
     requires { AreRising (slot_ids slots.now) }
     ensures { MatchOption result (find (slot_has id) slots.now ≡ None) (λ at.
@@ -221,7 +225,7 @@ fn search(slots: &[Slot], id: Id) -> Option<usize>
     None
 }
 
-// The lowest and the highest id.
+// Returns the lowest and the highest id.
 fn ends(slots: &[Slot]) -> (u64, u64) {
     match (slots.first(), slots.last()) {
         (Some(oldest), Some(newest)) => (oldest.id().0, newest.id().0),
@@ -229,15 +233,15 @@ fn ends(slots: &[Slot]) -> (u64, u64) {
     }
 }
 
-// As large a part of the places as these ids are of all. The product can wrap where ids are far apart, and the part is then
-// no good guess.
+// Returns `places * ids / all`. The product can wrap if ids are far apart, and the result is then a
+// bad guess.
 fn share(places: usize, ids: u64, all: u64) -> usize {
     let scaled = ids.wrapping_mul(places as u64);
     scaled.checked_div(all).unwrap_or(0) as usize
 }
 
-// Closes all gaps of a full list where they are more than half of it. The list then has room for as many spans as it had gaps, so
-// that closing them costs little on the whole.
+// Removes all gaps of a full list if they are more than half of it. The list then has capacity for
+// as many spans as it had gaps, so this costs little overall.
 fn make_room(slots: &mut Vec<Slot>, live: usize)
     requires { IsLaidOut slots.old.items live }
     ensures spans { present slots.new.items ≡ present slots.old.items }
@@ -248,7 +252,7 @@ fn make_room(slots: &mut Vec<Slot>, live: usize)
     }
 }
 
-// Frees a place: the last one goes, and another becomes a gap.
+// Removes a span: truncates the list if it is the last one, otherwise leaves a gap.
 fn vacate(slots: &mut Vec<Slot>, at: usize, id: Id)
     requires inside { at < length slots.old.items }
     requires rising { AreRising (slot_ids (set slots.old.items at (Gone id))) }
@@ -262,7 +266,7 @@ fn vacate(slots: &mut Vec<Slot>, at: usize, id: Id)
     }
 }
 
-// Closes the gaps at the end.
+// Removes the gaps at the end.
 fn trim(slots: &mut Vec<Slot>)
     requires { AreRising (slot_ids slots.old.items) }
     ensures spans { present slots.new.items ≡ present slots.old.items }
@@ -274,7 +278,7 @@ fn trim(slots: &mut Vec<Slot>)
     }
 }
 
-// Whether the last place is a gap.
+// Returns whether the last place is a gap.
 fn ends_in_gap(slots: &[Slot]) -> bool
     ensures { result ≡ ends_in_gap slots.now }
 {

@@ -1,4 +1,4 @@
-//! The path of a span, as it is kept with the span.
+//! The path of a span, as stored with the span.
 
 ghost use Rattle.std.specs.Prelude.{◌≡◌, ◌++◌, ◌∷◌, [], IfOk, IfSome};
 ghost use Rattle.tracing_tree_spans.specs.Registry.Spans.{path_ids};
@@ -7,7 +7,7 @@ use std::alloc::{AllocError, Global};
 use std::marker::Model;
 use tracing_tree_context::Id;
 
-// Paths of at most five spans lie in the span's record itself. Few spans are nested deeper.
+// Paths of at most five spans are stored inline in the span's record. Few spans are nested deeper.
 const SHORT: usize = 5;
 
 // A path, root first.
@@ -18,7 +18,7 @@ pub(crate) enum SpanPath {
 }
 
 impl SpanPath {
-    // The path of a span below the last of these.
+    // Returns the path of a child of the last of these.
     pub(crate) fn below(alloc: Global, above: &[Id], id: Id) -> Result<SpanPath, AllocError>
         ensures { IfOk result (λ path. path_ids path ≡ above.now ++ id ∷ []) }
     {
@@ -60,7 +60,7 @@ impl Model for ShortPath {
 }
 
 impl ShortPath {
-    // The path of a span below the last of these, if there is room for it.
+    // Returns the path of a child of the last of these, if it is short enough.
     fn below(above: &[Id], id: Id) -> Option<ShortPath>
         ensures { IfSome result (λ path. path ≡ above.now ++ id ∷ []) }
     {

@@ -1,4 +1,4 @@
-//! What two paths share.
+//! The common prefix of two paths.
 
 ghost use Rattle.std.specs.Prelude.{◌≡◌};
 ghost use Rattle.std.specs.List.{common_prefix_len};
@@ -8,13 +8,15 @@ ghost use Rattle.tracing_tree_spans.specs.Registry.Paths.{PartOnce, looks_back};
 use super::prefix::Common;
 use tracing_tree_context::Id;
 
-/// Returns what two paths of one forest share. Takes no memory.
+/// Returns the length of the common prefix of two paths of one forest, and how many places were
+/// compared. Never allocates.
 ///
-/// It starts at the last place that both have and goes back to the first place where they agree. So it compares as many places
-/// as the shorter path has past the common beginning, and one more where the paths share a beginning.
+/// It starts at the last place that both have, and steps back until they agree. So it compares as
+/// many places as the shorter path has after the common prefix, and one more unless that prefix is
+/// empty.
 ///
-/// The caller must ensure that the paths part once: where two places agree, all places before them agree. Paths of one forest
-/// do.
+/// The caller must ensure that the paths part once: if two places agree, all places before them
+/// agree. Paths of one forest do.
 pub fn common(old: &[Id], new: &[Id]) -> Common
     requires { PartOnce old.now new.now }
     ensures length { result.length ≡ common_prefix_len same_id old.now new.now }

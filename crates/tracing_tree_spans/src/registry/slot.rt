@@ -6,7 +6,7 @@ ghost use Rattle.tracing_tree_spans.specs.Registry.Slots.{slot_id, slot_node, is
 use super::node::Node;
 use tracing_tree_context::Id;
 
-// A place in the list: a live span, or the gap that a span left.
+// A place in the list: a live span, or the gap that a removed span left.
 #[derive(Drop)]
 pub(crate) enum Slot {
     Live(Node),

@@ -22,13 +22,14 @@ use tracing_tree_text::field::Fields;
 
 /// The live spans and the next id. A span is live while it has a handle or a live child.
 ///
-/// Each span is kept with its path and with the number of its children. So a path is there at once, and a close looks at no
-/// span but those on the path of the span that closes.
+/// Each span is stored with its path and the number of its children. So a path is available at
+/// once, and a close visits only spans on the path of the span that closes.
 ///
-/// Paths aren't shared, so they cost memory by their depth. One of at most five spans lies in the span's record, which takes 256
-/// bytes; a longer one takes eight bytes more for each of its spans: 80 at depth 10, 800 at depth 100, 8,000 at depth 1,000. The
-/// list of records doubles where it grows. So 100,000 live spans take 34 MB up to depth 5, 400 MB more at depth 500, and 800 MB
-/// more at depth 1,000.
+/// Paths aren't shared, so their memory grows with their depth. A path of at most five spans is
+/// stored inline in the span's record, which takes 256 bytes. A longer one takes eight more bytes
+/// for each of its spans: 80 at depth 10, 800 at depth 100, 8,000 at depth 1,000. The list of
+/// records doubles when it grows. So 100,000 live spans take 34 MB up to depth 5, 400 MB more at
+/// depth 500, and 800 MB more at depth 1,000.
 ///
 /// A child keeps its parent live:
 /// ```rust
@@ -57,14 +58,14 @@ impl Model for Registry {
 }
 
 impl Registry {
-    /// A registry without spans, whose first id is 1. Takes no memory.
+    /// Returns a registry without spans, whose first id is 1. Never allocates.
     pub fn new(alloc: Global) -> Registry
         ensures { result ≡ empty_forest (id_of 1) }
     {
         Registry::starting_at(alloc, 1)
     }
 
-    /// A registry without spans, whose first id is this. Takes no memory.
+    /// Returns a registry without spans, whose first id is `first`. Never allocates.
     pub fn starting_at(alloc: Global, first: u64) -> Registry
         ensures { result ≡ empty_forest (id_of first) }
     {
@@ -74,21 +75,24 @@ impl Registry {
         }
     }
 
-    /// Returns the id that the next new span gets; none after `u64::MAX` was given out.
+    /// Returns the id of the next new span, or `None` after `u64::MAX` was used.
     pub fn next_id(&self) -> Option<Id>
         ensures { result ≡ self.now.next }
     {
         self.next
     }
 
-    /// Makes a span with one handle, not printed yet, which starts at the context's moment, and returns its id.
+    /// Makes a span with one handle, and returns its id. It starts at the context's moment, and
+    /// isn't printed yet.
     ///
-    /// `NotHeld` of a parent that isn't live, `TooMany` after `u64::MAX` was given out, `Memory`. On a refusal the registry is
-    /// as it was, and the attributes are gone.
+    /// # Errors
+    ///
+    /// `NotHeld` if the parent isn't live. `TooMany` after the id `u64::MAX` was used. `Memory` if
+    /// an allocation fails. The registry is unchanged then, and the attributes are dropped.
     pub fn new_span(&mut self, attributes: Attributes, context: &Context) -> Result<Id, Refusal>
         ensures made { IsNewSpan attributes context.now result self.old self.new }
 
-        // It is the newest span, and taking it back undoes this.
+        // It is the newest span, and `take_back` undoes this call.
         ensures newest { IfOk result (λ id. IsNewest id self.new) }
         ensures undone { IfOk result (λ id. take_back id self.new ≡ self.old) }
     {
@@ -123,9 +127,13 @@ impl Registry {
         Ok(id)
     }
 
-    /// Adds one handle to a live span, also to one that only a child holds. Returns its id. Takes no memory.
+    /// Adds one handle to a live span, even if only a child keeps it live. Returns its id. Never
+    /// allocates.
     ///
-    /// `NotHeld` of a span that isn't live, `TooMany` where its handles can't be counted further; nothing has changed then.
+    /// # Errors
+    ///
+    /// `NotHeld` if the span isn't live. `TooMany` if it has `u64::MAX` handles. Nothing has
+    /// changed then.
     pub fn clone_span(&mut self, id: Id) -> Result<Id, Refusal>
         ensures { IsCloned id result self.old self.new }
     {
@@ -139,10 +147,13 @@ impl Registry {
         Ok(id)
     }
 
-    /// Takes one handle of a span away. A span with neither handle nor child left goes, then its parent if it has neither, and
-    /// so on upward. Returns whether the span went. Takes no memory.
+    /// Drops one handle of a span. Removes the span if it has no handles and no children left, then
+    /// its parent likewise, and so on upward. Returns whether the span was removed. Never
+    /// allocates.
     ///
-    /// `NotHeld` of a span that isn't live or has no handle left; nothing has changed then.
+    /// # Errors
+    ///
+    /// `NotHeld` if the span isn't live or has no handle left. Nothing has changed then.
     pub fn try_close(&mut self, id: Id) -> Result<bool, Refusal>
         ensures { IsClosed id result self.old self.new }
     {
@@ -156,9 +167,10 @@ impl Registry {
         Ok(self.close(id, count))
     }
 
-    /// Closes a span as `try_close` does, where `closing_into` has listed before what goes with it, and at most marks have changed since.
-    /// The caller must ensure that a handle of the span is left, and that these ids are what goes. Returns whether the span went. Takes
-    /// no memory.
+    /// Closes a span like `try_close`, given the ids that `closing_into` listed. Since then only
+    /// marks may have changed. Returns whether the span was removed. The caller must ensure that
+    /// the span has a handle left, and that `ids` are the spans that will be removed. Never
+    /// allocates.
     pub fn close_listed(&mut self, id: Id, ids: &[Id]) -> bool
         requires held { unless_handle self.old id ≡ None }
         requires listed { ids.now ≡ closing_of self.old id }
@@ -167,7 +179,7 @@ impl Registry {
         self.close(id, ids.len())
     }
 
-    // Takes a handle away, and the spans that go with it, `count` of them.
+    // Drops a handle, and removes the `count` spans that close with it.
     fn close(&mut self, id: Id, count: usize) -> bool
         requires held { unless_handle self.old id ≡ None }
         requires counted { count ≡ length (closing_of self.old id) }
@@ -178,11 +190,15 @@ impl Registry {
         count > 0
     }
 
-    /// The ids that `try_close` would remove, in order, in place of what the list has: the span, its parent, and so on, as far as each
-    /// has neither handle nor another child. None where the span keeps a handle or a child. It takes memory only where the list has
-    /// too little room. After an error the list is of no use.
+    /// Replaces the content of the list by the ids that `try_close` would remove, in order. They
+    /// are the span, its parent, and so on upward, as long as each has no other handle and no other
+    /// child. The list is empty if the span keeps a handle or a child. It allocates only if the
+    /// list's capacity is too small.
     ///
-    /// `NotHeld` as of `try_close`, `Memory`.
+    /// # Errors
+    ///
+    /// `NotHeld` if the span isn't live or has no handle left. `Memory` if an allocation fails.
+    /// Don't use the list after an error.
     pub fn closing_into(&self, id: Id, ids: &mut Vec<Id>) -> Result<(), Refusal>
         ensures lists { ListsClosing id (listed ids.new result) self.now }
         ensures longest { IfOk result (λ done. IsClosing self.now id ids.new.items) }
@@ -204,8 +220,8 @@ impl Registry {
         Ok(())
     }
 
-    /// Takes a new span out again: its id is the next one again. Takes no memory. The caller must
-    /// ensure that the span is the newest given out, live, with one handle and no child.
+    /// Removes a new span, so that its id is the next one again. Never allocates. The caller must
+    /// ensure that the span is the newest, is live, and has one handle and no child.
     pub fn take_back(&mut self, id: Id)
         requires { IsNewest id self.old }
         ensures { self.new ≡ take_back id self.old }
@@ -215,7 +231,7 @@ impl Registry {
     }
 }
 
-// The id, if there is one that no span has.
+// Returns the id, if there is one that isn't live.
 fn missing(nodes: &Nodes, id: Option<Id>) -> Option<Id>
     ensures { result ≡ any_unless_live (alone (spans_of nodes.now)) id }
 {
@@ -223,14 +239,14 @@ fn missing(nodes: &Nodes, id: Option<Id>) -> Option<Id>
     nodes.get(id).is_none().then_some(id)
 }
 
-// The id after this one, if there is one.
+// Returns the id after this one, if there is one.
 fn following(id: Id) -> Option<Id>
     ensures { result ≡ id_after id }
 {
     id.0.checked_add(1).map(Id)
 }
 
-// The path of a span that may be missing; empty where it is.
+// Returns the path of a span, which is empty if the span is missing.
 fn path_at(nodes: &Nodes, id: Option<Id>) -> &[Id]
     ensures { result.now ≡ kept_path nodes.now id }
 {
@@ -240,7 +256,8 @@ fn path_at(nodes: &Nodes, id: Option<Id>) -> &[Id]
     }
 }
 
-// Puts a new span at the end, and counts it among its parent's children. Nothing has changed where memory is refused.
+// Appends a new span, and counts it among its parent's children. If an allocation fails, nothing
+// has changed.
 fn push_below(nodes: &mut Nodes, parent: Option<Id>, node: Node) -> Result<(), AllocError>
     requires below { AreBelow node.span.id.0 nodes.old }
     requires tied { IsTied nodes.old }
@@ -255,8 +272,8 @@ fn push_below(nodes: &mut Nodes, parent: Option<Id>, node: Node) -> Result<(), A
     Ok(())
 }
 
-// The end of a span's path that closes when a handle of the span is taken away: the span itself where it keeps neither a handle
-// nor a child, its parent where that has no handle and no other child, and so on upward.
+// Returns the end of a span's path that closes when a handle of the span is dropped. It has the
+// span, its parent, and so on upward, as long as each has no other handle and no other child.
 fn closing_part<'a>(nodes: &Nodes, node: &'a Node) -> &'a [Id]
     requires kept { IsKept (spans_of nodes.now) None }
     requires tied { IsTied nodes.now }
@@ -283,7 +300,7 @@ fn closing_part<'a>(nodes: &Nodes, node: &'a Node) -> &'a [Id]
     &path[path.len() - count..]
 }
 
-// Removes a span without children, and counts it no longer among its parent's. Returns the parent.
+// Removes a span without children, and counts it out of its parent's children. Returns the parent.
 fn remove_leaf(nodes: &mut Nodes, id: Id) -> Option<Id>
     requires kept { IsKept (spans_of nodes.old) None }
     requires tied { IsTied nodes.old }
@@ -299,7 +316,7 @@ fn remove_leaf(nodes: &mut Nodes, id: Id) -> Option<Id>
     Some(parent)
 }
 
-// Removes `count` spans: the span of this id, its parent, and so on upward.
+// Removes `count` spans: the span with this id, its parent, and so on upward.
 fn remove_upward(nodes: &mut Nodes, id: Id, count: usize)
     requires kept { IsKept (spans_of nodes.old) None }
     requires tied { IsTied nodes.old }
@@ -352,7 +369,7 @@ impl LookupSpan for Registry {
         }
     }
 
-    /// The path of a span; none exactly of an id that isn't live.
+    /// Returns the path of a span, or `None` exactly if the id isn't live.
     fn kept_path(&self, id: Id) -> Option<&[Id]>
         ensures kept { IfSome result (λ path. path.now ≡ path_of self.now id) }
         ensures live { IsSome result ↔ IsTrue (is_live self.now id) }

@@ -13,8 +13,8 @@ use std::marker::Model;
 use tracing_tree_context::{Id, Refusal};
 use tracing_tree_text::field::Fields;
 
-/// A [`Registry`] that lends no path: each path is found by a walk from the span up to its root. It has the same calls with the
-/// same contracts.
+/// A [`Registry`] that doesn't lend paths. It finds each path by a walk from the span up to its
+/// root. It has the same calls with the same contracts.
 #[derive(Drop)]
 pub struct Walked {
     spans: Registry,
@@ -29,7 +29,7 @@ impl Model for Walked {
 }
 
 impl Walked {
-    /// A registry without spans, whose first id is 1. Takes no memory.
+    /// Returns a registry without spans, whose first id is 1. Never allocates.
     pub fn new(alloc: Global) -> Walked
         ensures { result ≡ empty_forest (id_of 1) }
     {
@@ -38,7 +38,7 @@ impl Walked {
         }
     }
 
-    /// A registry without spans, whose first id is this. Takes no memory.
+    /// Returns a registry without spans, whose first id is `first`. Never allocates.
     pub fn starting_at(alloc: Global, first: u64) -> Walked
         ensures { result ≡ empty_forest (id_of first) }
     {
@@ -47,7 +47,7 @@ impl Walked {
         }
     }
 
-    /// As [`Registry::new_span`].
+    /// Makes a span, like [`Registry::new_span`].
     pub fn new_span(&mut self, attributes: Attributes, context: &Context) -> Result<Id, Refusal>
         ensures made { IsNewSpan attributes context.now result self.old self.new }
         ensures newest { IfOk result (λ id. IsNewest id self.new) }
@@ -56,21 +56,21 @@ impl Walked {
         self.spans.new_span(attributes, context)
     }
 
-    /// As [`Registry::clone_span`].
+    /// Adds a handle, like [`Registry::clone_span`].
     pub fn clone_span(&mut self, id: Id) -> Result<Id, Refusal>
         ensures { IsCloned id result self.old self.new }
     {
         self.spans.clone_span(id)
     }
 
-    /// As [`Registry::try_close`].
+    /// Drops a handle, like [`Registry::try_close`].
     pub fn try_close(&mut self, id: Id) -> Result<bool, Refusal>
         ensures { IsClosed id result self.old self.new }
     {
         self.spans.try_close(id)
     }
 
-    /// As [`Registry::closing`].
+    /// Returns the ids that a close would remove, like [`Registry::closing`].
     pub fn closing(&self, alloc: Global, id: Id) -> Result<Vec<Id>, Refusal>
         ensures lists { ListsClosing id result self.now }
         ensures longest { IfOk result (λ ids. IsClosing self.now id ids.items) }
@@ -79,7 +79,7 @@ impl Walked {
         self.spans.closing(alloc, id)
     }
 
-    /// As [`Registry::closing_into`].
+    /// Lists the ids that a close would remove, like [`Registry::closing_into`].
     pub fn closing_into(&self, id: Id, ids: &mut Vec<Id>) -> Result<(), Refusal>
         ensures lists { ListsClosing id (listed ids.new result) self.now }
         ensures longest { IfOk result (λ done. IsClosing self.now id ids.new.items) }
@@ -88,7 +88,7 @@ impl Walked {
         self.spans.closing_into(id, ids)
     }
 
-    /// As [`Registry::scope`], by a walk.
+    /// Returns the span and its ancestors, like [`Registry::scope`], by a walk.
     pub fn scope(&self, alloc: Global, id: Id) -> Result<Vec<Id>, AllocError>
         ensures scope { IfOk result (λ scope. scope.items ≡ reverse (path_of self.now id)) }
         ensures whole { IfOk result (λ scope. IsPathIfLive self.now id (reverse scope.items)) }
@@ -107,7 +107,7 @@ impl Walked {
         Ok(scope)
     }
 
-    /// As [`Registry::take_back`].
+    /// Removes a new span, like [`Registry::take_back`].
     pub fn take_back(&mut self, id: Id)
         requires { IsNewest id self.old }
         ensures { self.new ≡ take_back id self.old }
@@ -147,7 +147,7 @@ impl LookupSpan for Walked {
         Ok(path)
     }
 
-    /// None always.
+    /// Always returns `None`.
     fn kept_path(&self, id: Id) -> Option<&[Id]>
         ensures none { result ≡ None }
         ensures formed { IsForest self.now }

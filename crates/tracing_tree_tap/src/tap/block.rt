@@ -75,7 +75,8 @@ impl Tap {
         Ok(())
     }
 
-    // Takes a line that isn't as deep as the block: the block is truncated, unless the line is blank.
+    // Takes a line that isn't as deep as the block: the block is truncated, unless the line is
+    // blank.
     #[tactic(auto, unfolding(crate::specs::Tap::outside_taken))]
     fn take_outside(&mut self, waiting: Waiting, text: &str) -> Result<(), AllocError>
         ensures { OnOk result (self.new ≡ outside_taken waiting text.now self.old) }
@@ -87,7 +88,7 @@ impl Tap {
         self.take_next(text)
     }
 
-    // A line of a block is an event in the span of its result.
+    // Adds a line of a block, as an event in the span of its result.
     #[tactic(auto, unfolding(crate::specs::Tap::detail_taken))]
     fn push_detail(&mut self, waiting: Waiting, text: &str) -> Result<(), AllocError>
         ensures { OnOk result (self.new ≡ detail_taken waiting text.now self.old) }
@@ -116,7 +117,7 @@ impl Tap {
     }
 }
 
-// Whether the block of a result in this column begins.
+// Returns whether the block of a result in this column begins.
 fn begins_block(column: usize, text: &str) -> bool
     ensures { result ≡ begins_block column text.now }
 {
@@ -124,7 +125,7 @@ fn begins_block(column: usize, text: &str) -> bool
     inner == "---" && column_of(text, inner) == column.saturating_add(2)
 }
 
-// The nanoseconds that a line of a block says, if it says how long its test took.
+// Returns the nanoseconds that a line of a block says, if it says how long its test took.
 fn duration_of(rest: &str) -> Option<u64>
     ensures { result ≡ duration_of rest.now }
 {

@@ -24,7 +24,7 @@ pub(crate) enum Part {
     Line,
 }
 
-// What a line is in this mode.
+// Returns what a line is in this mode.
 pub(super) fn part_of(mode: Mode, text: &str) -> Part
     ensures { result ≡ part_of mode text.now }
 {

@@ -74,8 +74,8 @@ impl Tap {
         self.wait_for(subtest.span, subtest.name.as_str(), mark, rest)
     }
 
-    // Counts a result of the subtest that runs, and waits for its block. It ends the subtest with this
-    // span and this name, if there is one.
+    // Counts a result of the subtest that runs, and waits for its block. It ends the subtest with
+    // this span and this name, if there is one.
     #[tactic(auto, unfolding(crate::specs::Tap::result_in))]
     fn wait_for(
         &mut self,
@@ -131,7 +131,8 @@ impl Tap {
         }
     }
 
-    // The number 1 begins anew, and numbers in between are missing.
+    // Takes a result with this number. The number 1 starts again, and numbers in between are
+    // missing.
     fn take_given(&mut self, number: u64) -> Result<(), AllocError>
         ensures { OnOk result (self.new ≡ given_taken number self.old) }
     {
@@ -150,7 +151,7 @@ impl Tap {
         self.subtest.last = number;
     }
 
-    // The numbers from `first` up to this one are missing.
+    // Reports the numbers from `first` up to this one as missing.
     fn miss(&mut self, first: u64, number: u64) -> Result<(), AllocError>
         ensures { OnOk result (self.new ≡ missed first number self.old) }
     {
@@ -173,7 +174,7 @@ impl Tap {
         Ok(())
     }
 
-    // A plan that isn't met is an error.
+    // Checks the plan. If it isn't met, that is an error.
     pub(super) fn check_plan(
         &mut self,
         planned: Option<u64>,
@@ -205,7 +206,7 @@ impl Tap {
         Ok(())
     }
 
-    // A second plan begins anew.
+    // Sets the plan. A second plan starts again.
     #[tactic(auto, unfolding(crate::specs::Tap::plan_set))]
     fn set_plan(&mut self, count: u64) -> Result<(), AllocError>
         ensures { OnOk result (self.new ≡ plan_set count self.old) }
@@ -235,7 +236,7 @@ impl Tap {
         }
     }
 
-    // Everything is skipped.
+    // Reports that everything is skipped.
     #[tactic(auto, unfolding(crate::specs::Tap::skip_told))]
     fn push_skip(&mut self, reason: &str) -> Result<(), AllocError>
         ensures { OnOk result (self.new ≡ skip_told reason.now self.old) }
@@ -247,14 +248,14 @@ impl Tap {
     }
 }
 
-// What the note of a result says of it.
+// Returns what the note of a result says of it.
 fn directive_in(rest: &str) -> Directive
     ensures { result ≡ directive_in rest.now }
 {
     directive_of(tail_of(described(rest)))
 }
 
-// The description of a result, without its note.
+// Returns the description of a result, without its note.
 fn name_in(rest: &str) -> &str
     ensures { result.now ≡ name_in rest.now }
 {
@@ -273,7 +274,7 @@ fn reason_in(rest: &str) -> &str
     }
 }
 
-// How long a test took, by the note of its result.
+// Returns how long a test took, by the note of its result.
 fn elapsed_text(alloc: Global, rest: &str) -> Result<Text, AllocError>
     ensures { IfOk result (λ text. text ≡ elapsed_text rest.now) }
 {
@@ -283,8 +284,8 @@ fn elapsed_text(alloc: Global, rest: &str) -> Result<Text, AllocError>
     }
 }
 
-// What is shown behind the verdict of a result with this description: nothing if its subtest has
-// this name.
+// Returns what is shown behind the verdict of a result with this description: nothing if its
+// subtest has this name.
 fn label_of(
     alloc: Global,
     span: Option<Id>,
@@ -309,7 +310,7 @@ fn subtest_label(alloc: Global, name: &str, description: Text) -> Result<Text, A
     Ok(description)
 }
 
-// A test without a description is shown by its number.
+// Returns the label of a result. Without a description it is the number.
 fn leaf_label(alloc: Global, description: Text, number: u64) -> Result<Text, AllocError>
     ensures { IfOk result (λ label. label ≡ leaf_label description number) }
 {

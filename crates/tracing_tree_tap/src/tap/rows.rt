@@ -19,7 +19,7 @@ impl Tap {
         Ok(self.calls.push(call)?)
     }
 
-    // An event with further fields in this span.
+    // Records an event with further fields in this span.
     pub(super) fn push_row(
         &mut self,
         level: Level,
@@ -35,7 +35,7 @@ impl Tap {
         self.push(call)
     }
 
-    // An event in this span.
+    // Records an event in this span.
     pub(super) fn push_line(
         &mut self,
         level: Level,
@@ -49,7 +49,7 @@ impl Tap {
         self.push(call)
     }
 
-    // An event that tells of a failure that isn't a result.
+    // Records a failure that isn't a result.
     pub(super) fn push_error(&mut self, text: &str, span: Option<Id>) -> Result<(), AllocError>
         ensures { OnOk result (self.new ≡ error_told text.now span self.old) }
     {

@@ -32,7 +32,7 @@ pub(crate) struct Heading {
 }
 
 impl Subtest {
-    // A script without a span.
+    // Returns a script without a span.
     pub(crate) fn script(alloc: Global) -> Result<Subtest, AllocError>
         ensures { IfOk result (λ made. made ≡ script) }
     {
@@ -55,7 +55,7 @@ impl Subtest {
 }
 
 impl Tap {
-    // Opens the subtest whose name the line before told, if this column is deeper than its name.
+    // Opens the subtest that the line before named, if this column is deeper than its name.
     #[tactic(auto, unfolding(crate::specs::Tap::come))]
     pub(super) fn come(&mut self, column: usize) -> Result<(), AllocError>
         ensures { OnOk result (self.new ≡ come column self.old) }
@@ -76,7 +76,7 @@ impl Tap {
         Ok(())
     }
 
-    // Opens a subtest in the one that runs.
+    // Opens a subtest in the current one.
     #[tactic(auto, unfolding(crate::specs::Tap::subtest_opened))]
     pub(super) fn open_subtest(&mut self, column: usize, name: Text) -> Result<(), AllocError>
         ensures { OnOk result (self.new ≡ subtest_opened column name self.old) }
@@ -86,7 +86,7 @@ impl Tap {
         Ok(self.outer.push_front(parent)?)
     }
 
-    // Opens a subtest without a name, if this column is deeper than the one that runs.
+    // Opens a subtest without a name, if this column is deeper than the current one.
     #[tactic(auto, unfolding(crate::specs::Tap::deepened))]
     pub(super) fn deepen(&mut self, column: usize) -> Result<(), AllocError>
         ensures { OnOk result (self.new ≡ deepened column self.old) }
@@ -120,7 +120,7 @@ impl Tap {
         Ok(())
     }
 
-    // Whether the subtest around the one that runs is deeper than this column.
+    // Returns whether the parent of the current subtest is deeper than this column.
     fn is_nested(&self, column: usize) -> bool
         ensures { result ≡ is_nested column self.now.outer }
     {
@@ -153,7 +153,7 @@ impl Tap {
     }
 }
 
-// The column of a subtest's lines, by its name and its first line.
+// Returns the column of a subtest's lines, by its name and its first line.
 fn inner_column(heading: &Heading, column: usize) -> usize
     ensures { result ≡ inner_column heading.now column }
 {

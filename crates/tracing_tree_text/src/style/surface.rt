@@ -1,9 +1,10 @@
-//! What the Rust crate has besides, and no call of the layer uses.
+//! API of the Rust crate that no call of the layer uses.
 
 use super::{Level, painted};
 use std::fmt;
 
-/// Shows a level in its colour, right in five columns. (`ColorLevel` of the Rust crate.)
+/// A level that is displayed in its colour, right-aligned in five columns. (`ColorLevel` of the
+/// Rust crate.)
 #[derive(Drop)]
 pub struct ColorLevel<'a>(pub &'a Level);
 

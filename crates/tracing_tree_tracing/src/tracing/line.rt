@@ -1,4 +1,4 @@
-//! What one line of tracing's JSON says.
+//! Reads one line of tracing-subscriber's JSON format.
 
 ghost use Rattle.std.specs.Prelude.{◌≡◌, IfOk, option_map};
 ghost use Rattle.json.specs.Value.{items_view, value_view};
@@ -13,7 +13,7 @@ use tracing_tree_sources::values::{array_at, is_object, text_at};
 use tracing_tree_text::field::{Field, Fields};
 use tracing_tree_text::text::Text;
 
-// The keys that a line has beside its event's fields.
+// The keys of a line that aren't fields of its event.
 const LINE_KEYS: [&str; 9] = [
     "timestamp",
     "level",
@@ -33,7 +33,7 @@ pub(super) struct Listed {
     pub(super) fields: Fields,
 }
 
-// What a line tells.
+// What a line reports.
 #[derive(Clone, Copy)]
 pub(super) enum Kind {
     Event,
@@ -43,7 +43,7 @@ pub(super) enum Kind {
     Close,
 }
 
-// The thread of a line, empty where the line doesn't tell it.
+// Returns the thread of a line. It is empty if the line doesn't have one.
 pub(super) fn thread_in<'v>(value: &'v Value<'_>) -> &'v str
     ensures { result.now ≡ thread_in (value_view value.now) }
 {
@@ -56,7 +56,7 @@ pub(super) fn thread_in<'v>(value: &'v Value<'_>) -> &'v str
     }
 }
 
-// How the thread of a line is shown.
+// Returns how the thread of a line is shown.
 pub(super) fn label_in(alloc: Global, value: &Value<'_>) -> Result<Option<Text>, AllocError>
     ensures { IfOk result (λ label. label ≡ label_in (value_view value.now)) }
 {
@@ -67,7 +67,7 @@ pub(super) fn label_in(alloc: Global, value: &Value<'_>) -> Result<Option<Text>,
     )
 }
 
-// How a thread is shown: its number and its name, as far as they are told.
+// Returns how a thread is shown: its number and its name, if they are known.
 fn thread_label(
     alloc: Global,
     number: Option<&str>,
@@ -89,7 +89,7 @@ fn thread_label(
     }
 }
 
-// A thread's number, without the words that Rust writes around it.
+// Returns a thread's number, without the `ThreadId(..)` that Rust writes.
 fn bare_thread(text: &str) -> &str
     ensures { result.now ≡ bare_thread text.now }
 {
@@ -102,7 +102,7 @@ fn bare_thread(text: &str) -> &str
     }
 }
 
-// The fields of a line's event.
+// Returns the fields of a line's event.
 pub(super) fn line_fields(alloc: Global, value: &Value<'_>) -> Result<Fields, AllocError>
     ensures { IfOk result (λ fields. fields ≡ line_fields (value_view value.now)) }
 {
@@ -112,7 +112,7 @@ pub(super) fn line_fields(alloc: Global, value: &Value<'_>) -> Result<Fields, Al
     }
 }
 
-// The current span of a line.
+// Returns the current span of a line.
 pub(super) fn span_in(alloc: Global, value: &Value<'_>) -> Result<Option<Listed>, AllocError>
     ensures { IfOk result (λ span. span ≡ span_in (value_view value.now)) }
 {
@@ -122,7 +122,7 @@ pub(super) fn span_in(alloc: Global, value: &Value<'_>) -> Result<Option<Listed>
     }
 }
 
-// The spans that a line lists, the root first.
+// Returns the spans that a line lists, the root first.
 fn spans_in(alloc: Global, value: &Value<'_>) -> Result<Option<Vec<Listed>>, AllocError>
     ensures { IfOk result (λ spans. option_map (λ s. s.items) spans
         ≡ spans_in (value_view value.now)) }
@@ -156,7 +156,7 @@ fn listed_of(alloc: Global, value: &Value<'_>) -> Result<Listed, AllocError>
     })
 }
 
-// The spans that a line stands in, the root first.
+// Returns the path of spans of a line, the root first.
 pub(super) fn path_in(
     alloc: Global,
     kind: Kind,
@@ -176,7 +176,8 @@ pub(super) fn path_in(
     Ok(path)
 }
 
-// The span that an event names as its parent: the current span, if it isn't the last that is listed.
+// Returns the span that an event names as its parent: the current span, if it isn't the last that
+// is listed.
 pub(super) fn parent_in(
     alloc: Global,
     kind: Kind,
@@ -199,7 +200,7 @@ fn other_parent(alloc: Global, value: &Value<'_>) -> Result<Option<Listed>, Allo
     span_in(alloc, value)
 }
 
-// What a line tells, of which these are the event's fields.
+// Returns what a line reports, given its event's fields.
 pub(super) fn kind_in(
     alloc: Global,
     fields: &[Field],
@@ -223,7 +224,7 @@ fn names_span(value: &Value<'_>) -> bool
     object_at(value, "span").is_some() || array_at(value, "spans").is_some()
 }
 
-// Whether the current span is the last of those that are listed.
+// Returns whether the current span is the last of those that are listed.
 fn is_current(alloc: Global, value: &Value<'_>) -> Result<bool, AllocError>
     ensures { IfOk result (λ current. current ≡ is_current (value_view value.now)) }
 {
@@ -239,21 +240,22 @@ fn is_current(alloc: Global, value: &Value<'_>) -> Result<bool, AllocError>
     }
 }
 
-// Whether two entries are of one text: the same name and the same fields in the same order.
+// Returns whether two entries are equal: the same name and the same fields in the same order.
 fn lists_same(one: &Listed, other: &Listed) -> bool
     ensures { result ≡ lists_same one.now other.now }
 {
     one.name == other.name && one.fields == other.fields
 }
 
-// Whether an entry may be the span that was first listed as the other: the name is the same, and no field has gone.
+// Returns whether an entry may be the span that was first listed as `first`: the name is the same,
+// and no field is missing.
 pub(super) fn may_be(entry: &Listed, first: &Listed) -> bool
     ensures { result ≡ may_be entry.now first.now }
 {
     entry.name == first.name && fields_within(first.fields.as_slice(), entry.fields.as_slice())
 }
 
-// Whether each of the first fields is among the second.
+// Returns whether each of the first fields is among the second.
 fn fields_within(first: &[Field], fields: &[Field]) -> bool
     ensures { result ≡ fields_within first.now fields.now }
 {
@@ -267,7 +269,7 @@ fn fields_within(first: &[Field], fields: &[Field]) -> bool
     true
 }
 
-// Whether these are the fields with which a span's close is told.
+// Returns whether these are the fields that report a span's close.
 fn is_timed_close(fields: &[Field]) -> bool
     ensures { result ≡ is_timed_close fields.now }
 {
@@ -281,14 +283,14 @@ fn is_timed_close(fields: &[Field]) -> bool
     }
 }
 
-// Whether a field is a message that reads so.
+// Returns whether a field is a message with this value.
 fn is_message(field: &Field, text: &str) -> bool
     ensures { result ≡ is_message field.now text.now }
 {
     field.name.as_str() == "message" && field.value.as_str() == text
 }
 
-// What a line tells that names a span and no times.
+// Returns what a line reports that names a span and has no times.
 fn kind_of(fields: &[Field], is_current: bool) -> Kind
     ensures { result ≡ kind_of fields.now is_current }
 {
@@ -316,7 +318,7 @@ fn kind_of_message(message: &Field, is_current: bool) -> Kind
     }
 }
 
-// The object at this key.
+// Returns the object at this key.
 fn object_at<'v, 'a>(value: &'v Value<'a>, key: &str) -> Option<&'v Value<'a>>
     ensures { option_map (λ v. value_view v.now) result ≡ object_at key.now (value_view value.now) }
 {

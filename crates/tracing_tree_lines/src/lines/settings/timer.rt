@@ -1,4 +1,4 @@
-//! The timer that a settings line asks for.
+//! The timer of a settings line.
 
 ghost use Rattle.std.specs.Prelude.{◌≡◌, map, option_map, bytes_eq, codes};
 ghost use Rattle.std.specs.Option.{option_flatten};
@@ -13,7 +13,7 @@ use jiff::tz::Offset;
 use serde_json::{Map, Value};
 use tracing_tree_time::{Clock, LocalDateTime, Uptime, UtcDateTime};
 
-// The timer that a settings line asks for. A line names no zone, so it borrows nothing.
+// The timer of a settings line. A line can't name a zone, so it borrows nothing.
 #[derive(Clone, Copy)]
 pub(super) enum Timer {
     None,
@@ -26,7 +26,7 @@ pub(super) enum Timer {
 }
 
 impl Timer {
-    // The clock that it is.
+    // Returns the clock.
     pub(super) fn clock(self) -> Clock<'static>
         ensures { clock_timer result ≡ asked_timer self }
     {
@@ -42,7 +42,7 @@ impl Timer {
     }
 }
 
-// The timer that an object asks for. None where it asks for none.
+// Reads the timer of an object. `None` if it is invalid.
 pub(super) fn timer_value(value: &Value) -> Option<Timer>
     ensures { option_map asked_timer result ≡ timer_value (view value.now) }
 {
@@ -103,7 +103,7 @@ fn uptime_value(value: &Value) -> Option<Timer>
     Some(Timer::Uptime(clock))
 }
 
-// An offset in whole seconds. None where the value is no whole number, or no offset.
+// Reads an offset in whole seconds. `None` if the value isn't a whole number or is out of range.
 fn offset_value(value: &Value) -> Option<Offset>
     ensures { option_map (λ offset. offset.seconds) result ≡ offset_value (view value.now) }
 {
@@ -111,7 +111,7 @@ fn offset_value(value: &Value) -> Option<Offset>
     Offset::from_seconds(seconds).ok()
 }
 
-// Whether the value is an object with these keys alone.
+// Returns whether the value is an object with only these keys. Members that are null don't count.
 fn has_only_keys(value: &Value, keys: &[&str]) -> bool
     ensures { result ≡ has_only_keys (map (λ key. key.now) keys.now) (view value.now) }
 {
@@ -121,7 +121,7 @@ fn has_only_keys(value: &Value, keys: &[&str]) -> bool
     }
 }
 
-// Whether all members that are there have one of these keys.
+// Returns whether all members that aren't null have one of these keys.
 fn are_among(members: &Map<String, Value>, keys: &[&str]) -> bool
     ensures { result ≡ list_all (λ key. list_any (bytes_eq key) (map (λ key. key.now) keys.now))
         (present_keys (members_view members.now.entries)) }
@@ -134,7 +134,7 @@ fn are_among(members: &Map<String, Value>, keys: &[&str]) -> bool
     true
 }
 
-// Whether the text is one of these.
+// Returns whether the string is one of these.
 fn is_among(text: &str, keys: &[&str]) -> bool
     ensures { result ≡ list_any (bytes_eq text.now) (map (λ key. key.now) keys.now) }
 {

@@ -1,4 +1,5 @@
-//! What the Rust crates have besides, and no call of the layer uses: lists of spans made anew, and data by themselves.
+//! API of the Rust crates that no call of the layer uses: newly made lists of spans, and a span's
+//! data.
 
 ghost use Rattle.std.specs.Prelude.{◌≡◌, None, IfOk, OnErr, reverse};
 ghost use Rattle.tracing_tree_spans.specs.Registry.Forest.{IsClosing, IsGrownForest, IsPathIfLive, path_of, span_at};
@@ -9,15 +10,17 @@ use std::alloc::{AllocError, Global};
 use tracing_tree_context::{Id, Refusal};
 
 impl Registry {
-    /// The ids that `try_close` would remove, as [`closing_into`](Registry::closing_into) lists them. Where none is removed it takes no
-    /// memory.
+    /// Returns the ids that `try_close` would remove, as [`closing_into`](Registry::closing_into)
+    /// lists them. It never allocates if there are no such ids.
     ///
-    /// `NotHeld` as of `try_close`, `Memory`.
+    /// # Errors
+    ///
+    /// `NotHeld` if the span isn't live or has no handle left. `Memory` if an allocation fails.
     pub fn closing(&self, alloc: Global, id: Id) -> Result<Vec<Id>, Refusal>
         ensures lists { ListsClosing id result self.now }
         ensures longest { IfOk result (λ ids. IsClosing self.now id ids.items) }
 
-        // Something closes only with the last handle, and only then memory is asked for.
+        // A span is removed only with its last handle, and only then is memory needed.
         ensures last { AsksLastHandle id result self.now }
     {
         let mut ids = Vec::new(alloc);
@@ -25,8 +28,12 @@ impl Registry {
         Ok(ids)
     }
 
-    /// The span, its parent, and so on up to its root; empty for an id that isn't live, which takes no memory. `AllocError`
-    /// where memory is refused.
+    /// Returns the span, its parent, and so on up to its root. The list is empty if the id isn't
+    /// live.
+    ///
+    /// # Errors
+    ///
+    /// `AllocError` if an allocation fails. An id that isn't live never allocates.
     pub fn scope(&self, alloc: Global, id: Id) -> Result<Vec<Id>, AllocError>
         ensures scope { IfOk result (λ scope. scope.items ≡ reverse (path_of self.now id)) }
         ensures whole { IfOk result (λ scope. IsPathIfLive self.now id (reverse scope.items)) }
@@ -41,8 +48,12 @@ impl Registry {
 }
 
 impl Data {
-    /// The data of a new span: when it starts, in nanoseconds, a copy of its fields, and whether it counts as printed.
-    /// `AllocError` where memory is refused.
+    /// Returns the data of a new span: its start in nanoseconds, a copy of its fields, and whether
+    /// it counts as printed.
+    ///
+    /// # Errors
+    ///
+    /// `AllocError` if an allocation fails.
     pub fn new(attributes: &Attributes, start: u64, written: bool) -> Result<Data, AllocError>
         ensures { IfOk result
             (λ made. made
