@@ -1,8 +1,10 @@
 //! A source of lines with prefixes.
 
 ghost use Rattle.std.specs.Prelude.{◌≡◌, ◌<◌, IfOk, map, option_map};
+ghost use Rattle.json.specs.Json.{document};
 ghost use Rattle.json.specs.Value.{value_view};
-ghost use Rattle.tracing_tree_prefix.specs.Prefix.{at_mark, mark_char, may_begin, parts_of, prefix_field, split, trimmed, with_prefix, without_bracket};
+ghost use Rattle.tracing_tree_sources.specs.Source.{Tells};
+ghost use Rattle.tracing_tree_prefix.specs.Prefix.{at_mark, mark_char, may_begin, parts_of, prefix_field, prefixed_step, split, trimmed, with_prefix, without_bracket};
 
 use json::{Scratch, Value};
 use std::alloc::{AllocError, Global};
@@ -113,6 +115,30 @@ impl<S> Prefixed<S> {
     }
 }
 
+impl<S: Source> Prefixed<S> {
+    // Takes a line that has this prefix, and then this rest. It isn't inlined, since its `Scratch` of
+    // 16 KiB would be cleared for lines without a prefix too.
+    #[inline(never)]
+    fn take_rest(
+        &mut self,
+        alloc: Global,
+        prefix: &str,
+        rest: &str,
+    ) -> Result<Option<Vec<Call>>, AllocError>
+        ensures { IfOk result (λ told. Tells
+            (option_map (prefixed_step self.old.mark prefix.now)
+            (S.takes self.old.source rest.now (document rest.now)))
+            self.old self.new (option_map (λ calls. calls.items) told)) }
+    {
+        let mut scratch = Scratch::new(alloc);
+        let value = value_of(alloc, rest, &mut scratch)?;
+        match self.source.take(alloc, rest, value.as_ref())? {
+            Some(calls) => Ok(Some(with_prefixes(alloc, prefix, calls)?)),
+            None => Ok(None),
+        }
+    }
+}
+
 impl<S: Source> Source for Prefixed<S> {
     ghost use Rattle.tracing_tree_prefix.specs.Prefix.{prefixed_ended, prefixed_ends, prefixed_takes};
 
@@ -133,12 +159,7 @@ impl<S: Source> Source for Prefixed<S> {
         let Some((prefix, rest)) = parts_of(self.mark, line, value) else {
             return self.source.take(alloc, line, value);
         };
-        let mut scratch = Scratch::new(alloc);
-        let value = value_of(alloc, rest, &mut scratch)?;
-        match self.source.take(alloc, rest, value.as_ref())? {
-            Some(calls) => Ok(Some(with_prefixes(alloc, prefix, calls)?)),
-            None => Ok(None),
-        }
+        self.take_rest(alloc, prefix, rest)
     }
 
     fn lack(value: Option<&Value<'_>>) -> Lack {
