@@ -41,7 +41,7 @@ ends_before Read new all others h = h
 ends_before Memory new all others h = h
 ends_before (Refused refusal) new all others h = h
 
--- the text is cut, too
+-- the string is cut, too
 pub ends_before_cut : (cause : LineCause) (new all : Heard) (is_cut : Bool) → EndsHearing cause new all → EndsHearing cause new (heard_cut is_cut all)
 ends_before_cut NotACall new all is_cut h = (h.0, more_by_cut is_cut all h.1)
 ends_before_cut NoSettings new all is_cut h = h

@@ -1,4 +1,4 @@
--- Where a text is cut.
+-- The place at which a string is cut.
 use Rattle.std.proofs.Common.{◌≡◌, ℕ, ◌+◌, ◌<◌, ◌==◌, ◌||◌, Bool, true, false, List, [], ◌∷◌, ◌++◌, length, get_or, refl, sym, ◌∙◌, arith, append_assoc}
 use Rattle.std.specs.Prelude.{if◌then◌else◌, IsUtf8, IsCharBoundary}
 use Rattle.std.proofs.Math.Seq.{get_or-append_seam}
@@ -47,6 +47,6 @@ scan_place bs u level at front (byte ∷ others) s e n h =
     (e ∙ sym (append_assoc front (byte ∷ []) others)) (simp length-append (omega arith))
     (read_place (IsCharBoundary bs) level (at + 1) byte s h (behind bs front others byte at e n u))
 
--- a text may be cut at the place that a scan of it finds
+-- a string may be cut at the place that a scan of it finds
 pub place_is_boundary : (bs : List ℕ) → IsUtf8 bs → IsCharBoundary bs (scan_of bs).place
 place_is_boundary bs u = scan_place bs u (level_of bs) 0 [] bs nothing_read refl refl (IsCharBoundary-start bs u)

@@ -41,7 +41,7 @@ point time index = record { time = time; index = index }
 abbrev pub none_later : Later
 none_later = record { in_thread = false; in_process = false }
 
--- an item whose end stands before all that starts at its time
+-- an item whose end comes before all that starts at its time
 abbrev pub item_of : Entry → ℕ → Shape → ℕ → Item
 item_of entry end shape index = record {
   lane = entry.lane;
@@ -56,7 +56,7 @@ item_of entry end shape index = record {
 abbrev pub same_number : Option ℤ → Option ℤ → Bool
 same_number one other = option_eq int_eq one other
 
--- the lane of a process, in which items stand that tell no thread
+-- the lane of a process, for items without a thread
 abbrev pub process_of : Lane → Lane
 process_of lane = record lane { thread = None; track = None }
 
@@ -70,12 +70,12 @@ abbrev pub further_or : Option ℕ → Bool → Option ℕ
 further_or (Some at) is_here = Some (at + 1)
 further_or None is_here = if is_here then Some 0 else None
 
--- where the last of these in the lane stands
+-- the index of the last of these in the lane
 abbrev pub last_in : List Item → Lane → Option ℕ
 last_in [] lane = None
 last_in (one ∷ others) lane = further_or (last_in others lane) (same_lane one.lane lane)
 
--- a span that began, with what the element of its end says, which stands at place `index`
+-- a span that began, with the contents of its end's element, which is at place `index`
 abbrev pub whole : Item → Entry → ℕ → Item
 whole one last index = record one {
   end = point (max one.start.time last.start) index;

@@ -165,7 +165,7 @@ told_name names lane = option_map text_in (find (is_of_lane lane) (reverse names
 abbrev pub name_in : List Name → Lane → List ℕ → List ℕ
 name_in names lane unnamed = unwrap_or (told_name names lane) unnamed
 
--- how many levels stand above the threads of a process
+-- the count of levels above the threads of a process
 abbrev pub process_depth : Lane → ℕ
 process_depth lane = depth_of lane.process where
   depth_of : Option ℤ → ℕ
@@ -233,7 +233,7 @@ fields_as Event item = []
 fields_as Whole item = length_field (item.end.time - item.start.time) ∷ []
 fields_as Unended item = []
 
--- how long a span took, where that is known
+-- how long a span took, if that is known
 abbrev pub span_fields : Item → List Field
 span_fields item = fields_as item.shape item
 
@@ -254,8 +254,8 @@ extent item = extent_as item.shape item
 abbrev pub counted_until : Item → Left → ℕ
 counted_until item was = if is_lane item.lane was.lane then was.until else 0
 
--- What was left out, and this span too. The time of a thread in which another span was left out already
--- isn't counted again.
+-- What was left out, and this span too. The time of a thread in which another span was left out
+-- already isn't counted again.
 abbrev pub added : Item → Left → Left
 added item was = record {
   spans = one_more was.spans;
@@ -290,8 +290,8 @@ placed item s = placed_as item.shape item s
 abbrev pub left_by : Point → TreeState → TreeState
 left_by point s = left_while (Ended point) s.frames s
 
--- where a span that is too short counts: in its thread if that is drawn, else in its process if that is,
--- else at the root
+-- where a span that is too short counts: in its thread if that is drawn, otherwise in its process
+-- if that is, otherwise at the root
 abbrev pub shown_lane : Item → TreeState → Lane
 shown_lane item s =
     if is_lane item.lane s.lane || item.later.in_thread then item.lane

@@ -3,7 +3,7 @@ use Rattle.std.specs.Prelude.{ℕ, ◌+◌, ◌-◌, ◌==◌, ◌&&◌, ◌||�
 use Rattle.std.specs.List.{ends_with, position_or_len}
 use Rattle.tracing_tree_sources.specs.Marks.{after_mark, begins, is_empty}
 
--- the name of a test as it is shown in the span of this outer test: what comes after that one's name and a `/`
+-- the name of a test in the span of this outer test: what follows that one's name and a `/`
 abbrev pub own_name : List ℕ → List ℕ → List ℕ
 own_name outer test =
     if is_empty outer then test

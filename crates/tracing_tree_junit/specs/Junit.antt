@@ -1,4 +1,4 @@
--- What is known of a document as far as it is read.
+-- What is known of a document while it is read.
 use Rattle.std.specs.Prelude.{ℕ, Bool, List, Option}
 use Rattle.tracing_tree_context.specs.declared.context.Moment.{Moment}
 use Rattle.tracing_tree_layer.specs.declared.call.Call.{Call}

@@ -1,4 +1,4 @@
--- A length of time as it is shown.
+-- A length of time in its drawn form.
 use Rattle.std.specs.Prelude.{ℕ, ◌/◌, ◌%◌, nat_le, if◌then◌else◌, List, ◌++◌, codes, decimal}
 use Rattle.tracing_tree_time.specs.Clock.{micro_unit}
 

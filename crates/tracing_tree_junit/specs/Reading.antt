@@ -116,7 +116,7 @@ class_opened s = record (opened s.case.classname [] (innermost_span s.suites) s)
   class = Some (record { name = s.case.classname; span = id_of s.next });
 }
 
--- a case comes to the span of its class
+-- a case enters the span of its class
 abbrev pub class_entered : JunitState → JunitState
 class_entered s =
     if wants_class s
@@ -267,7 +267,7 @@ property_added s =
 abbrev pub added_to_body : List ℕ → JunitState → JunitState
 added_to_body text s = record s { part = record s.part { body = s.part.body ++ text } }
 
--- text counts in a part
+-- characters count only in a part
 abbrev pub text_added : List ℕ → JunitState → JunitState
 text_added run s = if s.in_part then added_to_body (text_decoded run) s else s
 
@@ -290,7 +290,7 @@ begun_as Output s = part_begun s
 begun_as Property s = property_added s
 begun_as Other s = cdata_added (codes "\n") s
 
--- an element begins: that of the tag; in a part its text begins a line
+-- an element begins: that of the tag; in a part its contents begin a line
 abbrev pub begun : JunitState → JunitState
 begun s = begun_as (element_of s) (record s { elements = s.elements ++ element_of s ∷ [] })
 

@@ -1,4 +1,4 @@
--- The columns of a frame: how many there are, and which character stands in each.
+-- The columns of a frame: their count, and the character in each.
 use Rattle.std.specs.Prelude.{ℕ, ◌+◌, ◌-◌, ◌*◌, ◌/◌, max, nat_lt, nat_le, ◌==◌, ◌&&◌, Bool, true, false, if◌then◌else◌, List, map, encode_utf8_all}
 use Rattle.std.specs.List.{range_with_len}
 use Rattle.tracing_tree_drawing.specs.Format.Picture.{continuation_shift, shift_of}

@@ -13,7 +13,8 @@ use Rattle.tracing_tree_layer.specs.declared.difference.DifferenceIter.{Differen
 use Rattle.tracing_tree_layer.specs.Difference.Steps.{difference_left, difference_right, difference_compare, both_steps, difference_steps, differing, IsFresh, ReturnsKey, Matches, Differs, AllMatch, GivesDiffering, DifferenceRuns}
 
 module _ {L A : Type 0} (lefts : L → Option A → L → Type 0) where
-  -- calls led a fused iterator from s to t and gave xs; the flags say whether it had ended before and whether it has ended after, and once it has there is no call
+  -- calls led a fused iterator from s to t and returned xs; the flags say whether it had ended
+  -- before and whether it has ended after; once it has ended, no call is made
   abbrev FusedRun : Bool → L → List A → Bool → Type 0
   FusedRun true s xs ended = (xs ≡ []) × (ended ≡ true)
   FusedRun false s xs ended = (t : L) × Yields lefts s xs t × (ended ≡ true → (u : L) × lefts t None u)
@@ -44,7 +45,7 @@ module _ {L A : Type 0} (lefts : L → Option A → L → Type 0) where
       by false = (fuse_source s, refl, λ e. absurd (true≢false (sym e)))
 
 module _ {L R C A U : Type 0} (lefts : L → Option A → L → Type 0) (rights : R → Option A → R → Type 0) (calls : Shared C (Bor A × Unit {0}) U) (eq : U → U → Bool) (compare : C) where
-  -- what both sides gave from s on, of which zs differ
+  -- what both sides returned from s on, of which zs differ
   record Behind (s : DifferenceIter L R C) (zs : List A) (whole : Bool) : Type 0 where
     ended : Bool
     xs : List A

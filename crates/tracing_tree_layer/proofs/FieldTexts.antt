@@ -8,7 +8,7 @@ abbrev pub added_fields : Bool → List Field → List ℕ
 added_fields comma [] = []
 added_fields comma (field ∷ others) = event_field comma field ++ added_fields (comma_after comma field) others
 
--- a comma, a space and a text
+-- a comma, a space and a string
 abbrev pub behind_comma : List ℕ → List ℕ
 behind_comma text = codes ", " ++ text
 
@@ -16,7 +16,7 @@ behind_comma text = codes ", " ++ text
 abbrev pub shown_fields : List Field → List Field
 shown_fields fields = filter (λ field. not (is_log_field field)) fields
 
--- behind a field each field that is shown stands behind a comma
+-- after a field, each field that is shown follows a comma
 pub added_fields-true : (fields : List Field) → added_fields true fields ≡ flat_map behind_comma (map shown_field (shown_fields fields))
 added_fields-true [] = refl
 added_fields-true (field ∷ others) =
@@ -26,7 +26,7 @@ added_fields-true (field ∷ others) =
       | false ↦ ap (λ rest. (44 ∷ 32 ∷ shown_field field) ++ rest) (added_fields-true others)
     ]
 
--- the fields of an event are what they add behind none
+-- the fields of an event are what they add after no field
 pub added_fields-false : (fields : List Field) → added_fields false fields ≡ event_fields fields
 added_fields-false [] = refl
 added_fields-false (field ∷ others) =

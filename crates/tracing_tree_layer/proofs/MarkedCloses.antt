@@ -101,7 +101,7 @@ going_up-marked ids forest i =
 pub closing_of-marked : (ids : List Id) (forest : Forest) (i : Id) → closing_of (mark_all ids forest) i ≡ closing_of forest i
 closing_of-marked ids forest i = ap (λ f. going_up f i) (take_handle-marked ids i forest) ∙ going_up-marked ids (take_handle i forest) i
 
--- a turn of closes marks spans alone
+-- a turn of closes only marks spans
 pub closes-marked : (settings : Settings) (context : Context) (ids : List Id) (forest : Forest) (last : Option Id) →
     (turn_of_closes settings context ids forest last).forest ≡ mark_all (plan_of_closes settings forest ids (empty_plan last)).fresh forest
 closes-marked settings context ids forest last = sym (ap (λ (t : Turn). t.forest) (turn-closes settings context forest ids last))

@@ -1,4 +1,4 @@
--- Plans come to the turns of the definitions.
+-- Plans result in the turns of the definitions.
 use Rattle.std.proofs.Common.{◌≡◌, ◌&&◌, ℕ, ◌≤◌, length, drop, arith, subst, Bool, true, false, not, List, [], ◌∷◌, ◌++◌, map, Option, Some, None, is_some, option_map, if◌then◌else◌, refl, sym, ap, ◌∙◌, append_assoc, append-nil}
 use Rattle.std.specs.Option.{option_map_or, option_or}
 use Rattle.std.specs.List.{common_prefix_len}
@@ -146,7 +146,7 @@ module _ (settings : Settings) (context : Context) (forest : Forest) where
 
   -- ---- calls
 
-  -- an empty plan comes to a turn without rows
+  -- an empty plan results in a turn without rows
   pub empty-turn : (last : Option Id) → turn_of_plan settings context forest (empty_plan last) ≡ quiet_turn forest last
   empty-turn last = λ k. record { rows = []; forest = mark_all-none forest k; last = last }
 
@@ -195,7 +195,7 @@ pub last_paths_part_once : (forest : Forest) → IsForest forest → (last : Opt
 last_paths_part_once forest formed None i = nothing_parts_once (path_of forest i)
 last_paths_part_once forest formed (Some j) i = paths_part_once forest formed j i
 
--- right below the last path a span alone is fresh
+-- right below the current branch only one span is fresh
 beyond-more : (path : List Id) (i : Id) → drop (common_prefix_len same_id path (path ++ i ∷ [])) (path ++ i ∷ []) ≡ i ∷ []
 beyond-more [] i = refl
 beyond-more (j ∷ path) i =
@@ -227,7 +227,7 @@ whole-shared (i ∷ path) = let rest = whole-shared path in rw (same-refl i) (om
 fresh-there : (forest : Forest) (i : Id) → fresh_ids forest (Some i) i ≡ []
 fresh-there forest i = let path = path_of forest i in ap (λ n. drop n path) (whole-shared path) ∙ drop-length path
 
--- so a plan that retraces to the last span stays as it is
+-- so a plan that retraces to the last span is unchanged
 pub retraced-there : (settings : Settings) (forest : Forest) (i : Id) (plan : PlanView) → plan.last ≡ Some i → plan ≡ retraced_plan settings forest i plan
 retraced-there settings forest i plan there =
     let none = ap (λ last. fresh_ids forest last i) there ∙ fresh-there forest i in

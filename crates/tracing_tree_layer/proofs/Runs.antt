@@ -105,7 +105,7 @@ runs_refused calls replies old new writer kept h = record {
   continued = h.continued;
 }
 
--- an answered call before a run that goes on from the state that it leaves
+-- an answered call before a run that continues from the state that it leaves
 runs_first : (call : Call) (calls : List Call) (answer : Result Reply Refusal) (answers : List (Result Reply Refusal)) (old new : Seen) (writer : SeenWriter) →
     let after = state_after_answer old.settings old.timer old.state call answer in
     MayAnswer old.settings old.timer old.state call answer →
@@ -225,9 +225,9 @@ module _ {W FT : Type 0} (see : LayeredView W FT → Seen) where
   answered_more (one ∷ calls) (other ∷ answers) call answer old between new (next, h, rest) k =
       (next, h, answered_more calls answers call answer next between new rest k)
 
--- ---- calls that are answered where they lie
+-- ---- calls that are answered in place
 
--- the first of the items that are left lies at the place that is reached, and another may be put there
+-- the first of the items that are left is at the current place, and another may be put there
 pub next_item : {A : Type 0} (items taken rest : List A) (place : ℕ) (d : A) → items ≡ taken ++ rest → length taken ≡ place → place < length items
     → (others : List A) × (rest ≡ slice_index_or items place d ∷ others)
     × ((left : A) → slice_set items place left ≡ (taken ++ left ∷ []) ++ others)

@@ -58,7 +58,7 @@ answered_refused call rows faults quiet Writer old new sound cause text memory h
 answered_refused call rows faults quiet Failed old new sound cause text memory h left =
     record { allowed = cause ∙ h.answer; left = left ∙ ap (λ failed. seen_later old (record old.state { failed = failed }) new.writer) (sym sound); written = h.written }
 
--- of causes against rows alone the first is that of the rows
+-- of causes only against rows, the first is that of the rows
 pub first_cause_of_rows : (wide faults : Bool) →
     first_cause (record { failed = false; not_held = None; too_many = false; too_wide = wide; timer_faults = faults })
     ≡ option_or (then_some wide TooWide) (then_some faults Refused.Timer)

@@ -1,4 +1,4 @@
--- What is read of an object at the keys of calls spells what the object spells.
+-- What is read of an object at the keys of calls encodes what the object encodes.
 use Rattle.std.specs.Prelude.{◌≡◌, ℕ, pos, Bool, true, false, List, [], ◌∷◌, Option, Some, None, codes, bytes_eq, if◌then◌else◌, option_map, option_and_then, refl, Result, Ok, Err}
 use Rattle.std.specs.Option.{option_map_or}
 use Rattle.std.proofs.Common.{sym, ap, ap₂, ◌∙◌, subst, true≢false}
@@ -245,12 +245,12 @@ found_same : {A : Type 0} (f : Data → A) (key : List ℕ) (o : Option Data) (a
 found_same f key None absent same = refl
 found_same f key (Some d) absent same = ap (λ o. option_map_or f o absent) (readable_there key d) ∙ read_mapped f (readable key) (unless_null d) absent same
 
--- the value at a key, as it is read
+-- the value at a key, in the form that is read
 pub same_at : {A : Type 0} (f : Data → A) (key : List ℕ) (value : Data) (absent : A) → ((d : Data) → f (readable key d) ≡ f d)
     → option_map_or f (unless_null (readable_at key value)) absent ≡ option_map_or f (option_and_then unless_null (get key value)) absent
 same_at f key value absent same = found_same f key (get key value) absent same
 
--- ---- the object that holds what is read spells what the object spells
+-- ---- the object that holds what is read encodes what the object encodes
 
 abbrev kept : Data → Data
 kept value = object (call_members value)
@@ -358,7 +358,7 @@ whole_parts line p found whole =
     let settled = whole_settled line tree found.reads (sym found.kept.whole ∙ whole) in
     record { text = found.text; value = data_of tree; reads = settled.0; no_float = settled.1; kept = found.kept.kept }
 
--- the same of an object in which none is
+-- the same of an object without floats
 without_float : (line : List ℕ) (p : Parts) → IsObjectLine line p → HasNoFloat line → HasParts line p
 without_float line p found none =
     let tree = json.object found.members in

@@ -101,7 +101,7 @@ module _ {W : Type 0} (output : Output W) where
   }
 
   module _ {FT : Type 0} (time : FormatTime FT) where
-    -- what is changed, and calls that are made, where the timers are what they state
+    -- what is changed, and calls that are made, if the timers are what they state
     changes-stated : (Holds : Seen → Seen → Type 0) (old new : LayeredView W FT) → Changes (seen time output) Holds old new →
         Changes (seen_over output) Holds (stated time old) (stated time new)
     changes-stated Holds old new h = record {
@@ -161,7 +161,7 @@ module _ {W : Type 0} (output : Output W) where
       made = makes-stated h.cause (slice_get lines h.judged) h.calls old new h.made;
     }
 
-    -- the first line spells settings that can be set, and the run over the others is the whole run
+    -- the first line encodes settings that can be set, and the run over the others is the whole run
     pub concludes : (known left : Option (List ℕ)) (setup : Settings × AskedTimer) (accepted : ℕ) (fault : Option LineFault) (writer end : W)
         (old new : LayeredView W FT) → OpensWith known left setup → stated time old ≡ opened_with setup.0 (asked_timer setup.1) writer → new.layer.writer ≡ end →
         IfSome left (λ rest. RunsOver (input_lines rest) accepted fault (seen time output old) (seen time output new).writer

@@ -24,7 +24,7 @@ parsed_twice f g (Some p) = refl
 
 -- ---- one value
 
--- null, a text or a truth value
+-- null, a string or a truth value
 abbrev pub is_word : ReadToken → Bool
 is_word Read.BeginObject = false
 is_word Read.EndObject = false
@@ -83,11 +83,11 @@ object_unread depth inner ts deep none =
     let one_less : depth - 1 ≡ inner = omega arith in
     value-begin_object depth ts (omega arith) ∙ ap (λ d. parse_map json.object (json.members (json.value d) (length ts) ts)) one_less ∙ ap (parse_map json.object) none
 
--- no token is no value
+-- without a token there is no value
 pub end_unread : (depth : ℕ) (ts : List Token) → ts ≡ [] → json.value depth ts ≡ None
 end_unread depth ts none = ap (json.value depth) none ∙ value_is depth []
 
--- where nothing may nest
+-- if nothing may nest
 pub nested_unread : (depth : ℕ) (ts : List Token) → depth ≡ 0 → (json.value depth (Token.begin_array ∷ ts) ≡ None) × (json.value depth (Token.begin_object ∷ ts) ≡ None)
 nested_unread depth ts none =
     (ap (λ d. json.value d (Token.begin_array ∷ ts)) none ∙ value_is 0 (Token.begin_array ∷ ts), ap (λ d. json.value d (Token.begin_object ∷ ts)) none ∙ value_is 0 (Token.begin_object ∷ ts))

@@ -6,7 +6,7 @@ use Rattle.tracing_tree_text.specs.declared.field.Field.{Field}
 use Rattle.tracing_tree_sources.specs.Told.{shown}
 use Rattle.tracing_tree_sources.specs.JsonText.{json_text}
 
--- a field with this value, as it is drawn
+-- a field with this value, in its drawn form
 abbrev pub field_of : List ℕ → List ℕ → List Field
 field_of name value = (record { name = shown name; value = value }) ∷ []
 

@@ -63,13 +63,13 @@ decimal_of before after =
     then option_and_then (λ whole. nanoseconds whole (billionths after)) (whole_of before)
     else None
 
--- the nanoseconds since 1970 of a number: digits alone, or digits, a point and digits
+-- the nanoseconds since 1970 of a number: only digits, or digits, a point and digits
 abbrev pub nanoseconds_of : List ℕ → Option ℕ
 nanoseconds_of text =
     if has_point text then decimal_of (before_first is_point text) (after_first is_point text)
     else option_and_then (λ whole. nanoseconds whole 0) (whole_of text)
 
--- the moment that a number tells
+-- the moment that a number encodes
 abbrev pub moment_of_number : List ℕ → Option Moment
 moment_of_number text = option_map (λ n. moment_at (pos n)) (nanoseconds_of text)
 
@@ -77,12 +77,12 @@ abbrev pub moment_or_text : Option Moment → List ℕ → Moment → Moment
 moment_or_text (Some moment) word before = moment
 moment_or_text None word before = moment_after (Some word) before
 
--- a word tells a moment
+-- a word encodes a moment
 abbrev pub is_time : List ℕ → Bool
 is_time word = is_some (nanoseconds_of word) || is_some (moment_of word)
 
--- The moment that a word tells, as a number or as RFC 3339 writes it; that of the line before if it
--- tells none.
+-- The moment that a word encodes, as a number or in the format of RFC 3339; that of the line before
+-- if it encodes no moment.
 abbrev pub moment_of_word : Option (List ℕ) → Moment → Moment
 moment_of_word (Some word) before = moment_or_text (moment_of_number word) word before
 moment_of_word None before = before

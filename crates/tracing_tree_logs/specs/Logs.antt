@@ -17,7 +17,7 @@ use Rattle.tracing_tree_logs.specs.Groups.{span_of, with_span}
 use Rattle.tracing_tree_logs.specs.LogLine.{event_fields, first_key, group_key, group_keys, group_name, level_in, moment_in, word_at}
 
 -- What is known of the groups: the id of the next span, the moment of the last line, the span of
--- each group, that of the last line's group, and the calls that weren't passed on yet.
+-- each group, that of the last line's group, and the calls that weren't returned yet.
 pub record LogsState : Type 0 where
   pub next : ℕ
   pub moment : Moment
@@ -59,7 +59,7 @@ abbrev pub at_or_opened : Option Id → List ℕ → List ℕ → LogsState → 
 at_or_opened (Some span) name id s = arrived (Some span) s
 at_or_opened None name id s = opened name id s
 
--- a line comes to the span of this group
+-- a line enters the span of this group
 abbrev pub entered : List ℕ → List ℕ → LogsState → LogsState
 entered name id s = at_or_opened (span_of (group_key name id) s.groups) name id s
 
@@ -67,7 +67,7 @@ abbrev pub entered_if : List ℕ → Option (List ℕ) → LogsState → LogsSta
 entered_if name (Some id) s = entered name id s
 entered_if name None s = arrived None s
 
--- a line is in the span of its group, whose id is at this key, and at the root if it has none
+-- a line is in the span of its group, whose id is at this key; at the root if it has no group
 abbrev pub located : Option (List ℕ) → Json → LogsState → LogsState
 located (Some key) value s = entered_if (group_name key) (word_at key value) s
 located None value s = arrived None s

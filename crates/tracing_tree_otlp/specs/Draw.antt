@@ -29,7 +29,7 @@ pub record TreeState : Type 0 where
   pub frames : List Frame
   pub calls : List Call
 
--- ---- rows by the span in which they are nested
+-- ---- rows by the span that they are in
 
 abbrev pub key_in : Item → List ℕ
 key_in item = key_of item.trace item.above
@@ -195,7 +195,7 @@ abbrev pub stepped_as : Option Item → TreeState → TreeState
 stepped_as (Some item) s = row_shown item s
 stepped_as None s = left s
 
--- the next row of the innermost span is shown; if it has none, it closes
+-- shows the next row of the innermost span; if no row is left, closes it
 abbrev pub stepped : TreeState → TreeState
 stepped s = stepped_as (next_row s.frames) (record s { frames = after_row s.frames })
 

@@ -1,4 +1,4 @@
--- What the lines of an input say together: rows, and where each is nested.
+-- What the lines of an input say together: rows, and the span of each.
 use Rattle.std.specs.Prelude.{ℕ, ◌-◌, ◌^◌, min, ◌||◌, if◌then◌else◌, List, [], ◌∷◌, ◌++◌, length, Option, Some, None, is_some, codes}
 use Rattle.std.specs.Ordering.{nat_cmp, ordering_then}
 use Rattle.std.specs.declared.cmp.Ordering.{Ordering}
@@ -194,11 +194,11 @@ abbrev pub text_taken_as : Option Json → List ℕ → GatheredState → Gather
 text_taken_as (Some value) text s = value_taken (Some value) (next_line s)
 text_taken_as None text s = lines_taken (lines text) s
 
--- a text is one value, which may take several lines, or else each of its lines is one
+-- an input is one value, which may take several lines; otherwise each line is a value
 abbrev pub gathered_in : List ℕ → GatheredState
 gathered_in text = text_taken_as (document text) text nothing_gathered
 
--- ---- where rows are nested
+-- ---- the spans in which rows are nested
 
 abbrev pub timed : Option ℕ → Item → Item
 timed (Some time) row = record row { time = time; place = record row.place { time = time } }

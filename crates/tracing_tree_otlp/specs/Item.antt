@@ -14,7 +14,7 @@ use Rattle.tracing_tree_otlp.specs.declared.item.Span.{Span}
 
 -- ---- events and logs
 
--- the time of a log: when it happened, or else when it was observed
+-- the time of a log: when it happened, otherwise when it was observed
 abbrev pub log_time : Json → ℕ
 log_time value =
     if count_at (codes "timeUnixNano") value == 0
@@ -24,7 +24,7 @@ abbrev pub has_members : Members → Bool
 has_members no_members = false
 has_members (member _ _ _) = true
 
--- a value that says nothing is no message
+-- null and an empty object aren't messages
 abbrev pub has_body : Json → Bool
 has_body null = false
 has_body (boolean _) = true
@@ -96,7 +96,7 @@ span_of service value = record {
   fields = attributes_in value;
 }
 
--- The span in which a span is nested. One that is its own parent has none.
+-- The span in which a span is nested. A span that is its own parent is a root.
 abbrev pub above_of : List ℕ → List ℕ → List ℕ
 above_of id parent = if bytes_eq id parent then [] else parent
 
@@ -108,7 +108,7 @@ hex_digit byte =
     else if nat_le 97 byte && nat_le byte 102 then byte - 87
     else 0
 
--- one digit more, of which the last sixteen count
+-- one digit more; the last sixteen count
 abbrev pub digit_added : ℕ → ℕ → ℕ
 digit_added sum byte = (sum * 16 % 2 ^ 64 + hex_digit byte) % 2 ^ 64
 

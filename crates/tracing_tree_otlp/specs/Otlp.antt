@@ -1,4 +1,4 @@
--- What an input of OTLP/JSON tells.
+-- What an input of OTLP/JSON means.
 use Rattle.std.specs.Prelude.{◌≡◌, ◌<◌, ℕ, List, length, map, Result, Ok, Err, MatchOption, IsPermutation, IsSorted, ⊤}
 use Rattle.tracing_tree_context.specs.declared.context.Moment.{Moment}
 use Rattle.tracing_tree_context.specs.declared.context.Refusal.{Refusal}
@@ -15,11 +15,11 @@ use Rattle.tracing_tree_otlp.specs.Draw.{calls_in_order}
 use Rattle.tracing_tree_otlp.specs.Gather.{GatheredState, gathered_in, item_cmp, resolved}
 use Rattle.tracing_tree_otlp.specs.declared.item.Item.{Item}
 
--- rows in the one order in which they are drawn
+-- rows in the only order in which they are drawn
 abbrev pub IsInOrder : List Item → List Item → Type 0
 IsInOrder rows ordered = IsPermutation rows ordered × IsSorted item_cmp ordered
 
--- the rows of an input, each where it is nested
+-- the rows of an input, each with the span in which it is nested
 abbrev pub rows_of : GatheredState → List Item
 rows_of gathered = map (resolved gathered.known) gathered.items
 

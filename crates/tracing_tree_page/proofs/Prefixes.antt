@@ -79,7 +79,7 @@ calm text (Err Timer) old new h w = w.1
 calm text (Err Writer) old new h w = absurd h
 calm text (Err Failed) old new h w = w.1
 
--- one text, and then a prefix of another
+-- one string, and then a prefix of another
 longer : (old between new : SeenWriter) (first later all : List ℕ) → Appends old.bytes between.bytes first → WritesPrefix later between new → all ≡ first ++ later →
     WritesPrefix all old new
 longer old between new first later all h k e = record {
@@ -89,7 +89,7 @@ longer old between new first later all h k e = record {
   appends = Appends-trans old.bytes between.bytes new.bytes first k.front h k.appends;
 }
 
--- a text that is cut short, and then nothing
+-- a truncated string, and then nothing
 cut : (old between new : SeenWriter) (text : List ℕ) → LeavesCut text old between → Appends between.bytes new.bytes [] → WritesPrefix text old new
 cut old between new text h k = record {
   front = h.front;

@@ -56,7 +56,7 @@ run_keeps_form [] (answer ∷ answers) old new h = absurd h
 run_keeps_form (call ∷ calls) [] old new h = absurd h
 run_keeps_form (call ∷ calls) (answer ∷ answers) old new (between, one, others) = run_keeps_form calls answers between new others ∙ one.form
 
--- A beginning, calls and an end make a page.
+-- Begin, calls and end make a page.
 page_ended : (tail : List ℕ) (old new : SeenSteps) → Writes {A = Unit {0}} (line_of old.form End ++ tail) (Ok tt) old.writer new.writer → EndsPage {A = Unit {0}} tail (Ok tt) old new
 page_ended tail old new h head title calls answers fresh begun first told held =
     let form = fresh.form in

@@ -12,7 +12,7 @@ use Rattle.tracing_tree_sources.specs.Told.{shown}
 use Rattle.tracing_tree_prefix.specs.declared.prefix.Mark.{Mark}
 use Rattle.tracing_tree_prefix.specs.declared.prefix.Mark.TheVariants.{Bar, Bracket, Time}
 
--- a source, and the mark at which prefixes end, if lines have them
+-- a source, and the mark at which prefixes end, if lines have prefixes
 pub record Marked (S : Type 0) : Type 0 where
   pub source : S
   pub mark : Option Mark

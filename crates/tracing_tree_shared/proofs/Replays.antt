@@ -145,7 +145,7 @@ keeps_answered first history call answer old new whole h k =
     let P : Seen → Type 0 = λ s. IsKept s.settings s.timer first (history ++ entries_of call answer) s.state new.writer.bytes in
     subst P (sym h.left) (kept_answer old.settings old.timer first history old.state old.writer new.writer call answer whole k h.allowed h.written)
 
--- One that was refused for want of memory too.
+-- A call that was refused because memory ran out, too.
 pub keeps_replay : (first : Option Id) (history : List Entry) (call : Call) (answer : Result Reply Refusal) (old new : Seen) →
     IsTrue old.writer.whole → IsAnsweredOrLacks call answer old new → KeepsReplay first history old →
     KeepsReplay first (history ++ entries_of call answer) new

@@ -89,7 +89,7 @@ misplaced history greatest (slip ∷ slips) =
     (if is_misplaced history greatest slip then slip.place ∷ [] else [])
     ++ misplaced history (greater greatest slip.place) slips
 
--- the least of these places, and of one that was found before
+-- the smallest of these places, and of one that was found before
 abbrev pub least : Option ℕ → List ℕ → Option ℕ
 least found [] = found
 least found (place ∷ places) = least (lesser found place) places

@@ -82,8 +82,8 @@ abbrev pub answer_given : Result Reply Refused → Result Reply Refusal
 answer_given (Ok reply) = Ok reply
 answer_given (Err refused) = Err refused.cause
 
--- There is a registry with a layer over a tape on which a call is answered so. Of a layer behind a
--- lock no more can be said.
+-- There is a registry with a layer over a tape on which a call is answered this way. Contracts
+-- can't say more of a layer behind a lock.
 abbrev pub IsAnsweredOnSome : {FT : Type 0} → FormatTime FT → Call → Result Reply Refusal → Type 0
 IsAnsweredOnSome {FT} time call answer =
     (old : LayeredView TapeView FT) × (new : LayeredView TapeView FT)

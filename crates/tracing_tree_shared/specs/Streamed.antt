@@ -25,7 +25,7 @@ abbrev pub answer_numbered : Result Numbered Refused → Result Reply Refusal
 answer_numbered (Ok numbered) = Ok numbered.reply
 answer_numbered (Err refused) = Err refused.cause
 
--- an accepted call has the next number, and a refused one none
+-- an accepted call has the next number, and a refused one has no number
 abbrev pub IsCounted : Result Numbered Refused → ℕ → ℕ → Type 0
 IsCounted (Ok numbered) old new = (numbered.number ≡ old) × (new ≡ min (old + 1) (2 ^ 64 - 1))
 IsCounted (Err refused) old new = new ≡ old

@@ -68,7 +68,7 @@ a_word_about_goroutines_is_no_trace = refl
 pub a_carriage_return_is_left_out : without_return (codes "x\r") ≡ codes "x"
 a_carriage_return_is_left_out = refl
 
--- ---- where a run ends
+-- ---- the line at which a run ends
 
 pub the_line_at_which_the_notes_end_a_run_is_counted : CountsUnknown NotACall 2 1 3
 the_line_at_which_the_notes_end_a_run_is_counted = (refl, refl)

@@ -7,7 +7,7 @@ use Rattle.tracing_tree_text.specs.declared.field.Field.{Field}
 use Rattle.tracing_tree_sources.specs.JsonText.{json_text}
 use Rattle.tracing_tree_sources.specs.Told.{shown}
 
--- a value as it is drawn: an array and an object as compact JSON
+-- a value in its drawn form: an array and an object as compact JSON
 abbrev pub text_of : Json → List ℕ
 text_of null = codes "null"
 text_of (boolean b) = if b then codes "true" else codes "false"

@@ -94,7 +94,7 @@ abbrev pub format_of : Option Json → Option Format
 format_of None = None
 format_of (Some value) = format_of_value value
 
--- an object that isn't whole goes on in the lines below
+-- an object that isn't whole continues in the lines below
 abbrev pub format_by : Bool → Option Json → Option Format
 format_by begins_object value =
     if begins_object && is_none value then Some Chrome else format_of value

@@ -32,7 +32,7 @@ not-parent older i (Some above) fresh live = by (same_id i above) refl
         absurd (let both : true ≡ false = sym live ∙ none in cc)
     by false e = refl
 
--- an id that no span has is no parent
+-- an id that no span has isn't a parent
 fresh-childless : (spans : List Span) (i : Id) → IsGrown spans → list_any (has_id i) spans ≡ false → list_any (is_child_of i) spans ≡ false
 fresh-childless [] i grown fresh = refl
 fresh-childless (x ∷ older) i grown fresh =
@@ -40,7 +40,7 @@ fresh-childless (x ∷ older) i grown fresh =
     let first : is_child_of i x ≡ false = not-parent older i x.parent parts.1 grown.1 in
     rw first (fresh-childless older i grown.2 parts.1)
 
--- the newest of some spans is the parent of none of them
+-- the newest of some spans isn't the parent of any of them
 newest-childless : (s : Span) (older : List Span) → IsGrown (s ∷ older) → list_any (is_child_of s.id) (s ∷ older) ≡ false
 newest-childless s older grown =
     let fresh = not-true (list_any (has_id s.id) older) grown.0 in

@@ -29,7 +29,7 @@ agree-past (x ∷ old) [] (suc k) past = none (slice_get old k)
 agree-past (x ∷ old) (y ∷ new) zero past = absurd (omega arith)
 agree-past (x ∷ old) (y ∷ new) (suc k) past = agree-past old new k (omega arith)
 
--- the first place where they don't agree is the length of the common beginning
+-- the first place where they don't agree is the length of the common prefix
 pub prefix-is : (old new : List Id) (n : ℕ) → ((j : ℕ) → j < n → agree_at old new j ≡ true) → agree_at old new n ≡ false →
     common_prefix_len same_id old new ≡ n
 prefix-is [] new zero all parts = refl
@@ -42,11 +42,11 @@ prefix-is (x ∷ old) (y ∷ new) (suc n) all parts =
     let rest : common_prefix_len same_id old new ≡ n = prefix-is old new n (λ j h. all (suc j) (omega arith)) parts in
     rw first (omega arith)
 
--- where none agrees they share nothing
+-- if no place agrees, they share nothing
 pub prefix-none : (old new : List Id) (n : ℕ) → ((k : ℕ) → n ≤ k → agree_at old new k ≡ false) → n ≡ 0 → n ≡ common_prefix_len same_id old new
 prefix-none old new n apart none = none ∙ sym (prefix-is old new 0 (λ j h. absurd (omega arith)) (apart 0 (omega arith)))
 
--- where the place before agrees, and none from there on, they share all up to there
+-- if the place before agrees, and no place from there on, they share all up to there
 pub prefix-some : (old new : List Id) (n : ℕ) (i j : Id) → PartOnce old new → ((k : ℕ) → n ≤ k → agree_at old new k ≡ false) →
     0 < n → n ≤ length old → n ≤ length new → same_id (get_or old (n - 1) i) (get_or new (n - 1) j) ≡ true → n ≡ common_prefix_len same_id old new
 prefix-some old new n i j once apart some within within' same =
@@ -55,7 +55,7 @@ prefix-some old new n i j once apart some within within' same =
 
 -- ---- paths of one forest
 
--- where two lists begin alike, they agree
+-- if two lists begin alike, they agree
 same-agree : (old new : List Id) (n k : ℕ) → take n old ≡ take n new → k < n → k < length old → agree_at old new k ≡ true
 same-agree [] new n k same low within = absurd (omega arith)
 same-agree (x ∷ old) new zero k same low within = absurd (omega arith)

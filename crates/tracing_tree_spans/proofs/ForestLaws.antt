@@ -1,5 +1,5 @@
--- Where each span stands after its parent, there is a path to each live span: it begins at a root, each span is the parent of
--- the next, and it ends at the span.
+-- If each span comes after its parent, there is a path to each live span: it begins at a root, each
+-- span is the parent of the next, and it ends at the span.
 use Rattle.std.proofs.Common.{◌≡◌, Bool, true, false, ◌||◌, List, [], ◌∷◌, ◌++◌, reverse, find, Option, Some, None, is_some, option_map, refl, sym, ap, ◌∙◌, subst, if◌then◌else◌}
 use Rattle.std.specs.Option.{option_map_or, option_or}
 use Rattle.std.specs.List.{list_any, last_or}
@@ -163,7 +163,7 @@ descends-falls : (forest : Forest) (above : Option Id) (path : List Id) → Fall
 descends-falls forest above [] h = tt
 descends-falls forest above (i ∷ below) h = (h.0, descends-falls forest (Some i) below h.1)
 
--- turned back, the list is looked up as it is
+-- reversed, the list is looked up unchanged
 pub look-turned : (forest : Forest) → IsGrown (reverse forest.spans) → (i : Id) → look (reverse forest.spans) i ≡ span_at forest i
 look-turned forest grown i = sym (look-reverse (reverse forest.spans) grown i) ∙ ap (λ xs. look xs i) (reverse-reverse forest.spans)
 

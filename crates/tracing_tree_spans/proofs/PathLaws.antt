@@ -90,14 +90,14 @@ path_of-step forest formed i s h =
     ∙ up-step (length forest.spans) forest i s h
     ∙ ap (λ (ids : List Id). ids ++ i ∷ []) (path_of-far forest formed (length forest.spans) (omega arith) s.parent)
 
--- the path is what a path is, and there is none of a span that isn't live
+-- the path is what a path is, and it is empty for a span that isn't live
 pub path_of-whole : (forest : Forest) → IsForest forest → (i : Id) (path : List Id) → path ≡ path_of forest i → IsPathIfLive forest i path
 path_of-whole forest formed i path h = record {
   live = λ live. subst (IsPath forest i) (sym h) (path_of-is_path forest formed i live);
   gone = λ gone. h ∙ path_of-none forest i gone;
 }
 
--- ---- where each span stands after its parent
+-- ---- if each span comes after its parent
 
 -- the path is the one among the spans turned round
 pub path_of-among : (forest : Forest) → IsGrown (reverse forest.spans) → (i : Id) → path_of forest i ≡ path_among (reverse forest.spans) i

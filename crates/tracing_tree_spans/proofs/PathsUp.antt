@@ -1,5 +1,5 @@
--- What is found by going up from a span is its path, where it has one: and a path is no longer than the list of spans. In a
--- well-formed forest each live span has one.
+-- What is found by going up from a span is its path, if it has a path. A path is no longer than the
+-- list of spans. In a well-formed forest each live span has a path.
 use Rattle.std.proofs.Common.{◌≡◌, ℕ, zero, suc, ◌+◌, ◌≤◌, Bool, true, false, ◌||◌, List, [], ◌∷◌, ◌++◌, length, map, append_assoc, length-append, Option, Some, None, is_some, option_map, arith, refl, sym, ap, ◌∙◌, subst}
 use Rattle.std.specs.Cmp.{IsEquivalence}
 use Rattle.std.specs.Option.{option_map_or, option_and_then}
@@ -25,7 +25,7 @@ pub up-step : (n : ℕ) (forest : Forest) (i : Id) (s : Span) → span_at forest
     path_up (suc n) forest.spans i ≡ any_up n forest s.parent ++ i ∷ []
 up-step n forest i s h = ap (λ o. option_map_or (λ (span : Span). any_up n forest span.parent ++ i ∷ []) o []) h
 
--- from a span that isn't live none
+-- nothing from a span that isn't live
 pub up-none : (n : ℕ) (forest : Forest) (i : Id) → span_at forest i ≡ None → path_up n forest.spans i ≡ []
 up-none zero forest i h = refl
 up-none (suc n) forest i h = ap (λ o. option_map_or (λ (span : Span). any_up n forest span.parent ++ i ∷ []) o []) h
@@ -69,7 +69,7 @@ one-path forest i left right h k =
 
 -- ---- the length of a path
 
--- a beginning of a way down is a way down
+-- a prefix of a downward path is a downward path
 pub descends-front : (forest : Forest) (above : Option Id) (front : List Id) (i : Id) (back : List Id) → Descends forest above (front ++ i ∷ back) →
     Descends forest above (front ++ i ∷ [])
 descends-front forest above [] i back h = (h.0, tt)
@@ -131,7 +131,7 @@ distinct-path forest front (i ∷ back) h = (
     below above [] h = h.1
     below above (j ∷ front) h = below (Some j) front h.1
 
--- and those of any way down, where nobody is their own ancestor
+-- and those of any downward path, if no span is its own ancestor
 distinct-down : (forest : Forest) → ((i : Id) → IsAncestor forest i i → ⊥) → (above : Option Id) (way : List Id) → Descends forest above way →
     IsDistinct same_id way
 unfolding IsDistinct
@@ -142,7 +142,7 @@ found : {A B : Type 0} (f : A → B) (o : Option A) (b : B) → option_map f o �
 found f None b h = cc
 found f (Some a) b h = refl
 
--- a way down goes over live spans
+-- a downward path has only live spans
 down-live : (forest : Forest) (above : Option Id) (path : List Id) → Descends forest above path → (i : Id) → list_any (same_id i) path ≡ true →
     is_live forest i ≡ true
 down-live forest above [] h i on = cc
@@ -178,7 +178,7 @@ way-short forest above way h distinct =
     let many : length (ids_of forest.spans) ≡ length forest.spans = length-map forest.spans (λ (span : Span). span.id) in
     omega (arith, short, many)
 
--- nor is a path
+-- a path isn't longer either
 pub path-short : (forest : Forest) (i : Id) (path : List Id) → IsPath forest i path → length path ≤ length forest.spans
 path-short forest i path h = way-short forest None path h.descends (distinct-path forest [] path h.descends)
 
@@ -196,7 +196,8 @@ live-span (Some s) h = (s, refl)
 down-more : (forest : Forest) (i : Id) (s : Span) (below : List Id) → span_at forest i ≡ Some s → Descends forest (Some i) below → Descends forest s.parent (i ∷ below)
 down-more forest i s below h down = (ap (λ (o : Option Span). option_map (λ (t : Span). t.parent) o) h, down)
 
--- from a live span with a way down there is a path to the end of the way, if the way lacks at most so many ids
+-- from a live span with a downward path there is a path to its end, if the downward path lacks at
+-- most `k` ids
 abbrev Climbs : Forest → Id → ℕ → Type 0
 Climbs forest end k =
     (i : Id) → is_live forest i ≡ true → (below : List Id) → Descends forest (Some i) below → last_or (Some i) below ≡ Some end →
@@ -256,7 +257,7 @@ below-live forest above (j ∷ []) i h e =
     subst (λ k. is_live forest k ≡ true) (same_Some j i e) (found (λ (span : Span). span.parent) (span_at forest j) above h.0)
 below-live forest above (j ∷ k ∷ way) i h e = below-live forest (Some j) (k ∷ way) i h.1 e
 
--- where each live span has a path the forest is well-formed, if the ids differ
+-- if each live span has a path, the forest is well-formed, provided that the ids differ
 pub forest-by_paths : (forest : Forest) → IsDistinct same_id (ids_of forest.spans) →
     ((i : Id) → is_live forest i ≡ true → (path : List Id) × IsPath forest i path) → IsForest forest
 forest-by_paths forest distinct paths = record {

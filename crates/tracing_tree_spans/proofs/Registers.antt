@@ -1,4 +1,5 @@
--- A registry over the list of spans that it keeps: what is read of a span, and what is left when one changes, comes or goes.
+-- A registry over the list of spans that it keeps: what is read of a span, and what is left when
+-- one changes, is added or is removed.
 use Rattle.std.proofs.Common.{◌≡◌, ◌≢◌, ℕ, zero, suc, ◌-◌, ◌<◌, ◌≤◌, nat_lt, ◌==◌, Bool, true, false, ◌&&◌, not, List, [], ◌∷◌, ◌++◌, length, map, reverse, find, filter, Option, Some, None, IfSome, IfOk, Result, Ok, Err, Bor, if◌then◌else◌, arith, refl, sym, ap, ◌∙◌, subst, length-append}
 use Rattle.std.specs.List.{list_all, list_any}
 use Rattle.std.specs.Option.{option_map, option_map_or, option_or, option_copied, is_some}
@@ -27,7 +28,7 @@ use Rattle.tracing_tree_spans.proofs.Ties.{KeepsTies, tied-change, tied-push}
 
 -- ---- what is read
 
--- the span of an id, as it is kept
+-- the span of an id, in the form that is kept
 pub seen : (nodes : List KeptSpan) (next : Option Id) (now : Forest) (i : Id) (o : Option KeptSpan) → forest_of (spans_of nodes) next ≡ now →
     kept_at nodes i ≡ o → span_at now i ≡ option_map (λ n. n.span) o
 seen nodes next now i o view h =
@@ -173,7 +174,7 @@ child-fits nodes new node p tied none e few =
 
 -- ---- a new span is taken back
 
--- where none is chosen none passes
+-- if no span is chosen, no span passes
 none-passes : (p : Span → Bool) (spans : List Span) → filter p spans ≡ [] → list_any p spans ≡ false
 none-passes p [] h = refl
 none-passes p (x ∷ spans) h = by (λ k. none-passes p spans k) (p x) refl
@@ -227,7 +228,7 @@ closing-one now formed i s here some closes =
         absurd (closes (closing-first now formed i s here
         ∙ ap (λ b. if b then i ∷ going_after now (Some i) (way_up now s.parent) else []) goes))
 
--- whether it is more than none
+-- whether it is more than 0
 pub more-none : (n : ℕ) → nat_lt 0 n ≡ not (n == 0)
 more-none n = grind (arith, nat_tests)
 
@@ -271,7 +272,7 @@ error-live (Err e) now i s h = λ none. (let found : Some s ≡ None = sym h ∙
 
 -- ---- paths
 
--- and an id that isn't live has none
+-- and the path of an id that isn't live is empty
 pub path-gone : (now : Forest) (i : Id) → span_at now i ≡ None → path_of now i ≡ []
 path-gone now i h = path_of-none now i (ap (λ (o : Option Span). is_some o) h)
 

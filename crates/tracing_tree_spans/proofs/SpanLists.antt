@@ -1,4 +1,4 @@
--- Lists of spans in the order of their ids: where a span lies, and what an edit at its place does.
+-- Lists of spans in the order of their ids: a span's place, and what an edit at its place does.
 use Rattle.std.proofs.Common.{◌≡◌, ℕ, zero, suc, ◌<◌, ◌≤◌, nat_lt, Bool, true, false, not, List, [], ◌∷◌, length, get_or, set, map, find, filter, slice_get, Option, Some, None, MatchOption, if◌then◌else◌, arith, refl, sym, ap, ◌∙◌, subst}
 use Rattle.std.specs.List.{list_all, remove}
 use Rattle.std.specs.Option.{option_map_or}
@@ -15,7 +15,7 @@ use Rattle.tracing_tree_context.specs.declared.context.Id.{Id}
 abbrev pub all_above : ℕ → List Span → Bool
 all_above n spans = list_all (λ other. nat_lt n other.id.0) spans
 
--- where all ids are above a number, so is that of each place
+-- if all ids are above a number, so is that of each place
 above-at : (n : ℕ) (spans : List Span) (k : ℕ) (s : Span) → all_above n spans ≡ true → slice_get spans k ≡ Some s → n < s.id.0
 above-at n [] k s all h = cc
 above-at n (x ∷ spans) zero s all h =
@@ -77,7 +77,7 @@ abbrev pub IsFound : List Span → Id → Option ℕ → Type 0
 IsFound spans i place =
     MatchOption place (find (has_id i) spans ≡ None) (λ at. (at < length spans) × (find (has_id i) spans ≡ slice_get spans at))
 
--- the span at a place has the id, so that is where it lies
+-- the span at a place has the id, so it is the span's place
 pub found_at : (spans : List Span) (i : Id) (at : ℕ) → IsRising spans → option_map_or (has_id i) (slice_get spans at) false ≡ true → IsFound spans i (Some at)
 found_at spans i at rising here = by (slice_get spans at) refl
   where
@@ -111,7 +111,7 @@ set_is_update change (x ∷ spans) (suc k) s rising h =
     let low : x.id.0 < s.id.0 = above-at x.id.0 spans k s rising.0 h in
     rw lower_not (ap (λ xs. x ∷ xs) (set_is_update change spans k s rising.1 h))
 
--- where all ids are above this one, a removal of this id leaves all
+-- if all ids are above this one, removing this id keeps all
 all_kept : (i : Id) (spans : List Span) → all_above i.0 spans ≡ true → filter (λ span. not (has_id i span)) spans ≡ spans
 all_kept i [] all = refl
 all_kept i (x ∷ spans) all =

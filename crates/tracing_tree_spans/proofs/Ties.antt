@@ -26,7 +26,7 @@ use Rattle.tracing_tree_spans.proofs.KeptLists.{found-span, spans-changed, spans
 
 -- ---- a change
 
--- a change that shows in the span alone, and leaves its id and its parent
+-- a change that shows only in the span, and keeps its id and its parent
 pub record KeepsTies (change : KeptSpan → KeptSpan) (u : Span → Span) : Type 0 where
   pub spans : (n : KeptSpan) → (change n).span ≡ u n.span
   pub same : IsSame u
@@ -114,7 +114,7 @@ old-not spans s j t fresh found = by (has_id j s) refl
         let here : list_any (has_id j) spans ≡ true = sym (is_some-find (has_id j) spans) ∙ ap (λ (o : Option Span). is_some o) found in
         absurd (let both : true ≡ false = sym here ∙ subst (λ k. list_any (has_id k) spans ≡ false) same fresh in cc)
 
--- the newest span stands before all others, once they are turned round
+-- the newest span is before all others, once they are reversed
 path_of-pushed : (spans : List Span) (s : Span) → IsGrown (s ∷ reverse spans) → (j : Id) → path_of (alone (spans ++ s ∷ [])) j ≡ path_among (s ∷ reverse spans) j
 path_of-pushed spans s grown j =
     let turned : reverse (spans ++ s ∷ []) ≡ s ∷ reverse spans = reverse-append spans (s ∷ []) in
@@ -141,7 +141,7 @@ children-more spans s j =
     ∙ elim (is_child_of j s) as (λ b. length (filter (is_child_of j) spans) + length (if b then s ∷ [] else [])
     ≡ length (filter (is_child_of j) spans) + (if b then 1 else 0)) [ true ↦ refl | false ↦ refl ]
 
--- an id that no span has is no parent
+-- an id that no span has isn't a parent
 children-none : (spans : List Span) (j : Id) → IsGrownForest (alone spans) → list_any (has_id j) spans ≡ false → length (children_of (alone spans) j) ≡ 0
 children-none spans j formed fresh =
     let none : list_any (is_child_of j) spans ≡ false =
@@ -224,7 +224,7 @@ tied-push nodes node formed tied new = record {
         m.children + times j node.span.parent ≡ length (children_of (alone (spans_of nodes ++ node.span ∷ [])) j)
     count j m e = count-by j m (kept_at nodes j) refl (found j m e)
 
--- ---- a span goes
+-- ---- a span is removed
 
 -- above an id no span has it
 above-all : (i : Id) (spans : List Span) → all_above i.0 spans ≡ true → without i spans ≡ spans
@@ -282,7 +282,7 @@ tied-remove nodes i node grown rising tied here childless = record {
     found : find (has_id i) (spans_of nodes) ≡ Some node.span
     found = found-span nodes i ∙ ap (λ o. option_map (λ (n : KeptSpan). n.span) o) here
 
--- what is left where a span without children goes, as the code takes it out
+-- the parent of the span that the code removes
 pub parent-read : (nodes : List KeptSpan) (i : Id) (o : Option KeptSpan) → kept_at nodes i ≡ o →
     parent_of (alone (spans_of nodes)) i ≡ option_and_then (λ (n : KeptSpan). n.span.parent) o
 parent-read nodes i o here =
@@ -297,7 +297,7 @@ parent-read nodes i o here =
 pub tied-nothing : (nodes new : List KeptSpan) (i : Id) → IsTied nodes → kept_at nodes i ≡ None → new ≡ leave_out i nodes → IsTied new
 tied-nothing nodes new i tied none e = subst IsTied (leave-none i nodes none ∙ sym e) tied
 
--- the parent counts the span that went
+-- the parent counts the span that was removed
 pub child-counted : (nodes new : List KeptSpan) (i p : Id) (node : KeptSpan) → IsRising (spans_of nodes) → IsTied nodes → kept_at nodes i ≡ Some node →
     node.span.parent ≡ Some p → new ≡ leave_out i nodes → IfSome (kept_at new p) (λ k. 0 < k.children)
 child-counted nodes new i p node rising tied here parent e = by (kept_at new p) refl
@@ -318,7 +318,7 @@ child-counted nodes new i p node rising tied here parent e = by (kept_at new p) 
         let fewer = children-without i (spans_of nodes) node.span rising found p in
         omega (arith, count, fewer, one)
 
--- a span goes that counts at its parent
+-- a span is removed that counts at its parent
 pub tied-leaf : (nodes left new : List KeptSpan) (i p : Id) (node : KeptSpan) → IsGrown (reverse (spans_of nodes)) → IsRising (spans_of nodes) → IsTied nodes → kept_at nodes i ≡ Some node →
     list_any (is_child_of i) (spans_of nodes) ≡ false → node.span.parent ≡ Some p → left ≡ leave_out i nodes → new ≡ change_kept child_less p left → IsTied new
 tied-leaf nodes left new i p node grown rising tied here childless parent e e' =
@@ -326,7 +326,7 @@ tied-leaf nodes left new i p node grown rising tied here childless parent e e' =
     e' ∙ ap (change_kept child_less p) e ∙ ap (λ o. without_child o (leave_out i nodes)) (sym parent) in
     subst IsTied (sym whole) (tied-remove nodes i node grown rising tied here childless)
 
--- a root goes
+-- a root is removed
 pub tied-root : (nodes new : List KeptSpan) (i : Id) (node : KeptSpan) → IsGrown (reverse (spans_of nodes)) → IsRising (spans_of nodes) → IsTied nodes → kept_at nodes i ≡ Some node →
     list_any (is_child_of i) (spans_of nodes) ≡ false → node.span.parent ≡ None → new ≡ leave_out i nodes → IsTied new
 tied-root nodes new i node grown rising tied here childless parent e =

@@ -97,7 +97,7 @@ walk-falls forest shown at span formed h next =
             let n = ap (left_of forest) (next ∙ e) ∙ left p (span_at forest p) refl ∙ ap (λ o. option_map_or (λ (s : Span). length (path_of forest p)) o 0) g in
             omega (arith, n, falls)
 
--- it ends where no span is left
+-- it ends when no span is left
 pub walk-ends : (forest : Forest) (i : Id) (ids : List Id) (at : Option Id) → IsForest forest → None ≡ look_at forest at →
     ids ++ way_up forest at ≡ way_up forest (Some i) → ids ≡ way_up forest (Some i)
 walk-ends forest i ids None formed h way = sym (append-nil ids) ∙ way

@@ -33,10 +33,10 @@ use Rattle.tracing_tree_tap.specs.Line.{begins_summary, comment_of, described, d
 use Rattle.tracing_tree_tap.specs.Strings.{first_part, first_word, rest_after, unescaped, without_end, without_leading, without_margin}
 use Rattle.tracing_tree_tap.specs.Tally.{broken_tally, counted_tally, has_failed, level_of, no_counts, tally_fields, verdict_of, word_of}
 
--- What is known after a line: the id of the next span, the moment of all calls, which lines are read,
--- the innermost subtest that runs (or the script), those around it with the nearest first, the name of
--- a subtest that may open, the result that waits for its block, the counts, and the calls that weren't
--- passed on yet.
+-- What is known after a line: the id of the next span, the moment of all calls, which lines are
+-- read, the innermost subtest that runs (or the script), its ancestors with the nearest first, the
+-- name of a subtest that may open, the result that waits for its block, the counts, and the calls
+-- that weren't returned yet.
 pub record TapState : Type 0 where
   pub next : ℕ
   pub moment : Moment
@@ -179,7 +179,7 @@ left_to (parent ∷ others) s =
 abbrev pub left : TapState → TapState
 left s = left_to s.outer s
 
--- the subtest around the one that runs is deeper than this column
+-- the parent of the running subtest is deeper than this column
 abbrev pub is_nested : ℕ → List Subtest → Bool
 is_nested column [] = false
 is_nested column (parent ∷ others) = nat_lt column parent.column
@@ -272,7 +272,7 @@ abbrev pub begun_anew : ℕ → TapState → TapState
 begun_anew number s =
     if (number == 1) && not (s.subtest.ran == 0) then restarted s else s
 
--- the number 1 begins anew, and numbers in between are missing
+-- counts this number; the numbers skipped before it are missing
 abbrev pub given_from : ℕ → TapState → TapState
 given_from number s = one_counted number (missed (one_more s.subtest.last) number s)
 
@@ -288,7 +288,7 @@ number_taken None s = one_counted (one_more s.subtest.last) s
 abbrev pub directive_in : List ℕ → Directive
 directive_in rest = directive_of (tail_of (described rest))
 
--- a description without its note; a `#` that is no note belongs to the description
+-- a description without its note; a `#` that isn't a note belongs to the description
 abbrev pub name_as : Directive → List ℕ → List ℕ
 name_as Absent text = text
 name_as Skip text = label_part text
@@ -373,7 +373,7 @@ result_placed mark rest s =
 abbrev pub without_heading : TapState → TapState
 without_heading s = record s { heading = None }
 
--- A result belongs to the subtest in its column. It ends one that is deeper; those in that one have
+-- A result belongs to the subtest in its column. It ends a deeper subtest; those in that one have
 -- no result.
 unfoldable pub result_taken : Mark → List ℕ → TapState → TapState
 result_taken mark rest s =

@@ -1,4 +1,4 @@
--- Small forests of registries of one's own are well-formed.
+-- Small forests of custom registries are well-formed.
 use Rattle.std.proofs.Common.{◌≡◌, ℕ, Bool, true, false, List, [], ◌∷◌, Option, Some, None, option_map, refl, sym, ap, ◌∙◌}
 use Rattle.std.specs.List.{IsDistinct}
 use Rattle.tracing_tree_spans.specs.Registry.Ids.{id_of, same_id}
@@ -12,7 +12,7 @@ use Rattle.tracing_tree_spans.proofs.PathsUp.{forest-by_paths, id_laws}
 found : (forest : Forest) (i : Id) (s : Span) (o : Option Id) → span_at forest i ≡ Some s → s.parent ≡ o → option_map (λ span. span.parent) (span_at forest i) ≡ Some o
 found forest i s o at parent = ap (λ (o : Option Span). option_map (λ (span : Span). span.parent) o) at ∙ ap (λ (o : Option Id). Some o) parent
 
--- a root alone
+-- only a root
 pub one_root : (root : Span) (next : Option Id) → root.parent ≡ None → IsForest (record { spans = root ∷ []; next = next })
 unfolding IsDistinct
 one_root root next top = forest-by_paths forest (tt, tt) paths

@@ -18,7 +18,7 @@ filled-digit fill places n h =
     ap (filled_in fill places) (decimal_digit n h)
     ∙ ap (λ d. replicate (places - 1) fill ++ (48 + d) ∷ []) digit
 
--- a number of more digits: those before the last one stand in one place less
+-- a number of more digits: those before the last one take one place less
 pub filled-step : (fill places n : ℕ) → 10 ≤ n → n < 2 ^ 64 →
     filled_in fill places (decimal n) ≡ filled_in fill (places - 1) (decimal (n / 10)) ++ (48 + n % 10) ∷ []
 filled-step fill places n h k =

@@ -30,7 +30,7 @@ pub record Timer : Type 0 where
 abbrev pub elapsed : ℕ → ℕ → ℕ
 elapsed start now = now - start
 
--- how far two numbers lie apart
+-- the distance between two numbers
 abbrev pub distance : ℕ → ℕ → ℕ
 distance m n = (m - n) + (n - m)
 
@@ -44,7 +44,7 @@ is_nearest_count unit n count =
     || ((2 * distance n (count * unit) == unit) && is_even count)
 
 -- the count of a unit that is nearest to n: what fits into n, or one more. `CountLaws` proves that
--- `is_nearest_count` holds of it, and of no other count, where the unit is above 0.
+-- `is_nearest_count` holds of it, and of no other count, if the unit is above 0.
 abbrev pub nearest_count : ℕ → ℕ → ℕ
 nearest_count unit n = if is_nearest_count unit n (n / unit) then n / unit else n / unit + 1
 
@@ -135,8 +135,8 @@ civil_in year day nanos = record {
   nanosecond = nanos % 1_000_000_000;
 }
 
--- The number of the day at a count of nanoseconds after the start of 1970. `nanos_of_day` is how
--- many of them lie after that day's midnight.
+-- The number of the day at a count of nanoseconds after the start of 1970. `nanos_of_day` is the
+-- count of those after that day's midnight.
 abbrev pub day_at : ℤ → ℤ
 day_at nanos = int_div_euclid nanos (pos 86_400_000_000_000)
 
@@ -194,7 +194,7 @@ abbrev pub local_text : ℤ → ℤ → List ℕ
 local_text nanos offset =
     civil_text (civil_at (nanos +ℤ nanos_of_seconds offset)) ++ 32 ∷ offset_text offset
 
--- ---- the timers. Each instant has a civil date and time at each offset, so none of these faults.
+-- ---- the timers. Each instant has a civil date and time at each offset, so these never fail.
 
 -- the timer that writes nothing
 abbrev pub no_timer : Timer

@@ -21,7 +21,7 @@ module _ {C : Type 0} (answers : Call → Result Reply Refusal → C → C → T
       let ByOld : C → Type 0 = λ one. Made answers call one new answer in
       subst ByOld is_old (subst ByAnswer is_answer (subst ByCall is_call made))
 
-  -- the same at a moment that was told
+  -- the same at a moment that was reported
   pub made_at : (tells : Option Moment → Type 0) (call : Moment → Call) (moment : Moment) → tells (Some moment)
       → (given : Call) → given ≡ call moment → (result answer : Result Reply Refusal) → result ≡ answer
       → (inside old new : C) → inside ≡ old → answers given result inside new

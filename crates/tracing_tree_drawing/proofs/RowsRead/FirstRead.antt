@@ -127,7 +127,7 @@ pub branch-line : (from amount : ℕ) (text : List ℕ) →
     ≡ columns from space ++ (encode_utf8 branch ++ (columns (amount - 1) horizontal ++ text))
 branch-line from amount text = three-parts (columns from space) (encode_utf8 branch) (columns (amount - 1) horizontal) text
 
--- ---- bare texts
+-- ---- bare strings
 
 not-true : (x : Bool) → not x ≡ true → x ≡ false
 not-true true e = cc
@@ -137,7 +137,7 @@ none-is : (o : Option (List ℕ)) → is_some o ≡ false → o ≡ None
 none-is None e = refl
 none-is (Some x) e = cc
 
--- what is bare begins with none of the marks
+-- a bare string doesn't begin with a mark
 pub record IsUnmarked (text : List ℕ) : Type 0 where
   pub down_left : after_front (encode_utf8 corner_down_left) text ≡ None
   pub up_left : after_front (encode_utf8 corner_up_left) text ≡ None

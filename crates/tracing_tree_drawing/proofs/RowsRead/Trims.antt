@@ -1,4 +1,4 @@
--- What std's calls on beginnings of texts give.
+-- What std's calls on prefixes of strings return.
 use Rattle.std.proofs.Common.{◌≡◌, ◌≢◌, ℕ, zero, suc, ◌+◌, ◌-◌, ◌<◌, List, [], ◌∷◌, ◌++◌, length, drop, Option, Some, None, MatchOption, IfSome, refl, sym, ap, ◌∙◌, arith, append_assoc, length-append, ne_eqb, Bor}
 use Rattle.std.specs.Char.{encode_utf8}
 use Rattle.std.specs.List.{repeat}
@@ -16,7 +16,7 @@ after-none front text h = by (after_front front text) refl
     by None e = refl
     by (Some rest) e = absurd (h rest (after_front-is front text rest e))
 
--- `strip_prefix` at a text
+-- `strip_prefix` at a string
 pub stripped-after : (front text : List ℕ) (r : Option (Bor (List ℕ))) →
     MatchOption r (FindsTextPrefix front text None) (λ x. (n : ℕ) × FindsTextPrefix front text (Some n) × (x.now ≡ drop n text) × (length x.now + n ≡ length text)) →
     MatchOption r (after_front front text ≡ None) (λ x. after_front front text ≡ Some x.now)

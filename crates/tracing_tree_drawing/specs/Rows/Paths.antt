@@ -1,4 +1,4 @@
--- Where the ancestors of the events of a text stand in it.
+-- Where a drawing shows the ancestors of its events.
 use Rattle.std.specs.Prelude.{◌≡◌, ℕ, ◌++◌, ◌∷◌, List, [], length, slice_get, Option, option_and_then, Result, Ok, Err}
 use Rattle.std.specs.declared.alloc.AllocError.{AllocError}
 use Rattle.tracing_tree_drawing.specs.Rows.RowText.{TextRow, IsOnlyReading, above, event_path_at, event_paths}
@@ -34,7 +34,7 @@ pub record ArePathsOf (rows : List TextRow) (places : List (Option ℕ)) (count 
   pub counted : count ≡ length rows
   pub found : paths ≡ event_paths rows
 
--- the paths of the events of a text that is read
+-- the paths of the events of a string that is read
 pub record AreEventPaths (amount : ℕ) (text : List ℕ) (paths : List EventPath) : Type 0 where
   pub rows : List TextRow
   pub reading : IsOnlyReading amount text rows

@@ -23,7 +23,7 @@ use Rattle.tracing_tree_layer.proofs.Reading.Turns.{IsKeptUp, IsLatestAfter, kep
 
 -- ---- forests whose spans have changed
 
--- the one is the other with its spans changed, but for ids and parents
+-- the one is the other with its spans changed, except for ids and parents
 pub record IsChanged (old new : Forest) : Type 0 where
   pub change : Span → Span
   pub same : IsSame change
@@ -62,7 +62,7 @@ along-map ids u same (x ∷ xs) h = (
   along-map ids u same xs h.1,
 )
 
--- and they do where only the spans before the change are known
+-- and they do if only the spans before the change are known
 along-back : (ids : List Id) (u : Span → Span) → IsSame u → (xs : List Span) → Each (GoesAlong ids) (map u xs) → Each (GoesAlong ids) xs
 along-back ids u same [] h = tt
 along-back ids u same (x ∷ xs) h = (

@@ -35,7 +35,7 @@ pub record IsFollowed (forest : Forest) (last : Option Id) (rows : List Row) : T
 pub well-formed : {forest : Forest} {last : Option Id} {rows : List Row} → IsFollowed forest last rows → IsForest forest
 well-formed {forest} f = as_forest forest f.formed
 
--- where spans are not deferred all are printed
+-- if spans aren't deferred, all are printed
 abbrev pub IsAllShown : Settings → Forest → Type 0
 IsAllShown settings forest = settings.deferred_spans ≡ false → (i : Id) → is_live forest i ≡ true → is_printed forest i ≡ true
 
@@ -87,7 +87,7 @@ live-same u same forest i = ap (λ (o : Option Span). is_some o) (find-same u sa
     by None = refl
     by (Some s) = refl
 
--- neither id, parent nor mark changes
+-- id, parent and mark are unchanged
 pub record IsQuiet (u : Span → Span) : Type 0 where
   pub same : IsSame u
   pub written : (s : Span) → (u s).kept.written ≡ s.kept.written

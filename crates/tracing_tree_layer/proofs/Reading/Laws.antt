@@ -93,7 +93,8 @@ module _ {settings : Settings} {timer : Timer} {first : Option Id} {calls : List
       latest-run settings timer e.before (opening_state first) [] (kept-opening settings first) on
       (on_path-front settings timer (opening_state first) e.before (A.Event e.event e.context ∷ e.after) part) (latest-opening first)
 
-  -- where the current span is live and spans are retraced, the rows before the event's are those of its retrace
+  -- if the current span is live and spans are retraced, the rows before the event's are those of
+  -- its retrace
   retraced-rows : (e : EventInRun settings timer first calls) (i : Id) → current_of (forest_at e) e.context ≡ Some i → retraces settings ≡ true →
       rows_before e ≡ (run_before e).rows ++ fresh_rows settings e.context (forest_at e) (fresh_ids (forest_at e) (run_before e).state.last i)
   retraced-rows e i at on =

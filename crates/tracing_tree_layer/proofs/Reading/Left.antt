@@ -106,7 +106,7 @@ closing-along forest i = going-follows (take_handle i forest) None (reverse (pat
 
 -- ---- what is left
 
--- the spans that are none of these
+-- the spans that aren't among these
 abbrev pub left : List Id → List Span → List Span
 left ids spans = filter (λ span. not (is_gone ids span.id)) spans
 

@@ -20,7 +20,7 @@ use Rattle.tracing_tree_layer.proofs.Reading.Parts.{at_seam}
 
 -- ---- the last opening row of a level
 
--- its span, or what stood before these rows
+-- its span, or the span before these rows
 abbrev pub seen : Option Id → ℕ → List Row → Option Id
 seen o level [] = o
 seen o level (row ∷ rows) = seen (if opens_at level row then row.span else o) level rows

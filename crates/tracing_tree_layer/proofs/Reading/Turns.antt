@@ -234,7 +234,7 @@ latest-event settings timer context forest last rows event formed h =
 
 -- ---- closes
 
--- the span whose parent is asked
+-- the span whose parent is read
 pub parent-found : (forest : Forest) (i above : Id) → parent_of forest i ≡ Some above → (s : Span) × (span_at forest i ≡ Some s) × (s.parent ≡ Some above)
 parent-found forest i above h = by (span_at forest i) refl h
   where
@@ -255,7 +255,7 @@ parent-on_path forest formed i above h =
     own None e k = no_both (sym k)
     own (Some t) e k = own-path forest formed above t e
 
--- where the span is live, it is printed
+-- if the span is live, it is printed
 abbrev pub IsShown : Forest → Id → Type 0
 IsShown forest i = is_live forest i ≡ true → is_printed forest i ≡ true
 

@@ -76,7 +76,7 @@ pub nothing_held : answers_of lined no_timer (opening_state (Some (id_of 1)))
     ≡ Err (NotHeld (id_of 7)) ∷ Err (NotHeld (id_of 7)) ∷ Ok Done ∷ Ok Done ∷ []
 nothing_held = refl
 
--- a root that went
+-- a root that closed
 pub gone_root : answers_of lined no_timer (left_by lined two_roots) (closed 1 ∷ closed 1 ∷ Clone (id_of 1) ∷ made (codes "c") (inside 1) ∷ Record (id_of 1) (record { fields = [] }) ∷ informed (codes "x") (inside 1) ∷ [])
     ≡ Ok (Closed true) ∷ Err (NotHeld (id_of 1)) ∷ Err (NotHeld (id_of 1)) ∷ Err (NotHeld (id_of 1)) ∷ Ok Done ∷ Ok Done ∷ []
 gone_root = refl

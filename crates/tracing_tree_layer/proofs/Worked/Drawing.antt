@@ -41,7 +41,7 @@ pub skipped_field : written plain (told Warn Current (rendered_field (codes "k")
 unfolding encode_utf8
 skipped_field = refl
 
--- only in the first place is a span's message shown alone
+-- a span's message shows only its value, but only in the first place
 pub second_message : written plain (made_with (message (codes "m") ∷ rendered_field (codes "k") (codes "1") ∷ message (codes "n") ∷ []) (codes "a") outside ∷ [])
     ≡ encode_utf8_all (codes " a m, k=1, message=n\n")
 unfolding encode_utf8

@@ -14,7 +14,7 @@ use Rattle.tracing_tree_layer.specs.declared.call.Call.TheVariants.{New, Event, 
 use Rattle.tracing_tree_layer.specs.Difference.Items.{differing}
 use Rattle.tracing_tree_layer.proofs.WorkedCalls.{lined, outside, inside, made, message, informed, closed, written, written_after}
 
--- a root after another has gone
+-- a root after another has closed
 pub root_after_close : written (record lined { span_retrace = true }) (made (codes "a") outside ∷ closed 1 ∷ made (codes "b") outside ∷ informed (codes "x") (inside 2) ∷ [])
     ≡ encode_utf8_all (codes "┐a \n┘\n┐b \n├─ INFO x\n")
 unfolding encode_utf8

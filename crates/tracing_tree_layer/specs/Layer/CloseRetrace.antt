@@ -1,4 +1,4 @@
--- Where `close_retrace` is on, a span whose parent is off the last path is retraced before it closes.
+-- With `close_retrace`, a span whose parent is off the current branch is retraced before it closes.
 use Rattle.std.specs.Prelude.{Bool, false, not, ◌&&◌, Option}
 use Rattle.std.specs.Option.{option_map_or}
 use Rattle.std.specs.List.{list_any}

@@ -1,4 +1,4 @@
--- What stands before the fields of a span, in parts. No public contract names these.
+-- What precedes the fields of a span, in parts. No public contract names these.
 use Rattle.std.specs.Prelude.{ℕ, if◌then◌else◌, List, [], ◌++◌, codes}
 use Rattle.tracing_tree_drawing.specs.Format.Settings.{Settings}
 use Rattle.tracing_tree_text.specs.Style.{styled}

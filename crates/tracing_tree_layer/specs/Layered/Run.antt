@@ -27,7 +27,7 @@ after_refusal state TimerFault = record state { failed = true }
 after_refusal state Writer = record state { failed = true }
 after_refusal state refusal = state
 
--- one run and then another, which begins where the first ends
+-- one run and then another, which begins with the state after the first
 abbrev pub then_run : Run → (State → Run) → Run
 then_run first next =
     let rest = next first.state in
@@ -45,13 +45,13 @@ replies_among [] = []
 replies_among (Ok reply ∷ answers) = reply ∷ replies_among answers
 replies_among (Err refusal ∷ answers) = replies_among answers
 
--- what a call is answered where memory suffices and the writer doesn't fault
+-- the answer to a call if memory suffices and the writer doesn't fail
 abbrev pub answer_by_cause : State → Call → Option Refusal → Result Reply Refusal
 answer_by_cause state call None = Ok (reply_of state.forest call)
 answer_by_cause state call (Some refusal) = Err refusal
 
--- a refusal is for the first cause, or for want of memory where the call takes some; that for the
--- writer comes only where there is no cause and a text to be written
+-- A refusal has the first cause, or memory ran out, if the call takes memory. `Writer` comes only
+-- if there is no cause and there is text to write.
 abbrev pub IsRefusedFor : Option Refusal → List ℕ → Bool → Refusal → Type 0
 IsRefusedFor cause text without_memory Memory = without_memory ≡ false
 IsRefusedFor cause text without_memory Writer = (cause ≡ None) × (text ≢ [])
@@ -73,7 +73,7 @@ module _ (settings : Settings) (timer : Timer) where
   run_by_cause state call None = accepted state call
   run_by_cause state call (Some refusal) = no_call (after_refusal state refusal)
 
-  -- one call; one that is refused draws nothing
+  -- one call; a refused call draws nothing
   abbrev pub run_one : State → Call → Run
   run_one state call = run_by_cause state call (cause_of settings timer state call)
 

@@ -12,8 +12,7 @@ use Rattle.tracing_tree_layer.specs.declared.call.Call.TheVariants.{New, Clone, 
 use Rattle.tracing_tree_layer.specs.declared.call.Reply.{Reply}
 use Rattle.tracing_tree_layer.specs.declared.call.Reply.TheVariants.{Span, Cloned, Done, Closed}
 
--- the id that a new span gets (where there is none, the call is refused, and nothing depends on
--- this)
+-- the id that a new span gets (if no id is left, the call is refused, and nothing depends on this)
 abbrev pub new_id : Forest → Id
 new_id forest = unwrap_or forest.next (id_of 0)
 

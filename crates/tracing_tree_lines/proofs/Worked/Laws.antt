@@ -1,4 +1,5 @@
--- The reading laws on worked runs: what they say where their premises hold, and that they fail without the premise on closes.
+-- The reading laws on worked runs: what they say if their premises hold, and that they fail without
+-- the premise on closes.
 use Rattle.std.proofs.Common.{◌≡◌, true, List, [], ◌∷◌, Option, Some, unwrap_or, refl, sym, ap, ◌∙◌, arith}
 use Rattle.std.specs.Prelude.{codes}
 use Rattle.tracing_tree_drawing.specs.Format.Settings.{Settings}

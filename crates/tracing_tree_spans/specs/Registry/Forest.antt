@@ -11,8 +11,8 @@ use Rattle.tracing_tree_spans.specs.declared.registry.Parent.{Parent}
 use Rattle.tracing_tree_spans.specs.declared.registry.Parent.TheVariants.{Root, Current, Of}
 use Rattle.tracing_tree_spans.specs.declared.registry.Attributes.{Attributes}
 
--- the live spans, which a `Registry` lists the oldest first, and the next id, which is none once
--- the greatest was given out
+-- the live spans, which a `Registry` lists oldest first, and the next id, which is `None` once the
+-- greatest was used
 pub record Forest : Type 0 where
   pub spans : List Span
   pub next : Option Id
@@ -35,7 +35,7 @@ is_live forest i = is_some (span_at forest i)
 abbrev pub parent_of : Forest → Id → Option Id
 parent_of forest i = option_and_then (λ span. span.parent) (span_at forest i)
 
--- a span that isn't live has none
+-- 0 for a span that isn't live
 abbrev pub handles_of : Forest → Id → ℕ
 handles_of forest i = option_map_or (λ span. span.handles) (span_at forest i) 0
 
@@ -113,7 +113,7 @@ pub record IsPathIfLive (forest : Forest) (i : Id) (path : List Id) : Type 0 whe
 
 -- ---- well-formed forests
 
--- among these spans, the newest first, each has an id of its own, and its parent is an older one
+-- among these spans, newest first, each has a distinct id, and its parent is older
 abbrev pub IsGrown : List Span → Type 0
 IsGrown [] = ⊤
 IsGrown (span ∷ older) =
@@ -132,14 +132,14 @@ abbrev pub IsAncestor : Forest → Id → Id → Type 0
 IsAncestor forest above i =
     (way : List Id) × Descends forest (Some above) way × (last_or None way ≡ Some i)
 
--- Each span has an id of its own, each parent is live, and nobody is their own ancestor. Nothing is
--- asked of the order of the list, nor of the next id.
+-- Each span has a distinct id, each parent is live, and no span is its own ancestor. The order of
+-- the list and the next id are arbitrary.
 pub record IsForest (forest : Forest) : Type 0 where
   pub distinct : IsDistinct same_id (map (λ span. span.id) forest.spans)
   pub parents : (i above : Id) → parent_of forest i ≡ Some above → IsTrue (is_live forest above)
   pub loopless : (i : Id) → IsAncestor forest i i → ⊥
 
--- a forest whose spans stand in the order in which they were made: each after its parent, and all
+-- a forest whose spans are in the order in which they were made: each after its parent, and all
 -- below the next id
 pub record IsGrownForest (forest : Forest) : Type 0 where
   pub grown : IsGrown (reverse forest.spans)
@@ -213,7 +213,7 @@ take_back i forest =
 
 -- ---- closing
 
--- no handle is left, and no child but the one that closes before it
+-- no handle is left, and no child except the one that closes before it
 abbrev pub goes_after : Forest → Option Id → Id → Bool
 goes_after forest before i =
     (handles_of forest i == 0)
@@ -228,15 +228,14 @@ abbrev pub FirstStays : Forest → Option Id → List Id → Type 0
 FirstStays forest before [] = ⊤
 FirstStays forest before (i ∷ more) = goes_after forest before i ≡ false
 
--- a beginning of a list of ids in which each goes after the one before it, and no longer beginning
--- is so
+-- the longest prefix of a list of ids in which each span closes after the one before it
 pub record IsLongestGoing (forest : Forest) (ids going : List Id) : Type 0 where
   pub rest : List Id
   pub whole : ids ≡ going ++ rest
   pub each : IsTrue (list_all (λ step. goes_after forest step.0 step.1) (with_previous going))
   pub longest : FirstStays forest (last_or None going) rest
 
--- the span, its parent and so on upward, as far as each goes after the one before it
+-- the span, its parent and so on upward, as far as each closes after the one before it
 abbrev pub going_up : Forest → Id → List Id
 going_up forest i =
     let steps = with_previous (reverse (path_of forest i)) in
@@ -247,8 +246,8 @@ going_up forest i =
 abbrev pub closing_of : Forest → Id → List Id
 closing_of forest i = going_up (take_handle i forest) i
 
--- what leaves the forest when one handle of a span is taken away: of the way from the span up to
--- its root, the longest beginning that goes
+-- what leaves the forest when one handle of a span is dropped: the longest closing prefix of the
+-- path from the span up to its root
 unfoldable pub IsClosing : Forest → Id → List Id → Type 0
 IsClosing forest i ids =
     (path : List Id) × IsPath forest i path

@@ -9,7 +9,7 @@ abbrev pub agree_at : List Id → List Id → ℕ → Bool
 agree_at old new k =
     option_map_or (λ i. option_map_or (same_id i) (slice_get new k) false) (slice_get old k) false
 
--- where two places agree, all places before them agree
+-- if two places agree, all places before them agree
 abbrev pub PartOnce : List Id → List Id → Type 0
 PartOnce old new =
     (k : ℕ) → IsTrue (agree_at old new k) → (j : ℕ) → j ≤ k → IsTrue (agree_at old new j)
