@@ -1,4 +1,4 @@
--- What the functions that C calls answer and leave.
+-- The answers and effects of the functions that C calls.
 use Rattle.std.specs.Prelude.{◌<◌, ◌≤◌, ◌++◌, List, drop, length, ◌≡◌, ◌≢◌, ℕ, Bool, None, Some, Ok, Err}
 use Rattle.tracing_tree_context.specs.declared.context.Refusal.{Refusal}
 use Rattle.tracing_tree_context.specs.declared.context.Refusal.TheVariants.{NotHeld, TooWide, TooMany, Memory, Timer as TimerFault, Writer, Failed}
@@ -44,7 +44,7 @@ abbrev pub went_after : Outcome → Bool → Bool
 went_after (Answered (Ok (Closed went))) before = went
 went_after outcome before = before
 
--- what a call answers and leaves
+-- the answer of a call, and what it leaves
 abbrev pub Answers : Type 0 → Type 0 → Type 0 → (Call → Type 0) → ℕ → Kept → Kept → Type 0
 Answers IsKnown IsText IsSmall IsThis status old new =
     (outcome : Outcome) × (status ≡ status_of outcome)

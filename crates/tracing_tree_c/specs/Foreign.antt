@@ -79,7 +79,7 @@ parent_of kind id =
     else if kind == 2 then Some (Of (id_of id))
     else None
 
--- ids begin at 1, so that 0 names no span
+-- ids begin at 1, so 0 means no span
 abbrev pub current_of : ℕ → Option Id
 current_of id = if id == 0 then None else Some (id_of id)
 

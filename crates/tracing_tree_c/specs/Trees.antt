@@ -74,7 +74,7 @@ Performs (Ok call) outcome (Some old) new =
     × (new ≡ Some left) × IsCalled call answer old left
 Performs (Err fault) outcome (Some old) new = (outcome ≡ NotRead fault) × (new ≡ Some (blank old))
 
--- what becomes of a call that C makes
+-- the outcome of a call that C makes
 abbrev pub Makes : Type 0 → Type 0 → Type 0 → (Call → Type 0) → Outcome → Kept → Kept → Type 0
 Makes IsKnown IsText IsSmall IsThis Missing old new = (old ≡ None) × (new ≡ None)
 Makes IsKnown IsText IsSmall IsThis (NotRead fault) None new = ⊥

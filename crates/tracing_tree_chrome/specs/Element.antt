@@ -25,7 +25,7 @@ use Rattle.tracing_tree_chrome.specs.declared.element.Naming.TheVariants.{Proces
 
 -- ---- numbers
 
--- one digit or more, and nothing else
+-- one digit or more, and only digits
 abbrev pub is_digits : List ℕ → Bool
 is_digits text = not (is_empty text) && all_ascii_digits text
 
@@ -45,11 +45,11 @@ integer_of text =
     if is_digits (without_leading_sign text) && fits_i128 (signed_digits_value 10 text)
     then Some (signed_digits_value 10 text) else None
 
--- what a digit counts
+-- the value of a digit
 abbrev pub digit_in : ℕ → ℕ
 digit_in byte = byte - 48
 
--- The thousandths that the digits after a point write. Those after the third are cut off.
+-- The thousandths that the digits after a point write. Digits after the third are ignored.
 abbrev pub thousandths : List ℕ → ℕ
 thousandths [] = 0
 thousandths (a ∷ []) = digit_in a * 100

@@ -18,8 +18,8 @@ use Rattle.tracing_tree_chrome.specs.declared.gather.Point.{Point}
 use Rattle.tracing_tree_chrome.specs.declared.gather.Shape.{Shape}
 use Rattle.tracing_tree_chrome.specs.declared.gather.Shape.TheVariants.{Event, Whole, Unended}
 
--- What elements said: what is drawn, the spans that began and haven't ended with the newest last, how
--- processes and threads are called, the asynchronous tracks, and how many elements there were.
+-- What elements said: what is drawn, the spans that began and haven't ended with the newest last,
+-- the names of processes and threads, the asynchronous tracks, and the count of elements.
 pub record GatheredState : Type 0 where
   pub items : List Item
   pub begun : List Item
@@ -31,7 +31,7 @@ pub record GatheredState : Type 0 where
 abbrev pub nothing_gathered : GatheredState
 nothing_gathered = record { items = []; begun = []; processes = []; threads = []; tracks = []; count = 0 }
 
--- the last time that there is
+-- the largest possible time
 abbrev pub last_time : ℕ
 last_time = 2 ^ 64 - 1
 
@@ -133,11 +133,11 @@ gathered_as (ThreadName lane text) index s =
     record s { threads = s.threads ++ named lane text ∷ [] }
 gathered_as Other index s = s
 
--- what one element says more
+-- one more element
 abbrev pub gathered_one : Element → GatheredState → GatheredState
 gathered_one element s = gathered_as element s.count (record s { count = one_more s.count })
 
--- all that is drawn; a span without an end, too
+-- all that is drawn, even a span without an end
 abbrev pub all_items : GatheredState → List Item
 all_items s = s.items ++ s.begun
 
@@ -146,7 +146,7 @@ lane_cmp a b =
     ordering_then (option_cmp int_cmp a.process b.process)
     (ordering_then (option_cmp int_cmp a.thread b.thread) (option_cmp nat_cmp a.track b.track))
 
--- by process, thread and track, by the start, the longer first, and then as they came
+-- by process, thread and track, by the start, the longer first, and then in their order
 abbrev pub item_cmp : Item → Item → Ordering
 item_cmp a b =
     ordering_then

@@ -51,7 +51,7 @@ abbrev pub counted_more : ℕ → ℕ → ℕ
 counted_more zero n = n
 counted_more (suc k) n = counted_more k (one_more n)
 
--- The first of these notes were added, as many as were counted more, or all of them.
+-- The first of these notes were added: as many as were counted, or all of them.
 pub record IsNoted (notes : List Note) (is_whole : Bool) (before after : ℕ)
     (old new : Option (List Note)) : Type 0 where
   pub count : ℕ

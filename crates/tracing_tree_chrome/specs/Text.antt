@@ -77,7 +77,7 @@ abbrev pub level_by : Option ℕ → ℕ
 level_by None = 2
 level_by (Some byte) = if byte == 91 then 1 else 2
 
--- how many brackets are open between two elements: the list's, and that of an object around it
+-- the count of open brackets between two elements: the list's, and that of an object around it
 abbrev pub level_of : List ℕ → ℕ
 level_of text = level_by (first_byte text)
 

@@ -22,7 +22,7 @@ use Rattle.tracing_tree_chrome.specs.declared.gather.Item.{Item}
 use Rattle.tracing_tree_sources.specs.declared.notes.Lack.{Lack}
 use Rattle.tracing_tree_sources.specs.declared.run.SourceRun.{SourceRun}
 
--- nothing was said yet
+-- nothing was read yet
 abbrev pub nothing_heard_of : Heard
 nothing_heard_of = record { gathered = nothing_gathered; unknown = 0 }
 
@@ -37,7 +37,7 @@ abbrev pub heard_all : Items → Heard → Heard
 heard_all no_items h = h
 heard_all (item value others) h = heard_all others (heard_as (element_of value) h)
 
--- what elements said; a trace that is cut within an element lost that one
+-- what elements said; a trace that is cut within an element lost that element
 abbrev pub heard_cut : Bool → Heard → Heard
 heard_cut is_cut h = if is_cut then heard_unknown h else h
 

@@ -66,7 +66,7 @@ is_inner test = list_any (λ b. b == 47) test
 abbrev pub outermost : List ℕ → List ℕ
 outermost test = take (position_or_len (λ b. b == 47) test) test
 
--- a line says of the test that it came to such an end
+-- a line says that the test came to such an end
 abbrev pub says : (Verdict → Bool) → Kept → List ℕ → Bool
 says is one test = is one.verdict && bytes_eq one.test test
 
@@ -118,7 +118,7 @@ package_released path untold shown =
 
 -- ---- what is kept
 
--- a line behind those of an outermost test, or with an empty name behind the package's own
+-- adds a line to those of an outermost test, or with an empty name to the package's own
 abbrev pub with_line : List ℕ → Kept → Untold → Untold
 with_line test one untold = put test (kept_in test untold ++ one ∷ []) (without test untold)
 

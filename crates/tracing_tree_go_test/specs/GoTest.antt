@@ -101,7 +101,7 @@ counts_failure tally = not (tally.failed == 0) || not (tally.packages_failed == 
 abbrev pub has_failed : GoState → Bool
 has_failed s = counts_failure s.tally
 
--- the names of what failed, after one more that is called so: ten of them, and no more
+-- the names of what failed, after one more: at most ten of them
 abbrev pub more_names : ℕ → List ℕ → List ℕ → List ℕ
 more_names count names name =
     if nat_le 10 count then names
@@ -161,7 +161,7 @@ abbrev pub elapsed_fields : Option (List ℕ) → List Field
 elapsed_fields None = []
 elapsed_fields (Some elapsed) = rendered_field (codes "elapsed") elapsed ∷ []
 
--- whether a package's result is one of an earlier run, and how much of it was covered
+-- whether a package's result is cached from an earlier run, and its coverage
 abbrev pub cached_fields : Bool → List Field
 cached_fields is_cached = if is_cached then truth_field (codes "cached") true ∷ [] else []
 
@@ -292,11 +292,11 @@ begun path test = record {
   coverage = [];
 }
 
--- it has begun, and not only its build
+-- it has started, and not only its build
 abbrev pub started : Held → Held
 started h = record h { one = record h.one { has_begun = true } }
 
--- what runs under this name; a package that isn't known yet begins
+-- what runs under this name; an unknown package starts
 abbrev pub running_as : List ℕ → List ℕ → Tests → Running
 running_as path name tests = unwrap_or (named name tests) (begun path [])
 
@@ -308,7 +308,7 @@ owner_within tests test (suc n) =
     if ends_word 47 (drop (suc n) test) && is_some (named (take (suc n) test) tests)
     then take (suc n) test else owner_within tests test n
 
--- the longest beginning of a name that runs
+-- the longest prefix of a name that runs
 abbrev pub owner : Tests → List ℕ → List ℕ
 owner tests test = owner_within tests test (length test)
 
@@ -359,7 +359,7 @@ abbrev pub placed : Option Id → Tests → Running → Running
 placed root others one =
     placed_in root (outer_within others one.test (length one.test)) one
 
--- what runs under the longest beginning of a name is taken out
+-- removes what runs under the longest prefix of a name
 unfoldable pub held : List ℕ → List ℕ → GoState → Held
 held path test s =
     let tests : Tests = tests_of path s in
@@ -388,12 +388,12 @@ above_held path test s =
     if is_empty test || not (bytes_eq h.one.test test) then h
     else held path test (left_one Unfinished h.one h.state)
 
--- a test begins in what is held, or its package
+-- a test, or its package, starts in what is held
 abbrev pub begun_in : List ℕ → List ℕ → Held → GoState
 begun_in path test h =
     if is_empty test then kept h else kept (holds (begun path test) (kept h))
 
--- a line that isn't ended yet comes before what begins after it
+-- a line that isn't ended yet comes before what starts after it
 abbrev pub ran : List ℕ → List ℕ → GoState → GoState
 ran path test s = begun_in path test (started (opened (part_told (above_held path test s))))
 
@@ -424,7 +424,7 @@ fails_as Plain = false
 fails_as Frame = false
 fails_as Failure = true
 
--- a string only frames: the line says so, or it reads so
+-- a string only frames: the line's type says so, or it has the form of a frame
 abbrev pub is_framing : Kind → List ℕ → List ℕ → Bool
 is_framing Plain test text = is_frame_line test text
 is_framing Frame test text = true
@@ -495,14 +495,14 @@ left_over ending root earlier (test ∷ later) s =
     left_one ending (placed root earlier test.1)
     (left_over ending root (earlier ++ test ∷ []) later s)
 
--- nothing runs of a package any more but the package itself
+-- only the package itself still runs of a package
 abbrev pub all_left_over : Ending → List ℕ → GoState → GoState
 all_left_over ending path s =
     let tests : Tests = tests_of path s in
     left_over ending (running_as path [] tests).span [] (without [] tests)
     (without_package path s)
 
--- how a test ends that still runs when its package ends so: Go doesn't say that a benchmark passed
+-- how a test ends that still runs when its package ends: Go doesn't report that a benchmark passed
 abbrev pub left_as : Ending → Ending
 left_as Passed = Passed
 left_as Failed = Unfinished
@@ -517,7 +517,7 @@ package_ended ending path elapsed s =
     (holds (running_as path [] (tests_of path counted_too))
     (all_left_over (left_as ending) path counted_too))
 
--- a test ends that runs, or that didn't
+-- a test ends, whether it runs or not
 abbrev pub test_ended : Ending → List ℕ → Option (List ℕ) → Held → GoState
 test_ended ending test elapsed h =
     if bytes_eq h.one.test test then finished ending elapsed h
@@ -535,11 +535,11 @@ ended ending path test elapsed s =
 
 -- ---- lines
 
--- a line that no build prints
+-- the level of a line that isn't a build's
 abbrev pub level_of_text : List ℕ → Level
 level_of_text line = if begins_trace line then Error else Info
 
--- no build is known to print, or `go` says what it does
+-- a line outside of builds: no build is known to print, or `go` says what it does
 abbrev pub is_aside : List ℕ → GoState → Bool
 is_aside line s = is_empty s.building || begins (codes "go: downloading ") line
 
@@ -570,14 +570,14 @@ test_of value = unwrap_or (text_at (codes "Test") value) []
 abbrev pub elapsed_in : Json → Option (List ℕ)
 elapsed_in value = option_and_then as_number (get (codes "Elapsed") value)
 
--- the package of a line; that of a build's line is the beginning of its import path
+-- the package of a line; that of a build's line is the first word of its import path
 abbrev pub package_of : Json → Option (List ℕ)
 package_of value = package_or_path (text_at (codes "Package") value) where
   package_or_path : Option (List ℕ) → Option (List ℕ)
   package_or_path (Some path) = Some path
   package_or_path None = option_map up_to_space (text_at (codes "ImportPath") value)
 
--- what a line says that its string is
+-- the kind of a string, by what its line says
 abbrev pub kind_named : List ℕ → Kind
 kind_named word =
     if bytes_eq word (codes "frame") then Frame
@@ -630,7 +630,7 @@ takes_json value s = acted_for (text_at (codes "Action") value) (package_of valu
 abbrev pub timed : Json → GoState → GoState
 timed value s = record s { moment = moment_after (text_at (codes "Time") value) s.moment }
 
--- what is known of a line is done, and nothing of another
+-- a known line is processed, and an unknown one changes nothing
 abbrev pub takes_value_as : Option GoState → GoState → GoState → Bool → Type 0
 takes_value_as (Some state) old new known = (new ≡ state) × (known ≡ true)
 takes_value_as None old new known = (new ≡ old) × (known ≡ false)
@@ -660,7 +660,7 @@ abbrev pub go_lacks : Option Json → Lack
 go_lacks None = Object
 go_lacks (Some value) = lack_in value
 
--- how many have no name in the list
+-- how many names aren't in the list
 abbrev pub more_text : ℕ → List ℕ
 more_text count =
     if nat_le count 10 then []
@@ -711,11 +711,11 @@ abbrev pub builds_told : List (List ℕ × Build) → GoState → GoState
 builds_told [] s = s
 builds_told (one ∷ others) s = builds_told others (texts_told Warn one.1 s)
 
--- no package runs any more
+-- no package is running
 abbrev pub packages_ended : GoState → GoState
 packages_ended s = packages_left s.packages (record s { packages = [] })
 
--- nothing runs any more, and nothing is left that a build printed
+-- nothing is running, and nothing is left that a build printed
 abbrev pub all_ended : GoState → GoState
 all_ended s = builds_told s.builds (packages_ended (record s { builds = [] }))
 

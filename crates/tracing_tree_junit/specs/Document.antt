@@ -1,4 +1,4 @@
--- What a document says.
+-- What a document means.
 use Rattle.std.specs.Prelude.{ℕ, zero, suc, Bool, true, List, length, Option, Some, None, Result, Ok, Err}
 use Rattle.tracing_tree_context.specs.declared.context.Moment.{Moment}
 use Rattle.tracing_tree_layer.specs.declared.call.Call.{Call}
@@ -15,7 +15,7 @@ pub record ReadDocument : Type 0 where
   pub state : JunitState
   pub is_cut : Bool
 
--- the end of a document: it is cut if an element is open
+-- the end of a document: it is truncated if an element is open
 abbrev pub at_end : JunitState → ReadDocument
 at_end s = record { state = s; is_cut = is_open s }
 

@@ -8,9 +8,9 @@ use Rattle.tracing_tree_junit.specs.declared.reading.Class.{Class}
 use Rattle.tracing_tree_junit.specs.declared.reading.Suite.{Suite}
 use Rattle.tracing_tree_junit.specs.declared.reading.Tally.{Tally}
 
--- The id of the next span, the moment of all calls, the elements that are open, the tag that is read,
--- the suites that are open, the span of a class, the case and the part that are read, how many cases
--- ended how, and the calls. What is innermost comes last.
+-- The id of the next span, the moment of all calls, the elements that are open, the tag that is
+-- read, the suites that are open, the span of a class, the case and the part that are read, the
+-- counts of cases by their ends, and the calls. What is innermost comes last.
 pub record JunitState : Type 0 where
   pub next : ℕ
   pub moment : Moment

@@ -1,4 +1,4 @@
--- What a document's tokens say, one after another.
+-- What a document's tokens mean, one after another.
 use Rattle.std.specs.Prelude.{ℕ, zero, suc, ◌-◌, ◌==◌, ◌||◌, not, Bool, true, false, if◌then◌else◌, List, [], ◌∷◌, ◌++◌, length, take, slice_get, Option, Some, None, is_some, codes, bytes_eq, pos}
 use Rattle.tracing_tree_spans.specs.Registry.Ids.{id_of}
 use Rattle.tracing_tree_context.specs.declared.context.Id.{Id}
@@ -317,7 +317,7 @@ ended s = ended_element (innermost s.elements) (record s { elements = outer s.el
 abbrev pub tag_begun : List ℕ → JunitState → JunitState
 tag_begun name s = record s { tag = record { name = name; attributes = [] } }
 
--- what a token says
+-- what a token means
 abbrev pub taken : XmlToken → JunitState → JunitState
 taken (start_tag name) s = tag_begun name s
 taken (attribute name value) s = record s { tag = with_attribute name value s.tag }

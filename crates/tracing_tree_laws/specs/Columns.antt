@@ -32,7 +32,7 @@ corner_columns left right from to = record {
       else (if nat_lt from column && nat_lt column to then code "─" else code " "));
 }
 
--- a span's corners; in a verbose row with room the first is half an amount further right
+-- a span's corners; in a verbose row with enough space the first is half an amount further right
 abbrev pub span_columns : ℕ → ℕ → Bool → ℕ → ℕ → FrameColumns
 span_columns left right false amount before = corner_columns left right before (before + amount)
 span_columns left right true amount before =

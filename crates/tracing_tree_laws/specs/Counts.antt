@@ -1,4 +1,4 @@
--- Nearest counts, by what they are.
+-- Nearest counts, by their property.
 use Rattle.std.specs.Prelude.{◌≡◌, ◌≢◌, ◌≤◌, ◌*◌, ℕ, true}
 use Rattle.tracing_tree_time.specs.Clock.{distance, is_even}
 

@@ -38,7 +38,7 @@ abbrev mutual
 abbrev pub member_fields : List (List ℕ) → List ℕ → Json → List Field
 member_fields keys key value = if list_any (bytes_eq key) keys then [] else value_fields key value
 
--- an object's members as fields, but those with one of these keys
+-- an object's members as fields, except those with one of these keys
 abbrev pub members_fields : List (List ℕ) → Members → List Field
 members_fields keys no_members = []
 members_fields keys (member key value others) =

@@ -1,4 +1,4 @@
--- What an object of a service's log says.
+-- What an object of a service's log means.
 use Rattle.std.specs.Prelude.{ℕ, ◌==◌, nat_lt, Bool, false, if◌then◌else◌, List, [], ◌∷◌, ◌++◌, length, Option, Some, None, is_some, unwrap_or, option_and_then, codes, bytes_eq}
 use Rattle.std.specs.List.{list_any, position_or_len, before_first}
 use Rattle.std.specs.Str.{str_eq_ignore_ascii_case}

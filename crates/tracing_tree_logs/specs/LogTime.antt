@@ -7,7 +7,7 @@ use Rattle.tracing_tree_context.specs.declared.context.Moment.{Moment}
 use Rattle.tracing_tree_sources.specs.Marks.{is_empty}
 use Rattle.tracing_tree_sources.specs.Moments.{moment_after, moment_at, moment_of}
 
--- one digit or more, and nothing else
+-- one digit or more, and only digits
 abbrev pub is_digits : List ℕ → Bool
 is_digits text = not (is_empty text) && all_ascii_digits text
 
@@ -17,7 +17,7 @@ whole_of text =
     if is_digits text && nat_lt (digits_value 10 text) (2 ^ 64)
     then Some (digits_value 10 text) else None
 
--- what a digit counts
+-- the value of a digit
 abbrev pub digit_in : ℕ → ℕ
 digit_in byte = byte - 48
 
@@ -33,7 +33,7 @@ abbrev pub after_three : List ℕ → List ℕ
 after_three (a ∷ b ∷ c ∷ rest) = rest
 after_three _ = []
 
--- the billionths that the digits after a point write; those after the ninth are cut off
+-- the billionths that the digits after a point write; digits after the ninth are ignored
 abbrev pub billionths : List ℕ → ℕ
 billionths digits =
     thousandths digits * 1_000_000 + thousandths (after_three digits) * 1000

@@ -1,4 +1,4 @@
--- JSON logs of services: what each line says.
+-- JSON logs of services: what each line means.
 use Rattle.std.specs.Prelude.{ℕ, if◌then◌else◌, List, [], ◌∷◌, ◌++◌, Option, Some, None, is_some, codes}
 use Rattle.json.specs.Find.{as_object}
 use Rattle.json.specs.Json.{Json}
@@ -98,14 +98,14 @@ line_told line (Some value) s =
 abbrev pub handed_out : LogsState → Step LogsState
 handed_out s = record { calls = s.calls; source = record s { calls = [] } }
 
--- what a line says: each is known
+-- what a line means: each is known
 abbrev pub logs_takes : LogsState → List ℕ → Option Json → Option (Step LogsState)
 logs_takes s line value = Some (handed_out (line_told line value s))
 
 abbrev pub logs_lacks : Option Json → Lack
 logs_lacks value = Object
 
--- The group of the last line closes at the end, and no other: its row would be drawn again.
+-- At the end only the group of the last line closes: the row of any other would be drawn again.
 abbrev pub close_of : Moment → Option Id → List Call
 close_of moment (Some span) = close_call moment span None ∷ []
 close_of moment None = []

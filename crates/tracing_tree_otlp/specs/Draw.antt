@@ -34,7 +34,7 @@ pub record TreeState : Type 0 where
 abbrev pub key_in : Item → List ℕ
 key_in item = key_of item.trace item.above
 
--- a row comes before those of its span that are there
+-- a row before the rows of its span that are already there
 abbrev pub put_first : Item → List (List ℕ × List Item) → List (List ℕ × List Item)
 put_first item groups =
     with_kept (key_in item) (item ∷ unwrap_or (kept_at (key_in item) groups) [])
@@ -109,7 +109,7 @@ span_fields nanoseconds service parent kind =
 abbrev pub without_group : List ℕ → TreeState → TreeState
 without_group key s = record s { groups = without_kept key s.groups }
 
--- the rows nested in a span; they are nested in no other
+-- the rows nested in a span, and in no other span
 abbrev pub group_at : List ℕ → TreeState → List Item
 group_at key s = unwrap_or (kept_at key s.groups) []
 
@@ -174,8 +174,8 @@ closed_as (Some id) frame s =
 abbrev pub closed : Frame → TreeState → TreeState
 closed frame s = closed_as frame.id frame s
 
--- Rows that no root leads to are nested in each other. The rows of the first span of those are shown in
--- their trace.
+-- Rows that no root leads to are nested in each other. The rows of the first span of these are
+-- shown in their trace.
 abbrev pub left_over_as : Option (List Item) → TreeState → TreeState
 left_over_as None s = s
 left_over_as (Some items) s = trace_opened (trace_of items) items s

@@ -217,7 +217,7 @@ resolved_as (Note note) known row = held (kept_at (key_of row.trace row.above) k
 abbrev pub resolved : List (List ℕ × ℕ) → Item → Item
 resolved known row = resolved_as row.shape known row
 
--- by the time, events and logs first, by the id, and then as they came
+-- by the time, events and logs first, by the id, and then in their order
 abbrev pub item_cmp : Item → Item → Ordering
 item_cmp a b =
     ordering_then

@@ -1,4 +1,4 @@
--- What a span, its links, its events and its status, and a log say.
+-- What a span, its links, its events and its status, and a log mean.
 use Rattle.std.specs.Prelude.{ℕ, ◌+◌, ◌-◌, ◌*◌, ◌%◌, ◌^◌, ◌==◌, nat_le, Bool, true, false, ◌&&◌, if◌then◌else◌, List, [], ◌∷◌, Option, Some, None, codes, bytes_eq}
 use Rattle.json.specs.Json.{Json, null, boolean, number, string, array, object, Members, no_members, member}
 use Rattle.json.specs.Find.{get}
@@ -71,7 +71,7 @@ link_note value = record {
 abbrev pub reason_fields : List ℕ → List Field
 reason_fields text = if is_empty text then [] else field_of (codes "message") text ∷ []
 
--- what a span ends with whose status is that it failed
+-- the last row of a span whose status is that it failed
 abbrev pub failed_note : Json → Note
 failed_note status = record {
   level = Error;

@@ -1,4 +1,4 @@
--- What the objects of OTLP/JSON have at their keys.
+-- The values of OTLP/JSON's objects at their keys.
 use Rattle.std.specs.Prelude.{ℕ, ◌^◌, ◌==◌, ◌&&◌, nat_le, nat_lt, Bool, not, if◌then◌else◌, List, [], ◌∷◌, ◌++◌, map, Option, Some, None, unwrap_or, option_and_then, codes, bytes_eq}
 use Rattle.std.specs.Char.{to_ascii_lowercase}
 use Rattle.std.specs.List.{list_all}
@@ -16,7 +16,7 @@ use Rattle.tracing_tree_otlp.specs.AnyValue.{any_text}
 
 -- ---- numbers
 
--- one digit or more, and nothing else
+-- one digit or more, and only digits
 abbrev pub is_digits : List ℕ → Bool
 is_digits text = not (is_empty text) && all_ascii_digits text
 

@@ -16,7 +16,7 @@ abbrev pub seen_writer : {W : Type 0} → Output W → W → SeenWriter
 seen_writer output it =
     record { bytes = output.contents it; faults = output.fault_count it; whole = output.WHOLE }
 
--- an output holds nothing back of what it has taken, unless it has refused a flush
+-- an output has flushed all that it has taken, unless it has refused a flush
 abbrev pub IsShown : {W : Type 0} → Output W → W → Type 0
 IsShown output it = IsTrue (output.holds_back it) → IsTrue (output.stuck it)
 
@@ -26,8 +26,8 @@ pub record IsCutShort (text front : List ℕ) : Type 0 where
   pub whole : text ≡ front ++ rest
   pub cut : rest ≢ []
 
--- a fault of the writer: its count rose by one, and what was written is cut short, or nothing where
--- writes are whole
+-- a fault of the writer: its count rose by one, and what was written is a proper prefix, or nothing
+-- if writes are whole
 pub record LeavesCut (text : List ℕ) (old new : SeenWriter) : Type 0 where
   pub rose : new.faults ≡ old.faults + 1
   pub front : List ℕ

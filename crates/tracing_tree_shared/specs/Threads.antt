@@ -32,7 +32,7 @@ pub record IsAnsweredShared {FT : Type 0} (time : FormatTime FT) (call : Call)
   pub received : Receives call answer old.receipts new.receipts
   pub same : new.layer ≡ old.layer
 
--- there is a registry with a layer on which a call is answered so
+-- there is a registry with a layer on which a call is answered this way
 abbrev pub IsAnsweredOnSomeLayer : {W FT : Type 0} → FormatTime FT → Output W → Call
     → Result Reply Refusal → Type 0
 IsAnsweredOnSomeLayer {W} {FT} time output call answer =

@@ -27,7 +27,7 @@ members_fields keys no_members = []
 members_fields keys (member key value others) =
     member_fields keys key value ++ members_fields keys others
 
--- an object's members as fields, but those with these keys
+-- an object's members as fields, except those with these keys
 abbrev pub fields_besides : List (List ℕ) → Json → List Field
 fields_besides keys value = members_fields keys (unwrap_or (as_object value) no_members)
 

@@ -27,7 +27,7 @@ rank Info = 2
 rank Warn = 3
 rank Error = 4
 
--- an event is shown from the least level on, and every other call is
+-- an event is shown from the minimum level on, and every other call is shown
 abbrev pub is_shown : Level → Call → Bool
 is_shown least (Event event context) = nat_le (rank least) (rank event.level)
 is_shown least (New attributes context) = true

@@ -68,7 +68,7 @@ module _ {S : Type 0} where
         let heard = hear_line source line in
         then_heard heard (hear heard.source lines)
 
-    -- all calls of an input: those of its lines, and those that its end brings
+    -- all calls of an input: those of its lines, and those of its end
     abbrev pub calls_of : (S → List Call) → S → List (List ℕ) → List Call
     calls_of ends source lines =
         let heard = hear source lines in
@@ -172,7 +172,7 @@ module _ {C : Type 0} (accepts : List Call → C → C → Type 0)
 abbrev pub lack_of : (Option Json → Lack) → List ℕ → Lack
 lack_of lacks line = if is_utf8 line then lacks (document line) else Utf8
 
--- the note of a line, if nothing is known of it
+-- the note of a line, if it is unknown
 abbrev pub note_of : (Option Json → Lack) → ℕ → List ℕ → ℕ → List Note
 note_of lacks number line unknown =
     if unknown == 0 then [] else (number, lack_of lacks line) ∷ []
@@ -249,8 +249,8 @@ module _ {C : Type 0} (accepts : List Call → C → C → Type 0)
     pub counts : CountsUnknown fault.cause (hear takes source before).unknown
         (next_unknown takes (hear takes source before).source others) run.unknown
 
-  -- The calls of the known lines were accepted, and those that the end brings, and the source has
-  -- taken these lines and the end. If something ended the run, a first part of these calls was.
+  -- The calls of the known lines and of the end were accepted, and the source has taken these lines
+  -- and the end. If something ended the run, a first part of these calls was accepted.
   abbrev pub RunsLines : (S → List Call) → (S → S) → List (List ℕ) → S → S → SourceRun → C → C
       → Type 0
   RunsLines ends ended lines source after run old new =

@@ -56,7 +56,7 @@ after_word text = if has_space text then without_leading 32 (after_first is_spac
 unfoldable pub same_word : List ℕ → List ℕ → Bool
 same_word word other = str_eq_ignore_ascii_case word other
 
--- one digit or more, and nothing else
+-- one digit or more, and only digits
 abbrev pub is_digits : List ℕ → Bool
 is_digits text = not (is_empty text) && all_ascii_digits text
 
@@ -71,7 +71,7 @@ whole_of text =
 abbrev pub is_escape : ℕ → Bool
 is_escape c = (c == 35) || (c == 92)
 
--- a character behind a backslash; only those of an escape take it away
+-- a character after a backslash; the backslash is removed only in an escape
 abbrev pub end_of_escape : ℕ → List ℕ
 end_of_escape c = (if is_escape c then [] else codes "\\") ++ encode_utf8 c
 

@@ -1,4 +1,4 @@
--- TAP: what each line says.
+-- TAP: what each line means.
 use Rattle.std.specs.Prelude.{ℕ, ◌+◌, ◌-◌, ◌^◌, ◌==◌, ◌&&◌, nat_lt, nat_le, Bool, true, false, not, if◌then◌else◌, List, [], ◌∷◌, ◌++◌, length, Option, Some, None, is_some, option_and_then, codes, bytes_eq, decimal, min}
 use Rattle.json.specs.Json.{Json}
 use Rattle.tracing_tree_spans.specs.Registry.Ids.{id_of}
@@ -122,7 +122,7 @@ abbrev pub span_or : Option Id → Option Id → Option Id
 span_or (Some id) parent = Some id
 span_or None parent = parent
 
--- a result ends: an event in its span, which closes, or in the one around it
+-- a result ends: an event in its span, which closes, or in the parent span
 unfoldable pub finished : Waiting → TapState → TapState
 finished w s =
     closed_if w.span w.parent
@@ -184,7 +184,7 @@ abbrev pub is_nested : ℕ → List Subtest → Bool
 is_nested column [] = false
 is_nested column (parent ∷ others) = nat_lt column parent.column
 
--- those end without a result whose parents are deeper than this column
+-- subtests whose parents are deeper than this column end without a result
 abbrev pub inner_left : ℕ → List Subtest → TapState → TapState
 inner_left column [] s = s
 inner_left column (parent ∷ others) s =
@@ -194,7 +194,7 @@ inner_left column (parent ∷ others) s =
 abbrev pub left_if : ℕ → TapState → TapState
 left_if column s = if nat_lt column s.subtest.column then left s else s
 
--- those end without a result that are deeper than this column
+-- subtests deeper than this column end without a result
 unfoldable pub deeper_left : ℕ → TapState → TapState
 deeper_left column s = left_if column (inner_left column s.outer s)
 
@@ -323,7 +323,7 @@ abbrev pub leaf_label : List ℕ → ℕ → List ℕ
 leaf_label description number =
     if is_empty description then decimal number else description
 
--- what is shown behind the verdict: nothing for a subtest of this name
+-- what is shown after the verdict: nothing for a subtest of this name
 abbrev pub label_of : Option Id → List ℕ → List ℕ → ℕ → List ℕ
 label_of (Some span) name description number = subtest_label name description
 label_of None name description number = leaf_label description number
@@ -521,7 +521,7 @@ part_taken SummaryLine text inner s = summary_begun s
 part_taken Line text inner s =
     kind_taken (kind_of inner) (length text - length inner) text inner s
 
--- a line that belongs to no result before it; a blank one says nothing
+-- a line that doesn't belong to the result before it; a blank one means nothing
 unfoldable pub next_taken : List ℕ → TapState → TapState
 next_taken text s =
     if is_empty (without_leading 32 text) then s
@@ -607,7 +607,7 @@ line_taken line s = taken_in s.mode (without_end (codes "\r") line) s
 abbrev pub handed_out : TapState → Step TapState
 handed_out s = record { calls = s.calls; source = record s { calls = [] } }
 
--- what a line says: each is known
+-- what a line means: each is known
 abbrev pub tap_takes : TapState → List ℕ → Option Json → Option (Step TapState)
 tap_takes s line value = Some (handed_out (line_taken line s))
 

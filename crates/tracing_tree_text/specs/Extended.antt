@@ -1,4 +1,4 @@
--- Texts that grow.
+-- Strings that grow.
 use Rattle.std.specs.Prelude.{◌≡◌, ℕ, List, ◌++◌}
 
 -- a string was appended, or nothing

@@ -19,7 +19,7 @@ use Rattle.tracing_tree_time.specs.declared.clocks.Clock.{Clock}
 use Rattle.tracing_tree_time.specs.declared.clocks.Clock.TheVariants as Which
 
 -- a timer: what it writes at a moment, and after an elapsed time with colours or without; `None`
--- says that it faults
+-- means a fault
 pub record Timer : Type 0 where
   pub moment_text : Moment → Option (List ℕ)
   pub elapsed_text : Bool → ℕ → Option (List ℕ)
@@ -112,8 +112,8 @@ pub record IsCivilOn (day : ℤ) (nanos : ℕ) (civil : Civil) : Type 0 where
   pub second_in : civil.second < 60
   pub nanosecond_in : civil.nanosecond < 1_000_000_000
 
--- the month, from 1, of a day of the year, which is counted from 0: how many months have begun by
--- then
+-- the month, from 1, of a day of the year, which is counted from 0: the count of months that have
+-- begun by then
 abbrev pub month_on : ℤ → ℕ → ℕ
 month_on year day =
     count_by (λ months. nat_le (days_of_months year months) day) (range_with_len 0 12)
@@ -152,7 +152,7 @@ abbrev pub without_end_zeros : List ℕ → List ℕ
 without_end_zeros digits =
     reverse (drop (prefix_len (λ digit. digit == 48) (reverse digits)) (reverse digits))
 
--- digits without the zeros at their end, but with the first digit
+-- digits without the zeros at their end, but at least the first digit
 abbrev pub significant_digits : List ℕ → List ℕ
 significant_digits [] = []
 significant_digits (first ∷ rest) = first ∷ without_end_zeros rest
@@ -236,7 +236,7 @@ uptime_from epoch = record { higher_precision = false; epoch = epoch }
 abbrev pub uptime_clock_timer : Uptime → Timer
 uptime_clock_timer clock = uptime_timer clock.higher_precision clock.epoch
 
--- a clock that was chosen when the program ran writes what the chosen one writes
+-- the timer of a clock that is chosen at run time
 abbrev pub clock_timer : Clock → Timer
 clock_timer Which.None = no_timer
 clock_timer (Which.Utc clock) = utc_clock_timer clock

@@ -1,4 +1,4 @@
--- Texts that are put together from pieces.
+-- Strings that are built from pieces.
 use Rattle.std.specs.Prelude.{◌≡◌, ℕ, ◌-◌, List, ◌++◌, length, flat_map, replicate, decimal, Bool}
 use Rattle.std.specs.Borrow.{Bor}
 use Rattle.tracing_tree_time.specs.Numbers.{right_in, digits_in}

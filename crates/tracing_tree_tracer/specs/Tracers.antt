@@ -29,11 +29,11 @@ pub record TracerView (C N : Type 0) : Type 0 where
   pub teller : Teller
   pub spans : List Id
 
--- the current span: of those that are open the last
+-- the current span: the last of those that are open
 abbrev pub current_of : List Id → Option Id
 current_of spans = slice_get spans (length spans - 1)
 
--- the spans around the current one
+-- the ancestors of the current span
 abbrev pub outer_of : List Id → List Id
 outer_of spans = take (length spans - 1) spans
 
@@ -70,7 +70,7 @@ close_call teller spans id moment =
 abbrev pub record_call : List Field → Id → Call
 record_call fields id = Record id (record { fields = fields })
 
--- ---- what came of a call
+-- ---- the outcome of a call
 
 -- the open spans after a span was opened, if it was
 abbrev pub after_open : List Id → Result Id TraceFault → List Id
@@ -100,10 +100,9 @@ CameOf MadeWith Silent Unmade (Err NoSpan) = ⊥
 CameOf MadeWith Silent Unmade (Err NoMoment) = Silent × Unmade
 CameOf MadeWith Silent Unmade (Err Memory) = Unmade
 
--- In what follows `answers` says what a call may be answered by what takes it, and what that
--- leaves.
+-- In what follows, `answers` says what the receiver may answer to a call, and what that leaves.
 module _ {C : Type 0} (answers : Call → Result Reply Refusal → C → C → Type 0) where
-  -- this call was made and answered so
+  -- this call was made and answered this way
   abbrev pub Made : Call → C → C → Result Reply Refusal → Type 0
   Made call old new answer = answers call answer old new
 
@@ -163,13 +162,13 @@ module _ {C N : Type 0} (answers : Call → Result Reply Refusal → C → C →
       (first : Result Bool TraceFault) × (between : TracerView C N)
       × IsClosed first old between × ThenCloses (AreClosed n) first answer between new
 
-  -- all open spans but this count were closed
+  -- open spans were closed until this count was left
   abbrev pub AreClosedTo : ℕ → Result (Unit {0}) TraceFault → TracerView C N → TracerView C N
       → Type 0
   AreClosedTo depth answer old new = AreClosed (length old.spans - depth) answer old new
 
 module _ {C N : Type 0} (answers : Call → Result Reply Refusal → C → C → Type 0) where
-  -- fields were put at the end of those of this span, which is the current one, if there is one
+  -- fields were appended to those of the current span, if there is one
   abbrev pub IsRecordedAs : List Field → Option Id → Result (Unit {0}) TraceFault → TracerView C N
       → TracerView C N → Type 0
   IsRecordedAs fields None answer old new = (answer ≡ Err NoSpan) × (new ≡ old)

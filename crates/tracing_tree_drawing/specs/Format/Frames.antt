@@ -31,7 +31,7 @@ abbrev pub corner_pieces : List ℕ → List ℕ → ℕ → ℕ → List ℕ
 corner_pieces left right from to =
     frame_pieces from left line_piece (to - from - 1) right
 
--- the corners of a span's row, as `span_corners` says of characters
+-- the corners of a span's row, as strings; `span_corners` has them as characters
 abbrev pub span_pieces : List ℕ → List ℕ → Bool → ℕ → ℕ → List ℕ
 span_pieces left right false amount before = corner_pieces left right before (before + amount)
 span_pieces left right true amount before =

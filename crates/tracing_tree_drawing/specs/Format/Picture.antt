@@ -180,6 +180,6 @@ module _ (settings : Settings) where
   abbrev pub level_used : SpanMode → ℕ → ℕ
   level_used mode level = wrapped_level level + (if settings.indent_lines then shift_of mode else 0)
 
-  -- the width passes the greatest `usize`, 2^64 - 1
+  -- the width is above the largest `usize`, 2^64 - 1
   abbrev pub is_too_wide : Row → Bool
   is_too_wide row = nat_le (2 ^ 64) (level_used row.mode row.level * settings.indent_amount)

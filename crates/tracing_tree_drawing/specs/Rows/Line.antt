@@ -108,7 +108,7 @@ read_line amount before line =
 abbrev pub with_line : TextRow → List ℕ → TextRow
 with_line row text = record row { lines = row.lines ++ text ∷ [] }
 
--- what the rows before the last are after this line, and what the last is
+-- the rows, and then the last one if there is one
 abbrev pub with_last : List TextRow → Option TextRow → List TextRow
 with_last rows None = rows
 with_last rows (Some row) = rows ++ row ∷ []

@@ -8,11 +8,11 @@ use Rattle.tracing_tree_drawing.specs.declared.rows.paths.EventPath.{EventPath}
 abbrev pub place_at : List (Option ℕ) → ℕ → Option ℕ
 place_at places level = option_and_then (λ place. place) (slice_get places level)
 
--- for each level the place of the last of these rows that opens a span of that very level
+-- for each level, the place of the last of these rows that opens a span of exactly that level
 abbrev pub AreLastPlaces : List TextRow → List (Option ℕ) → Type 0
 AreLastPlaces rows places = (level : ℕ) → place_at places level ≡ above rows (length rows) level
 
--- what the row after these does: its path is answered if it is an event's
+-- what the row after these does: its path is returned if it is an event's
 pub record FollowsRows (rows : List TextRow) (row : TextRow) (path : Option EventPath)
     (new : List (Option ℕ)) : Type 0 where
   pub last : AreLastPlaces (rows ++ row ∷ []) new

@@ -133,7 +133,7 @@ row_text amount row =
 abbrev pub rows_text : ℕ → List TextRow → List ℕ
 rows_text amount rows = flat_map (row_text amount) rows
 
--- a row's width, or the level that counts for it, passes the greatest number
+-- a row's width, or the level that counts for it, is above the largest number
 abbrev pub is_row_too_wide : ℕ → TextRow → Bool
 is_row_too_wide amount row =
     nat_le (2 ^ 64) (row.level + shift_of (mode_of row.shape))

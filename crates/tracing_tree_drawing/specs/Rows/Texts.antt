@@ -9,7 +9,7 @@ use Rattle.tracing_tree_drawing.specs.declared.rows.read.ReadFault.TheVariants.{
 use Rattle.tracing_tree_drawing.specs.declared.rows.read.Taken.{Taken}
 use Rattle.tracing_tree_drawing.specs.declared.rows.read.Taken.TheVariants.{First, Later, Neither}
 
--- what a reader keeps: the amount, and the last row, which may go on
+-- what a reader keeps: the amount, and the last row, which may continue
 pub record ReaderView : Type 0 where
   pub amount : ℕ
   pub last : Option TextRow
@@ -22,7 +22,7 @@ pub record TakesFirst (old : ReaderView) (line : List ℕ) (done : Option TextRo
   pub complete : done ≡ old.last
   pub after : new ≡ record old { last = Some row }
 
--- the line is one more of the last row
+-- the line continues the last row
 pub record TakesLater (old : ReaderView) (line : List ℕ) (new : ReaderView) : Type 0 where
   pub text : List ℕ
   pub read : read_line old.amount old.last line ≡ Some (LaterLine text)

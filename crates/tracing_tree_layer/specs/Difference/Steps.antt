@@ -1,4 +1,4 @@
--- The steps of a `DifferenceIter`, and what it gives.
+-- The steps of a `DifferenceIter`, and what it yields.
 use Rattle.std.specs.Prelude.{◌≡◌, ◌+◌, ◌≤◌, Bool, true, false, if◌then◌else◌, MatchBool, List, [], ◌++◌, Option, Some, None, MatchOption, IsSomeAnd, IfSome, All, ⊤}
 use Rattle.std.specs.Borrow.{Bor}
 use Rattle.std.specs.Fn.{Shared, FnReturnsAt}
@@ -56,7 +56,7 @@ module _ {C A U : Type 0} (calls : Shared C (Bor A × ⊤) U) (eq : U → U → 
   abbrev pub Differs : Option A → A → Type 0
   Differs left right = IfSome left (λ x. KeysCompare x right false)
 
-  -- each left item is there, and equal to the right one beside it
+  -- each left item exists, and is equal to the right one of its pair
   abbrev pub AllMatch : List (Option A × A) → Type 0
   AllMatch pairs = All (λ p. Matches p.0 p.1) pairs
 
@@ -75,8 +75,7 @@ module _ {L R C A : Type 0} (lefts : L → Option A → L → Type 0)
       × MatchOption o (rights (difference_right s) None (difference_right t))
       (λ p. (p.0 ≡ left) × rights (difference_right s) (Some p.1) (difference_right t)))
 
-  -- the right items that are equal to the left ones are passed over, and the first that differs
-  -- comes
+  -- the right items that are equal to the left ones are skipped, and the first that differs comes
   abbrev pub difference_steps : {U : Type 0} → Shared C (Bor A × ⊤) U → (U → U → Bool)
       → DifferenceIter L R C → Option A → DifferenceIter L R C → Type 0
   difference_steps calls eq s r t = (passed : List (Option A × A)) × (o : Option (Option A × A))
@@ -84,7 +83,7 @@ module _ {L R C A : Type 0} (lefts : L → Option A → L → Type 0)
       × AllMatch calls eq (difference_compare s) passed
       × GivesDiffering calls eq (difference_compare s) o r
 
--- ---- all that it gives
+-- ---- all that it yields
 
 -- each call of f at a `&` to x returns `key x`
 abbrev pub ReturnsKey : {C A U : Type 0} → Shared C (Bor A × ⊤) U → C → (A → U) → Type 0

@@ -37,7 +37,7 @@ bare_turn_of settings timer forest last (on_event event context) =
 bare_turn_of settings timer forest last (on_close i context) =
     turn_of_close settings context forest last i
 
--- what else an accepted call changes in the forest: a record of an id that isn't live changes
+-- what an accepted call also changes in the forest: a record of an id that isn't live changes
 -- nothing
 abbrev pub bare_changed_forest : BareCall → Forest → Forest
 bare_changed_forest (on_record i record') forest = add_fields record'.fields i forest

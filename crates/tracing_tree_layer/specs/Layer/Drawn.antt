@@ -85,7 +85,7 @@ failed_by (Err Timer) = true
 failed_by (Err Writer) = true
 failed_by (Err refusal) = false
 
--- this after an accepted call, and else that
+-- the first value after an accepted call, otherwise the second
 abbrev pub when_ok : {A B : Type 0} → Result A Refusal → B → B → B
 when_ok (Ok answer) new old = new
 when_ok (Err refusal) new old = old

@@ -48,7 +48,7 @@ module _ {W FT : Type 0} where
         writer = seen_writer output layer.writer;
       }
 
-  -- What is changed: settings and timer stay, and this holds of what was seen and what is seen.
+  -- What is changed: settings and timer stay, and this holds of what was seen before and after.
   pub record Changes (see : LayeredView W FT → Seen) (Holds : Seen → Seen → Type 0)
       (old new : LayeredView W FT) : Type 0 where
     pub changed : Holds (see old) (see new)

@@ -1,4 +1,4 @@
--- What a call is going to do, before any of it is done. No public contract names it.
+-- What a call will do, before any of it is done. No public contract names it.
 use Rattle.std.specs.Prelude.{Bool, false, not, ◌&&◌, if◌then◌else◌, List, [], ◌∷◌, ◌++◌, map, Option, Some, None, is_some}
 use Rattle.std.specs.Option.{option_map_or, option_or}
 use Rattle.tracing_tree_drawing.specs.Format.Settings.{Settings, retraces}
@@ -78,7 +78,7 @@ with_rows rows plan = record plan { rows = plan.rows ++ rows }
 
 -- ---- retracing
 
--- a span that was printed before is retraced, and another opens
+-- a span that was printed before is retraced, and any other opens
 abbrev pub fresh_mode : Forest → Id → Bool → SpanMode
 fresh_mode forest i verbose = if is_printed forest i then Retrace verbose else Open verbose
 

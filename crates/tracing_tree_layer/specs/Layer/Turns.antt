@@ -95,8 +95,8 @@ module _ (settings : Settings) (context : Context) (forest : Forest) where
       ++ fresh_row (settings.verbose_entry && is_some (parent_of forest first)) first
       ∷ map (fresh_row false) others
 
-  -- the way to a span is shown: the rows of the fresh spans, which are printed from now on, and the
-  -- span is the last
+  -- the path to a span is shown: the rows of the fresh spans, which are printed from now on, and
+  -- the span is the last
   abbrev pub retrace_to : Option Id → Id → Turn
   retrace_to last i =
       let fresh = fresh_ids forest last i in

@@ -1,4 +1,4 @@
--- What one call on a layer leaves, by its answer.
+-- The effect of one call on a layer, by its answer.
 use Rattle.std.specs.Prelude.{◌≡◌, ℕ, List, Result, Ok, Err}
 use Rattle.std.specs.Io.KnownBytes.{Appends, Keeps}
 use Rattle.tracing_tree_output.specs.Writers.{LeavesCut, SeenWriter}

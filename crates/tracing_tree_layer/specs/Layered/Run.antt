@@ -11,7 +11,7 @@ use Rattle.tracing_tree_layer.specs.Layered.Refused.{cause_of, takes_no_memory}
 use Rattle.tracing_tree_layer.specs.declared.call.Call.{Call}
 use Rattle.tracing_tree_layer.specs.declared.call.Reply.{Reply}
 
--- what a run of calls leaves, draws and answers
+-- what a run of calls leaves and draws, and its replies
 pub record Run : Type 0 where
   pub state : State
   pub rows : List Row
@@ -20,8 +20,8 @@ pub record Run : Type 0 where
 abbrev pub no_call : State → Run
 no_call state = record { state = state; rows = []; replies = [] }
 
--- the state after a refusal: only a fault of the timer or of the writer changes it, and the layer
--- has failed then
+-- The state after a refusal: only a fault of the timer or of the writer changes it, and then the
+-- layer has failed.
 abbrev pub after_refusal : State → Refusal → State
 after_refusal state TimerFault = record state { failed = true }
 after_refusal state Writer = record state { failed = true }
@@ -82,7 +82,7 @@ module _ (settings : Settings) (timer : Timer) where
   run state [] = no_call state
   run state (call ∷ calls) = then_run (run_one state call) (λ next. run next calls)
 
-  -- what the rows of a run look like
+  -- the drawing of a run's rows
   abbrev pub text_of : State → List Call → List ℕ
   text_of state calls = draw settings (run state calls).rows
 

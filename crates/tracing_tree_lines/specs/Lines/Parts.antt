@@ -1,4 +1,4 @@
--- What a line's object has at the keys of a call, as far as a call is read from it.
+-- The values of a line's object at the keys of a call, as far as a call is read from it.
 use Rattle.std.specs.Prelude.{◌≡◌, ℕ, true, false, List, [], ◌∷◌, Option, Some, None, Result, Ok, Err, IsUtf8, codes, bytes_eq, if◌then◌else◌}
 use Rattle.std.specs.Option.{option_map_or}
 use Rattle.json.specs.Json as json
@@ -169,7 +169,7 @@ ReadsParts line parts (Ok done) = HasParts line parts
 ReadsParts line parts (Err cause) =
     IsUnlessMemory NotACall ((call : Call) → ¬ SpellsCall line call) cause
 
--- the cause that an error of the reader is
+-- the cause of an error of the reader
 abbrev pub cause_of : Error → LineCause
 cause_of Invalid = NotACall
 cause_of OutOfMemory = Memory

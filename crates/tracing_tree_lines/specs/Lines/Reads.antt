@@ -14,7 +14,7 @@ use Rattle.tracing_tree_lines.specs.declared.lines.read.Part.TheVariants.{Line, 
 abbrev pub HasNoLineEnd : List ℕ → Type 0
 HasNoLineEnd bytes = All (λ byte. (byte == 10) ≡ false) bytes
 
--- a part of a line, and then this end of it, were taken, and the part was put at the end of what
+-- a part of a line, and then this end of the part, were taken, and the part was appended to what
 -- was read before
 pub record TakesPart (end : List ℕ) (known left : Option (List ℕ)) (old new : List ℕ) : Type 0 where
   pub part : List ℕ
@@ -89,7 +89,7 @@ ReadsEnded known left line (Ok true) = TakesEnded known left line
 ReadsEnded known left line (Ok false) = TakesRest known left line
 ReadsEnded known left line (Err cause) = is_from_outside cause ≡ true
 
--- a cause that is there before any call is made
+-- a cause that occurs before any call is made
 abbrev pub IsBeforeCalls : LineCause → Type 0
 IsBeforeCalls (Refused refusal) = ⊥
 IsBeforeCalls cause = ⊤

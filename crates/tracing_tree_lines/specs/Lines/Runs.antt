@@ -37,8 +37,8 @@ EndsAtFirst input Read = ⊤
 EndsAtFirst input Memory = ⊤
 EndsAtFirst input cause = ⊥
 
--- Lines are counted up to this number. The line that has it isn't judged: a run that comes so far
--- ends there by `Read`, or without a fault.
+-- Lines are counted up to this number. The line that has it isn't judged: a run that gets there
+-- ends by `Read`, or without a fault.
 abbrev pub last_number : ℕ
 last_number = 2 ^ 64 - 1
 

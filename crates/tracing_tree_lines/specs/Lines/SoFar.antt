@@ -45,7 +45,7 @@ pub record GoesOver {W FT : Type 0} (see : LayeredView W FT → Seen)
       accepted number (see now)
   pub calm : (see now).writer.faults ≡ (see first).writer.faults
 
--- one judged line more is counted
+-- one more judged line is counted
 abbrev pub counted : Judged → Progress → Progress
 counted Accepted run = record { number = run.number + 1; accepted = run.accepted + 1 }
 counted judged run = record run { number = run.number + 1 }
@@ -55,7 +55,7 @@ abbrev pub IsTextOf : List ℕ → Option (List ℕ) → Type 0
 IsTextOf line text = MatchOption text (¬ (IsUtf8 line)) (λ text. text ≡ line)
 
 module _ {W FT : Type 0} (see : LayeredView W FT → Seen) where
-  -- the run that came so far ended by this cause, and the next line is to blame
+  -- the run so far ended by this cause, and the next line is to blame
   abbrev pub EndsNext : Option (List ℕ) → Progress → LineCause → LayeredView W FT
       → LayeredView W FT → Type 0
   EndsNext known run cause =

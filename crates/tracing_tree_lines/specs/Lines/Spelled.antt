@@ -22,7 +22,7 @@ use Rattle.tracing_tree_layer.specs.declared.call.Call.TheVariants.{New, Clone, 
 use Rattle.tracing_tree_spans.specs.declared.registry.Attributes.{Attributes}
 use Rattle.tracing_tree_spans.specs.declared.registry.Event.{Event as MadeEvent}
 
--- what comes of a value, if there is one
+-- the next step's result for a value, if there is one
 infixl 20 ◌>>=◌
 abbrev pub ◌>>=◌ : {A B : Type 0} → Option A → (A → Option B) → Option B
 o >>= next = option_and_then next o
@@ -55,7 +55,7 @@ unless_null value = Some value
 abbrev pub read_or : {A : Type 0} → Option A → (Data → Option A) → List ℕ → Data → Option A
 read_or absent reader key value = option_map_or reader (get key value >>= unless_null) absent
 
--- the keys of an object whose value isn't null
+-- the keys of the members whose value isn't null
 abbrev pub present_keys : Members → List (List ℕ)
 present_keys no_members = []
 present_keys (member key value others) =
@@ -90,7 +90,7 @@ chosen (choice ∷ others) text = if bytes_eq choice.0 text then Some choice.1 e
 abbrev pub Asked : Type 0
 Asked = Settings × Timer
 
--- a whole number that is not 0
+-- a whole number other than 0
 abbrev pub positive_value : Data → Option ℕ
 positive_value value = option_and_then (λ n. then_some (not (n == 0)) n) (whole_value value)
 
@@ -123,7 +123,7 @@ timer_value value = do
   kind ← read_or None as_str (codes "kind") value
   option_flatten (chosen (timers_in value) kind)
 
--- what a value that is read so changes in the settings
+-- what a value that is read by `reader` changes in the settings
 abbrev pub sets : {A : Type 0} → (Data → Option A) → (A → Settings → Settings) → Data → Asked
     → Option Asked
 sets reader change value asked = option_map (λ read. (change read asked.0, asked.1)) (reader value)

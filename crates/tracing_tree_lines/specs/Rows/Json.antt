@@ -150,7 +150,7 @@ WritesRows amount input (Ok done) old new = WritesAll amount input old new
 WritesRows amount input (Err fault) old new = EndsAtLine amount input fault old new
 
 -- the same of the drawing of readable rows: what is written are the lines of these rows, and each
--- line of it that is UTF-8 is one of a row
+-- UTF-8 line of it is a row's line
 abbrev pub WritesDrawing : ℕ → List ℕ → Result (Unit {0}) RowFault → Option (List ℕ)
     → Option (List ℕ) → Type 0
 WritesDrawing amount input (Ok done) old new =

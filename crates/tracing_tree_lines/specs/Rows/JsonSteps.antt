@@ -115,7 +115,7 @@ abbrev pub shape_text : Shape → List ℕ
 shape_text shape =
     codes "{\"shape\":\"" ++ (shape_name shape ++ (codes "\"" ++ verbose_text (verbose_of shape)))
 
--- the level, and the beginning of the lines
+-- the level, and the start of the lines
 abbrev pub level_json : ℕ → List ℕ
 level_json level = codes ",\"level\":" ++ (decimal level ++ codes ",\"lines\":[")
 

@@ -20,7 +20,7 @@ pub record Forest : Type 0 where
 abbrev pub empty_forest : Id → Forest
 empty_forest first = record { spans = []; next = Some first }
 
--- ---- looking at spans
+-- ---- reading spans
 
 abbrev pub has_id : Id → Span → Bool
 has_id i span = same_id span.id i
@@ -73,8 +73,8 @@ children_of forest i = filter (is_child_of i) forest.spans
 
 -- ---- paths
 
--- The ids that are met in at most this many steps up from a span, the topmost first: the span's,
--- before it its parent's, and so on to its root.
+-- The ids of at most this many steps up from a span, the topmost first: the span's, before it its
+-- parent's, and so on to its root.
 abbrev pub path_up : ℕ → List Span → Id → List Id
 path_up zero spans i = []
 path_up (suc steps) spans i =
@@ -82,7 +82,7 @@ path_up (suc steps) spans i =
     ++ i ∷ []) (find (has_id i) spans) []
 
 -- From the root down to the span; empty if it isn't live. As many steps as there are spans are
--- enough, since no id comes twice on the way.
+-- enough, since no id is twice on the path.
 abbrev pub path_of : Forest → Id → List Id
 path_of forest i = path_up (length forest.spans) forest.spans i
 
@@ -127,7 +127,7 @@ IsBelowNext forest =
     IsTrue (option_map_or (λ next. list_all (λ span. nat_lt span.id.0 next.0) forest.spans)
     forest.next true)
 
--- the first is above the second: a way down from a child of the first leads to the second
+-- the first is above the second: a path down from a child of the first leads to the second
 abbrev pub IsAncestor : Forest → Id → Id → Type 0
 IsAncestor forest above i =
     (way : List Id) × Descends forest (Some above) way × (last_or None way ≡ Some i)
@@ -158,7 +158,7 @@ add_handle = update_span (λ span. record span { handles = span.handles + 1 })
 abbrev pub take_handle : Id → Forest → Forest
 take_handle = update_span (λ span. record span { handles = span.handles - 1 })
 
--- the fields go to the end of the span's
+-- the fields are appended to the span's
 abbrev pub add_fields : List Field → Id → Forest → Forest
 add_fields fields =
     update_span (λ it. record it { kept = record it.kept { fields = it.kept.fields ++ fields } })
@@ -219,11 +219,11 @@ goes_after forest before i =
     (handles_of forest i == 0)
     && list_all (λ child. option_map_or (same_id child.id) before false) (children_of forest i)
 
--- a list with, beside each element, the one before it
+-- a list in which each element is paired with the one before it
 abbrev pub with_previous : List Id → List (Option Id × Id)
 with_previous ids = zip (None ∷ map (λ i. Some i) ids) ids
 
--- the first of these ids, if there is one, does not go after the one before it
+-- the first of these ids, if there is one, doesn't close after the one before it
 abbrev pub FirstStays : Forest → Option Id → List Id → Type 0
 FirstStays forest before [] = ⊤
 FirstStays forest before (i ∷ more) = goes_after forest before i ≡ false
@@ -241,8 +241,8 @@ going_up forest i =
     let steps = with_previous (reverse (path_of forest i)) in
     map (λ step. step.1) (take_while (λ step. goes_after forest step.0 step.1) steps)
 
--- what leaves the forest when one handle of a span is taken away: the span first, then its parent,
--- and so on upward
+-- what leaves the forest when one handle of a span is dropped: the span first, then its parent, and
+-- so on upward
 abbrev pub closing_of : Forest → Id → List Id
 closing_of forest i = going_up (take_handle i forest) i
 
@@ -253,13 +253,13 @@ IsClosing forest i ids =
     (path : List Id) × IsPath forest i path
     × IsLongestGoing (take_handle i forest) (reverse path) ids
 
--- the forest after one handle of a span was taken away
+-- the forest after one handle of a span was dropped
 abbrev pub after_close : Id → Forest → Forest
 after_close i forest = without_spans (closing_of forest i) (take_handle i forest)
 
 -- ---- what two paths share
 
--- the path of a span without its longest common beginning with the path of the last span
+-- the path of a span without its longest common prefix with the path of the last span
 abbrev pub fresh_ids : Forest → Option Id → Id → List Id
 fresh_ids forest last i =
     drop (common_prefix_len same_id (path_of_any forest last) (path_of forest i)) (path_of forest i)

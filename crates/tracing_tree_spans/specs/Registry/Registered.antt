@@ -1,4 +1,4 @@
--- What the calls of the registry leave and answer.
+-- The answers of the registry's calls, and what they leave.
 use Rattle.std.specs.Prelude.{◌≡◌, ◌≢◌, ◌==◌, nat_lt, Bool, true, false, not, ◌&&◌, List, [], ◌∷◌, length, map, zip, take_while, Option, Some, None, Result, Ok, Err, IsTrue, ⊤, Vec, ◌^◌}
 use Rattle.std.specs.declared.alloc.Global.{Global}
 use Rattle.std.specs.List.{list_all}
@@ -69,8 +69,8 @@ IsNewSpan attributes context (Err Memory) old new =
     (missing_parent old attributes context ≡ None) × (old.next ≢ None) × (new ≡ old)
 IsNewSpan attributes context (Err refusal) old new = ⊥
 
--- a clone adds one handle; a span that isn't live and a count that is full are refused, and change
--- nothing then
+-- a clone adds one handle; a span that isn't live and a full count are refused, and then nothing
+-- changes
 abbrev pub IsCloned : Id → Result Id Refusal → Forest → Forest → Type 0
 IsCloned i (Ok j) old new =
     (unless_live old i ≡ None) × (has_all_handles old i ≡ false) × (j ≡ i)
@@ -107,7 +107,7 @@ AsksLastHandle i (Ok ids) forest = ids.items ≢ [] → handles_of forest i ≡ 
 AsksLastHandle i (Err Memory) forest = handles_of forest i ≡ 1
 AsksLastHandle i (Err refusal) forest = ⊤
 
--- the newest span given out, live, with one handle and no child
+-- the newest span, live, with one handle and no child
 pub record IsNewest (i : Id) (forest : Forest) : Type 0 where
   pub live : IsTrue (is_live forest i)
   pub newest : forest.next ≡ id_after i
