@@ -1,4 +1,4 @@
--- What becomes of a call, by how it was read.
+-- The outcome of a call, by how it was read.
 use Rattle.std.proofs.Common.{◌≡◌, ℕ, ◌<◌, List, [], ◌∷◌, length, drop, arith, zero, suc, refl, sym, subst, Bool, true, false, true≢false}
 use Rattle.std.specs.Prelude.{Result, Ok, Err, Some, None, slice_index_or}
 use Rattle.tracing_tree_context.specs.declared.context.Refusal.{Refusal}

@@ -1,4 +1,4 @@
--- Why no more was heard of a trace.
+-- Why no more was read of a trace.
 use Rattle.std.proofs.Common.{◌≡◌, ℕ, ◌<◌, Bool, true, false, Result, Ok, Err, arith}
 use Rattle.json.specs.Json.{Items, no_items, item}
 use Rattle.tracing_tree_lines.specs.declared.lines.LineCause.{LineCause}
@@ -33,7 +33,7 @@ ends_unknown Read h e = cc
 ends_unknown Memory h e = cc
 ends_unknown (Refused refusal) h e = cc
 
--- more elements would have been heard
+-- more elements would have been read
 pub ends_before : (cause : LineCause) (new all : Heard) (others : Items) → EndsHearing cause new all → EndsHearing cause new (heard_all others all)
 ends_before NotACall new all others h = (h.0, more_by_all others all h.1)
 ends_before NoSettings new all others h = h

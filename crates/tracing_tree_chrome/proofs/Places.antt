@@ -28,7 +28,7 @@ module _ (P : ℕ → Type 0) where
       (place_if (byte == 123) _ _ (λ e. noted_place level at (opened Curly s) h (k (grind (arith, nat_tests))))
       (place_if ((byte == 93) || (byte == 125)) _ _ (λ e. noted_place level at (closed s) h (k (grind (arith, nat_tests)))) h)))
 
-  -- one more byte leaves the place, or moves it behind a byte of ASCII
+  -- one more byte leaves the place, or moves it after a byte of ASCII
   read_place : (level at byte : ℕ) (s : ScanState) → P s.place → (byte < 128 → P at) → P (byte_read level at byte s).place
   read_place level at byte s h k =
       place_if s.in_text _ _ (λ _. in_text_place byte s h) (outside_place level at byte s h k)

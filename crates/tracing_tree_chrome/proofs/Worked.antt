@@ -148,7 +148,7 @@ pub an_older_end_has_an_id_of_its_process : element_of (object (
     }) (codes "\0\03"))
 an_older_end_has_an_id_of_its_process = refl
 
--- ---- what is lacking
+-- ---- what is missing
 
 pub no_object : element_of null ≡ Err Phase
 no_object = refl

@@ -7,7 +7,7 @@ use Rattle.tracing_tree_sources.specs.Source.{Step, Tells}
 use Rattle.tracing_tree_go_test.specs.GoTest.{GoState, takes_value_as}
 use Rattle.tracing_tree_go_test.specs.Failed.{FailedState, Knows, Untold, failed_step, line_taken}
 
--- what is known of a line is done, and nothing of another
+-- a known line is processed, and an unknown one changes nothing
 pub took : (state : Option GoState) (old new : GoState) (known : Bool) → takes_value_as state old new known → new ≡ unwrap_or state old
 took None old new known h = h.0
 took (Some state) old new known h = h.0

@@ -153,7 +153,7 @@ record Stays (s t : GoState) : Type 0 where
   failed : AllNamed s.packages → has_failed t ≡ has_failed s
   named_too : AllNamed s.packages → AllNamed t.packages
 
--- it is set if this holds, and else it stays
+-- it is set if this holds, and otherwise it stays
 record Goes (b : Bool) (s t : GoState) : Type 0 where
   failed : AllNamed s.packages → has_failed t ≡ (has_failed s || b)
   named_too : AllNamed s.packages → AllNamed t.packages
@@ -360,7 +360,7 @@ test_stays ending test elapsed h =
     (then_stays h.state above.state quiet.state (opened_stays h) (event_stays (level_of ending) (word_of ending ++ codes " " ++ name) (elapsed_fields elapsed) above.one.span above.state))
     (kept_stays quiet))
 
--- an end fails something exactly if it is counted so
+-- an end fails something exactly if it is counted as a failure
 ended_as : (f : Bool) (ending : Ending) (path test : List ℕ) (elapsed : Option (List ℕ)) (s : GoState) → Goes f s (counted ending path test s) → Goes f s (package_counted ending path s) →
     Goes f s (ended ending path test elapsed s)
 ended_as f ending path test elapsed s of_test of_package =

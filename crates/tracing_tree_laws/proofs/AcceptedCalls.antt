@@ -64,7 +64,7 @@ module _ (settings : Settings) (timer : Timer) where
       each_is_accepted first.state before call after
       (omega (arith, replied, length-append first.replies rest.replies, at_most_one state one (cause_of settings timer state one), no_more_replies first.state (before ++ call ∷ after)))
 
--- so it is after a run that nothing made fail
+-- so each call is accepted in a run that didn't fail
 pub all_accepted : {W FT : Type 0} (see : LayeredView W FT → Seen) (calls : List Call) (answers : List (Result Reply Refusal)) (old new : LayeredView W FT)
     (first : Option Id) → (see old).state ≡ opening_state first → (see new).state.failed ≡ false →
     IsRunOf calls answers (see old) (see new) → AreAnswered see calls answers old new →

@@ -102,7 +102,7 @@ corners-columns left right from to h =
 blank-columns : (width : ℕ) → columns width space ≡ columns_text (blank_columns width)
 blank-columns width = sym (glyphs_text-same (blank_columns width).glyph space 0 width (λ k low high. refl))
 
--- the corners of a verbose row, if its amount leaves room for them
+-- the corners of a verbose row, if its amount leaves space for them
 verbose-columns : (left right amount before : ℕ) (room : Bool) → nat_le 2 amount ≡ room →
     (if room then corners left right (before + amount / 2) (before + amount) else columns (before + amount + 1) space)
     ≡ columns_text (if room then corner_columns left right (before + amount / 2) (before + amount) else blank_columns (before + amount + 1))

@@ -1,4 +1,4 @@
--- The runs of the two sides behind a run of a `DifferenceIter`.
+-- The runs of the two sides of a run of a `DifferenceIter`.
 use Rattle.std.proofs.Common.{◌≡◌, ◌∙◌, refl, sym, ap, ap₂, subst, arith, ℕ, ◌+◌, ◌≤◌, length, is_some, if◌then◌else◌, Bool, true, false, true≢false, List, [], ◌∷◌, ◌++◌, append_assoc, Option, Some, None, option_to_list, unwrap_or, MatchBool, MatchOption, Bor}
 use Rattle.std.proofs.lemmas.List.Elements.{All-head, All-tail}
 use Rattle.std.proofs.iter.Next.{tell_yes, tell_no}
@@ -122,7 +122,7 @@ module _ {L R C A U : Type 0} (lefts : L → Option A → L → Type 0) (rights 
   adds_item (Some x) y zs h = λ key rest ys known n e. ap (λ l. y ∷ l) e
       ∙ sym (differing-unequal (λ x y. eq (key x) (key y)) x rest y ys (KeysCompare-keys calls eq compare key known x y false h))
 
-  -- one more pair before what both sides gave
+  -- one more pair before what both sides returned
   behind-more : (s t : DifferenceIter L R C) (p : Option A × A) (zs ws : List A) (whole : Bool)
       → both_steps lefts rights s (Some p) t → Adds p zs ws → Behind t zs whole → Behind s ws whole
   behind-more s t p zs ws whole h adds i =
@@ -138,7 +138,7 @@ module _ {L R C A U : Type 0} (lefts : L → Option A → L → Type 0) (rights 
             ∙ sym (ap (λ l. differing (λ x y. eq (key x) (key y)) l (p.1 ∷ i.ys)) (append_assoc (option_to_list p.0) i.xs rest));
       }
 
-  -- pairs that are passed over add nothing
+  -- pairs that are skipped add nothing
   behind-passed : (ps : List (Option A × A)) (s t : DifferenceIter L R C) (zs : List A) (whole : Bool)
       → Yields (both_steps lefts rights) s ps t → AllMatch calls eq compare ps
       → Behind t zs whole → Behind s zs whole

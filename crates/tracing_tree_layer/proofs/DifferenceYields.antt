@@ -13,11 +13,11 @@ use Rattle.tracing_tree_layer.specs.declared.difference.DifferenceIter.{Differen
 use Rattle.tracing_tree_layer.specs.Difference.Steps.{difference_left, difference_right, difference_compare, both_steps, difference_steps, differing, IsFresh, ReturnsKey, YieldsDiffering, Matches, Differs, AllMatch, GivesDiffering}
 
 module _ {L A V : Type 0} (lefts : L → Option A → L → Type 0) (v : A → V) where
-  -- what a fused iterator still gives
+  -- what a fused iterator still yields
   abbrev pub GivesFused : Fuse L → List V → Type 0
   GivesFused s xs = MatchBool (fuse_done s) (xs ≡ []) (AlwaysYields lefts v (fuse_source s) xs)
 
-  -- o is the first of xs, and t gives the others
+  -- o is the first of xs, and t yields the others
   abbrev Took : Option A → List V → Fuse L → Type 0
   Took o xs t = (rest : List V) × MatchOption o ((xs ≡ []) × (rest ≡ [])) (λ x. xs ≡ v x ∷ rest) × GivesFused t rest
 
@@ -46,7 +46,7 @@ module _ {R A V : Type 0} (rights : R → Option A → R → Type 0) (v : A → 
 
 module _ {L R C A U V : Type 0} (lefts : L → Option A → L → Type 0) (rights : R → Option A → R → Type 0) (calls : Shared C (Bor A × Unit {0}) U) (eq : U → U → Bool)
     (v : A → V) (key : V → U) (compare : C) (known : ReturnsKey calls compare (λ x. key (v x))) where
-  -- the left side still gives xs, and the right one ys
+  -- the left side still yields xs, and the right one ys
   record Sides (s : DifferenceIter L R C) (xs ys : List V) : Type 0 where
     left : GivesFused lefts v (difference_left s) xs
     right : AlwaysYields rights v (difference_right s) ys

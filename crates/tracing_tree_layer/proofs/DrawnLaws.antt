@@ -196,7 +196,7 @@ IsDrawn settings rows faults quiet (Ok done) old new = DrawsRows settings rows f
 IsDrawn settings rows faults quiet (Err refusal) old new =
     IsUndrawn (rows_cause settings rows faults) quiet refusal
 
--- a call that takes memory may want for it
+-- a call that takes memory may run out of it
 loud-undrawn : (cause : Option Refusal) (quiet : Bool) (refusal : Refusal) → IsUndrawn cause quiet refusal → IsUndrawn cause false refusal
 loud-undrawn cause quiet refusal (inl h) = inl h
 loud-undrawn cause quiet refusal (inr memory) = inr (memory.0, refl)

@@ -26,7 +26,7 @@ use Rattle.tracing_tree_layer.proofs.Reading.Ancestors.{reading-laws}
 
 -- ---- one call
 
--- a layer that has failed stays so
+-- a layer that has failed stays failed
 sound_before : (settings : Settings) (timer : Timer) (state : State) (call : Call) (answer : Result Reply Refusal) →
     (state_after_answer settings timer state call answer).failed ≡ false → state.failed ≡ false
 sound_before settings timer state call (Ok reply) e = e
@@ -73,7 +73,7 @@ run_more settings timer begun calls call reply may =
       replies = before.replies ++ sym may.1 i ∷ [];
     })
 
--- so it makes any such run longer
+-- so it extends any such run
 pub continues : (call : Call) (reply : Reply) (old new : Seen) → IsAnswered call (Ok reply) old new → Continues call reply old new
 continues call reply old new h = record { joined = joined; text = h.written.0 }
   where

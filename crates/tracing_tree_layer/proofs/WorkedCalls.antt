@@ -18,7 +18,7 @@ use Rattle.tracing_tree_layer.specs.Layered.Run.{run, text_of}
 use Rattle.tracing_tree_layer.specs.declared.call.Call.{Call}
 use Rattle.tracing_tree_layer.specs.declared.call.Call.TheVariants.{New, Event, Close}
 
--- amount 2, no colours and all else off
+-- amount 2, no colours and all other options off
 abbrev pub plain : Settings
 plain = record default_settings { ansi = false }
 

@@ -24,7 +24,7 @@ use Rattle.tracing_tree_lines.proofs.LineRuns.{goes_on, ends_at, ends_input, sho
 
 -- ---- one line
 
--- what becomes of this line wherever it comes first
+-- the outcome of this line wherever it comes first
 abbrev pub JudgesFirst : {W FT : Type 0} → (LayeredView W FT → Seen) → List ℕ → Result Judged LineCause → LayeredView W FT → LayeredView W FT → Type 0
 JudgesFirst see line result old new = (known left : Option (List ℕ)) → TakesLine known left line → Changes see (JudgesLine known left result) old new
 

@@ -178,7 +178,7 @@ held_line held inner i found =
       taken = subst (Consumes (prepend_known held inner) (prepend_known (drop (i + 1) held) inner)) e.through (held_taken held (i + 1) inner);
     })
 
--- a line that the buffer holds was taken out of it
+-- a line that the buffer holds was removed from it
 pub takes_held : (known left : Option (List ℕ)) (held line : List ℕ) (end : ℕ) → HoldsFront held known → position is_end held ≡ Some end → DropsHeld (end + 1) held known left →
     line ≡ take end held → TakesLine known left line
 takes_held known left held line end front found drops is =

@@ -89,7 +89,7 @@ is_judged line = not (is_skipped line)
 judged_more : (lines : List (List ℕ)) (line : List ℕ) → filter is_judged (lines ++ line ∷ []) ≡ filter is_judged lines ++ filter is_judged (line ∷ [])
 judged_more lines line = filter-append is_judged lines (line ∷ [])
 
--- a skipped line more
+-- one more skipped line
 spells_blank : (lines : List (List ℕ)) (calls : List Call) (line : List ℕ) → SpellCalls lines calls → is_skipped line ≡ true → SpellCalls (lines ++ line ∷ []) calls
 spells_blank lines calls line h blank = rw (judged_more lines line, blank, append-nil (filter is_judged lines)) h
 
@@ -108,7 +108,7 @@ spells_call lines calls line last h judged spelled = rw (judged_more lines line,
 -- ---- the run so far
 
 module _ (first : Seen) where
-  -- the run of an accepted call behind that of other calls
+  -- the run of an accepted call after that of other calls
   abbrev with_call : Run → Call → Run
   with_call r call = record {
     state = state_after first.settings first.timer r.state call;
@@ -235,7 +235,7 @@ module _ (first : Seen) where
   may_end : (number : ℕ) (cause : LineCause) → number < last_number → MayEndAt number cause
   may_end number cause below = (omega (arith, below), λ last. absurd (omega (arith, below, last)))
 
-  -- the line behind others
+  -- the line after others
   line_behind : (done after : List (List ℕ)) (line : List ℕ) → slice_get (done ++ line ∷ after) (length done) ≡ Some line
   line_behind [] after line = refl
   line_behind (other ∷ done) after line = line_behind done after line

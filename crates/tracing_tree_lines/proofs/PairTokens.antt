@@ -58,7 +58,7 @@ field_in j = field_value (data_of j)
 abbrev found : {A : Type 0} → (json.Json → Option A) → Option (json.Json × List Token) → Option A
 found f o = option_and_then (λ p. f p.0) o
 
--- nothing is found in what is wrapped so
+-- nothing is found in what is wrapped this way
 found_none : {A B : Type 0} (f : json.Json → Option A) (wrap : B → json.Json) (o : Option (B × List Token)) → ((b : B) → f (wrap b) ≡ None) → found f (parse_map wrap o) ≡ None
 found_none f wrap None none = refl
 found_none f wrap (Some p) none = none p.0

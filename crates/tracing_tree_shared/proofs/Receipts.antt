@@ -278,7 +278,7 @@ module _ (history : List Entry) where
   abbrev pub HaveOne : List Slips → ℕ → Type 0
   HaveOne passes end = (other : ℕ) → other < end → slips_at passes other ≡ 1
 
-  -- the first misplaced receipt comes not before this
+  -- the first misplaced receipt isn't before this
   abbrev pub ComesFrom : List Slips → ℕ → Type 0
   ComesFrom passes end = (other : ℕ) → In other (all_misplaced passes) → end ≤ other
 

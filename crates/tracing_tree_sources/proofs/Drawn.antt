@@ -1,4 +1,4 @@
--- A run on a `Layered` is drawn: what any receiver is given, seen on this one.
+-- A run on a `Layered` is drawn: what any receiver gets, seen on this one.
 use Rattle.std.proofs.Common.{◌≡◌, ℕ, zero, suc, List, [], ◌∷◌, Option, Some, None, Result, Ok, Err, refl, sym, subst}
 use Rattle.std.specs.Prelude.{⊤, MatchOption, option_map}
 use Rattle.json.specs.Json.{Json}

@@ -1,4 +1,4 @@
--- The children of a span are newer than it, so that only the newer spans have to be looked at.
+-- The children of a span are newer than it, so only the newer spans have to be examined.
 use Rattle.std.proofs.Common.{◌≡◌, Bool, true, false, ◌&&◌, not, List, [], ◌∷◌, ◌++◌, filter, Option, Some, None, refl, sym, ◌∙◌, subst}
 use Rattle.std.specs.Option.{option_map_or}
 use Rattle.std.specs.List.{list_all, list_any}

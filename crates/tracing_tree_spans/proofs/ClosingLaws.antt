@@ -22,7 +22,7 @@ going-cons forest before i more =
     (if b then (before, i) ∷ take_while (goes forest) (steps (Some i) more) else [])
     ≡ (if b then i ∷ going_after forest (Some i) more else [])) [ true ↦ refl | false ↦ refl ]
 
--- the longest beginning behind this one
+-- the longest closing prefix after this one
 record IsLongestBehind (forest : Forest) (before : Option Id) (ids found : List Id) : Type 0 where
   rest : List Id
   whole : ids ≡ found ++ rest
@@ -51,7 +51,7 @@ going-longest forest before (i ∷ more) =
     subst (λ found. IsLongestBehind forest before (i ∷ more) found) (sym (going-cons forest before i more))
     (behind-by forest before i more (going-longest forest (Some i) more) (goes_after forest before i) refl)
 
--- what closes with one handle of a span, of the way from it up to its root
+-- what closes with one handle of a span, on the path from it up to its root
 pub closing_of-longest : (forest : Forest) (i : Id) →
     IsLongestGoing (take_handle i forest) (reverse (path_of (take_handle i forest) i)) (closing_of forest i)
 closing_of-longest forest i =

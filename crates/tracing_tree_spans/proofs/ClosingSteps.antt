@@ -75,7 +75,7 @@ lacks-changed u h before i spans =
     ∙ ap (λ b. not b) (other-changed u h i before spans)
     ∙ sym (all-filter (is_child_of i) (λ child. option_map_or (same_id child.id) before false) spans)
 
--- and each its way up
+-- and each its path upward
 pub way-changed : (change : Span → Span) → IsSame change → (i : Id) (forest : Forest) (o : Option Id) →
     way_up (update_span change i forest) o ≡ way_up forest o
 way-changed change same i forest None = refl
@@ -182,7 +182,7 @@ path_of-without i spans grown h j e =
     path_of-among (alone (without i spans)) (subst IsGrown (sym turned) (grown-without i (reverse spans) grown none)) j
     ∙ ap (λ xs. path_among xs j) turned ∙ path-without i (reverse spans) none j e ∙ sym (path_of-among (alone spans) grown j)
 
--- and its way up
+-- and its path upward
 pub way-without : (i : Id) (spans : List Span) → IsGrown (reverse spans) → list_any (is_child_of i) spans ≡ false → (o : Option Id) →
     option_map_or (same_id i) o false ≡ false → way_up (alone (without i spans)) o ≡ way_up (alone spans) o
 way-without i spans grown h None e = refl
@@ -297,7 +297,7 @@ not-found p q (x ∷ spans) s h none =
         subst (λ y. q y ≡ false) (same_Some x s (subst (λ b. (if b then Some x else find p spans) ≡ Some s) e h)) unlike
     by ih unlike false e = ih (subst (λ b. (if b then Some x else find p spans) ≡ Some s) e h)
 
--- the same of ids that are compared the other way
+-- the same of ids that are compared in the other direction
 turned-none : (p : Id) (ids : List Id) → list_any (same_id p) ids ≡ false → list_any (λ r. same_id r p) ids ≡ false
 turned-none p [] h = refl
 turned-none p (r ∷ ids) h =
@@ -444,7 +444,7 @@ closed old spans new next i went view removed answer = (
   (λ k. forest_of (removed k) next) ∙ ap (λ (forest : Forest). without_spans (going_up forest i) forest) view,
 )
 
--- of no next id a registry keeps less
+-- a registry's invariant also holds without a next id
 pub kept-none : (spans : List Span) (next : Option Id) → IsKept spans next → IsKept spans None
 kept-none spans next kept = (record { grown = kept.0.grown; below_next = refl }, kept.1, kept.2)
 

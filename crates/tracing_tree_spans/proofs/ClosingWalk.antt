@@ -1,4 +1,4 @@
--- The way from a span up to its root, and what closes on it.
+-- The path from a span up to its root, and what closes on it.
 use Rattle.std.proofs.Common.{◌≡◌, ◌<◌, Bool, true, false, ◌&&◌, ◌||◌, List, [], ◌∷◌, ◌++◌, length, reverse, Option, Some, None, arith, refl, sym, ap, ◌∙◌, subst, append_assoc, length-append}
 use Rattle.std.specs.List.{list_all, list_any}
 use Rattle.std.proofs.lemmas.Bool.{not-true, and_parts, or_parts}
@@ -12,7 +12,7 @@ use Rattle.tracing_tree_context.specs.declared.context.Id.{Id}
 use Rattle.tracing_tree_spans.proofs.PathLaws.{path_above, look-by, parent-among, above-older, path_of-step, path_of-none, path_of_any-among}
 use Rattle.tracing_tree_spans.proofs.ForestLaws.{path_among, look, look-turned, look-newest, path-newest, path-older, same_id-eq}
 
--- ---- the way up
+-- ---- the path upward
 
 -- from an id that may be missing up to its root
 abbrev pub way_up : Forest → Option Id → List Id

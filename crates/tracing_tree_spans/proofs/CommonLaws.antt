@@ -1,4 +1,4 @@
--- Two paths part once, so that their common beginning is found from its end.
+-- Two paths part once, so their common prefix is found from its end.
 use Rattle.std.proofs.Common.{◌≡◌, ℕ, zero, suc, ◌+◌, ◌-◌, ◌<◌, ◌≤◌, Bool, true, false, List, [], ◌∷◌, ◌++◌, length, get_or, take, drop, append_assoc, slice_get, min, Option, Some, None, arith, refl, sym, ap, ◌∙◌, subst}
 use Rattle.std.specs.List.{common_prefix_len}
 use Rattle.std.specs.Option.{option_map_or}
@@ -117,6 +117,6 @@ paths_part_once forest formed i j k h n le =
     let within = slice_get_within (path_of forest i) k both.0 both.1 in
     same-agree (path_of forest i) (path_of forest j) (k + 1) n same (omega arith) (omega arith)
 
--- and so do no path and another
+-- and so do an empty path and another
 pub nothing_parts_once : (path : List Id) → PartOnce [] path
 nothing_parts_once path k h n le = absurd (let never : false ≡ true = h in cc)

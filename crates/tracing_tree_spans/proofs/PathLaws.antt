@@ -99,7 +99,7 @@ path_of-whole forest formed i path h = record {
 
 -- ---- if each span comes after its parent
 
--- the path is the one among the spans turned round
+-- the path is the one among the reversed spans
 pub path_of-among : (forest : Forest) → IsGrown (reverse forest.spans) → (i : Id) → path_of forest i ≡ path_among (reverse forest.spans) i
 path_of-among forest grown i = by (is_live forest i) refl
   where

@@ -41,7 +41,7 @@ some-parent (Some s) above h = (s, refl, some-eq s.parent above h)
     some-eq : {A : Type 0} (a b : A) → Some a ≡ Some b → a ≡ b
     some-eq a b e = cc
 
--- below what enough steps up find, a way down is found by as many steps more
+-- below what enough steps up find, a downward path is found by as many steps more
 down-up : (forest : Forest) (above : Option Id) (front path : List Id) (m : ℕ) → ((n : ℕ) → m ≤ n → any_up n forest above ≡ front) →
     Descends forest above path → (n : ℕ) → m + length path ≤ n → any_up n forest (last_or above path) ≡ front ++ path
 down-up forest above front [] m up h n enough = up n (omega (arith, enough)) ∙ sym (append-nil front)
@@ -106,7 +106,7 @@ path-loopless forest i path h loop =
     by [] ends e = cc
     by (j ∷ way) ends e = let n = ap (λ (ids : List Id). length ids) e ∙ length-append path (j ∷ way) in omega (arith, n)
 
--- on a way down from what is not its own ancestor its id does not come again
+-- on a downward path from an id that isn't its own ancestor, the id doesn't occur again
 apart : (forest : Forest) (i : Id) → (IsAncestor forest i i → ⊥) → (mid back : List Id) → Descends forest (Some i) (mid ++ back) →
     AllByRecursion (λ j. same_id i j ≡ false) back
 apart forest i loopless mid [] h = tt
@@ -169,7 +169,7 @@ on-ids [] i = refl
 on-ids (x ∷ spans) i =
     ap (λ b. b || list_any (same_id i) (ids_of spans)) (id_laws.symm i x.id) ∙ ap (λ b. has_id i x || b) (on-ids spans i)
 
--- a way down over different ids is no longer than the list of spans
+-- a downward path with different ids is no longer than the list of spans
 way-short : (forest : Forest) (above : Option Id) (way : List Id) → Descends forest above way → IsDistinct same_id way → length way ≤ length forest.spans
 way-short forest above way h distinct =
     let within : (j : Id) → list_any (same_id j) way ≡ true → list_any (same_id j) (ids_of forest.spans) ≡ true =
@@ -192,7 +192,7 @@ live-span : (o : Option Span) → is_some o ≡ true → (s : Span) × (o ≡ So
 live-span None h = absurd cc
 live-span (Some s) h = (s, refl)
 
--- a way down with the span before it
+-- a downward path with the span before it
 down-more : (forest : Forest) (i : Id) (s : Span) (below : List Id) → span_at forest i ≡ Some s → Descends forest (Some i) below → Descends forest s.parent (i ∷ below)
 down-more forest i s below h down = (ap (λ (o : Option Span). option_map (λ (t : Span). t.parent) o) h, down)
 
@@ -203,7 +203,7 @@ Climbs forest end k =
     (i : Id) → is_live forest i ≡ true → (below : List Id) → Descends forest (Some i) below → last_or (Some i) below ≡ Some end →
     length forest.spans ≤ length below + k → (path : List Id) × IsPath forest end path
 
--- the way grows with each step up, and is no longer than the list of spans
+-- the path grows with each step up, and is no longer than the list of spans
 climb : (forest : Forest) → IsForest forest → (end : Id) (k : ℕ) → Climbs forest end k
 climb forest formed end zero i live below down ends enough =
     let s = live-span (span_at forest i) live in
@@ -223,7 +223,7 @@ climb forest formed end (suc k) i live below down ends enough =
 pub live-path : (forest : Forest) → IsForest forest → (i : Id) → is_live forest i ≡ true → (path : List Id) × IsPath forest i path
 live-path forest formed i live = climb forest formed i (length forest.spans) i live [] tt refl (omega arith)
 
--- ---- and the other way round
+-- ---- and the converse
 
 pub none-found : (o : Option Span) → is_some o ≡ false → o ≡ None
 none-found None h = refl

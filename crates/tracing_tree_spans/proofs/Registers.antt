@@ -109,7 +109,7 @@ less-ties = record {
   children = λ n. refl;
 }
 
--- ---- a span comes
+-- ---- a span is added
 
 -- all spans are below the next id
 pub below-next : (nodes : List KeptSpan) (next : Option Id) (i : Id) → IsKept (spans_of nodes) next → next ≡ Some i → AreBelow i.0 nodes

@@ -211,7 +211,7 @@ live-attempt (Err e) spans next old i at s view h =
 
 -- ---- a new span
 
--- a test finds the same, turned round
+-- a test has the same result in reverse order
 pub any-reverse : (p : Span → Bool) (spans : List Span) → list_any p (reverse spans) ≡ list_any p spans
 any-reverse p [] = refl
 any-reverse p (x ∷ spans) =
@@ -253,7 +253,7 @@ rising-push (x ∷ spans) s rising h =
     let parts = and_parts (nat_lt x.id.0 s.id.0) (all_below s.id.0 spans) h in
     (above-push x.id.0 spans s rising.0 (grind (arith, nat_tests, parts.0)), rising-push spans s rising.1 parts.1)
 
--- a parent among the spans is among them turned round
+-- a parent among the spans is among the reversed spans
 parent-turned : (spans : List Span) (o : Option Id) → option_map_or (λ above. is_some (find (has_id above) spans)) o true ≡ true →
     option_map_or (λ above. list_any (has_id above) (reverse spans)) o true ≡ true
 parent-turned spans None h = refl
@@ -305,7 +305,7 @@ below-init n spans s h =
     let last = (and_parts (nat_lt s.id.0 n) true parts.1).0 in
     (parts.0, grind (arith, nat_tests))
 
--- the last of the spans is at most the last id given out
+-- the last of the spans is at most the last id that was used
 last-below : (spans : List Span) (s : Span) (i : Id) (b : Bool) → (i.0 == 18_446_744_073_709_551_615) ≡ b →
     option_map_or (λ (next : Id). all_below next.0 (spans ++ s ∷ [])) (if b then None else Some (id_of (i.0 + 1))) true ≡ true →
     s.id.0 < 18_446_744_073_709_551_616 → s.id.0 ≤ i.0

@@ -350,7 +350,7 @@ present-gap change slots now i j at live slot laid view h gone =
     ap present (set-same slots at slot h.read) ∙ view
     ∙ change-none change i now (kept-there slots now i at live slot laid view h ∙ ap slot_node gone)
 
--- ---- a span comes
+-- ---- a span is added
 
 -- with one more above a number all are above it
 more-above : (n : ℕ) (ids : List Id) (i : Id) → ids_above n ids ≡ true → nat_lt n i.0 ≡ true → ids_above n (ids ++ i ∷ []) ≡ true
@@ -403,7 +403,7 @@ present-fits [] = omega arith
 present-fits (Live node ∷ slots) = let rest = present-fits slots in omega arith
 present-fits (Gone j ∷ slots) = let rest = present-fits slots in omega arith
 
--- a span with the greatest id comes at the end
+-- a span with the greatest id is added at the end
 pub laid-push : (slots new : List Slot) (node : KeptSpan) (live more : ℕ) → IsLaidOut slots live → AreBelow node.span.id.0 (present slots) →
     new ≡ slots ++ Live node ∷ [] → more ≡ live + 1 → IsLaidOut new more
 laid-push slots new node live more laid below e counted = record {

@@ -101,7 +101,7 @@ kept_path-is nodes tied (Some p) = by (kept_at nodes p) refl
         sym (path_of-none (alone (spans_of nodes)) p (ap (λ (o : Option Span). is_some o) gone))
     by (Some node) e = tied.paths p node e
 
--- ---- a span comes
+-- ---- a span is added
 
 -- an id that is among the spans is not the new one
 old-not : (spans : List Span) (s : Span) (j : Id) (t : Span) → list_any (has_id s.id) spans ≡ false → find (has_id j) spans ≡ Some t → has_id j s ≡ false

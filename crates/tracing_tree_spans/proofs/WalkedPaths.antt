@@ -13,14 +13,14 @@ use Rattle.tracing_tree_spans.proofs.ClosingWalk.{way_up, way-none, path-falls, 
 abbrev pub look_at : Forest → Option Id → Option ShownSpan
 look_at forest at = option_and_then (λ j. option_map shown_span (span_at forest j)) at
 
--- the ids so far, and the rest of the way up
+-- the ids so far, and the rest of the path upward
 pub record IsWalked (forest : Forest) (i : Id) (ids : List Id) (span : Option ShownSpan) : Type 0 where
   pub formed : IsForest forest
   pub at : Option Id
   pub shown : span ≡ look_at forest at
   pub way : ids ++ way_up forest at ≡ way_up forest (Some i)
 
--- how much of the way is left
+-- how much of the path is left
 abbrev pub left_of : Forest → Option ShownSpan → ℕ
 left_of forest span = option_map_or (λ shown. length (path_of forest shown.id)) span 0
 

@@ -63,7 +63,7 @@ pub lone_forest : (name target : List ℕ) (kept : Data) → IsForest (record {
 })
 lone_forest name target kept = one_root (record { id = id_of 1; parent = None; name = name; target = target; kept = kept; handles = 1 }) None refl
 
--- the child and the root of a turned one
+-- the child and the root of a reversed forest
 pub turned_forest : (name target : List ℕ) (child root : Data) → IsForest (record {
   spans = record { id = id_of 3; parent = Some (id_of 7); name = name; target = target; kept = child; handles = 1 }
       ∷ record { id = id_of 7; parent = None; name = name; target = target; kept = root; handles = 1 } ∷ [];

@@ -128,7 +128,7 @@ civil_at-is moment =
     (civil_in (year_of_day day) day (nanos_of_day (civil_nanos moment)))) (sym (day_at-date moment))
     (civil_in-is moment.date (nanos_of_day (civil_nanos moment)))
 
--- ---- nothing else is
+-- ---- only these are
 
 abbrev date_of : (civil : Civil) → IsCivilDate civil.year civil.month civil.day → Date
 date_of civil h = record { year = civil.year; month = civil.month; day = civil.day; year_in = h.0; month_in = h.1; day_in = h.2 }

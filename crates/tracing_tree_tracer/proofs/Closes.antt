@@ -15,7 +15,7 @@ pub length-outer : (spans : List Id) → length (outer_of spans) ≡ length span
 length-outer spans = grind (arith, common_steps)
 
 module _ {C N : Type 0} (answers : Call → Result Reply Refusal → C → C → Type 0) (tells : N → Option Moment → Type 0) where
-  -- an accepted close leaves the spans around the current one
+  -- an accepted close leaves the ancestors of the current span
   pub spans-closed : (found : Option Id) (went : Bool) (old new : TracerView C N)
       → IsClosedAs answers tells found (Ok went) old new → new.spans ≡ outer_of old.spans
   spans-closed None went old new (never, same) = cc

@@ -11,7 +11,7 @@ use Rattle.tracing_tree_tracer.specs.declared.tracer.TraceFault.TheVariants.{Ref
 use Rattle.tracing_tree_tracer.specs.Tracers.{TracerView, IsClosedAs, Leaves, Made, MadeAt, reply_as}
 
 module _ {C : Type 0} (answers : Call → Result Reply Refusal → C → C → Type 0) where
-  -- the call that was made is this one, its answer this one, and it was made on this
+  -- the call that was made is this one, with this answer, and on this value
   pub made_as : (given call : Call) → given ≡ call → (result answer : Result Reply Refusal) → result ≡ answer
       → (inside old new : C) → inside ≡ old → answers given result inside new
       → Made answers call old new answer

@@ -6,8 +6,8 @@ use Rattle.tracing_tree_tracer.specs.declared.tracer.TraceFault.{TraceFault}
 use Rattle.tracing_tree_tracer.specs.declared.spans.Spans.{Ghosts as Spans}
 
 module _ {T E : Type 0} (gives : TraceFault → E → Type 0) where
-  -- the answer of what was done and that of the closes after it: a failure of the first counts, and
-  -- else one of the second, turned into an error of the first
+  -- The answer of what was done, joined with that of the closes after it: a failure of the first
+  -- counts, otherwise one of the second, turned into an error of the first.
   abbrev pub Joins : Result T E → Result (Unit {0}) TraceFault → Result T E → Type 0
   Joins (Err error) closed answer = answer ≡ Err error
   Joins (Ok value) (Ok nothing) answer = answer ≡ Ok value

@@ -71,7 +71,7 @@ is_child_of_thread above thread one = same_above one.above above && bytes_eq one
 abbrev pub id_in : Live → Id
 id_in one = one.id
 
--- the newest span that is so
+-- the newest of the spans that pass
 abbrev pub newest : (Live → Bool) → List Live → Option Id
 newest is live = option_map id_in (find is (reverse live))
 
@@ -180,11 +180,11 @@ parted (one ∷ others) gone s =
     let next = parted_one one gone s in
     parted others next.gone next.state
 
--- a span closes with all that live in it
+-- a span closes with all live spans in it
 abbrev pub closed : Id → TracingState → TracingState
 closed id s = parted s.live (id ∷ []) (record s { live = [] })
 
--- ---- the way to a span
+-- ---- the path to a span
 
 -- a span, `None` above the root, and what is known then
 pub record Place : Type 0 where
@@ -353,7 +353,7 @@ takes_value value s = option_map (λ level. handed_out (acted level value (place
 abbrev pub plain_told : List ℕ → TracingState → TracingState
 plain_told line s = told (plain_event s.moment line (if_live s.at s.live)) s
 
--- what a line says
+-- what a line means
 abbrev pub tracing_takes : TracingState → List ℕ → Option Json → Option (Step TracingState)
 tracing_takes s line None = Some (handed_out (plain_told line s))
 tracing_takes s line (Some value) =

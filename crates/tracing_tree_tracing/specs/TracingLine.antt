@@ -1,4 +1,4 @@
--- What one line of tracing's JSON says.
+-- What one line of tracing's JSON means.
 use Rattle.std.specs.Prelude.{ℕ, ◌-◌, ◌==◌, ◌&&◌, ◌||◌, Bool, true, false, not, if◌then◌else◌, List, [], ◌∷◌, ◌++◌, length, take, slice_get, Option, Some, None, is_none, is_some, unwrap_or, option_map, codes, bytes_eq}
 use Rattle.std.specs.List.{ends_with, list_any}
 use Rattle.json.specs.Json.{Json, Items, no_items, item}
@@ -15,7 +15,7 @@ use Rattle.tracing_tree_tracing.specs.declared.tracing.line.Kind.TheVariants.{Ev
 
 -- ---- values and fields
 
--- a line has these keys beside its event's fields
+-- the keys of a line other than its event's fields
 abbrev pub line_keys : List (List ℕ)
 line_keys =
     codes "timestamp" ∷ codes "level" ∷ codes "target" ∷ codes "filename" ∷ codes "line_number"
@@ -40,7 +40,7 @@ thread_in value =
     unwrap_or (text_at (codes "threadId") value)
     (unwrap_or (text_at (codes "threadName") value) [])
 
--- a thread's number, without the words that Rust writes around it
+-- a thread's number, without the words that Rust writes with it
 abbrev pub bare_thread : List ℕ → List ℕ
 bare_thread text = inside (after_mark (codes "ThreadId(") text) where
   inside : Option (List ℕ) → List ℕ

@@ -29,7 +29,7 @@ columns-before used k amount e =
     let n : used ≡ suc k = omega arith in
     let m : used * amount ≡ k * amount + amount = ap (λ u. u * amount) n ∙ suc-mul k amount in omega arith
 
--- an amount of 2 or more leaves room for the corners of a verbose row
+-- an amount of 2 or more leaves space for the corners of a verbose row
 pub verbose-corners : (left right amount before : ℕ) → 2 ≤ amount → span_corners left right true amount before ≡ corners left right (before + amount / 2) (before + amount)
 verbose-corners left right amount before two = rw (le-leb 2 amount two) refl
 

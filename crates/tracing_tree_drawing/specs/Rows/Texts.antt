@@ -22,7 +22,7 @@ pub record TakesFirst (old : ReaderView) (line : List ℕ) (done : Option TextRo
   pub complete : done ≡ old.last
   pub after : new ≡ record old { last = Some row }
 
--- the line continues the last row
+-- the line is the next line of the last row
 pub record TakesLater (old : ReaderView) (line : List ℕ) (new : ReaderView) : Type 0 where
   pub text : List ℕ
   pub read : read_line old.amount old.last line ≡ Some (LaterLine text)

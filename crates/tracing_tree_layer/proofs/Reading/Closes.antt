@@ -140,7 +140,7 @@ changed-close settings context i forest last = by (settings.deferred_spans && no
 abbrev pub IsOnOrRetraced : Settings → Bool → Type 0
 IsOnOrRetraced settings on = (settings.close_retrace ≡ true) ⊎ (on ≡ true)
 
--- a drawn close that does not retrace has its parent on the last path
+-- a drawn close that doesn't retrace has its parent on the current branch
 parent-on : (settings : Settings) (forest : Forest) (last : Option Id) (i : Id) → IsAllShown settings forest → retraces settings ≡ true →
     (settings.deferred_spans && not (is_printed forest i)) ≡ false → retraces_before_close settings forest last i ≡ false →
     IsOnOrRetraced settings (close_is_on_path settings forest last i) → IsParentOn forest last i

@@ -24,8 +24,8 @@ use Rattle.tracing_tree_layer.proofs.Reading.Seen.{Opens, seen, seen-append, fre
 
 -- ---- the invariant
 
--- Of the forest, the last span and the rows so far: the forest is well-formed, the last span was given out, and the rows have
--- an opening row for each span on the path of a printed span and on that of the last.
+-- The forest is well-formed, the id of the last span was used, and the rows so far have an opening
+-- row for each span on the path of a printed span and on that of the last span.
 pub record IsFollowed (forest : Forest) (last : Option Id) (rows : List Row) : Type 0 where
   pub formed : IsGrownForest forest
   pub given : option_map_or (is_given forest) last true ≡ true
@@ -262,7 +262,7 @@ latest-retrace settings context forest formed last rows i h =
 
 -- ---- a new span
 
--- what was given out is not the new span
+-- an id that was used isn't the new span's
 given-not : (forest : Forest) (s : Span) (i : Id) → forest.next ≡ Some s.id → is_given forest i ≡ true → has_id i s ≡ false
 given-not forest s i next h = given-other forest i s.id next h
 

@@ -86,7 +86,7 @@ differing_from_nothing = refl
 abbrev pub ids : List ℕ → List Id
 ids numbers = map id_of numbers
 
--- how long the common beginning is, and how many pairs were compared
+-- the length of the common prefix, and the count of pairs that were compared
 abbrev pub common_of : List ℕ → List ℕ → ℕ × ℕ
 common_of old new =
     let shared = common_prefix_len same_id (ids old) (ids new) in

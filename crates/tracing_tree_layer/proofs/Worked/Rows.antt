@@ -153,7 +153,7 @@ pub fifteen_nanoseconds : higher_elapsed_text false 15 ≡ encode_utf8_all (code
 unfolding encode_utf8 digits
 fifteen_nanoseconds = refl
 
--- an eager span that retraces is labelled so
+-- an eager span that retraces has the label of a retrace
 pub labelled_retrace : written (record lined { span_modes = true; span_retrace = true }) (made (codes "a") outside ∷ [])
     ≡ encode_utf8_all (codes "┐retrace: a \n")
 unfolding encode_utf8

@@ -103,7 +103,7 @@ pub close_two : spelled_at_start (codes "{\"call\":\"close\",\"id\":2}") ≡ Som
 unfolding serde_json_on_literals
 close_two = refl
 
--- a line that ends early
+-- a truncated line
 pub cut_short : spelled_at_start (codes "{\"call\":") ≡ None
 unfolding serde_json_on_literals
 cut_short = refl
@@ -118,7 +118,7 @@ pub float_id : spelled_at_start (codes "{\"call\":\"close\",\"id\":1.0}") ≡ No
 unfolding serde_json_on_literals
 float_id = refl
 
--- an id below zero
+-- a negative id
 pub negative_id : spelled_at_start (codes "{\"call\":\"new\",\"name\":\"a\",\"current\":-1}") ≡ None
 unfolding serde_json_on_literals
 negative_id = refl

@@ -66,7 +66,7 @@ paths i live = first (same_id (id_of 7) i) refl
 formed : IsForest turned
 formed = forest-by_paths turned distinct paths
 
--- but has not grown in this order
+-- but hasn't grown in this order
 ungrown : IsGrownForest turned → ⊥
 ungrown h = let none : false ≡ true = h.grown.2.1 in cc
 
