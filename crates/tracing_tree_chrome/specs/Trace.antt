@@ -78,7 +78,7 @@ EndsHearing Read h all = ⊥
 EndsHearing Memory h all = ⊤
 EndsHearing (Refused refusal) h all = ⊥
 
--- Why no calls were read, and how many elements were unknown by then: an allocation failed, or the notes
+-- Why no calls were read, and how many elements were unknown by then: memory ran out, or the notes
 -- ended the run after something unknown.
 abbrev pub EndsReading : LineCause → ℕ → Heard → Type 0
 EndsReading NoSettings unknown all = ⊥

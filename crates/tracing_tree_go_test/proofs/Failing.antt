@@ -1,4 +1,5 @@
--- What makes Go's tests fail: each definition of what a line does either leaves `has_failed` or sets it.
+-- What makes Go's tests fail: each definition of what a line does either keeps `has_failed` or sets
+-- it.
 use Rattle.std.proofs.Common.{◌≡◌, ℕ, Bool, true, false, List, [], ◌∷◌, ◌++◌, Option, Some, None, refl, sym, ap, subst, ◌∙◌, arith}
 use Rattle.std.proofs.lemmas.Bool.Decides.{nat_tests}
 use Rattle.std.proofs.lemmas.Slice.Eq.{bytes_eq-Decides}

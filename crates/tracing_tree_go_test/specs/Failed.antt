@@ -1,4 +1,4 @@
--- What failed of Go's tests: a line is kept until the outermost test that it belongs to ends, or its package.
+-- What failed of Go's tests: a line is kept until its outermost test, or its package, ends.
 use Rattle.std.specs.Prelude.{◌≡◌, ℕ, ◌==◌, ◌&&◌, ◌||◌, Bool, true, false, not, if◌then◌else◌, List, [], ◌∷◌, ◌++◌, length, take, Option, Some, None, unwrap_or, option_map, codes, bytes_eq}
 use Rattle.std.specs.List.{list_any, position_or_len}
 use Rattle.json.specs.Json.{Json, document}
@@ -12,7 +12,7 @@ use Rattle.tracing_tree_go_test.specs.declared.failed.Kept.{Kept}
 use Rattle.tracing_tree_go_test.specs.declared.failed.Verdict.{Verdict}
 use Rattle.tracing_tree_go_test.specs.declared.failed.Verdict.TheVariants.{Open, Good, Bad}
 
--- what is kept of a package by the names of its outermost tests; the package's own lines have the empty name
+-- what is kept of a package by its outermost tests; the package's own lines have the empty name
 abbrev pub Untold : Type 0
 Untold = List (List ℕ × List Kept)
 

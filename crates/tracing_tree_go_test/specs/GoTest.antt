@@ -543,7 +543,7 @@ level_of_text line = if begins_trace line then Error else Info
 abbrev pub is_aside : List ℕ → GoState → Bool
 is_aside line s = is_empty s.building || begins (codes "go: downloading ") line
 
--- a line that a build prints, or anything else
+-- a line that a build prints, or any other line
 abbrev pub takes_plain : List ℕ → GoState → GoState
 takes_plain line s =
     if is_package_frame line then s
@@ -559,7 +559,7 @@ abbrev pub takes_heading : Option (List ℕ) → List ℕ → GoState → GoStat
 takes_heading (Some rest) line s = record s { building = up_to_space rest }
 takes_heading None line s = takes_failure (after_mark (codes "FAIL\t") line) line s
 
--- a line that isn't JSON: of a build that fails, or of anything else that prints
+-- a line that isn't JSON: a failing build's, or any other output
 abbrev pub takes_text : List ℕ → GoState → GoState
 takes_text line s = takes_heading (after_mark (codes "# ") line) line s
 
@@ -606,8 +606,8 @@ moved action path test elapsed s =
     else if bytes_eq action (codes "skip") then ended Skipped path test elapsed s
     else s
 
--- What a line does. What the package's build printed is an error if the build fails; if another line of
--- the package comes, the build has ended well.
+-- What a line does. What the package's build printed is an error if the build fails; if another
+-- line of the package comes, the build has succeeded.
 abbrev pub acted : List ℕ → List ℕ → List ℕ → Json → GoState → Option GoState
 acted action path test value s =
     if bytes_eq action (codes "build-output")

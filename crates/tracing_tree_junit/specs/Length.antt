@@ -8,7 +8,7 @@ thousandths_text count =
     decimal (count / 1000) ++ codes "." ++ decimal (count / 100 % 10) ++ decimal (count / 10 % 10)
     ++ decimal (count % 10)
 
--- a length in nanoseconds, as seconds, milliseconds or microseconds, truncated to three digits
+-- a length in nanoseconds, as seconds, milliseconds or microseconds, truncated to three decimals
 abbrev pub length_text : ℕ → List ℕ
 length_text nanoseconds =
     if nat_le 1_000_000_000 nanoseconds

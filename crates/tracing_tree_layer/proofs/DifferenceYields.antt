@@ -152,7 +152,7 @@ module _ {L R C A U V : Type 0} (lefts : L → Option A → L → Type 0) (right
         ),
   )
 
-  -- from an iterator that has just been made, all of the two lists
+  -- from a new iterator, all of the two lists
   pub AlwaysYields-differing : (left : L) (right : R) (s : DifferenceIter L R C) (xs ys : List V)
       → IsFresh (difference_left s) left → difference_right s ≡ right → difference_compare s ≡ compare
       → AlwaysYields lefts v left xs → AlwaysYields rights v right ys
@@ -170,7 +170,8 @@ module _ {L R C A U V : Type 0} (lefts : L → Option A → L → Type 0) (right
 
 module _ {L R C A U : Type 0} {lefts : L → Option A → L → Type 0} {rights : R → Option A → R → Type 0} {calls : Shared C (Bor A × Unit {0}) U} {eq : U → U → Bool}
     {left : L} {right : R} {compare : C} {s : DifferenceIter L R C} where
-  -- A chain proof through `DifferenceIter::new`. The first four facts are its clauses `yields`, `left`, `right` and `compare`, the first to show what is called. v reads the items.
+  -- A chain proof through `DifferenceIter::new`. The first four facts are its clauses `yields`,
+  -- `left`, `right` and `compare`; the first shows what is called. v reads the items.
   pub YieldsList-from_difference : {V : Type 0} {v : A → V} {xs ys : List V} (key : V → U)
       → YieldsDiffering lefts rights calls eq left right compare s
       → IsFresh (difference_left s) left → difference_right s ≡ right → difference_compare s ≡ compare

@@ -13,7 +13,7 @@ module _ {L R : Type 0} (equal : L → R → Bool) where
   get-next : (x : L) (left : List L) (n : ℕ) → slice_get (x ∷ left) (n + 1) ≡ slice_get left n
   get-next x left n = let e : n + 1 ≡ suc n = omega arith in ap (slice_get (x ∷ left)) e
 
-  -- both sides one place on
+  -- both sides one place further
   from_place-next : (x : L) (left : List L) (n : ℕ) (right : List R) → from_place (x ∷ left) (n + 1) right ≡ from_place left n right
   from_place-next x left n [] = refl
   from_place-next x left n (y ∷ right) =

@@ -287,12 +287,12 @@ undrawn settings rows faults quiet refusal writer (inl cause) =
       | inr e ↦ subst P (sym e) (record { answer = cause ∙ ap (λ r. Some r) e; written = (Keeps-refl writer.bytes, refl) })
     ]
 
--- what is cut short is something
+-- a string with a proper prefix isn't empty
 pub cut-some : (text front : List ℕ) → IsCutShort text front → text ≢ []
 cut-some text [] cut none = cut.cut (sym cut.whole ∙ none)
 cut-some text (x ∷ front) cut none = let e = sym cut.whole ∙ none in cc
 
--- rows that were drawn and sent are written, or refused as they may be
+-- rows that were drawn and sent are written, or refused for an allowed cause
 pub written : (settings : Settings) (rows : List Row) (faults quiet : Bool) (drawn sent : Result (Unit {0}) Refusal) (a b c : List ℕ) (old new : SeenWriter) →
     IsDrawn settings rows faults quiet drawn a b → a ≡ [] → Sends drawn sent b c old new →
     IsWritten settings rows faults quiet sent old new
@@ -329,7 +329,7 @@ pub refused-same : {A : Type 0} → (sent : Result (Unit {0}) Refusal) (next bef
 refused-same (Ok done) next before e = cc
 refused-same (Err refusal) next before e = refl
 
--- a turn whose rows were not written is refused
+-- a turn whose rows weren't written is refused
 pub gives_up : {W FT : Type 0} → (see : W → SeenWriter) (settings : Settings) (forest : Forest) (turn : Turn) (faults quiet : Bool) (drawn sent : Result (Unit {0}) Refusal) (a b c : List ℕ) (plan : PlanView)
     (writer next : W) (timer : FT) (last : Option Id) (was failed : Bool) →
     Drafts settings forest turn faults quiet drawn a b plan → a ≡ [] → Sends drawn sent b c (see writer) (see next) →

@@ -1,4 +1,4 @@
--- Marks change nothing of what closes.
+-- Marks change nothing about what closes.
 use Rattle.std.proofs.Common.{◌≡◌, ◌+◌, ◌==◌, ◌&&◌, ◌-◌, cond, take, Bool, true, false, List, [], ◌∷◌, map, filter, reverse, Option, Some, None, option_map, if◌then◌else◌, refl, sym, ap, ◌∙◌}
 use Rattle.std.specs.Prelude.{take_while}
 use Rattle.std.specs.Option.{option_map_or}
@@ -36,7 +36,7 @@ handles_of-marked ids forest i = ap (λ (o : Option Span). option_map_or (λ spa
     by None = refl
     by (Some s) = handles-marked ids s
 
--- a handle is taken before or after the marks
+-- a handle is dropped before or after the marks
 taken-marked : (ids : List Id) (i : Id) (s : Span) →
     (if has_id i (marked ids s) then record (marked ids s) { handles = (marked ids s).handles - 1 } else marked ids s)
     ≡ marked ids (if has_id i s then record s { handles = s.handles - 1 } else s)

@@ -190,7 +190,7 @@ module _ (settings : Settings) (context : Context) (forest : Forest) where
       ∙ ap (λ marked. if settings.deferred_spans then quiet_turn forest last else (if settings.span_retrace then retrace_to settings context marked last i
       else record { rows = parent_rows settings context forest entry PreOpen i ++ span_row settings context forest (Open entry) i ∷ []; forest = marked; last = Some i })) (sym (mark_printed-all i forest))
 
--- two paths of one forest part once, that of the last span too, if there is one
+-- two paths of one forest part once, even if one is that of the last span, which may be missing
 pub last_paths_part_once : (forest : Forest) → IsForest forest → (last : Option Id) (i : Id) → PartOnce (path_of_any forest last) (path_of forest i)
 last_paths_part_once forest formed None i = nothing_parts_once (path_of forest i)
 last_paths_part_once forest formed (Some j) i = paths_part_once forest formed j i
@@ -218,12 +218,12 @@ fresh-below forest formed i shown last e same =
 pub common_within : (old new : List Id) (n : ℕ) → n ≡ common_prefix_len same_id old new → n ≤ length new
 common_within old new n e = subst (λ k. k ≤ length new) (sym e) (common-right old new)
 
--- a path shares all of itself with itself
+-- a path shares all of its ids with itself
 whole-shared : (path : List Id) → common_prefix_len same_id path path ≡ length path
 whole-shared [] = refl
 whole-shared (i ∷ path) = let rest = whole-shared path in rw (same-refl i) (omega (arith, rest))
 
--- nothing is fresh before the last span itself
+-- nothing is fresh before the last span
 fresh-there : (forest : Forest) (i : Id) → fresh_ids forest (Some i) i ≡ []
 fresh-there forest i = let path = path_of forest i in ap (λ n. drop n path) (whole-shared path) ∙ drop-length path
 

@@ -94,7 +94,7 @@ continues call reply old new h = record { joined = joined; text = h.written.0 }
         ∙ ap from (sym led)
         ∙ ap to (sym (ap (λ (s : Seen). s.state) h.left))
 
--- a refused call that leaves state and bytes isn't in the run
+-- a refused call that keeps state and bytes isn't in the run
 runs_refused : (calls : List Call) (replies : List Reply) (old new : Seen) (writer : SeenWriter) → Keeps old.writer.bytes writer.bytes →
     Runs calls replies (record old { writer = writer }) new → Runs calls replies old new
 runs_refused calls replies old new writer kept h = record {

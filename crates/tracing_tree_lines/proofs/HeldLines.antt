@@ -101,7 +101,7 @@ counted_room End run room below = (omega (arith, room), omega (arith, below))
 counted_room Skipped run room below = (omega (arith, room), omega (arith, below))
 counted_room Accepted run room below = (omega (arith, room), omega (arith, below))
 
--- after a line more the run is further on
+-- after one more line the run is further on
 pub onward : (start first number next : ℕ) → (0 < start → first < number) → (start ≡ 0 → number ≡ first) → next ≡ number + 1 → first < next
 onward zero first number next some none more = omega (arith, none refl, more)
 onward (suc start) first number next some none more = omega (arith, some (omega arith), more)
@@ -134,7 +134,8 @@ split : (held rest : List ℕ) (unread : Option (List ℕ)) → prepend_known (h
 split held rest None = refl
 split held rest (Some more) = ap Some (append_assoc held rest more)
 
--- The whole lines `held` and a part of a line (`rest`) are in the buffer, and `known` is left of the input.
+-- The whole lines `held` and a part of a line (`rest`) are in the buffer, and `known` is left of
+-- the input.
 pub record IsInput (known : Option (List ℕ)) (held rest : List ℕ) : Type 0 where
   pub unread : Option (List ℕ)
   pub is : known ≡ prepend_known held (prepend_known rest unread)

@@ -77,7 +77,7 @@ pub fields_read : (fields : List Field) → item_fields (fields_data fields) ≡
 fields_read [] = refl
 fields_read (field ∷ others) = rw (fields_read others)
 
--- ---- a member more
+-- ---- one more member
 
 at_put : (key other : List ℕ) (d : Data) (found : Members) (b : Bool) → bytes_eq key other ≡ b
     → (if b then readable key d else readable_at other (object found)) ≡ readable_at other (object (put key d found))
@@ -105,7 +105,7 @@ no_key no_members key d none = refl
 no_key (member other old ms) key d none =
     ap (λ b. member other (if b then d else old) (with_key key d ms)) none.0 ∙ ap (member other old) (no_key ms key d none.1)
 
--- a key of no call changes nothing
+-- a key that no call has changes nothing
 pub other_key : (key : List ℕ) (d : Data) (p : Parts) → HasNoKey (parts_members p) key → with_key key d (parts_members p) ≡ parts_members p
 other_key key d p none = no_key (parts_members p) key d none
 
@@ -133,7 +133,7 @@ no_float_parts p =
     (neither _ _ (no_float_part p.target) (neither _ _ (no_float_part p.parent) (neither _ _ (no_float_list p.fields) (neither _ _ (no_float_part p.current)
     (neither _ _ (no_float_part p.thread) (neither _ _ (no_float_part p.thread_name) (neither _ _ (no_float_part p.mono) (neither _ _ (no_float_part p.wall) refl)))))))))))
 
--- ---- what is read of a value says what the value says
+-- ---- what is read of a value means what the value means
 
 -- another key than that of the fields
 pub word_read : (key : List ℕ) (d : Data) → (key ≡ codes "fields" → ⊥) → readable key d ≡ readable_word d
@@ -255,7 +255,7 @@ same_at f key value absent same = found_same f key (get key value) absent same
 abbrev kept : Data → Data
 kept value = object (call_members value)
 
--- this is read of both
+-- both read the same
 abbrev IsKept : {A : Type 0} → (Data → A) → Data → Type 0
 IsKept reader value = reader (kept value) ≡ reader value
 

@@ -58,7 +58,7 @@ outside_line known left Read seen outside = refl
 outside_line known left Memory seen outside = refl
 outside_line known left (Refused refusal) seen outside = cc
 
--- the count of the writer's faults after a line that ends no run
+-- the count of the writer's faults after a line that doesn't end the run
 pub calm_line : (known left : Option (List ℕ)) (judged : Judged) (old new : Seen) → JudgesLine known left (Ok judged) old new →
     new.writer.faults ≡ old.writer.faults
 calm_line known left End old new h = ap (λ (s : Seen). s.writer.faults) h.1
@@ -146,7 +146,7 @@ module _ (first : Seen) where
   one_done : (lines done others after : List (List ℕ)) (line : List ℕ) → lines ≡ done ++ others → others ≡ line ∷ after → lines ≡ (done ++ line ∷ []) ++ after
   one_done lines done others after line apart e = apart ∙ ap (λ rest. done ++ rest) e ∙ sym (append_assoc done (line ∷ []) after)
 
-  -- a skipped line more
+  -- one more skipped line
   pub skips : (Made Next : List Call → Type 0) → ((calls : List Call) → Made calls → Next calls) →
       (known middle left : Option (List ℕ)) (accepted number : ℕ) (now next : Seen) →
       IsKnownSoFar first Made known middle accepted number now → SkipsLine middle left × (next ≡ now) → IsKnownSoFar first Next known left accepted (number + 1) next
@@ -196,7 +196,7 @@ module _ (first : Seen) where
       subst (Appends old new) (sym (draw-append first.settings r.rows added))
       (Appends-trans old mid new (draw first.settings r.rows) (draw first.settings added) before more)
 
-  -- an accepted call more
+  -- one more accepted call
   pub accepts : (Made Next : List Call → Type 0) (known middle left : Option (List ℕ)) (accepted number : ℕ) (now next : Seen) →
       IsKnownSoFar first Made known middle accepted number now → (h : (reply : Reply) × MakesCall middle left (Ok reply) now next) →
       ((calls : List Call) → Made calls → Next (calls ++ h.1.made.call ∷ [])) →

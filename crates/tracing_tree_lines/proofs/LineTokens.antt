@@ -62,7 +62,7 @@ fields_member key old new list before after b same is set whole = record {
   put = set ∙ ap (λ d. with_key (codes "fields") d (parts_members before)) is.kept ∙ sym (ap (λ k. with_key k (readable k (data_of is.passed.value)) (parts_members before)) same);
 }
 
--- a member more
+-- one more member
 pub member_read : (first now s r : List Token) (parts new : Parts) (key : List ℕ) → ReadsMembers first now parts → read_key now ≡ Some (Some key, s) → IsMemberTaken key s r parts new
     → ReadsMembers first r new
 member_read first now s r parts new key read at is = record {
@@ -105,7 +105,7 @@ no_items_read first b = record {
     nothing_before None = refl
     nothing_before (Some fields) = refl
 
--- an item more, which is a field
+-- one more item, which is a field
 pub field_item_read : (first now r : List Token) (before b c : Bool) (fields new : List Field) (are_fields : Bool) (field : Field) → ReadsItems first now before b fields are_fields
     → after_end_array now ≡ None → IsItemTaken now r b c (Some field) → new ≡ fields ++ field ∷ [] → ReadsItems first r before c new are_fields
 field_item_read first now r before b c fields new are_fields field read going is pushed =
@@ -124,7 +124,7 @@ either_all : (b : Bool) (P : Type 0) → (b ≡ true → P) → (b ≡ false →
 either_all true P all other = all refl
 either_all false P all other = other refl
 
--- an item more, which isn't a field
+-- one more item, which isn't a field
 pub other_item_read : (first now r : List Token) (before b c : Bool) (fields : List Field) (are_fields : Bool) → ReadsItems first now before b fields are_fields → after_end_array now ≡ None
     → IsItemTaken now r b c None → ReadsItems first r before c fields false
 other_item_read first now r before b c fields are_fields read going is =
@@ -161,7 +161,7 @@ pub fault_is : {A : Type 0} (result : Result A LineCause) (cause : LineCause) �
 fault_is (Ok a) cause failed is = cc
 fault_is (Err passed) cause failed is = ap Err is
 
--- a cause for which nothing could be read of the rest is one for the whole
+-- a cause for which the rest couldn't be read is one for the whole
 pub unless_memory : (P Q : Type 0) (cause : LineCause) → (P → Q) → IsUnlessMemory NotACall P cause → IsUnlessMemory NotACall Q cause
 unless_memory P Q NoSettings then is = (is.0, then is.1)
 unless_memory P Q NotACall then is = (is.0, then is.1)

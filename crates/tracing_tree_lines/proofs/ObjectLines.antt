@@ -53,7 +53,7 @@ no_array : (o : Option Items) (value : Data) → (option_map array o >>= only_ob
 no_array None value e = none-some value e
 no_array (Some ds) value e = none-some value e
 
--- what reads as an object is one
+-- what reads as an object is an object
 is_object : (j : json.Json) (value : Data) → (of_json j >>= only_object) ≡ Some value → (ms : json.Members) × (j ≡ json.object ms)
 is_object json.null value e = absurd (none-some value e)
 is_object (json.boolean b) value e = absurd (none-some value e)

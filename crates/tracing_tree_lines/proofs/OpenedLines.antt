@@ -59,7 +59,7 @@ opened_known remaining lines reader inner empty capacity =
     let P : ℕ → Type 0 = λ n. (if n == 0 then None else prepend_known (reader_buffer lines) (remaining lines.inner)) ≡ remaining reader in
     subst P (sym capacity) (ap (λ bytes. prepend_known bytes (remaining lines.inner)) empty ∙ prepend_known-nil (remaining lines.inner) ∙ ap remaining inner)
 
--- a first line that no settings were read of
+-- a first line without readable settings
 pub ends_first : (known left : Option (List ℕ)) (line : List ℕ) (cause : LineCause) → TakesLine known left line →
     IsUnlessMemory NoSettings ((settings : Settings) (timer : Timer) → ¬ SpellsSettings line settings timer) cause → IfSome known (λ input. EndsAtFirst input cause)
 ends_first None left line cause first reads = tt

@@ -29,7 +29,7 @@ pub record ReadsTexts (first now : List Token) (before after : Bool) (texts : Te
 pub no_texts_read : (first : List Token) (b : Bool) → ReadsTexts first first b b NoText
 no_texts_read first b = record { passed = no_items_passed 124 first b; stands = λ rest. refl }
 
--- an item more
+-- one more item
 pub text_item_read : (first now r : List Token) (before b c : Bool) (texts new : Texts) (text : Option (List ℕ)) → ReadsTexts first now before b texts → after_end_array now ≡ None
     → IsTextTaken now r b c text → ((value : _) (rest : Items) → text ≡ as_str value → pair_with new rest ≡ pair_with texts (item value rest)) → ReadsTexts first r before c new
 text_item_read first now r before b c texts new text read going is more = record {

@@ -20,8 +20,8 @@ use Rattle.tracing_tree_otlp.specs.declared.item.Shape.{Shape}
 use Rattle.tracing_tree_otlp.specs.declared.item.Shape.TheVariants.{Trace, Span as OfSpan, Note as OfNote}
 use Rattle.tracing_tree_otlp.specs.declared.item.Span.{Span}
 
--- The id of the next span, the moment of the last row, the rows that are nested in no open span, what
--- is open with the innermost first, and the calls so far.
+-- The id of the next span, the moment of the last row, the rows that aren't nested in an open span,
+-- what is open with the innermost first, and the calls so far.
 pub record TreeState : Type 0 where
   pub next : ℕ
   pub moment : Moment

@@ -71,7 +71,7 @@ trace_seen trace time s = trace_seen_as (kept_at (key_of trace []) s.known) trac
 
 -- ---- spans
 
--- links come before all else in a span
+-- links come first in a span
 abbrev pub links_taken : List ℕ → List ℕ → ℕ → Items → GatheredState → GatheredState
 links_taken trace span time no_items s = s
 links_taken trace span time (item value others) s =
@@ -87,7 +87,7 @@ events_taken trace span no_items s = s
 events_taken trace span (item value others) s =
     events_taken trace span others (event_taken trace span value s)
 
--- a failure comes after all else in a span
+-- a failure comes last in a span
 abbrev pub status_taken : List ℕ → List ℕ → ℕ → Option Json → GatheredState → GatheredState
 status_taken trace span end None s = s
 status_taken trace span end (Some status) s =

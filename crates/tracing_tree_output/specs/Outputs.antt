@@ -13,7 +13,7 @@ pub record TakesSome (whole : Bool) (piece : List ℕ) (taken : ℕ) : Type 0 wh
 abbrev pub CountsFault : ℕ → ℕ → Result ℕ OutputFault → Type 0
 CountsFault old new result = MatchResult result (λ taken. new ≡ old) (λ fault. new ≡ old + 1)
 
--- an output keeps a string, which is then taken from its owner; or nothing has changed
+-- an output keeps a string, and its old buffer is then empty; or nothing has changed
 abbrev pub KeepsText : Bool → List ℕ → List ℕ → Option (List ℕ) → Option (List ℕ) → Type 0
 KeepsText true text left old new = Appends old new text × (left ≡ [])
 KeepsText false text left old new = (new ≡ old) × (left ≡ text)

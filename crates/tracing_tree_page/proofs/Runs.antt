@@ -33,7 +33,7 @@ wrote form forest call (Err Timer) old new held h = kept old.bytes new.bytes h.0
 wrote form forest call (Err Writer) old new held h = absurd held
 wrote form forest call (Err Failed) old new held h = kept old.bytes new.bytes h.0
 
--- While the output takes everything, calls append the lines of the steps of those that are accepted.
+-- While the output takes everything, calls append the lines of the steps of the accepted ones.
 pub run_is_written : (form : LineForm) (calls : List Call) (answers : List Answer) (old new : SeenSteps) → old.form ≡ form → OutputHeld answers → AnswersEach calls answers old new →
     Appends old.writer.bytes new.writer.bytes (lines_of form (accepted_steps old.forest calls answers))
 run_is_written form [] [] old new same held h = subst (λ (seen : SeenSteps). Appends old.writer.bytes seen.writer.bytes []) (sym h) (Appends-nil old.writer.bytes)

@@ -87,8 +87,8 @@ module _ {S : Type 0} where
     source = record { source = step.source; mark = mark };
   }
 
-  -- A line means what its rest after the prefix means, with the prefix in each event. A line without
-  -- a prefix means what it means to the source.
+  -- A line means what its rest after the prefix means, with the prefix in each event. A line
+  -- without a prefix means what it means to the source.
   abbrev pub prefixed_takes : (S → List ℕ → Option Json → Option (Step S)) → Marked S → List ℕ
       → Option Json → Option (Step (Marked S))
   prefixed_takes takes marked line value = by_parts (parts_of marked.mark line value) where

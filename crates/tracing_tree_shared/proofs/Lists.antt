@@ -69,7 +69,7 @@ has_map P Q f [] h = absurd h
 has_map P Q f (x ∷ xs) (inl h) = inl (f x h)
 has_map P Q f (x ∷ xs) (inr h) = inr (has_map P Q f xs h)
 
--- ---- the least
+-- ---- the smallest
 
 abbrev pub In : ℕ → List ℕ → Type 0
 In place places = Has (λ other. other ≡ place) places

@@ -156,7 +156,7 @@ keeps_replay first history call answer old new whole (inr lacks) k =
     let R : List Entry → Type 0 = λ entries. KeepsReplay first entries old in
     subst P (sym lacks.same) (subst Q (sym lacks.cause) (subst R (sym (append-nil history)) k))
 
--- What is answered to a draft is answered on some layer.
+-- A draft's answer is a call's answer on some layer.
 pub answered_on_some : {FT : Type 0} {time : FormatTime FT} {call : Call} {result : Result Slip Answers.Refused} {old new : BookView TapeView FT} →
     IsApplied time call result old new → IsAnsweredOnSome time call (answer_shown result)
 answered_on_some {old = old} {new = new} applied = (old.layered, new.layered, applied.answered)

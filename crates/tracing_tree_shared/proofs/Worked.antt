@@ -58,7 +58,7 @@ pub timed_is_no_replay : IsReplay silent lined one_event (encode_utf8_all (codes
 unfolding encode_utf8
 timed_is_no_replay r = let differ : Some (encode_utf8_all (codes "now INFO x\n")) ≡ Some (encode_utf8_all (codes "INFO x\n")) = r.kept.output in cc
 
--- drawn without times, it is one
+-- a drawing without times has a timer of that type
 pub untimed_replay : IsReplay silent lined one_event (encode_utf8_all (codes "INFO x\n"))
 unfolding encode_utf8
 untimed_replay = record {
@@ -76,7 +76,7 @@ with_timer timer = record {
   layer = record { settings = lined; writer = record { bytes = []; faults = 0 }; timer = timer; last = None; failed = false; unwritten = [] };
 }
 
--- a call that is refused for memory changes nothing
+-- a call that is refused because memory ran out changes nothing
 pub refused_call : (call : Call) → Changes (seen_on_tape silent) (IsAnsweredOrLacks call (Err Memory)) (with_timer false) (with_timer false)
 refused_call call = record { changed = inr (record { cause = refl; sound = refl; same = refl }); fixed = refl }
 

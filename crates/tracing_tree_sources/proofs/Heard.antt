@@ -336,7 +336,7 @@ module _ {C : Type 0} (answers : Call → Result Reply Refusal → C → C → T
             counts = outside_counts cause before.unknown (next_unknown takes before.source (input_lines y)) unknown may so_far.counted;
           }
 
-      -- the notes end the run after an unknown line, or memory for what is noted
+      -- the notes end the run after an unknown line, or memory for a note runs out
       pub stops_noted : (known middle left : Option (List ℕ)) (line : List ℕ) (begun source after : S) (number unknown : ℕ) (noted notes : Option (List Note)) (cause : LineCause) → IsOfNotes cause → (old now next : C) →
           IsKnownSoFar lacks known middle begun source number unknown noted notes old now →
           TakesLine middle left line × HearsLine Made answers takes line source after (Ok false) now next →

@@ -66,7 +66,7 @@ module _ {E : Type 0} (number : ℕ) (wanted : Lack) where
   note_made (Ok lack) result done h is e = ap (λ l. (number, l) ∷ []) e
   note_made (Err error) result done h is e = cc
 
-  -- the notes end the run, or memory for what would be noted
+  -- the notes end the run, or memory for a note runs out
   pub note_last : (lack : Result Lack E) (result : Result ⊤ LineCause) (cause : LineCause) →
       MatchResult lack (λ _. IfErr result (λ cause. cause ≡ NotACall)) (λ _. result ≡ Err Memory) → result ≡ Err cause →
       IfOk lack (λ lack. lack ≡ wanted) → note_if number lack ≡ take (noted_at cause) ((number, wanted) ∷ [])

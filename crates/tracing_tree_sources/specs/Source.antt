@@ -84,8 +84,8 @@ module _ {C : Type 0} (flushes : C → C → Type 0) where
   FlushedTimes zero old new = new ≡ old
   FlushedTimes (suc count) old new = (shown : C) × flushes old shown × FlushedTimes count shown new
 
--- The receiver accepted these calls, one after another. It may have been flushed before each call and
--- after the last one.
+-- The receiver accepted these calls, one after another. It may have been flushed before each call
+-- and after the last one.
 module _ {C : Type 0} (answers : Call → Result Reply Refusal → C → C → Type 0)
     (flushes : C → C → Type 0) where
   abbrev pub Accepts : List Call → C → C → Type 0

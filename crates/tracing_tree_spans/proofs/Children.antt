@@ -20,7 +20,7 @@ all-filter p q (x ∷ xs) = by (all-filter p q xs) (p x) (q x) refl refl
     by ih true false e h = rw (e, h) refl
     by ih false b e h = rw e ih
 
--- an id that no older span has is not the parent, which an older span has
+-- an id that no older span has isn't the parent, which an older span has
 not-parent : (older : List Span) (i : Id) (o : Option Id) → list_any (has_id i) older ≡ false →
     option_map_or (λ above. list_any (has_id above) older) o true ≡ true → option_map_or (same_id i) o false ≡ false
 not-parent older i None fresh live = refl

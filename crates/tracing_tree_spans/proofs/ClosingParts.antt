@@ -111,7 +111,7 @@ lacks-one (x ∷ spans) b i t rising found child = by (λ k. lacks-one spans b i
 
 -- ---- the part of a path that closes
 
--- `count` spans have closed, up to one whose parent is looked at next
+-- `count` spans have closed, up to one whose parent is next
 pub record HasClosed (spans : List Span) (i : Id) (whole count : ℕ) (above : Option Id) : Type 0 where
   pub going : List Id
   pub last : Id
@@ -310,7 +310,7 @@ pub record HasRemoved (old now : List Span) (first above : Option Id) (count : �
   pub spans : left (rest_of now above) now ≡ left (rest_of old first) old
   pub counted : count ≡ length (rest_of now above)
 
--- a live span is the next to go
+-- a live span is the next to be removed
 pub record IsNextToGo (now : List Span) (i : Id) : Type 0 where
   pub childless : list_any (is_child_of i) now ≡ false
   pub closes : rest_of now (Some i) ≡ i ∷ rest_of (without i now) (option_and_then (λ (s : Span). s.parent) (find (has_id i) now))

@@ -1,4 +1,5 @@
--- What closes with a span, span by span: read off a registry that stays, and as one span after the other is removed.
+-- What closes with a span, span by span: read from an unchanged registry, and while one span after
+-- the other is removed.
 use Rattle.std.proofs.Common.{◌≡◌, ℕ, suc, nat_lt, ◌-◌, ◌<◌, ◌==◌, Bool, true, false, ◌&&◌, ◌||◌, not, List, [], ◌∷◌, ◌++◌, length, map, reverse, find, filter, get_or, slice_get, Option, Some, None, IfSome, if◌then◌else◌, arith, refl, sym, ap, ◌∙◌, subst}
 use Rattle.std.specs.Option.{option_map_or}
 use Rattle.std.specs.List.{list_all, list_any, remove}
@@ -30,7 +31,7 @@ going-step forest formed before i s h =
 
 -- ---- with a handle less
 
--- another span is found as before
+-- another span is found unchanged
 find-other : (change : Span → Span) → IsSame change → (i j : Id) (spans : List Span) → same_id i j ≡ false →
     find (has_id j) (map (changed change i) spans) ≡ find (has_id j) spans
 find-other change same i j [] h = refl
@@ -67,7 +68,7 @@ other-changed u h i before (x ∷ spans) =
     ∙ ap (λ (o : Option Id). (option_map_or (same_id i) o false && not (option_map_or (same_id x.id) before false)) || list_any (is_other_child i before) (map u spans)) (h.parents x)
     ∙ ap (λ b. is_other_child i before x || b) (other-changed u h i before spans)
 
--- a change of spans leaves each its children
+-- a change of spans keeps the children of each
 lacks-changed : (u : Span → Span) → IsSame u → (before : Option Id) (i : Id) (spans : List Span) →
     lacks_others (map u spans) before i ≡ lacks_others spans before i
 lacks-changed u h before i spans =
@@ -110,7 +111,7 @@ going-other forest i before (j ∷ ids) h =
     ∙ ap (λ rest. if goes_after forest before j then j ∷ rest else []) (going-other forest i (Some j) ids parts.1)
     ∙ sym (going-cons forest before j ids)
 
--- the first that closes with a handle of a span, and the rest, read off the forest before
+-- the first that closes with a handle of a span, and the rest, read from the forest before
 pub closing-first : (forest : Forest) → IsGrownForest forest → (i : Id) (s : Span) → span_at forest i ≡ Some s →
     closing_of forest i
     ≡ (if (s.handles - 1 == 0) && lacks_others forest.spans None i then i ∷ going_after forest (Some i) (way_up forest s.parent) else [])
@@ -153,7 +154,7 @@ childless i (x ∷ spans) h = by (λ k. childless i spans k) (is_child_of i x) r
     by ih false e =
         rw e (ih (subst (λ b. list_all (λ (child : Span). false) (if b then x ∷ filter (is_child_of i) spans else filter (is_child_of i) spans) ≡ true) e h))
 
--- a removal of a span without children leaves each other its path
+-- a removal of a span without children keeps the path of each other span
 pub path-without : (i : Id) (spans : List Span) → list_any (is_child_of i) spans ≡ false → (j : Id) → same_id i j ≡ false →
     path_among (without i spans) j ≡ path_among spans j
 path-without i [] h j other = refl
@@ -188,7 +189,7 @@ pub way-without : (i : Id) (spans : List Span) → IsGrown (reverse spans) → l
 way-without i spans grown h None e = refl
 way-without i spans grown h (Some j) e = ap (λ (path : List Id). reverse path) (path_of-without i spans grown h j e)
 
--- another span is found without it as before
+-- another span is found without it, unchanged
 find-without : (i j : Id) (spans : List Span) → same_id i j ≡ false → find (has_id j) (without i spans) ≡ find (has_id j) spans
 find-without i j [] h = refl
 find-without i j (x ∷ spans) h = by (find-without i j spans h) (has_id i x) refl
@@ -221,7 +222,7 @@ only-one i s q (x ∷ spans) rising h unlike = by (λ k. only-one i s q spans ri
         rw (e, first) (none-above i q spans (subst (λ (j : Id). all_above j.0 spans ≡ true) own rising.0))
     by ih false e = rw e (ih (subst (λ b. (if b then Some x else find (has_id i) spans) ≡ Some s) e h))
 
--- a choice that leaves the span out is the same without the span
+-- a choice without the span is the same in the list without the span
 filter-without : (i : Id) (q : Span → Bool) (spans : List Span) → list_any (λ x. has_id i x && q x) spans ≡ false →
     filter q (without i spans) ≡ filter q spans
 filter-without i q [] h = refl
@@ -463,7 +464,7 @@ listed spans formed before i at s answer here test =
 
 -- ---- the list of what closes
 
--- a look for another child, of the span at a place
+-- a search for another child, of the span at a place
 pub looked : (spans : List Span) (i : Id) (at : ℕ) (s : Span) (answer : Bool) → IsPlace spans i at s →
     IfSome (slice_get spans at) (λ span. answer ≡ not (lacks_others spans None span.id)) → answer ≡ not (lacks_others spans None i)
 looked spans i at s answer here test =

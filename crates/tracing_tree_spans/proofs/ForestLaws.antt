@@ -11,7 +11,8 @@ use Rattle.tracing_tree_spans.specs.Registry.Spans.{Span}
 use Rattle.tracing_tree_spans.specs.Registry.Forest.{Forest, has_id, span_at, is_live, Descends, IsPath, IsGrown}
 use Rattle.tracing_tree_context.specs.declared.context.Id.{Id}
 
--- the path of a span among these, the newest first: the path of its parent among the older ones, and the span
+-- the path of a span among these, newest first: its parent's path among the older ones, and the
+-- span
 abbrev pub path_among : List Span → Id → List Id
 path_among [] i = []
 path_among (span ∷ older) i =
@@ -149,7 +150,7 @@ find-turned span older fresh i true e =
     rw (none, e) refl
 find-turned span older fresh i false e = rw e (or-none (look older i))
 
--- turning the list round changes no lookup
+-- reversing the list changes no lookup
 pub look-reverse : (spans : List Span) → IsGrown spans → (i : Id) → look (reverse spans) i ≡ look spans i
 look-reverse [] grown i = refl
 look-reverse (span ∷ older) grown i =

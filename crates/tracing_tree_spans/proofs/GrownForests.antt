@@ -47,7 +47,7 @@ as_forest forest formed =
     (subst (λ spans. IsDistinct same_id (ids_of spans)) (reverse-reverse forest.spans) (distinct-turned (reverse forest.spans) formed.grown))
     (λ i live. (path_among (reverse forest.spans) i, among-is_path forest formed.grown i live))
 
--- ---- changes that leave ids and parents
+-- ---- changes that keep ids and parents
 
 -- if spans look changed, as many steps up find the same
 up-same : (u : Span → Span) → IsSame u → (old new : Forest) → ((j : Id) → span_at new j ≡ option_map u (span_at old j)) → (n : ℕ) (i : Id) →

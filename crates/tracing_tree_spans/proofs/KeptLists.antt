@@ -47,7 +47,7 @@ spans-changed change u same i (x ∷ nodes) =
     ∙ ap (λ s. s ∷ map (changed u i) (spans_of nodes))
     (elim (keeps_id i x) as (λ b. (if b then change x else x).span ≡ (if b then u x.span else x.span)) [ true ↦ same x | false ↦ refl ])
 
--- a change of one span that does not
+-- a change of one span that doesn't
 pub spans-same : (change : KeptSpan → KeptSpan) → ((n : KeptSpan) → (change n).span ≡ n.span) → (i : Id) (nodes : List KeptSpan) →
     spans_of (change_kept change i nodes) ≡ spans_of nodes
 spans-same change same i [] = refl

@@ -76,7 +76,7 @@ newest-new spans next i s old new kept here same one found view made =
     parent-any xs None h = refl
     parent-any xs (Some above) h = sym (is_some-find (has_id above) xs) ∙ h
 
--- and taking it back leaves what was there before
+-- and taking it back restores what was there before
 pub undone-new : (spans : List Span) (next : Option Id) (i : Id) (s : Span) (old new : Forest) → IsKept spans next → next ≡ Some i → s.id ≡ i →
     forest_of spans next ≡ old → new ≡ add_span s old → take_back i new ≡ old
 undone-new spans next i s old new kept here same view made =

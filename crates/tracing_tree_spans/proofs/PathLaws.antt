@@ -1,4 +1,5 @@
--- The path of a live span is its parent's path and the span, and its only path. A span that isn't live has the empty path.
+-- The path of a live span is its parent's path and the span, and it has no other path. A span that
+-- isn't live has the empty path.
 use Rattle.std.proofs.Common.{◌≡◌, ℕ, suc, ◌≤◌, Bool, true, false, ◌||◌, List, [], ◌∷◌, ◌++◌, length, reverse, Option, Some, None, is_some, arith, refl, sym, ap, ◌∙◌, subst}
 use Rattle.std.specs.Option.{option_map_or}
 use Rattle.std.specs.List.{list_any}

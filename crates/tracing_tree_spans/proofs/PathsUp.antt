@@ -87,7 +87,7 @@ last_or-append : (above : Option Id) (front back : List Id) → last_or above (f
 last_or-append above [] back = refl
 last_or-append above (i ∷ front) back = last_or-append (Some i) front back
 
--- what has a path is not its own ancestor: it would have a longer one too
+-- what has a path isn't its own ancestor: it would have a longer path too
 pub path-loopless : (forest : Forest) (i : Id) (path : List Id) → IsPath forest i path → IsAncestor forest i i → ⊥
 path-loopless forest i path h loop =
     by loop.0 loop.2 (longer loop.0 loop.1 loop.2)
@@ -153,7 +153,7 @@ down-live forest above (j ∷ below) h i on = by (down-live forest (Some j) belo
         subst (λ k. is_live forest k ≡ true) (sym (same_id-eq i j e)) (found (λ (span : Span). span.parent) (span_at forest j) above h.0)
     by ih false e = ih (subst (λ b. (b || list_any (same_id i) below) ≡ true) e on)
 
--- the ids compare as their numbers do
+-- ids are compared as their numbers are
 pub id_laws : IsEquivalence same_id
 id_laws = record {
   refl = λ i. nat_eq_equiv.refl i.0;

@@ -78,7 +78,7 @@ kept-own nodes i node h = ap (λ j. kept_at nodes j) (kept-id nodes i node h) �
 
 -- ---- a span changes
 
--- the registry keeps what it keeps
+-- the registry keeps its invariant
 pub kept-update : (change : KeptSpan → KeptSpan) (u : Span → Span) → KeepsTies change u → (nodes new : List KeptSpan) (next : Option Id) (i : Id) →
     IsKept (spans_of nodes) next → new ≡ change_kept change i nodes → IsKept (spans_of new) next
 kept-update change u h nodes new next i kept e =
@@ -193,7 +193,7 @@ last-of : (x : Span) (xs : List Span) → (init : List Span) × (last : Span) ×
 last-of x [] = ([], x, refl)
 last-of x (y ∷ ys) = let rest = last-of y ys in (x ∷ rest.0, rest.1, ap (λ zs. x ∷ zs) rest.2)
 
--- without its newest span the registry keeps what it keeps
+-- without its newest span the registry keeps its invariant
 pub kept-back : (spans new : List Span) (next : Option Id) (now : Forest) (i : Id) → IsKept spans next → forest_of spans next ≡ now → IsNewest i now →
     new ≡ without i spans → IsKept new (Some i)
 kept-back spans new next now i kept view newest e = by spans refl
@@ -238,7 +238,7 @@ pub closing-whole : (nodes : List KeptSpan) (next : Option Id) (now : Forest) (i
 closing-whole nodes next now i j part view same closes =
     closes ∙ ap (closing_of (alone (spans_of nodes))) same ∙ ap (λ (forest : Forest). closing_of forest i) view
 
--- ---- a change that may fail and leave all
+-- ---- a change that may fail and change nothing
 
 pub kept-attempt : {X E : Type 0} (change : KeptSpan → KeptSpan) (u : Span → Span) → KeepsTies change u → (r : Result X E) (nodes new : List KeptSpan)
     (next : Option Id) (i : Id) → IsKept (spans_of nodes) next → OnOk r (new ≡ change_kept change i nodes) → OnErr r (new ≡ nodes) → IsKept (spans_of new) next
@@ -276,7 +276,7 @@ error-live (Err e) now i s h = λ none. (let found : Some s ≡ None = sym h ∙
 pub path-gone : (now : Forest) (i : Id) → span_at now i ≡ None → path_of now i ≡ []
 path-gone now i h = path_of-none now i (ap (λ (o : Option Span). is_some o) h)
 
--- what is answered of a live span is its path
+-- the answer for a live span is its path
 pub if-whole : {E : Type 0} (now : Forest) → IsGrownForest now → (i : Id) (r : Result (Vec Id Global) E) → IfOk r (λ path. path.items ≡ path_of now i) →
     IfOk r (λ path. IsPathIfLive now i path.items)
 if-whole now formed i (Ok path) h = path_of-whole now (as_forest now formed) i path.items h

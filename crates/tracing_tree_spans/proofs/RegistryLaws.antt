@@ -78,19 +78,19 @@ below-changed u h n [] = refl
 below-changed u h n (x ∷ spans) =
     ap (λ (j : Id). nat_lt j.0 n && all_below n (map u spans)) (h.ids x) ∙ ap (λ b. nat_lt x.id.0 n && b) (below-changed u h n spans)
 
--- changed spans rise as before
+-- changed spans still rise
 pub rising-changed : (u : Span → Span) → IsSame u → (spans : List Span) → IsRising spans → IsRising (map u spans)
 rising-changed u h [] rising = tt
 rising-changed u h (x ∷ spans) rising =
     (ap (λ (j : Id). all_above j.0 (map u spans)) (h.ids x) ∙ above-changed u h x.id.0 spans ∙ rising.0, rising-changed u h spans rising.1)
 
--- a parent is among changed spans as before
+-- a parent is still among changed spans
 parent-changed : (u : Span → Span) → IsSame u → (spans : List Span) (o : Option Id) →
     option_map_or (λ above. list_any (has_id above) (map u spans)) o true ≡ option_map_or (λ above. list_any (has_id above) spans) o true
 parent-changed u h spans None = refl
 parent-changed u h spans (Some above) = any-changed u h above spans
 
--- changed spans are well-formed as before
+-- changed spans are still well-formed
 pub grown-changed : (u : Span → Span) → IsSame u → (spans : List Span) → IsGrown spans → IsGrown (map u spans)
 grown-changed u h [] grown = tt
 grown-changed u h (x ∷ spans) grown = (
@@ -110,14 +110,14 @@ find-same u h i (x ∷ spans) = ap (λ (k : Id). if same_id k i then Some (u x) 
     by ih true e = rw e refl
     by ih false e = rw e ih
 
--- a change of each span and a turn round may change places
+-- a change of each span commutes with reversing
 pub reverse-map : (u : Span → Span) (spans : List Span) → reverse (map u spans) ≡ map u (reverse spans)
 reverse-map u [] = refl
 reverse-map u (x ∷ spans) =
     reverse-append (u x ∷ []) (map u spans) ∙ ap (λ xs. xs ++ u x ∷ []) (reverse-map u spans)
     ∙ sym (map-append u (reverse spans) (x ∷ [])) ∙ ap (map u) (sym (reverse-append (x ∷ []) spans))
 
--- changed spans are below the next id as before
+-- changed spans are still below the next id
 next-changed : (u : Span → Span) → IsSame u → (spans : List Span) (o : Option Id) →
     option_map_or (λ (next : Id). all_below next.0 (map u spans)) o true ≡ option_map_or (λ (next : Id). all_below next.0 spans) o true
 next-changed u h spans None = refl
@@ -133,7 +133,7 @@ forest-updated change same i forest formed =
       below_next = next-changed (changed change i) h forest.spans forest.next ∙ formed.below_next;
     }
 
--- the span at its place is written over by its changed self
+-- the span at its place is overwritten by its changed self
 pub kept-set : (change : Span → Span) → IsSame change → (spans : List Span) (next : Option Id) (at : ℕ) (s : Span) → IsKept spans next →
     slice_get spans at ≡ Some s → IsKept (set spans at (change s)) next
 kept-set change same spans next at s kept read =
@@ -187,7 +187,7 @@ forest-write change spans next old i at s new view rising h e =
     subst (λ forest. record { spans = set spans at new; next = next } ≡ update_span change i forest) view
     (rw e (forest-set change (record { spans = spans; next = next }) at i s rising h))
 
--- the same of a change that may fail and leave the span
+-- the same of a change that may fail and keep the span
 pub kept-attempt : {X E : Type 0} (change : Span → Span) → IsSame change → (r : Result X E) (spans : List Span) (next : Option Id)
     (i : Id) (at : ℕ) (s new : Span) → IsKept spans next → IsPlace spans i at s → OnOk r (new ≡ change s) → OnErr r (new ≡ s) →
     IsKept (set spans at new) next
@@ -338,7 +338,7 @@ last-is spans s i kept live =
         absurd (let both : true ≡ false = sym found ∙ fresh in cc)
     by most below false e = let same : s.id.0 ≡ i.0 = grind (arith, nat_tests) in ap id_of same
 
--- without its newest span the registry keeps what it keeps, and that span's id is the next one
+-- without its newest span the registry keeps its invariant, and that span's id is the next one
 pub kept-pop : (spans : List Span) (s : Span) (i : Id) → IsKept (spans ++ s ∷ []) (id_after i) →
     is_some (find (has_id i) (spans ++ s ∷ [])) ≡ true → IsKept spans (Some i)
 kept-pop spans s i kept live =
@@ -438,7 +438,7 @@ without i spans = filter (λ span. not (has_id i span)) spans
 pub other-id : (i j : Id) (x : Span) → same_id i j ≡ false → has_id i x ≡ true → has_id j x ≡ false
 other-id i j x h e = grind (arith, nat_tests)
 
--- another id is among the spans as before
+-- another id is still among the spans
 any-without : (i j : Id) (spans : List Span) → same_id i j ≡ false → list_any (has_id j) (without i spans) ≡ list_any (has_id j) spans
 any-without i j [] h = refl
 any-without i j (x ∷ spans) h = by (any-without i j spans h) (has_id i x) refl
@@ -448,7 +448,7 @@ any-without i j (x ∷ spans) h = by (any-without i j spans h) (has_id i x) refl
     by ih true e = rw (e, other-id i j x h e) ih
     by ih false e = rw e (ap (λ b. has_id j x || b) ih)
 
--- a parent that is another is among the spans as before
+-- a parent that is another is still among the spans
 parent-without : (i : Id) (spans : List Span) (o : Option Id) → option_map_or (same_id i) o false ≡ false →
     option_map_or (λ above. list_any (has_id above) spans) o true ≡ true →
     option_map_or (λ above. list_any (has_id above) (without i spans)) o true ≡ true
@@ -470,7 +470,7 @@ grown-without i (x ∷ spans) grown h =
         let all : IsGrown (x ∷ without i spans) = (rw fresh refl, parent-without i spans x.parent parts.0 grown.1, ih) in
         rw e all
 
--- a choice of spans and a turn round may change places
+-- a choice of spans commutes with reversing
 pub reverse-filter : (p : Span → Bool) (spans : List Span) → reverse (filter p spans) ≡ filter p (reverse spans)
 reverse-filter p [] = refl
 reverse-filter p (x ∷ spans) = by (reverse-filter p spans) (p x) refl

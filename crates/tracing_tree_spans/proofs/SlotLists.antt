@@ -86,7 +86,7 @@ rise (x ∷ slots) d rising (suc j) (suc k) h within = rise slots d rising.1 j k
 
 -- ---- a search
 
--- what a search of an id answers
+-- the answer of a search for an id
 abbrev pub IsFound : List Slot → Id → Option ℕ → Type 0
 IsFound slots i place =
     MatchOption place (find (slot_has i) slots ≡ None) (λ at. (at < length slots) × (find (slot_has i) slots ≡ slice_get slots at))
@@ -235,7 +235,7 @@ set-fewer (Live x ∷ slots) (suc at) node j h = let rest = set-fewer slots at n
 set-fewer (Gone k ∷ slots) zero node j h = absurd cc
 set-fewer (Gone k ∷ slots) (suc at) node j h = set-fewer slots at node j h
 
--- a write of the same id leaves the ids
+-- a write of the same id keeps the ids
 set-ids : (slots : List Slot) (at : ℕ) (s t : Slot) → slice_get slots at ≡ Some s → slot_id t ≡ slot_id s → slot_ids (set slots at t) ≡ slot_ids slots
 set-ids [] at s t h same = cc
 set-ids (x ∷ slots) zero s t h same =
@@ -243,7 +243,7 @@ set-ids (x ∷ slots) zero s t h same =
     ap (λ i. i ∷ slot_ids slots) (same ∙ ap slot_id (sym here))
 set-ids (x ∷ slots) (suc at) s t h same = ap (λ ids. slot_id x ∷ ids) (set-ids slots at s t h same)
 
--- a live span over a live one leaves the end
+-- a live span over a live one keeps the end
 set-ends : (slots : List Slot) (at : ℕ) (s t : Slot) → slice_get slots at ≡ Some s → is_gone t ≡ is_gone s → ends_in_gap (set slots at t) ≡ ends_in_gap slots
 set-ends [] at s t h same = cc
 set-ends (x ∷ []) zero s t h same = same ∙ ap is_gone (sym (same_Some x s h))
@@ -252,7 +252,7 @@ set-ends (x ∷ []) (suc at) s t h same = cc
 set-ends (x ∷ y ∷ slots) (suc zero) s t h same = set-ends (y ∷ slots) zero s t h same
 set-ends (x ∷ y ∷ slots) (suc (suc at)) s t h same = set-ends (y ∷ slots) (suc at) s t h same
 
--- as many spans as before are there
+-- the count of spans is unchanged
 set-counts : (slots : List Slot) (at : ℕ) (node new : KeptSpan) → slice_get slots at ≡ Some (Live node) →
     length (present (set slots at (Live new))) ≡ length (present slots)
 set-counts [] at node new h = cc
@@ -261,7 +261,7 @@ set-counts (Live x ∷ slots) (suc at) node new h = let rest = set-counts slots 
 set-counts (Gone k ∷ slots) zero node new h = absurd cc
 set-counts (Gone k ∷ slots) (suc at) node new h = set-counts slots at node new h
 
--- what is written over itself stays
+-- what is overwritten by itself stays
 set-same : (slots : List Slot) (at : ℕ) (s : Slot) → slice_get slots at ≡ Some s → set slots at s ≡ slots
 set-same [] at s h = cc
 set-same (x ∷ slots) zero s h = ap (λ y. y ∷ slots) (sym (same_Some x s h))
@@ -315,7 +315,7 @@ present-write change slots now i at live node new laid view h e =
     ap (λ (n : KeptSpan). present (set slots at (Live n))) e ∙ changed
     ∙ ap (λ j. change_kept change j (present slots)) h.same ∙ ap (λ nodes. change_kept change i nodes) view
 
--- the same of a change that may fail and leave the span: the id stays
+-- the same of a change that may fail and keep the span: the id stays
 pub attempt-id : {X E : Type 0} (change : KeptSpan → KeptSpan) (r : Result X E) (node new : KeptSpan) → (change node).span.id ≡ node.span.id →
     OnOk r (new ≡ change node) → OnErr r (new ≡ node) → new.span.id ≡ node.span.id
 attempt-id change (Ok x) node new same ok err = ap (λ (k : KeptSpan). k.span.id) ok ∙ same
@@ -437,7 +437,7 @@ pub gone-counts : (slots : List Slot) (i : Id) (at live : ℕ) (node : KeptSpan)
     length (present (set slots at (Gone i))) + 1 ≡ live
 gone-counts slots i at live node laid h = set-fewer slots at node i h.read ∙ sym laid.counted
 
--- a span that isn't there leaves all
+-- removing a span that isn't there changes nothing
 pub leave-none : (i : Id) (nodes : List KeptSpan) → kept_at nodes i ≡ None → nodes ≡ leave_out i nodes
 leave-none i [] h = refl
 leave-none i (x ∷ nodes) h = by (λ k. leave-none i nodes k) (keeps_id i x) refl
@@ -446,7 +446,7 @@ leave-none i (x ∷ nodes) h = by (λ k. leave-none i nodes k) (keeps_id i x) re
     by ih true e = absurd (let g : Some x ≡ None = subst (λ b. (if b then Some x else kept_at nodes i) ≡ None) e h in cc)
     by ih false e = rw e (ap (λ xs. x ∷ xs) (ih (subst (λ b. (if b then Some x else kept_at nodes i) ≡ None) e h)))
 
--- a gap written over by itself leaves all
+-- a gap overwritten by itself changes nothing
 pub gap-again : (slots : List Slot) (i j : Id) (at : ℕ) (slot : Slot) → IsAt slots i at slot → slot ≡ Gone j → set slots at (Gone i) ≡ slots
 gap-again slots i j at slot h gone =
     let same : Gone i ≡ slot = ap (λ (k : Id). Gone k) (sym h.same ∙ ap slot_id gone) ∙ sym gone in

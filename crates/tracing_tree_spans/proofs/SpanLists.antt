@@ -28,11 +28,11 @@ above-at n (x ∷ spans) (suc k) s all h = above-at n spans k s (and_parts (nat_
 pub own_id : (s : Span) → has_id s.id s ≡ true
 own_id s = grind (arith, nat_tests)
 
--- a span of a lower id has not this id
+-- a span of a lower id doesn't have this id
 pub lower_not : (x : Span) (i : Id) → x.id.0 < i.0 → has_id i x ≡ false
 lower_not x i h = grind (arith, nat_tests)
 
--- a span of a higher id has not this id
+-- a span of a higher id doesn't have this id
 pub higher_not : (x : Span) (i : Id) → i.0 < x.id.0 → has_id i x ≡ false
 higher_not x i h = grind (arith, nat_tests)
 
@@ -72,7 +72,7 @@ rise (x ∷ spans) d rising zero (suc k) h within =
 rise (x ∷ spans) d rising (suc j) zero h within = absurd (omega arith)
 rise (x ∷ spans) d rising (suc j) (suc k) h within = rise spans d rising.1 j k (omega arith) (omega arith)
 
--- what a search of an id answers
+-- the answer of a search for an id
 abbrev pub IsFound : List Span → Id → Option ℕ → Type 0
 IsFound spans i place =
     MatchOption place (find (has_id i) spans ≡ None) (λ at. (at < length spans) × (find (has_id i) spans ≡ slice_get spans at))
@@ -119,7 +119,7 @@ all_kept i (x ∷ spans) all =
     let other : has_id i x ≡ false = grind (arith, nat_tests, parts.0) in
     rw other (ap (λ xs. x ∷ xs) (all_kept i spans parts.1))
 
--- a removal at the place of a span leaves all but the span of this id
+-- a removal at the place of a span keeps all but the span of this id
 pub remove_is_filter : (spans : List Span) (k : ℕ) (s : Span) → IsRising spans → slice_get spans k ≡ Some s →
     remove spans k ≡ filter (λ span. not (has_id s.id span)) spans
 remove_is_filter [] k s rising h = cc

@@ -1,4 +1,5 @@
--- Each span stays kept with its path and with the number of its children, as spans change, come and go.
+-- Each span is kept with its path and with the count of its children, while spans change, are added
+-- and are removed.
 use Rattle.std.proofs.Common.{◌≡◌, ℕ, ◌+◌, ◌-◌, ◌<◌, nat_lt, Bool, true, false, not, List, [], ◌∷◌, ◌++◌, length, map, reverse, find, filter, Option, Some, None, IfSome, if◌then◌else◌, arith, refl, sym, ap, ◌∙◌, subst, length-append}
 use Rattle.std.specs.List.{list_any}
 use Rattle.std.specs.Option.{option_map, option_map_or, option_and_then, option_or, is_some}
@@ -293,7 +294,7 @@ parent-read nodes i o here =
     by None = refl
     by (Some n) = refl
 
--- an id that isn't live leaves all
+-- an id that isn't live changes nothing
 pub tied-nothing : (nodes new : List KeptSpan) (i : Id) → IsTied nodes → kept_at nodes i ≡ None → new ≡ leave_out i nodes → IsTied new
 tied-nothing nodes new i tied none e = subst IsTied (leave-none i nodes none ∙ sym e) tied
 

@@ -1,4 +1,4 @@
--- A walk from a span up to its root, look by look.
+-- A walk from a span up to its root, one look-up after the other.
 use Rattle.std.proofs.Common.{◌≡◌, ℕ, ◌<◌, List, [], ◌∷◌, ◌++◌, length, Option, Some, None, arith, refl, sym, ap, ◌∙◌, subst}
 use Rattle.std.specs.Option.{option_map, option_map_or, option_and_then}
 use Rattle.std.proofs.lemmas.Option.{same_Some}
@@ -9,7 +9,7 @@ use Rattle.tracing_tree_context.specs.declared.context.Id.{Id}
 use Rattle.tracing_tree_spans.proofs.SpanLists.{find-id}
 use Rattle.tracing_tree_spans.proofs.ClosingWalk.{way_up, way-none, path-falls, one-up}
 
--- what a look at an id that may be missing shows
+-- the look-up of an id that may be missing
 abbrev pub look_at : Forest → Option Id → Option ShownSpan
 look_at forest at = option_and_then (λ j. option_map shown_span (span_at forest j)) at
 
@@ -33,7 +33,7 @@ walk-begins forest i ids span formed none shown = record {
   way = ap (λ xs. xs ++ way_up forest (Some i)) none;
 }
 
--- a span that is looked at is live
+-- a span that is found is live
 pub record IsLooked (forest : Forest) (shown : ShownSpan) (at : Option Id) : Type 0 where
   pub id : Id
   pub span : Span

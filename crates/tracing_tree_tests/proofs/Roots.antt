@@ -56,7 +56,7 @@ child_first child root next apart below top = forest-by_paths forest ((apart, tt
         )
         first false e = second e (has_id i root) refl
 
--- the one root of a lone registry
+-- a registry with only a root
 pub lone_forest : (name target : List ℕ) (kept : Data) → IsForest (record {
   spans = record { id = id_of 1; parent = None; name = name; target = target; kept = kept; handles = 1 } ∷ [];
   next = None;

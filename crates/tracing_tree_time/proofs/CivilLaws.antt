@@ -120,7 +120,8 @@ day_at-date : (moment : DateTime) → day_at (civil_nanos moment) ≡ epoch_day 
 unfolding civil_nanos
 day_at-date moment = omega (arith, signed_arith)
 
--- at each moment on a civil clock, what is shown is the date of its day and the time since that day's midnight
+-- at each moment on a civil clock, the date of its day and the time since that day's midnight are
+-- shown
 pub civil_at-is : (moment : DateTime) →
     IsCivilOn (epoch_day moment.date) (nanos_of_day (civil_nanos moment)) (civil_at (civil_nanos moment))
 civil_at-is moment =

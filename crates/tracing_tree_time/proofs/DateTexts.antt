@@ -102,6 +102,6 @@ pub fixed_timer : (o : Offset) (zone : PlainZone) (higher : Bool) → zone ≡ f
 fixed_timer o zone higher e =
     ap (λ z. local_timer higher (offset_at z)) e ∙ (λ k. local_timer higher (λ n. fixed_offset o n k))
 
--- no offset moves nothing
+-- offset zero changes nothing
 pub at_zero : (instant : ℤ) → instant +ℤ nanos_of_seconds (pos 0) ≡ instant
 at_zero instant = omega (arith, signed_arith)

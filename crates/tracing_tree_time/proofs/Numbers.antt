@@ -127,7 +127,7 @@ without_zero : (digits : List ℕ) → without_end_zeros (digits ++ 48 ∷ []) �
 without_zero digits =
     ap (λ back. reverse (dropped back)) (reverse-append digits (48 ∷ [])) ∙ ap reverse (dropped-zero (reverse digits))
 
--- another digit at the end keeps all
+-- another digit at the end keeps all digits
 without_none : (digits : List ℕ) (digit : ℕ) → (digit == 48) ≡ false →
     without_end_zeros (digits ++ digit ∷ []) ≡ digits ++ digit ∷ []
 without_none digits digit e =
@@ -174,7 +174,7 @@ fraction-one places n e h =
     subst (λ m. significant_digits (digits_in m n) ≡ digits_in m n) (sym e)
     (one-significant n (subst (λ m. n < 10 ^ m) e h))
 
--- digits that end in no zero are significant
+-- digits that don't end in a zero are significant
 pub fraction-whole : (places n : ℕ) → 2 ≤ places → n < 2 ^ 64 → (n % 10 == 0) ≡ false →
     significant_digits (digits_in places n) ≡ digits_in places n
 fraction-whole places n more h e =

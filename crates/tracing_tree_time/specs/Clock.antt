@@ -210,7 +210,7 @@ timer_with higher text = record {
 abbrev pub utc_timer : Bool → Timer
 utc_timer higher = timer_with higher (λ moment. civil_text (civil_at moment.wall.nanosecond))
 
--- a timer of local date and time; the function gives the offset in seconds at an instant
+-- a timer of local date and time; the function returns the offset in seconds at an instant
 abbrev pub local_timer : Bool → (ℤ → ℤ) → Timer
 local_timer higher offset =
     timer_with higher (λ moment. local_text moment.wall.nanosecond (offset moment.wall.nanosecond))

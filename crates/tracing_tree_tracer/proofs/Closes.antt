@@ -10,7 +10,7 @@ use Rattle.tracing_tree_layer.specs.declared.call.Reply.{Reply}
 use Rattle.tracing_tree_tracer.specs.declared.tracer.TraceFault.{TraceFault}
 use Rattle.tracing_tree_tracer.specs.Tracers.{TracerView, AreClosed, AreClosedTo, IsClosed, IsClosedAs, current_of, outer_of}
 
--- how many spans are around the current one
+-- the count of the current span's ancestors
 pub length-outer : (spans : List Id) → length (outer_of spans) ≡ length spans - 1
 length-outer spans = grind (arith, common_steps)
 

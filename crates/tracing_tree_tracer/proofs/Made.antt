@@ -29,7 +29,7 @@ module _ {C : Type 0} (answers : Call → Result Reply Refusal → C → C → T
   made_at tells call moment told given is_call result answer is_answer inside old new is_old made =
       (moment, told, made_as given (call moment) is_call result answer is_answer inside old new is_old made)
 
--- a call that was refused is all that a method makes
+-- a method whose call was refused makes no other call
 pub leaves_refused : {C N A : Type 0}
     (MadeFrom : C → C → Result Reply Refusal → Type 0) (Silent : Type 0)
     (after : Result A TraceFault → List Id) (reply : A → Reply) (old new : TracerView C N) (refusal : Refusal)

@@ -227,8 +227,8 @@ abbrev pub without : Option ℕ → List Live → List Live
 without (Some place) live = if nat_lt place (length live) then remove live place else live
 without None live = live
 
--- The oldest span that no `new` reported is forgotten if 64 such spans are known beside the `depth` of
--- a line. Nothing is drawn: it opens again with the next line that lists it.
+-- The oldest span that no `new` reported is forgotten if 64 such spans are known in addition to the
+-- `depth` of a line. Nothing is drawn: it opens again with the next line that lists it.
 abbrev pub spared : ℕ → TracingState → TracingState
 spared depth s =
     if nat_lt (untold_from 0 s.live - 64) depth then s

@@ -106,8 +106,8 @@ fits_shape Event level lines = nat_le 1 level || is_bare_line lines
 abbrev pub is_unbroken : List ℕ → Bool
 is_unbroken text = not (has_line_end text)
 
--- what each `Row` of the code is: at least one line, no line end in a line, and a shape that may have
--- this level and these lines
+-- what each `Row` of the code is: at least one line, no line end in a line, and a shape that may
+-- have this level and these lines
 abbrev pub is_text_row : TextRow → Bool
 is_text_row row =
     nat_le 1 (length row.lines) && list_all is_unbroken row.lines

@@ -102,7 +102,8 @@ module _ {settings : Settings} {timer : Timer} {first : Option Id} {calls : List
       ∙ ap (λ b. (run_before e).rows
       ++ (if b then retrace_to settings e.context (forest_at e) (run_before e).state.last i else quiet_turn (forest_at e) (run_before e).state.last).rows) on
 
--- before an event in its current span each level up to that span's was opened last by the span of its path
+-- before an event in its current span, each level up to that span's was last opened by the span
+-- that the path has there
 pub reading-law : (settings : Settings) (timer : Timer) (first : Option Id) (calls : List Call) → retraces settings ≡ true →
     (settings.close_retrace || run_is_on_path settings timer (opening_state first) calls) ≡ true → ReadingLaw settings timer first calls
 reading-law settings timer first calls on premise e i within level lt =

@@ -1,4 +1,4 @@
--- What a new span leaves of the paths, and its own path.
+-- What a new span keeps of the paths, and its own path.
 use Rattle.std.proofs.Common.{◌≡◌, ℕ, nat_lt, ◌<◌, ◌+◌, ◌==◌, Bool, true, false, List, [], ◌∷◌, ◌++◌, reverse, find, Option, option_map, Some, None, is_some, if◌then◌else◌, arith, refl, sym, ap, ◌∙◌, subst}
 use Rattle.std.specs.Option.{option_map_or, option_or}
 use Rattle.std.specs.List.{list_all, list_any}
@@ -21,7 +21,7 @@ use Rattle.tracing_tree_spans.proofs.RegistryLaws.{any-reverse, fresh-below, bel
 turned : (s : Span) (forest : Forest) → IsGrownForest (add_span s forest) → IsGrown (s ∷ reverse forest.spans)
 turned s forest new = subst IsGrown (reverse-append forest.spans (s ∷ [])) new.grown
 
--- another span has the path that it had
+-- the path of any other span is unchanged
 pub path_of-other : (s : Span) (forest : Forest) → IsGrownForest (add_span s forest) → (j : Id) → has_id j s ≡ false → path_of (add_span s forest) j ≡ path_of forest j
 path_of-other s forest new j e = path_of-more forest.spans s (turned s forest new) j e
 
@@ -30,7 +30,7 @@ pub path_of-new : (s : Span) (forest : Forest) → IsGrownForest (add_span s for
     path_of (add_span s forest) i ≡ path_of_any forest s.parent ++ i ∷ []
 path_of-new s forest new i e = tied.path_of-new forest.spans s (turned s forest new) i e
 
--- a span is found as before, or is the new one
+-- a span is found unchanged, or is the new one
 pub find-new : (s : Span) (forest : Forest) (j : Id) → span_at (add_span s forest) j ≡ option_or (span_at forest j) (if has_id j s then Some s else None)
 find-new s forest j = find-append (has_id j) forest.spans (s ∷ [])
 

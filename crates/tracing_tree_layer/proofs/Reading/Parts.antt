@@ -14,7 +14,7 @@ use Rattle.tracing_tree_layer.proofs.Reading.Left.{is_gone}
 
 -- ---- ids in lists
 
--- an id in a list parts it
+-- an id in a list splits it
 pub record Parts (ids : List Id) (i : Id) : Type 0 where
   pub front : List Id
   pub back : List Id

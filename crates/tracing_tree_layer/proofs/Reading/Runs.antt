@@ -123,7 +123,7 @@ latest-call settings timer state rows (A.Close i context) k h on premise l =
 
 -- ---- calls that are refused
 
--- a refusal leaves forest and last span
+-- a refusal keeps forest and last span
 record IsLeft (state new : State) : Type 0 where
   forest : new.forest ≡ state.forest
   last : new.last ≡ state.last

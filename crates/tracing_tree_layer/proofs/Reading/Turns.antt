@@ -274,7 +274,7 @@ kept-close_turn settings context i forest last rows f all shown = record { follo
         (λ j k. f.shown i printed j (subst (λ ids. is_gone ids j ≡ true) (sym path) (in_left (path_of forest above) (i ∷ []) j k))) in
         followed-more forest (Some above) rows (close_turn settings context i forest last).rows (followed-last forest last rows above f live opens)
 
--- the parent, if there is one, is on the last path
+-- the parent, if there is one, is on the current branch
 abbrev pub IsParentOn : Forest → Option Id → Id → Type 0
 IsParentOn forest last i = option_map_or (λ above. list_any (same_id above) (path_of_any forest last)) (parent_of forest i) true ≡ true
 

@@ -28,7 +28,7 @@ pub told_of_root : bare_texts untold (on_new_span (id_of 1) outside ∷ []) ≡ 
 unfolding encode_utf8
 told_of_root = refl
 
--- a bare close leaves the span
+-- a bare close keeps the span
 pub closed_twice : bare_texts untold (on_close (id_of 1) outside ∷ on_close (id_of 1) outside ∷ []) ≡ encode_utf8_all (codes "┘\n┘\n")
 unfolding encode_utf8
 closed_twice = refl

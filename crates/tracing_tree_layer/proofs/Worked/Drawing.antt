@@ -113,7 +113,7 @@ pub carriage_return_inside : written_after_root lined (informed (codes "x\r\ny")
 unfolding encode_utf8
 carriage_return_inside = refl
 
--- rows that pass the width of a number
+-- rows whose width overflows a number
 pub wide_event : is_too_wide (record plain { indent_amount = 9_223_372_036_854_775_808 })
     (record { mode = EventMode; span = None; level = 2; block = []; prefix = [] }) ≡ true
 wide_event = refl

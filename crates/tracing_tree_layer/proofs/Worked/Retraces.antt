@@ -26,13 +26,13 @@ pub deferred_and_closed : written (record lined { deferred_spans = true }) (made
 unfolding encode_utf8
 deferred_and_closed = refl
 
--- a close off the last path retraces
+-- a close off the current branch retraces
 pub close_retraces : written (record lined { span_retrace = true; close_retrace = true }) (made (codes "a") outside ∷ made (codes "b") (inside 1) ∷ made (codes "c") outside ∷ closed 2 ∷ informed (codes "x") (inside 1) ∷ [])
     ≡ encode_utf8_all (codes "┐a \n└─┐b \n┐c \n┐a \n└─┐b \n┌─┘\n├─ INFO x\n")
 unfolding encode_utf8
 close_retraces = refl
 
--- a parent on the last path needs no retrace
+-- a parent on the current branch needs no retrace
 pub close_on_the_path : written_after (record lined { span_retrace = true; close_retrace = true; indent_amount = 4 }) (made (codes "a") outside ∷ made (codes "b") (inside 1) ∷ made (codes "c") (inside 1) ∷ []) (closed 2 ∷ [])
     ≡ encode_utf8_all (codes "┌───┘\n")
 unfolding encode_utf8

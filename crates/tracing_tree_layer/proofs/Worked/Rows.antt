@@ -98,7 +98,7 @@ pub verbose_exit : written_after (record lined { indent_amount = 4; verbose_exit
 unfolding encode_utf8
 verbose_exit = refl
 
--- a close off the last path
+-- a close off the current branch
 pub close_off_the_path : written (record lined { span_retrace = true }) (made (codes "a") outside ∷ made (codes "b") (inside 1) ∷ made (codes "c") outside ∷ closed 2 ∷ informed (codes "x") (inside 1) ∷ [])
     ≡ encode_utf8_all (codes "┐a \n└─┐b \n┐c \n┌─┘\n├─ INFO x\n")
 unfolding encode_utf8
@@ -220,7 +220,7 @@ pub event_of_two_lines : written lined (made (codes "a") outside ∷ informed (c
 unfolding encode_utf8
 event_of_two_lines = refl
 
--- an event outside every span
+-- an event at the root
 pub event_outside : written lined (informed (codes "x") outside ∷ [])
     ≡ encode_utf8_all (codes "INFO x\n")
 unfolding encode_utf8

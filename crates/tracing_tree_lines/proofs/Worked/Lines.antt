@@ -50,7 +50,7 @@ pub unknown_setting : settings_of (codes "{\"colour\":true}") ≡ None
 unfolding serde_json_on_literals
 unknown_setting = refl
 
--- no object
+-- not an object
 pub array_settings : settings_of (codes "[]") ≡ None
 unfolding serde_json_on_literals
 array_settings = refl
@@ -70,12 +70,12 @@ pub late_epoch : settings_of (codes "{\"timer\":{\"kind\":\"uptime\",\"epoch\":5
 unfolding serde_json_on_literals
 late_epoch = refl
 
--- a key that doesn't go with the timer
+-- a key that doesn't belong to the timer
 pub needless_precision : settings_of (codes "{\"timer\":{\"kind\":\"none\",\"higher_precision\":true}}") ≡ None
 unfolding serde_json_on_literals
 needless_precision = refl
 
--- the moment that no line names
+-- the default moment
 abbrev pub no_moment : Moment
 no_moment = record { mono = 0; wall = start_of_1970 }
 
@@ -163,7 +163,7 @@ in_memory = record {
   stuck = λ bytes. false;
 }
 
--- no line at all is the settings fault
+-- an input without lines has the fault of the settings
 no_first_line : {A : Type 0} {x : A} {xs : List A} → [] ≡ x ∷ xs → ⊥
 no_first_line e = cc
 

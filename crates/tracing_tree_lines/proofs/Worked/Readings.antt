@@ -66,7 +66,7 @@ pub bare_event : rows_text 2 (row Event 0 (codes " x" ∷ []) ∷ [])
 unfolding encode_utf8
 bare_event = refl
 
--- no row begins with a drawing character and nothing else
+-- a row doesn't consist of only a drawing character
 pub no_bare_corner : is_text_row (record { shape = Event; level = 0; lines = encode_utf8_all (codes "┐") ∷ [] }) ≡ false
 unfolding encode_utf8
 no_bare_corner = refl
@@ -74,7 +74,7 @@ no_bare_corner = refl
 pub no_bare_spaces : is_text_row (record { shape = Event; level = 0; lines = codes "   " ∷ [] }) ≡ false
 no_bare_spaces = refl
 
--- a row is made of what may be one
+-- a row is made of valid parts
 pub makes_no_open_at_the_edge : made_row (row (Open false) 0 (codes "a" ∷ [])) ≡ None
 makes_no_open_at_the_edge = refl
 

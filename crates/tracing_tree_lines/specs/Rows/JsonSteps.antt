@@ -53,7 +53,7 @@ pub record SoFar (amount : ℕ) (input : List ℕ) (start : Option (List ℕ)) (
   pub fresh : read.reader.last ≡ None → rows ≡ []
   pub written : HasWritten start rows read.json now
 
--- The reading ended after this count of lines: at the input's end, or for a cause, at the next line.
+-- The reading ended after this count of lines: at the input's end, or at the next line for a cause.
 abbrev pub HasEnded : ℕ → List ℕ → Option (List ℕ) → ℕ → Option RowCause → RowsRead
     → Option (List ℕ) → Type 0
 HasEnded amount input start count None read now = SoFar amount input start count [] read now
