@@ -50,7 +50,7 @@ Answers IsKnown IsText IsSmall IsThis status old new =
     (outcome : Outcome) × (status ≡ status_of outcome)
     × Makes IsKnown IsText IsSmall IsThis outcome old new
 
--- the same, with the number that it returns
+-- the same, with the value that it stores for C
 abbrev pub AnswersWith : {A : Type 0} → (Outcome → A → A) → Type 0 → Type 0 → Type 0
     → (Call → Type 0) → ℕ → A → A → Kept → Kept → Type 0
 AnswersWith after IsKnown IsText IsSmall IsThis status before later old new =

@@ -18,7 +18,7 @@ IsRising [] = ⊤
 IsRising (span ∷ newer) =
     IsTrue (list_all (λ other. nat_lt span.id.0 other.id.0) newer) × IsRising newer
 
--- each span's id can be used
+-- each span's id is below 2^64
 abbrev pub IsInRange : List Span → Type 0
 IsInRange spans = IsTrue (list_all (λ span. nat_lt span.id.0 (2 ^ 64)) spans)
 
