@@ -1,4 +1,4 @@
--- Fields that C hands over, one by one.
+-- Fields that C passes, one by one.
 use Rattle.std.proofs.Common.{◌≡◌, ◌+◌, ℕ, ◌<◌, List, [], ◌∷◌, ◌++◌, length, drop, arith, zero, suc, refl, sym, subst, ap, ◌∙◌, Bool, append_assoc}
 use Rattle.std.specs.Prelude.{Result, Ok, Err, ⊤, slice_index_or}
 use Rattle.tracing_tree_text.specs.declared.field.Field.{Field}
@@ -9,11 +9,11 @@ use Rattle.tracing_tree_c.specs.declared.foreign.FieldRef.{FieldRef}
 use Rattle.tracing_tree_c.specs.declared.foreign.Unreadable.{Unreadable}
 use Rattle.tracing_tree_c.specs.declared.foreign.Unreadable.TheVariants.{Unknown, NotUtf8, Starved}
 
--- what stands past the end
+-- what is read past the end
 abbrev pub no_field : FieldRef
 no_field = record { name = record { ref_ptr = (0, 0); now = [] }; value = record { ref_ptr = (0, 0); now = [] } }
 
--- from a place on stand the field there and the others
+-- the rest from a place on is the field there and the others
 from_place : (xs : List FieldRef) (i : ℕ) (d : FieldRef) → i < length xs → drop i xs ≡ slice_index_or xs i d ∷ drop (i + 1) xs
 from_place [] i d h = absurd (omega arith)
 from_place (x ∷ xs) zero d h = refl
@@ -21,7 +21,7 @@ from_place (x ∷ xs) (suc i) d h =
     let next : suc i + 1 ≡ suc (i + 1) = omega arith in
     from_place xs i d (omega arith) ∙ ap (λ n. slice_index_or xs i d ∷ drop n (x ∷ xs)) (sym next)
 
--- where the rest are texts, so are the others
+-- if the rest are UTF-8, so are the others
 pub tail_of : (xs : List FieldRef) (i : ℕ) (d : FieldRef) → i < length xs → IsUtf8Fields (drop i xs) → IsUtf8Fields (drop (i + 1) xs)
 tail_of xs i d h all = (subst IsUtf8Fields (from_place xs i d h) all).1
 

@@ -1,4 +1,4 @@
--- What becomes of a call, by how it was read.
+-- The outcome of a call, by how it was read.
 use Rattle.std.proofs.Common.{◌≡◌, ℕ, ◌<◌, List, [], ◌∷◌, length, drop, arith, zero, suc, refl, sym, subst, Bool, true, false, true≢false}
 use Rattle.std.specs.Prelude.{Result, Ok, Err, Some, None, slice_index_or}
 use Rattle.tracing_tree_context.specs.declared.context.Refusal.{Refusal}
@@ -30,7 +30,7 @@ makes K T S I (Err NotUtf8) outcome (Some old) new cannot (eo, en) =
 makes K T S I (Err Starved) outcome (Some old) new large (eo, en) =
     subst (λ (o : Outcome). Makes K T S I o (Some old) new) (sym eo) (large, en)
 
--- only the writer's fault loses a text
+-- only the writer's fault loses a string
 pub lost_is : (answer : Result Reply Refusal) → is_lost answer ≡ true → answer ≡ Err Writer
 lost_is (Ok reply) e = absurd (true≢false (sym e))
 lost_is (Err (NotHeld id)) e = absurd (true≢false (sym e))
@@ -41,7 +41,7 @@ lost_is (Err Timer) e = absurd (true≢false (sym e))
 lost_is (Err Writer) e = refl
 lost_is (Err Failed) e = absurd (true≢false (sym e))
 
--- an answer that isn't for a lost text stays
+-- an answer that isn't for a lost string stays
 pub stays : (answer : Result Reply Refusal) (before left : Seen) → is_lost answer ≡ false →
     Mends (is_lost answer) answer before left answer left
 stays answer before left e = subst (λ (b : Bool). Mends b answer before left answer left) (sym e) (refl, refl)
@@ -54,13 +54,13 @@ reads_as call K S U I (Err Unknown) r = r
 reads_as call K S U I (Err NotUtf8) r = r
 reads_as call K S U I (Err Starved) r = r
 
--- where all of the rest can be read, its first can
+-- if all of the rest can be read, its first can
 pub head_of : (xs : List FieldRef) (i : ℕ) (d : FieldRef) → i < length xs → IsUtf8Fields (drop i xs) → IsUtf8Field (slice_index_or xs i d)
 head_of [] i d h all = absurd (omega arith)
 head_of (x ∷ xs) zero d h all = all.0
 head_of (x ∷ xs) (suc i) d h all = head_of xs i d (omega arith) all
 
--- what can't be read where a part can't be
+-- what can't be read if a part can't be
 pub carried : (A B : Type 0) (K P S Q R : Type 0) (I : A → Type 0) (J : B → Type 0) (fault : Unreadable) →
     (Q → P) → (R → S) → Reads K P S I (Err fault) → Reads K Q R J (Err fault)
 carried A B K P S Q R I J Unknown f g unknown = unknown

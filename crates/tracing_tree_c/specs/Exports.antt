@@ -1,4 +1,4 @@
--- What the functions that C calls answer and leave.
+-- The answers and effects of the functions that C calls.
 use Rattle.std.specs.Prelude.{◌<◌, ◌≤◌, ◌++◌, List, drop, length, ◌≡◌, ◌≢◌, ℕ, Bool, None, Some, Ok, Err}
 use Rattle.tracing_tree_context.specs.declared.context.Refusal.{Refusal}
 use Rattle.tracing_tree_context.specs.declared.context.Refusal.TheVariants.{NotHeld, TooWide, TooMany, Memory, Timer as TimerFault, Writer, Failed}
@@ -34,30 +34,30 @@ status_of (NotRead Fault.Starved) = 4
 status_of (Answered (Ok reply)) = 0
 status_of (Answered (Err refusal)) = refusal_status refusal
 
--- the id of a new span, in place of what stood there
+-- the id of a new span, in place of the old value
 abbrev pub id_after : Outcome → ℕ → ℕ
 id_after (Answered (Ok (Span id))) before = id.0
 id_after outcome before = before
 
--- whether a span went, in place of what stood there
+-- whether a span closed, in place of the old value
 abbrev pub went_after : Outcome → Bool → Bool
 went_after (Answered (Ok (Closed went))) before = went
 went_after outcome before = before
 
--- what a call answers and leaves
+-- the answer of a call, and what it leaves
 abbrev pub Answers : Type 0 → Type 0 → Type 0 → (Call → Type 0) → ℕ → Kept → Kept → Type 0
 Answers IsKnown IsText IsSmall IsThis status old new =
     (outcome : Outcome) × (status ≡ status_of outcome)
     × Makes IsKnown IsText IsSmall IsThis outcome old new
 
--- the same, with the number that it hands out
+-- the same, with the value that it stores for C
 abbrev pub AnswersWith : {A : Type 0} → (Outcome → A → A) → Type 0 → Type 0 → Type 0
     → (Call → Type 0) → ℕ → A → A → Kept → Kept → Type 0
 AnswersWith after IsKnown IsText IsSmall IsThis status before later old new =
     (outcome : Outcome) × (status ≡ status_of outcome) × (later ≡ after outcome before)
     × Makes IsKnown IsText IsSmall IsThis outcome old new
 
--- what texts of the time bring about
+-- the outcome of setting the time's strings
 abbrev pub AnswersTime : TimeRef → ℕ → Kept → Kept → Type 0
 AnswersTime given status old new =
     (outcome : Outcome) × (status ≡ status_of outcome) × SetsTime given outcome old new
@@ -74,8 +74,8 @@ opening_status OtherSize = 11
 opening_status Unknown = 12
 opening_status Starved = 4
 
--- A tree is made; or nothing has changed, since one is there already, or the settings have another
--- size, or what is asked for is no settings, or memory is refused.
+-- A tree is made. Or nothing has changed: a tree exists already, the settings have another size or
+-- are invalid, or memory ran out.
 abbrev pub Opens : SettingsRef → Opening → Kept → Kept → Type 0
 Opens given Opened old new = (old ≡ None) × CanOpen given × IsOpened given new
 Opens given There old new = (old ≢ None) × (new ≡ old)
@@ -88,8 +88,8 @@ abbrev pub AnswersOpening : SettingsRef → ℕ → Kept → Kept → Type 0
 AnswersOpening given status old new =
     (opening : Opening) × (status ≡ opening_status opening) × Opens given opening old new
 
--- A text stands in front of what else the room had, if there is room for all of it; else the room
--- stays.
+-- A text is at the front of the buffer, followed by the rest that it held, if all of it fits;
+-- otherwise the buffer is unchanged.
 pub record IsCopied (text : List ℕ) (count : ℕ) (before after : List ℕ) : Type 0 where
   pub counted : count ≡ length text
   pub fits : length text ≤ length before → after ≡ text ++ drop (length text) before

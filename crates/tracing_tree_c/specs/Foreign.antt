@@ -1,4 +1,4 @@
--- What C hands over, as contracts see it.
+-- What C passes, as contracts see it.
 use Rattle.std.specs.Prelude.{◌≡◌, ℕ, ◌≤◌, List, [], length, map, Option, None, Some, Result, Ok, Err, IsTrue, IsUtf8, if◌then◌else◌, ◌==◌, IsSome}
 use Rattle.std.specs.List.{AllByRecursion}
 use Rattle.tracing_tree_spans.specs.Registry.Ids.{id_of}
@@ -19,9 +19,9 @@ use Rattle.tracing_tree_c.specs.declared.foreign.TimeRef.{TimeRef}
 use Rattle.tracing_tree_c.specs.declared.foreign.Unreadable.{Unreadable}
 use Rattle.tracing_tree_c.specs.declared.foreign.Unreadable.TheVariants.{Unknown, NotUtf8, Starved}
 
--- Something was read: it is what was handed over, whose kinds are known and whose texts are UTF-8; or
--- a kind isn't known, or a text isn't UTF-8; or memory was refused before that was known, which what
--- is small never asks for.
+-- The result of reading: the value that was passed, whose kinds are known and whose strings are
+-- UTF-8; or a kind is unknown, or a string isn't UTF-8; or memory ran out before that was known,
+-- which never happens for small values.
 abbrev pub Reads : {A : Type 0} → Type 0 → Type 0 → Type 0 → (A → Type 0) → Result A Unreadable
     → Type 0
 Reads IsKnown IsText IsSmall IsThis (Ok a) = IsKnown × IsText × IsThis a
@@ -29,7 +29,7 @@ Reads IsKnown IsText IsSmall IsThis (Err Unknown) = IsKnown → ⊥
 Reads IsKnown IsText IsSmall IsThis (Err NotUtf8) = IsText → ⊥
 Reads IsKnown IsText IsSmall IsThis (Err Starved) = IsSmall → ⊥
 
--- a text that is kept without memory
+-- a string that is kept without allocating
 abbrev pub IsSmallText : List ℕ → Type 0
 IsSmallText bytes = length bytes ≤ 16
 
@@ -53,7 +53,7 @@ HasNoFields fields = fields ≡ []
 abbrev pub fields_of : List FieldRef → List Field
 fields_of fields = map field_of fields
 
--- ---- texts of the time
+-- ---- strings of the time
 
 abbrev pub IsUtf8Time : TimeRef → Type 0
 IsUtf8Time time = IsUtf8 time.moment.now × IsUtf8 time.elapsed.now
@@ -79,7 +79,7 @@ parent_of kind id =
     else if kind == 2 then Some (Of (id_of id))
     else None
 
--- ids begin at 1, so that 0 names no span
+-- ids begin at 1, so 0 means no span
 abbrev pub current_of : ℕ → Option Id
 current_of id = if id == 0 then None else Some (id_of id)
 

@@ -14,7 +14,7 @@ Kept = Option the_row.Denot
 abbrev pub kept_coded : Coded Kept
 kept_coded = coded_option the_row.coded
 
--- the right to free a block that was allocated for a type, which is the same of each `Global`
+-- the right to free a block that was allocated for a type, which is equal for each `Global`
 abbrev pub token : Ty → Ptr → Fml
 token ty at = ghosts.dealloc_token (record { memory = record { seal = tt } }) ty at
 

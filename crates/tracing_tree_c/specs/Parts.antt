@@ -1,4 +1,4 @@
--- The calls that parts mean which were read from C's values.
+-- The calls of the parts that were read from C's values.
 use Rattle.std.specs.Prelude.{Result, Ok, Err}
 use Rattle.tracing_tree_layer.specs.declared.call.Call.{Call}
 use Rattle.tracing_tree_layer.specs.declared.call.Call.TheVariants.{New, Event, Close as CloseCall}

@@ -26,7 +26,7 @@ settings_of given = record {
   close_retrace = given.close_retrace;
 }
 
--- an offset, where it is one: at most a second less than 26 hours
+-- an offset, if it is valid: at most a second less than 26 hours
 abbrev pub offset_of : ℤ → Option ℤ
 offset_of seconds =
     then_some (int_le (neg_ℤ (pos 93_599)) seconds && int_le seconds (pos 93_599)) seconds
@@ -35,7 +35,7 @@ abbrev pub offset_timer : Bool → ℤ → Option Timer
 offset_timer higher seconds =
     option_map (λ offset. local_timer higher (λ nanos. offset)) (offset_of seconds)
 
--- the timer that is asked for, if there is one
+-- the timer of the settings, if it is known
 abbrev pub timer_of : SettingsRef → Option Timer
 timer_of given =
     if given.timer == 0 then Some no_timer
@@ -53,7 +53,7 @@ opened given timer = record {
   writer = record { bytes = Some []; faults = 0; whole = true };
 }
 
--- A tree is made; or the settings aren't any, a tree is there already, or memory is refused, and
--- nothing has changed.
+-- The settings are valid: their size is that of this version's settings, levels wrap at more than
+-- 0, and the timer is known, with a valid offset if it needs one.
 abbrev pub CanOpen : SettingsRef → Type 0
 CanOpen given = (given.size ≡ 56) × (0 < given.wraparound) × (timer_of given ≢ None)

@@ -4,7 +4,7 @@ use Rattle.tracing_tree_time.specs.Clock.{Timer, clock_timer}
 use Rattle.tracing_tree_c.specs.declared.timer.TreeTimer.{TreeTimer}
 use Rattle.tracing_tree_c.specs.declared.timer.TreeTimer.TheVariants.{Library, Own}
 
--- what a tree's timer shows: what one of the library's does, or these texts whatever the time is
+-- what a tree's timer shows: what one of the library's does, or these strings whatever the time is
 abbrev pub tree_timer : TreeTimer → Timer
 tree_timer (Library clock) = clock_timer clock
 tree_timer (Own written) = record {

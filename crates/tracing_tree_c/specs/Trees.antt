@@ -28,7 +28,7 @@ seen_tree drawing = let layer = drawing.layered.layer in record {
   writer = record { bytes = Some layer.writer.bytes; faults = layer.writer.faults; whole = true };
 }
 
--- the same tree, whose last text is gone
+-- the same tree, with its last text removed
 abbrev pub blank : Drawing → Drawing
 blank drawing = record {
   layered = record drawing.layered {
@@ -41,14 +41,14 @@ abbrev pub is_lost : Result Reply Refusal → Bool
 is_lost (Err Writer) = true
 is_lost answer = false
 
--- what the tree answers and is, after what the layer answered and left: a text that couldn't be kept
--- is want of memory, of which nothing stays; else it is the layer's answer
+-- the tree's answer and state, by the layer's answer and state: if the text couldn't be kept,
+-- memory ran out and nothing changed; otherwise the layer's
 abbrev pub Mends : Bool → Result Reply Refusal → Seen → Seen → Result Reply Refusal → Seen → Type 0
 Mends true given before left answer now = (answer ≡ Err Memory) × (now ≡ before)
 Mends false given before left answer now = (answer ≡ given) × (now ≡ left)
 
--- A call is answered as by a registry with a layer, whose writer then has the text of this call
--- alone. Settings and timer stay.
+-- A call is answered as by a registry with a layer, whose writer then has only the text of this
+-- call. Settings and timer stay.
 pub record IsCalled (call : Call) (answer : Result Reply Refusal) (old new : Drawing) : Type 0 where
   pub given : Result Reply Refusal
   pub left : Seen
@@ -65,8 +65,8 @@ pub record IsCalled (call : Call) (answer : Result Reply Refusal) (old new : Dra
 abbrev pub IsLifted : Kept → Kept → Type 0
 IsLifted lifted kept = lifted ≡ kept
 
--- what becomes of a call that was read, or not: a tree that is missing stays so, and one that is
--- there changes by an answered call alone; else only its last text is gone
+-- the outcome of a call that was read, or not: a missing tree stays missing, and a tree that exists
+-- changes only by an answered call; otherwise only its last text is removed
 abbrev pub Performs : Result Call Unreadable → Outcome → Kept → Kept → Type 0
 Performs read outcome None new = (outcome ≡ Missing) × (new ≡ None)
 Performs (Ok call) outcome (Some old) new =
@@ -74,7 +74,7 @@ Performs (Ok call) outcome (Some old) new =
     × (new ≡ Some left) × IsCalled call answer old left
 Performs (Err fault) outcome (Some old) new = (outcome ≡ NotRead fault) × (new ≡ Some (blank old))
 
--- what becomes of a call that C makes
+-- the outcome of a call that C makes
 abbrev pub Makes : Type 0 → Type 0 → Type 0 → (Call → Type 0) → Outcome → Kept → Kept → Type 0
 Makes IsKnown IsText IsSmall IsThis Missing old new = (old ≡ None) × (new ≡ None)
 Makes IsKnown IsText IsSmall IsThis (NotRead fault) None new = ⊥
@@ -89,11 +89,11 @@ Makes IsKnown IsText IsSmall IsThis (Answered answer) (Some old) None = ⊥
 Makes IsKnown IsText IsSmall IsThis (Answered answer) (Some old) (Some new) =
     IsKnown × IsText × ((call : Call) × IsThis call × IsCalled call answer old new)
 
--- the texts that C hands over
+-- the strings that C passes
 abbrev pub written_of : TimeRef → Written
 written_of given = record { moment = given.moment.now; elapsed = given.elapsed.now }
 
--- the same tree, whose last text is gone and which shows these texts as the time
+-- the same tree, with its last text removed, which shows these strings as the time
 abbrev pub timed : Written → Drawing → Drawing
 timed written drawing = record {
   layered = record (blank drawing).layered {
@@ -101,7 +101,7 @@ timed written drawing = record {
   };
 }
 
--- what becomes of texts of the time that C hands over: the tree shows them from then on
+-- the outcome of strings of the time that C passes: the tree shows them from then on
 abbrev pub SetsTime : TimeRef → Outcome → Kept → Kept → Type 0
 SetsTime given Missing old new = (old ≡ None) × (new ≡ None)
 SetsTime given (NotRead fault) None new = ⊥

@@ -1,4 +1,4 @@
--- Why no more was heard of a trace.
+-- Why no more was read of a trace.
 use Rattle.std.proofs.Common.{◌≡◌, ℕ, ◌<◌, Bool, true, false, Result, Ok, Err, arith}
 use Rattle.json.specs.Json.{Items, no_items, item}
 use Rattle.tracing_tree_lines.specs.declared.lines.LineCause.{LineCause}
@@ -33,7 +33,7 @@ ends_unknown Read h e = cc
 ends_unknown Memory h e = cc
 ends_unknown (Refused refusal) h e = cc
 
--- more elements would have been heard
+-- more elements would have been read
 pub ends_before : (cause : LineCause) (new all : Heard) (others : Items) → EndsHearing cause new all → EndsHearing cause new (heard_all others all)
 ends_before NotACall new all others h = (h.0, more_by_all others all h.1)
 ends_before NoSettings new all others h = h
@@ -41,7 +41,7 @@ ends_before Read new all others h = h
 ends_before Memory new all others h = h
 ends_before (Refused refusal) new all others h = h
 
--- the text is cut, too
+-- the string is cut, too
 pub ends_before_cut : (cause : LineCause) (new all : Heard) (is_cut : Bool) → EndsHearing cause new all → EndsHearing cause new (heard_cut is_cut all)
 ends_before_cut NotACall new all is_cut h = (h.0, more_by_cut is_cut all h.1)
 ends_before_cut NoSettings new all is_cut h = h

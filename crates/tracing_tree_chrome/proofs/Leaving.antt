@@ -24,7 +24,7 @@ left_keeps frame s =
     closed_keeps frame.id frame.above (left_out_told frame (at_end frame.end s))
     ∙ if_keeps _ (at_end frame.end s) _ refl ∙ end_keeps frame.end s
 
--- one that is left, and those after it
+-- a span that is left, and those after it
 step_if : (b : Bool) (until : Until) (f frame : Frame) (below : List Frame) (s : TreeState) →
     (if b then Some f else None) ≡ Some frame →
     (if b then left_while until below (left f (record s { frames = below })) else s)

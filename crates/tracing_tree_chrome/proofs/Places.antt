@@ -1,4 +1,4 @@
--- Where a text is cut.
+-- The place at which a string is cut.
 use Rattle.std.proofs.Common.{◌≡◌, ℕ, ◌+◌, ◌<◌, ◌==◌, ◌||◌, Bool, true, false, List, [], ◌∷◌, ◌++◌, length, get_or, refl, sym, ◌∙◌, arith, append_assoc}
 use Rattle.std.specs.Prelude.{if◌then◌else◌, IsUtf8, IsCharBoundary}
 use Rattle.std.proofs.Math.Seq.{get_or-append_seam}
@@ -28,7 +28,7 @@ module _ (P : ℕ → Type 0) where
       (place_if (byte == 123) _ _ (λ e. noted_place level at (opened Curly s) h (k (grind (arith, nat_tests))))
       (place_if ((byte == 93) || (byte == 125)) _ _ (λ e. noted_place level at (closed s) h (k (grind (arith, nat_tests)))) h)))
 
-  -- one more byte leaves the place, or moves it behind a byte of ASCII
+  -- one more byte leaves the place, or moves it after a byte of ASCII
   read_place : (level at byte : ℕ) (s : ScanState) → P s.place → (byte < 128 → P at) → P (byte_read level at byte s).place
   read_place level at byte s h k =
       place_if s.in_text _ _ (λ _. in_text_place byte s h) (outside_place level at byte s h k)
@@ -47,6 +47,6 @@ scan_place bs u level at front (byte ∷ others) s e n h =
     (e ∙ sym (append_assoc front (byte ∷ []) others)) (simp length-append (omega arith))
     (read_place (IsCharBoundary bs) level (at + 1) byte s h (behind bs front others byte at e n u))
 
--- a text may be cut at the place that a scan of it finds
+-- a string may be cut at the place that a scan of it finds
 pub place_is_boundary : (bs : List ℕ) → IsUtf8 bs → IsCharBoundary bs (scan_of bs).place
 place_is_boundary bs u = scan_place bs u (level_of bs) 0 [] bs nothing_read refl refl (IsCharBoundary-start bs u)

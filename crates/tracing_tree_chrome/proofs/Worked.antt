@@ -1,4 +1,4 @@
--- Examples computed from the definitions of what a text and an element of a trace say.
+-- Examples computed from the definitions of what a string and an element of a trace mean.
 use Rattle.std.proofs.Common.{◌≡◌, pos, true, false, None, Some, [], ◌∷◌, codes, refl}
 use Rattle.std.specs.Prelude.{negsuc, Ok, Err}
 use Rattle.std.specs.Str.{chars}
@@ -148,7 +148,7 @@ pub an_older_end_has_an_id_of_its_process : element_of (object (
     }) (codes "\0\03"))
 an_older_end_has_an_id_of_its_process = refl
 
--- ---- what is lacking
+-- ---- what is missing
 
 pub no_object : element_of null ≡ Err Phase
 no_object = refl
@@ -186,7 +186,7 @@ pub no_end_after_the_last_nanosecond : element_of (object (
     }) 18446744073709551615)
 no_end_after_the_last_nanosecond = refl
 
--- ---- texts that end early
+-- ---- truncated strings
 
 pub a_list_cut_behind_a_comma : mended (codes "[{\"a\":1},{\"b\":") ≡ codes "[{\"a\":1}]"
 a_list_cut_behind_a_comma = refl

@@ -25,7 +25,7 @@ use Rattle.tracing_tree_chrome.specs.declared.element.Naming.TheVariants.{Proces
 
 -- ---- numbers
 
--- one digit or more, and nothing else
+-- one digit or more, and only digits
 abbrev pub is_digits : List ℕ → Bool
 is_digits text = not (is_empty text) && all_ascii_digits text
 
@@ -39,17 +39,17 @@ abbrev pub fits_i128 : ℤ → Bool
 fits_i128 (pos n) = nat_lt n (2 ^ 127)
 fits_i128 (negsuc n) = nat_lt n (2 ^ 127)
 
--- the number that digits write with a sign before them or none, if an i128 holds it
+-- the number that digits write, with or without a sign before them, if an i128 holds it
 abbrev pub integer_of : List ℕ → Option ℤ
 integer_of text =
     if is_digits (without_leading_sign text) && fits_i128 (signed_digits_value 10 text)
     then Some (signed_digits_value 10 text) else None
 
--- what a digit counts
+-- the value of a digit
 abbrev pub digit_in : ℕ → ℕ
 digit_in byte = byte - 48
 
--- The thousandths that the digits after a point write. Those after the third are cut off.
+-- The thousandths that the digits after a point write. Digits after the third are ignored.
 abbrev pub thousandths : List ℕ → ℕ
 thousandths [] = 0
 thousandths (a ∷ []) = digit_in a * 100
@@ -67,15 +67,15 @@ is_point byte = byte == 46
 abbrev pub has_point : List ℕ → Bool
 has_point text = nat_lt (position_or_len is_point text) (length text)
 
--- the same of a number with a point, by what stands before the point and after it
+-- the same of a number with a point, by the digits before the point and after it
 abbrev pub decimal_of : List ℕ → List ℕ → Option ℕ
 decimal_of before after =
     if is_digits after
     then option_and_then (λ whole. nanoseconds whole (thousandths after)) (whole_of before)
     else None
 
--- The nanoseconds of a number of microseconds: digits alone, or digits, a point and digits. A number
--- with a sign or an exponent is none.
+-- The nanoseconds of a number of microseconds: only digits, or digits, a point and digits. A number
+-- with a sign or an exponent has no nanoseconds.
 abbrev pub nanoseconds_of : List ℕ → Option ℕ
 nanoseconds_of text =
     if has_point text then decimal_of (before_first is_point text) (after_first is_point text)
@@ -91,7 +91,7 @@ abbrev pub integer_or : Option ℤ → Lack → Result (Option ℤ) Lack
 integer_or (Some found) lack = Ok (Some found)
 integer_or None lack = Err lack
 
--- a whole number, or null for none
+-- a whole number; `None` for null
 abbrev pub integer_in : Lack → Json → Result (Option ℤ) Lack
 integer_in lack null = Ok None
 integer_in lack (boolean _) = Err lack
@@ -100,7 +100,7 @@ integer_in lack (string _) = Err lack
 integer_in lack (array _) = Err lack
 integer_in lack (object _) = Err lack
 
--- the whole number at a key, none where the key is absent or its value is null
+-- the whole number at a key; `None` if the key is absent or its value is null
 abbrev pub integer_at : List ℕ → Lack → Json → Result (Option ℤ) Lack
 integer_at key lack value = if_any (get key value) where
   if_any : Option Json → Result (Option ℤ) Lack
@@ -117,7 +117,7 @@ abbrev pub lane_in : Json → Result Lane Lack
 lane_in value =
     lane_of (integer_at (codes "pid") NoProcess value) (integer_at (codes "tid") NoThread value)
 
--- the name of an element, empty where it has none
+-- the name of an element, or an empty string
 abbrev pub name_in : Json → List ℕ
 name_in value = unwrap_or (text_at (codes "name") value) []
 
@@ -144,7 +144,7 @@ entry_of (Ok lane) (Some start) value = Ok (record {
 abbrev pub entry_in : Json → Result Entry Lack
 entry_in value = entry_of (lane_in value) (time_at (codes "ts") value) value
 
--- the phase that a text tells, of an element at a time
+-- the phase that a string names, of an element at a time
 abbrev pub phase_of : List ℕ → Option Phase
 phase_of text =
     if bytes_eq text (codes "X") then Some Complete
@@ -201,7 +201,7 @@ abbrev pub id_or : Option Json → Option Json → List ℕ
 id_or (Some id) other = local_or (get (codes "local") id) (get (codes "global") id)
 id_or None other = text_of other
 
--- the id of an element's asynchronous track, empty if it has none
+-- the id of an element's asynchronous track, empty if it has no such id
 abbrev pub id_in : Json → List ℕ
 id_in value = id_or (get (codes "id2") value) (get (codes "id") value)
 
@@ -250,7 +250,7 @@ named_of None text lane = Ok Other
 named_of (Some naming) None lane = Ok Other
 named_of (Some naming) (Some text) lane = lane_named naming lane text
 
--- the text at `args`.`name`
+-- the string at `args`.`name`
 abbrev pub given_name : Json → Option (List ℕ)
 given_name value = option_and_then (text_at (codes "name")) (get (codes "args") value)
 

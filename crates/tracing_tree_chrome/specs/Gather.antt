@@ -18,8 +18,8 @@ use Rattle.tracing_tree_chrome.specs.declared.gather.Point.{Point}
 use Rattle.tracing_tree_chrome.specs.declared.gather.Shape.{Shape}
 use Rattle.tracing_tree_chrome.specs.declared.gather.Shape.TheVariants.{Event, Whole, Unended}
 
--- What elements said: what is drawn, the spans that began and haven't ended with the newest last, how
--- processes and threads are called, the asynchronous tracks, and how many elements there were.
+-- What elements said: what is drawn, the spans that began and haven't ended with the newest last,
+-- the names of processes and threads, the asynchronous tracks, and the count of elements.
 pub record GatheredState : Type 0 where
   pub items : List Item
   pub begun : List Item
@@ -31,7 +31,7 @@ pub record GatheredState : Type 0 where
 abbrev pub nothing_gathered : GatheredState
 nothing_gathered = record { items = []; begun = []; processes = []; threads = []; tracks = []; count = 0 }
 
--- the last time that there is
+-- the largest possible time
 abbrev pub last_time : ℕ
 last_time = 2 ^ 64 - 1
 
@@ -41,7 +41,7 @@ point time index = record { time = time; index = index }
 abbrev pub none_later : Later
 none_later = record { in_thread = false; in_process = false }
 
--- an item whose end stands before all that starts at its time
+-- an item whose end comes before all that starts at its time
 abbrev pub item_of : Entry → ℕ → Shape → ℕ → Item
 item_of entry end shape index = record {
   lane = entry.lane;
@@ -56,7 +56,7 @@ item_of entry end shape index = record {
 abbrev pub same_number : Option ℤ → Option ℤ → Bool
 same_number one other = option_eq int_eq one other
 
--- the lane of a process, in which items stand that tell no thread
+-- the lane of a process, for items without a thread
 abbrev pub process_of : Lane → Lane
 process_of lane = record lane { thread = None; track = None }
 
@@ -70,12 +70,12 @@ abbrev pub further_or : Option ℕ → Bool → Option ℕ
 further_or (Some at) is_here = Some (at + 1)
 further_or None is_here = if is_here then Some 0 else None
 
--- where the last of these in the lane stands
+-- the index of the last of these in the lane
 abbrev pub last_in : List Item → Lane → Option ℕ
 last_in [] lane = None
 last_in (one ∷ others) lane = further_or (last_in others lane) (same_lane one.lane lane)
 
--- a span that began, with what the element of its end says, which stands at place `index`
+-- a span that began, with the contents of its end's element, which is at place `index`
 abbrev pub whole : Item → Entry → ℕ → Item
 whole one last index = record one {
   end = point (max one.start.time last.start) index;
@@ -133,11 +133,11 @@ gathered_as (ThreadName lane text) index s =
     record s { threads = s.threads ++ named lane text ∷ [] }
 gathered_as Other index s = s
 
--- what one element says more
+-- one more element
 abbrev pub gathered_one : Element → GatheredState → GatheredState
 gathered_one element s = gathered_as element s.count (record s { count = one_more s.count })
 
--- all that is drawn; a span without an end, too
+-- all that is drawn, even a span without an end
 abbrev pub all_items : GatheredState → List Item
 all_items s = s.items ++ s.begun
 
@@ -146,7 +146,7 @@ lane_cmp a b =
     ordering_then (option_cmp int_cmp a.process b.process)
     (ordering_then (option_cmp int_cmp a.thread b.thread) (option_cmp nat_cmp a.track b.track))
 
--- by process, thread and track, by the start, the longer first, and then as they came
+-- by process, thread and track, by the start, the longer first, and then in their order
 abbrev pub item_cmp : Item → Item → Ordering
 item_cmp a b =
     ordering_then

@@ -1,4 +1,5 @@
--- Which items of a trace are drawn, and after which of them others of their thread and their process are.
+-- Which items of a trace are drawn, and after which of them others of their thread and their
+-- process are.
 use Rattle.std.specs.Prelude.{ℕ, ◌-◌, nat_le, Bool, true, ◌&&◌, ◌||◌, List, [], ◌∷◌, Option, Some, None}
 use Rattle.tracing_tree_chrome.specs.Gather.{none_later, same_lane, same_number}
 use Rattle.tracing_tree_chrome.specs.declared.gather.Item.{Item}
@@ -11,7 +12,7 @@ is_long_as Event item least = true
 is_long_as Whole item least = nat_le least (item.end.time - item.start.time)
 is_long_as Unended item least = true
 
--- an item is drawn, where shorter spans are left out
+-- an item is drawn, if shorter spans are left out
 abbrev pub is_long : Item → ℕ → Bool
 is_long item least = is_long_as item.shape item least
 
@@ -32,7 +33,7 @@ abbrev pub first_of : List Item → Option Item
 first_of [] = None
 first_of (item ∷ others) = Some item
 
--- items in their order, each with what comes after it: items of one thread stand side by side, and so do
+-- items in their order, each with what comes after it: items of one thread are adjacent, and so are
 -- those of one process
 abbrev pub marked : ℕ → List Item → List Item
 marked least [] = []

@@ -1,4 +1,4 @@
--- What is noted of a trace: its elements of which nothing is known.
+-- What is noted of a trace: its unknown elements.
 use Rattle.std.specs.Prelude.{◌≡◌, ◌+◌, ◌≤◌, ℕ, zero, suc, Bool, IsTrue, false, List, [], ◌∷◌, ◌++◌, length, take, Option, Some, None, option_and_then, Result, Ok, Err, if◌then◌else◌}
 use Rattle.json.specs.Json.{Json, Items, no_items, item, document}
 use Rattle.tracing_tree_chrome.specs.Element.{element_of}
@@ -24,11 +24,11 @@ abbrev pub item_count : Items → ℕ
 item_count no_items = 0
 item_count (item value others) = item_count others + 1
 
--- the note of the element in which a trace is cut, after so many whole ones
+-- the note of the element in which a trace is cut, after `count` whole ones
 abbrev pub cut_notes : Bool → ℕ → List Note
 cut_notes is_cut count = if is_cut then (one_more count, Object) ∷ [] else []
 
--- the notes of a trace; a text that is none has one note
+-- the notes of a trace; a string that isn't a trace has one note
 abbrev pub trace_notes : Bool → Option Items → List Note
 trace_notes is_cut None = (1, Trace) ∷ []
 trace_notes is_cut (Some elements) =
@@ -42,16 +42,16 @@ abbrev pub notes_as_it_is : Option Json → List ℕ → List Note
 notes_as_it_is (Some value) text = trace_notes false (elements_in value)
 notes_as_it_is None text = mended_notes text
 
--- the notes of a text as a trace
+-- the notes of a string as a trace
 abbrev pub notes_in : List ℕ → List Note
 notes_in text = notes_as_it_is (document text) text
 
--- a count after so many more
+-- a count after this many more
 abbrev pub counted_more : ℕ → ℕ → ℕ
 counted_more zero n = n
 counted_more (suc k) n = counted_more k (one_more n)
 
--- The first of these notes were added, as many as were counted more, or all of them.
+-- The first of these notes were added: as many as were counted, or all of them.
 pub record IsNoted (notes : List Note) (is_whole : Bool) (before after : ℕ)
     (old new : Option (List Note)) : Type 0 where
   pub count : ℕ

@@ -1,4 +1,4 @@
--- The elements that a text has as a trace.
+-- The elements that a string has as a trace.
 use Rattle.std.specs.Prelude.{ℕ, ◌+◌, ◌==◌, ◌||◌, Bool, true, false, if◌then◌else◌, List, [], ◌∷◌, ◌++◌, length, take, drop, flat_map, Option, Some, None, codes}
 use Rattle.json.specs.Json.{Json, null, boolean, number, string, array, object, Items}
 use Rattle.tracing_tree_sources.specs.Blanks.{first_byte, is_blank}
@@ -8,7 +8,7 @@ use Rattle.tracing_tree_chrome.specs.declared.text.Bracket.TheVariants.{Square, 
 
 -- ---- values
 
--- the items of an array, or of the one that an object has under this key
+-- the items of an array, or of the array that an object has under this key
 abbrev pub elements_in : Json → Option Items
 elements_in null = None
 elements_in (boolean _) = None
@@ -17,16 +17,16 @@ elements_in (string _) = None
 elements_in (array items) = Some items
 elements_in (object members) = array_at (codes "traceEvents") (object members)
 
--- ---- a text as far as it is read
+-- ---- a string as far as it is read
 
 pub record ScanState : Type 0 where
   -- the brackets that are open, the innermost first
   pub brackets : List Bracket
-  -- whether the next byte stands in a text of JSON
+  -- whether the next byte is inside a string of JSON
   pub in_text : Bool
-  -- whether a backslash stands before it there
+  -- whether a backslash precedes it there
   pub is_escaped : Bool
-  -- how many bytes stand up to the last place between two elements
+  -- the count of bytes up to the last place between two elements
   pub place : ℕ
   -- those that were open there, the innermost first
   pub left_open : List Bracket
@@ -37,11 +37,11 @@ nothing_read = record { brackets = []; in_text = false; is_escaped = false; plac
 abbrev pub opened : Bracket → ScanState → ScanState
 opened bracket s = record s { brackets = bracket ∷ s.brackets }
 
--- a bracket that closes none is passed over
+-- a bracket that closes nothing is ignored
 abbrev pub closed : ScanState → ScanState
 closed s = record s { brackets = drop 1 s.brackets }
 
--- this many bytes in, a place where just `level` brackets are open
+-- this many bytes in, a place with exactly `level` open brackets
 abbrev pub noted : ℕ → ℕ → ScanState → ScanState
 noted level at s =
     if length s.brackets == level then record s { place = at; left_open = s.brackets } else s
@@ -71,13 +71,13 @@ scan_from level at [] s = s
 scan_from level at (byte ∷ others) s =
     scan_from level (at + 1) others (byte_read level (at + 1) byte s)
 
--- ---- the text mended
+-- ---- the string mended
 
 abbrev pub level_by : Option ℕ → ℕ
 level_by None = 2
 level_by (Some byte) = if byte == 91 then 1 else 2
 
--- how many brackets are open between two elements: the list's, and that of an object around it
+-- the count of open brackets between two elements: the list's, and that of an object around it
 abbrev pub level_of : List ℕ → ℕ
 level_of text = level_by (first_byte text)
 
@@ -88,15 +88,15 @@ abbrev pub closer : Bracket → List ℕ
 closer Square = codes "]"
 closer Curly = codes "}"
 
--- the text up to the last place between two elements, with what is open there closed
+-- the string up to the last place between two elements, with what is open there closed
 abbrev pub mended : List ℕ → List ℕ
 mended text = take (scan_of text).place text ++ flat_map closer (scan_of text).left_open
 
--- a byte may stand after the last element of a list: a blank, a comma, or what closes
+-- a byte may follow the last element of a list: a blank, a comma, or a closing bracket
 abbrev pub is_closing : ℕ → Bool
 is_closing byte = is_blank byte || (byte == 44) || (byte == 93) || (byte == 125)
 
--- whether anything else stands there
+-- whether anything else follows there
 abbrev pub has_more : List ℕ → Bool
 has_more [] = false
 has_more (byte ∷ others) = if is_closing byte then has_more others else true

@@ -1,4 +1,4 @@
--- What a trace in Chrome's trace event format tells.
+-- What a trace in Chrome's trace event format means.
 use Rattle.std.specs.Prelude.{◌≡◌, ◌<◌, ℕ, Bool, false, List, Option, Some, None, Result, Ok, Err, MatchOption, IsPermutation, IsSorted, if◌then◌else◌, ⊤}
 use Rattle.json.specs.Json.{Json, Items, no_items, item, document}
 use Rattle.tracing_tree_context.specs.declared.context.Moment.{Moment}
@@ -22,7 +22,7 @@ use Rattle.tracing_tree_chrome.specs.declared.gather.Item.{Item}
 use Rattle.tracing_tree_sources.specs.declared.notes.Lack.{Lack}
 use Rattle.tracing_tree_sources.specs.declared.run.SourceRun.{SourceRun}
 
--- nothing was said yet
+-- nothing was read yet
 abbrev pub nothing_heard_of : Heard
 nothing_heard_of = record { gathered = nothing_gathered; unknown = 0 }
 
@@ -37,7 +37,7 @@ abbrev pub heard_all : Items → Heard → Heard
 heard_all no_items h = h
 heard_all (item value others) h = heard_all others (heard_as (element_of value) h)
 
--- what elements said; a trace that is cut within an element lost that one
+-- what elements said; a trace that is cut within an element lost that element
 abbrev pub heard_cut : Bool → Heard → Heard
 heard_cut is_cut h = if is_cut then heard_unknown h else h
 
@@ -45,7 +45,7 @@ abbrev pub heard_by : Bool → Option Items → Heard → Heard
 heard_by is_cut None h = heard_unknown h
 heard_by is_cut (Some elements) h = heard_cut is_cut (heard_all elements h)
 
--- what a value says as a trace; one that is none says nothing that is known
+-- what a value means as a trace; a value that isn't a trace is unknown
 abbrev pub heard_value : Bool → Json → Heard → Heard
 heard_value is_cut value h = heard_by is_cut (elements_in value) h
 
@@ -53,7 +53,7 @@ abbrev pub heard_value_or : Bool → Option Json → Heard → Heard
 heard_value_or is_cut None h = heard_unknown h
 heard_value_or is_cut (Some value) h = heard_value is_cut value h
 
--- what a text says that ends early
+-- what a truncated string means
 abbrev pub heard_mended : List ℕ → Heard → Heard
 heard_mended text h = heard_value_or (is_cut text) (document (mended text)) h
 
@@ -61,16 +61,16 @@ abbrev pub heard_as_it_is : Option Json → List ℕ → Heard → Heard
 heard_as_it_is None text h = heard_mended text h
 heard_as_it_is (Some value) text h = heard_value false value h
 
--- what was said, and what a text says as a trace
+-- what was read, and what a string means as a trace
 abbrev pub heard_from : List ℕ → Heard → Heard
 heard_from text h = heard_as_it_is (document text) text h
 
--- what a text says as a trace
+-- what a string means as a trace
 abbrev pub heard_in : List ℕ → Heard
 heard_in text = heard_from text nothing_heard_of
 
--- Why no more was heard, and what would have been: memory was refused, or after something unknown the
--- notes ended the run.
+-- Why reading stopped, and what the rest would have been: memory ran out, or the notes ended the
+-- run after something unknown.
 abbrev pub EndsHearing : LineCause → Heard → Heard → Type 0
 EndsHearing NoSettings h all = ⊥
 EndsHearing NotACall h all = (0 < h.unknown) × (0 < all.unknown)
@@ -78,7 +78,7 @@ EndsHearing Read h all = ⊥
 EndsHearing Memory h all = ⊤
 EndsHearing (Refused refusal) h all = ⊥
 
--- Why no calls were read, and how many elements were unknown by then: an allocation failed, or the notes
+-- Why no calls were read, and how many elements were unknown by then: memory ran out, or the notes
 -- ended the run after something unknown.
 abbrev pub EndsReading : LineCause → ℕ → Heard → Type 0
 EndsReading NoSettings unknown all = ⊥
@@ -87,7 +87,7 @@ EndsReading Read unknown all = ⊥
 EndsReading Memory unknown all = ⊤
 EndsReading (Refused refusal) unknown all = ⊥
 
--- these items in the one order in which they are drawn
+-- these items in the only order in which they are drawn
 abbrev pub IsInOrder : List Item → List Item → Type 0
 IsInOrder items ordered = IsPermutation items ordered × IsSorted item_cmp ordered
 
@@ -115,8 +115,8 @@ DrawsUpTo next moment cut gathered refusal old new =
     (calls : List Call) × AreCallsOf next moment cut gathered calls
     × StopsIn Makes IsAnswered calls (Refused refusal) old new
 
--- what was gathered is drawn, or the drawing ends at a call that was refused, or nothing is drawn for
--- want of memory
+-- what was gathered is drawn, or the drawing ends at a call that was refused, or nothing is drawn
+-- because memory ran out
 abbrev pub DrawsOrEnds : ℕ → Moment → Cut → GatheredState → Result ⊤ LineCause → Seen → Seen → Type 0
 DrawsOrEnds next moment cut gathered (Ok done) old new = DrawsTrace next moment cut gathered old new
 DrawsOrEnds next moment cut gathered (Err NoSettings) old new = ⊥
@@ -126,8 +126,8 @@ DrawsOrEnds next moment cut gathered (Err Memory) old new = new ≡ old
 DrawsOrEnds next moment cut gathered (Err (Refused refusal)) old new =
     DrawsUpTo next moment cut gathered refusal old new
 
--- What ended a run, of which so much was unknown: nothing was drawn for want of memory, or where the
--- notes ended the run after something unknown; or the drawing ends at a call that was refused.
+-- What ended a run, with this count of unknown elements: nothing was drawn because memory ran out
+-- or the notes ended the run after something unknown; or the drawing ends at a refused call.
 abbrev pub EndsTrace : ℕ → Moment → Cut → Heard → ℕ → LineCause → Seen → Seen → Type 0
 EndsTrace next moment cut heard unknown NoSettings old new = ⊥
 EndsTrace next moment cut heard unknown NotACall old new =
@@ -137,7 +137,8 @@ EndsTrace next moment cut heard unknown Memory old new = new ≡ old
 EndsTrace next moment cut heard unknown (Refused refusal) old new =
     (unknown ≡ heard.unknown) × DrawsUpTo next moment cut heard.gathered refusal old new
 
--- The drawing is that of a text as a trace. Where something ended the run, it is that of a beginning.
+-- The drawing is that of a string as a trace. If something ended the run, it is a first part of
+-- that.
 abbrev pub RunsTrace : ℕ → Moment → Cut → List ℕ → SourceRun → Seen → Seen → Type 0
 RunsTrace next moment cut text run old new =
     let heard = heard_in text in

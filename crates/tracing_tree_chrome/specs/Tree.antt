@@ -24,9 +24,9 @@ use Rattle.tracing_tree_chrome.specs.declared.tree.Left.{Left}
 use Rattle.tracing_tree_chrome.specs.declared.tree.Until.{Until}
 use Rattle.tracing_tree_chrome.specs.declared.tree.Until.TheVariants.{Depth, Ended}
 
--- The id of the next span, the moment of the last item, what is left out, the thread of the last item,
--- what is open with the innermost first and the root last, how processes and threads are called, and the
--- calls so far.
+-- The id of the next span, the moment of the last item, what is left out, the thread of the last
+-- item, what is open with the innermost first and the root last, the names of processes and
+-- threads, and the calls so far.
 pub record TreeState : Type 0 where
   pub next : ℕ
   pub moment : Moment
@@ -43,7 +43,7 @@ nothing_left_out = record { spans = 0; time = 0; lane = None; until = 0 }
 abbrev pub frame_of : Option Id → Option Id → Option Point → Frame
 frame_of id above end = record { id = id; above = above; end = end; left = nothing_left_out }
 
--- nothing is open but the root
+-- only the root is open
 abbrev pub begun_tree : ℕ → Moment → Cut → List Name → List Name → TreeState
 begun_tree next moment cut processes threads = record {
   next = next;
@@ -91,7 +91,7 @@ opened name fields end s = record (told (span_call s.moment name fields (current
 
 -- ---- what is left
 
--- a point comes before another, or is the same
+-- a point comes before another, or is equal to it
 abbrev pub is_by : Point → Point → Bool
 is_by point other =
     if point.time == other.time then nat_le point.index other.index else nat_le point.time other.time
@@ -116,7 +116,7 @@ leaving_count until (frame ∷ below) = if is_left until frame (length below) th
 abbrev pub length_field : ℕ → Field
 length_field nanoseconds = rendered_field (codes "time") (length_text nanoseconds)
 
--- a span that lost some says how many, and how long they took together
+-- a span from which spans were left out says how many, and how long they took together
 abbrev pub left_out_told : Frame → TreeState → TreeState
 left_out_told frame s =
     if frame.left.spans == 0 then s
@@ -161,11 +161,11 @@ is_of_lane lane name = same_lane name.lane lane
 abbrev pub told_name : List Name → Lane → Option (List ℕ)
 told_name names lane = option_map text_in (find (is_of_lane lane) (reverse names))
 
--- how a process or a thread is called, by the last element that says it
+-- the name of a process or a thread, by the last element that names it
 abbrev pub name_in : List Name → Lane → List ℕ → List ℕ
 name_in names lane unnamed = unwrap_or (told_name names lane) unnamed
 
--- how many levels stand above the threads of a process
+-- the count of levels above the threads of a process
 abbrev pub process_depth : Lane → ℕ
 process_depth lane = depth_of lane.process where
   depth_of : Option ℤ → ℕ
@@ -176,7 +176,7 @@ abbrev pub is_within : ℕ → Option ℕ → Bool
 is_within levels (Some depth) = nat_le levels depth
 is_within levels None = true
 
--- one more span isn't too deep; the root is open, too
+-- one more span isn't too deep; the root counts as open, too
 abbrev pub fits : TreeState → Bool
 fits s = is_within (length s.frames) s.cut.depth
 
@@ -198,7 +198,7 @@ thread_opened_as (Some thread) lane s =
     lane_opened (name_in s.threads lane (codes "thread")) (whole_field (codes "tid") thread) s
 thread_opened_as None lane s = s
 
--- the process before is left, unless it is this one, whose thread before is left then
+-- the previous process is left, unless it is this one; then its previous thread is left
 abbrev pub entered_process : Lane → ℕ → TreeState → TreeState
 entered_process lane time s =
     if is_in_process lane s.lane then left_while (Depth (process_depth lane)) s.frames s
@@ -207,7 +207,7 @@ entered_process lane time s =
 abbrev pub entered_thread : Lane → ℕ → TreeState → TreeState
 entered_thread lane time s = thread_opened_as lane.thread lane (at_moment time s)
 
--- the thread before is left for this one
+-- the previous thread is left for this one
 abbrev pub entered : Lane → ℕ → TreeState → TreeState
 entered lane time s =
     if is_lane lane s.lane then s
@@ -233,7 +233,7 @@ fields_as Event item = []
 fields_as Whole item = length_field (item.end.time - item.start.time) ∷ []
 fields_as Unended item = []
 
--- how long a span took, where that is known
+-- how long a span took, if that is known
 abbrev pub span_fields : Item → List Field
 span_fields item = fields_as item.shape item
 
@@ -254,8 +254,8 @@ extent item = extent_as item.shape item
 abbrev pub counted_until : Item → Left → ℕ
 counted_until item was = if is_lane item.lane was.lane then was.until else 0
 
--- What was left out, and this span too. The time of a thread in which another span was left out already
--- isn't counted again.
+-- What was left out, and this span too. The time of a thread in which another span was left out
+-- already isn't counted again.
 abbrev pub added : Item → Left → Left
 added item was = record {
   spans = one_more was.spans;
@@ -290,8 +290,8 @@ placed item s = placed_as item.shape item s
 abbrev pub left_by : Point → TreeState → TreeState
 left_by point s = left_while (Ended point) s.frames s
 
--- where a span that is too short counts: in its thread if that is drawn, else in its process if that is,
--- else at the root
+-- where a span that is too short counts: in its thread if that is drawn, otherwise in its process
+-- if that is, otherwise at the root
 abbrev pub shown_lane : Item → TreeState → Lane
 shown_lane item s =
     if is_lane item.lane s.lane || item.later.in_thread then item.lane

@@ -35,7 +35,7 @@ pub span-pieces : (left right : ℕ) (verbose : Bool) (amount before : ℕ) →
 span-pieces left right false amount before = refl
 span-pieces left right true amount before = refl
 
--- a bar that stands `shift` columns further right
+-- a bar `shift` columns further right
 pub later-pieces : (before shift amount : ℕ) →
     frame_pieces before (columns shift space ++ encode_utf8 vertical) (encode_utf8 space) amount []
     ≡ columns (before + shift) space ++ encode_utf8 vertical ++ columns amount space

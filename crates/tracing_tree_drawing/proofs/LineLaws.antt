@@ -18,7 +18,7 @@ use Rattle.tracing_tree_text.specs.Extended.{IsExtended}
 
 -- ---- carriage returns
 
--- a text and a carriage return
+-- a string and a carriage return
 strip-return : (text : List ℕ) → strip_carriage_return (text ++ 13 ∷ []) ≡ text
 strip-return text =
     let last : length (text ++ 13 ∷ []) - 1 ≡ length text = let n = length_push text 13 in omega arith in
@@ -26,7 +26,7 @@ strip-return text =
     get_or_push text 13 0 (length (text ++ 13 ∷ []) - 1) (sym last) in
     rw (here, last) (take-append_seam text (13 ∷ []))
 
--- a last byte, and what stands before it
+-- a last byte, and what precedes it
 last-byte : (line : List ℕ) (byte : ℕ) → 0 < byte → get_or line (length line - 1) 0 ≡ byte → line ≡ take (length line - 1) line ++ byte ∷ []
 last-byte [] byte some e = absurd (omega (arith, e))
 last-byte (first ∷ more) byte some e =
@@ -36,7 +36,7 @@ last-byte (first ∷ more) byte some e =
     let all : length line ≤ last + 1 = omega arith in
     sym (take_all (last + 1) line all) ∙ take_more line last 0 within ∙ ap (λ b. take last line ++ b ∷ []) e
 
--- a text that does not end in one
+-- a string that doesn't end in one
 strip-none : (line : List ℕ) → ((front : List ℕ) → line ≢ front ++ 13 ∷ []) → strip_carriage_return line ≡ line
 strip-none line h = elim (eqb_tells (get_or line (length line - 1) 0) 13) [
   | inl same ↦ absurd (h (take (length line - 1) line) (last-byte line 13 (omega arith) same.1))
@@ -52,11 +52,11 @@ strip-by line (Some x) whole e h = sym (ap strip_carriage_return h ∙ strip-ret
 
 -- ---- line ends
 
--- no line end stands in the text
+-- the string has no line end
 abbrev pub IsUnbroken : List ℕ → Type 0
 IsUnbroken text = (i : ℕ) → i < length text → get_or text i 0 ≢ 10
 
--- each byte of such a text fails the test
+-- each byte of such a string fails the test
 unbroken-all : (text : List ℕ) → IsUnbroken text → All (λ byte. (byte == 10) ≡ false) text
 unbroken-all text h = All-from_get_or (λ byte. (byte == 10) ≡ false) text 0 (λ i lt. ne_eqb (get_or text i 0) 10 (h i lt))
 
@@ -66,7 +66,7 @@ lines_of_parts-first : (part : List ℕ) (others : List (List ℕ)) → 0 < leng
 lines_of_parts-first part [] h = absurd (omega arith)
 lines_of_parts-first part (next ∷ others) h = refl
 
--- a text without line ends, and what follows its line end
+-- a string without line ends, and what follows its line end
 lines-first : (line others : List ℕ) → IsUnbroken line → lines (line ++ 10 ∷ others) ≡ strip_carriage_return line ∷ lines others
 lines-first line others h =
     let some : 0 < length (slice_split (λ byte. byte == 10) others) =
@@ -97,7 +97,8 @@ abbrev pub drawn_from : Settings → Row → ℕ → List (List ℕ) → List �
 drawn_from settings row place texts =
     flat_map (λ line. drawn_line row.prefix (row_frame settings row.mode row.level line.0) line.1) (enumerate_from place texts)
 
--- What a loop over the lines has drawn: with the lines of the rest, from this place on, the text is whole.
+-- What a loop over the lines has drawn: with the lines of the rest, from this place on, the text is
+-- whole.
 pub record IsDrawing (settings : Settings) (row : Row) (whole text rest frame : List ℕ) : Type 0 where
   pub place : ℕ
   pub frame_is : frame ≡ row_frame settings row.mode row.level place
@@ -166,7 +167,7 @@ unlined-last r settings row whole text more rest frame h unlined unbroken filled
 never : false ≡ true → ⊥
 never e = absurd cc
 
--- a block that is one line as it is, with lines
+-- a block that is one line unchanged, with lines
 pub line-lined : (block : List ℕ) (ends : Bool) → IsUnbroken block → IsTrue (not ends) → ((front : List ℕ) → block ≡ front ++ 13 ∷ [] → ends ≡ true) →
     row_lines true block ≡ block ∷ []
 line-lined block true unbroken stays returns = absurd (never stays)
@@ -179,14 +180,14 @@ pub line-unlined : (block : List ℕ) (empty : Bool) → IsUnbroken block → Is
 line-unlined block true unbroken filled here = absurd (never filled)
 line-unlined block false unbroken filled here = row_lines-rest block unbroken (sym here)
 
--- a search for a line end that finds none
+-- a search for a line end that finds nothing
 pub no-end : (text : List ℕ) (r : Option ℕ) → IsFirstByte (is_byte 10) text r → is_some r ≡ false → IsUnbroken text
 no-end text None h none = λ i within same. h i (omega arith) within (eq-eqb (slice_index text i) 10 same)
 no-end text (Some at) h none = absurd (never (sym none))
 
 -- ---- rows that were begun
 
--- a text is a beginning of it, and what follows
+-- a string is a prefix of it, and what follows
 pub extended-cut : (at : ℕ) (text : List ℕ) → IsExtended (take at text) text
 extended-cut at text = record { front = drop at text; appended = sym (take-append-drop at text) }
 

@@ -1,4 +1,5 @@
--- The parts of a block are the one list, not empty, of texts without line ends whose joining by line ends is the block.
+-- The parts of a block are the only nonempty list of strings without line ends whose joining by
+-- line ends is the block.
 use Rattle.std.proofs.Common.{◌≡◌, ℕ, ◌<◌, Bool, true, false, not, ◌||◌, List, [], ◌∷◌, ◌++◌, length, refl, sym, ap, ◌∙◌, arith, ◌==◌}
 use Rattle.std.specs.List.{list_all, onto_first, join_with_byte}
 use Rattle.std.proofs.lemmas.Bool.{and_parts}
@@ -36,7 +37,7 @@ no_end-parts x text h = elim (x == 10) as (λ b. not (b || has_line_end text) �
 no_end-rest : (x : ℕ) (text : List ℕ) → not (has_line_end (x ∷ text)) ≡ true → not (has_line_end text) ≡ true
 no_end-rest x text h = elim (x == 10) as (λ b. not (b || has_line_end text) ≡ true → not (has_line_end text) ≡ true) [ true ↦ (λ e. cc) | false ↦ (λ e. e) ] h
 
--- a text without line ends is one part
+-- a string without line ends is one part
 parts_of-part : (part : List ℕ) → not (has_line_end part) ≡ true → parts_of part ≡ part ∷ []
 parts_of-part [] h = refl
 parts_of-part (x ∷ part) h =

@@ -1,4 +1,4 @@
--- Rows that are read back: lines, rows and texts, and what the code of the reader tells of them.
+-- Rows that are read back: lines, rows and strings, and what the reader's code says of them.
 pub mod Bytes
 pub mod FirstRead
 pub mod FirstDrawn

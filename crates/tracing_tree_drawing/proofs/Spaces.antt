@@ -1,4 +1,4 @@
--- Spaces that stand ready.
+-- Spaces that are kept ready.
 use Rattle.std.proofs.Common.{◌≡◌, ◌+◌, ◌-◌, ◌*◌, ◌/◌, ◌%◌, ◌≤◌, ◌<◌, ◌++◌, arith, ℕ, zero, suc, ◌∷◌, take, refl, sym, ap, ◌∙◌}
 use Rattle.std.specs.Char.{encode_utf8}
 use Rattle.std.specs.List.{repeat, slice_range}
@@ -17,7 +17,7 @@ unfolding encode_utf8
 repeat-space zero = refl
 repeat-space (suc count) = ap (λ rest. space ∷ rest) (repeat-space count)
 
--- a beginning of those that stand ready
+-- a prefix of the spaces that are kept ready
 pub ready-spaces : (ready count : ℕ) → count ≤ ready → slice_range (replicate ready space) 0 count ≡ columns count space
 ready-spaces ready count fits =
     let whole : count - 0 ≡ count = omega arith in
@@ -27,7 +27,7 @@ ready-spaces ready count fits =
 pub ascii-spaces : (count : ℕ) → IsAscii (replicate count space)
 ascii-spaces count = IsAscii-from_all (replicate count space) (All-replicate (λ byte. byte < 128) count space (omega arith))
 
--- spaces so many at a time
+-- spaces, `ready` at a time
 repeat-ready : (many ready : ℕ) → repeat many (replicate ready space) ≡ replicate (many * ready) space
 repeat-ready zero ready = ap (λ n. replicate n space) (sym (zero-mul ready))
 repeat-ready (suc many) ready =

@@ -1,4 +1,4 @@
--- The drawing of a row: settings, texts, frames and pictures.
+-- The drawing of a row: settings, strings, frames and pictures.
 pub mod Settings
 pub mod Texts
 pub mod Picture

@@ -7,19 +7,19 @@ use Rattle.tracing_tree_sources.specs.Source.{Step, Tells}
 use Rattle.tracing_tree_go_test.specs.GoTest.{GoState, takes_value_as}
 use Rattle.tracing_tree_go_test.specs.Failed.{FailedState, Knows, Untold, failed_step, line_taken}
 
--- what is known of a line is done, and nothing of another
+-- a known line is processed, and an unknown one changes nothing
 pub took : (state : Option GoState) (old new : GoState) (known : Bool) → takes_value_as state old new known → new ≡ unwrap_or state old
 took None old new known h = h.0
 took (Some state) old new known h = h.0
 
--- what is in a set where a key was added, if it is the key or was in it
+-- what is in a set to which a key was added, if it is the key or was in it
 pub or-added : (key has : Bool) → (if key then true else has) ≡ (has || key)
 or-added true true = refl
 or-added true false = refl
 or-added false true = refl
 or-added false false = refl
 
--- what is in a set where a key was taken out, if it was in it and isn't the key
+-- what is in a set from which a key was removed, if it was in it and isn't the key
 pub and-removed : (key has : Bool) → (if key then false else has) ≡ (has && not key)
 and-removed true true = refl
 and-removed true false = refl

@@ -1,4 +1,5 @@
--- What makes Go's tests fail: each definition of what a line does either leaves `has_failed` or sets it.
+-- What makes Go's tests fail: each definition of what a line does either keeps `has_failed` or sets
+-- it.
 use Rattle.std.proofs.Common.{◌≡◌, ℕ, Bool, true, false, List, [], ◌∷◌, ◌++◌, Option, Some, None, refl, sym, ap, subst, ◌∙◌, arith}
 use Rattle.std.proofs.lemmas.Bool.Decides.{nat_tests}
 use Rattle.std.proofs.lemmas.Slice.Eq.{bytes_eq-Decides}
@@ -33,12 +34,12 @@ use Rattle.tracing_tree_go_test.specs.GoTest.{GoState, Held, Tests, above_held, 
 
 -- ---- names
 
--- no name is empty, of a list nor of what has it
+-- no name is empty, of the list or of a test
 abbrev AreFull : Tests → Type 0
 AreFull [] = ⊤
 AreFull (e ∷ es) = (is_empty e.0 ≡ false) × (is_empty e.1.test ≡ false) × AreFull es
 
--- the first name alone may be empty, and what has it has no name either
+-- only the first name may be empty, and then its test has no name either
 abbrev pub AreNamed : Tests → Type 0
 AreNamed [] = ⊤
 AreNamed (e ∷ es) = (is_empty e.0 ≡ is_empty e.1.test) × AreFull es
@@ -153,7 +154,7 @@ record Stays (s t : GoState) : Type 0 where
   failed : AllNamed s.packages → has_failed t ≡ has_failed s
   named_too : AllNamed s.packages → AllNamed t.packages
 
--- it is set if this holds, and else it stays
+-- it is set if this holds, and otherwise it stays
 record Goes (b : Bool) (s t : GoState) : Type 0 where
   failed : AllNamed s.packages → has_failed t ≡ (has_failed s || b)
   named_too : AllNamed s.packages → AllNamed t.packages
@@ -291,7 +292,7 @@ failed_package path s = record {
   named_too = λ w. w;
 }
 
--- an end that fails nothing, where a test comes to it
+-- an end that doesn't count as a failure of a test
 is_calm : Ending → Bool
 is_calm Passed = true
 is_calm Failed = false
@@ -319,7 +320,7 @@ noted_by : (b : Bool) (ending : Ending) (one : Running) (s : GoState) → b ≡ 
 noted_by true ending one s e calm = cc
 noted_by false ending one s e calm = calm_stays ending one.path one.test s calm
 
--- a test that doesn't tell of its end fails nothing
+-- a test without a reported end isn't a failure
 left_stays : (ending : Ending) (one : Running) (s : GoState) → is_empty one.test ≡ false → is_calm ending ≡ true → Stays s (left_one ending one s)
 left_stays ending one s full calm =
     let noted_too : GoState = noted_left ending one s in
@@ -360,7 +361,7 @@ test_stays ending test elapsed h =
     (then_stays h.state above.state quiet.state (opened_stays h) (event_stays (level_of ending) (word_of ending ++ codes " " ++ name) (elapsed_fields elapsed) above.one.span above.state))
     (kept_stays quiet))
 
--- an end fails something exactly if it is counted so
+-- an end fails something exactly if it is counted as a failure
 ended_as : (f : Bool) (ending : Ending) (path test : List ℕ) (elapsed : Option (List ℕ)) (s : GoState) → Goes f s (counted ending path test s) → Goes f s (package_counted ending path s) →
     Goes f s (ended ending path test elapsed s)
 ended_as f ending path test elapsed s of_test of_package =
@@ -475,7 +476,7 @@ failure_by true rest line s =
     (goes_stays true at (package_counted Failed path at) (package_ended Failed path None at) (failed_package path at) (package_stays Failed path None at))
 failure_by false rest line s = goes_of s (takes_plain line s) (plain_stays line s)
 
--- a heading tells of no failure
+-- a heading isn't a failure
 other_mark : (b : ℕ) (x y : Bool) → ((35 == b) && x) ≡ true → ((70 == b) && y) ≡ false
 other_mark b x y h = grind (arith, nat_tests)
 
@@ -621,7 +622,7 @@ packages_go ((path, tests) ∷ others) s h =
     let after : GoState = package_left tests s in
     goes_then (package_runs (path, tests)) (list_any package_runs others) s after (packages_left others after) (package_by tests s (named [] tests) h.0 refl) (packages_go others after h.1)
 
--- tests have failed exactly if a line tells of a failure, or a package still ran
+-- tests have failed exactly if a line reports a failure, or a package still ran
 pub some_failed_after : (next : ℕ) (moment : Moment) (lines : List (List ℕ)) →
     has_failed (all_ended (hear go_takes (nothing_run next moment) lines).source) ≡ some_failed lines (hear go_takes (nothing_run next moment) lines).source
 some_failed_after next moment lines =

@@ -36,14 +36,14 @@ taken_on value old at left known on h is =
     let taken : GoState → Type 0 = λ s. takes_value_as (takes_json value s) s left known in
     kept_on (takes_json value (timed value old)) value old left known (subst taken on h) is
 
--- of a line that isn't known nothing stays, nor does its time
+-- an unknown line leaves nothing, not even its time
 pub taken_back : (value : Json) (old at left new : GoState) (known : Bool) → at ≡ timed value old → takes_timed value at left known → known ≡ false →
     new ≡ record left { moment = old.moment } → takes_value value old new known
 taken_back value old at left new known on h is back =
     let taken : GoState → Type 0 = λ s. takes_value_as (takes_json value s) s left known in
     put_back (takes_json value (timed value old)) value old left new known (subst taken on h) is back
 
--- the test of the last name ends first, and stands in all others
+-- the test of the last name ends first, and is nested in all others
 pub from_the_last : (ending : Ending) (root : Option Id) (earlier tests : Tests) (name : List ℕ) (one : Running) (s : GoState) →
     left_over ending root earlier (tests ++ (name, one) ∷ []) s ≡ left_over ending root earlier tests (left_one ending (placed root (earlier ++ tests) one) s)
 from_the_last ending root earlier [] name one s = ap (λ others. left_one ending (placed root others one) s) (sym (append-nil earlier))

@@ -1,4 +1,4 @@
--- The name that a span shows, behind the name around it, is the whole name.
+-- The name that a span shows, after its parent's name, is the whole name.
 use Rattle.std.proofs.Common.{◌≡◌, ℕ, true, false, List, [], ◌∷◌, ◌++◌, Option, Some, refl, ap, ◌∙◌, append_assoc, arith}
 use Rattle.std.proofs.lemmas.Bool.Decides.{nat_tests}
 use Rattle.std.specs.Prelude.{codes, drop, length, option_and_then, unwrap_or}
@@ -22,6 +22,6 @@ own_after outer name full =
     let behind : Option (List ℕ) → List ℕ = λ found. unwrap_or (option_and_then (after_mark (codes "/")) found) (outer ++ rest) in
     rw full (ap behind (after_itself outer rest) ∙ ap (λ found. unwrap_or found (outer ++ rest)) (after_itself (codes "/") name))
 
--- in the span of a test, another in it shows what comes after that test's name and a `/`
+-- a test in the span of another shows what follows that test's name and a `/`
 pub own_behind : (outer name : List ℕ) → is_empty outer ≡ false → own_name outer (outer ++ codes "/" ++ name) ≡ name
 own_behind outer name full = ap (own_name outer) (append_assoc outer (codes "/") name) ∙ own_after outer name full

@@ -1,4 +1,4 @@
--- What failed of Go's tests: a line is kept until the outermost test that it belongs to ends, or its package.
+-- What failed of Go's tests: a line is kept until its outermost test, or its package, ends.
 use Rattle.std.specs.Prelude.{◌≡◌, ℕ, ◌==◌, ◌&&◌, ◌||◌, Bool, true, false, not, if◌then◌else◌, List, [], ◌∷◌, ◌++◌, length, take, Option, Some, None, unwrap_or, option_map, codes, bytes_eq}
 use Rattle.std.specs.List.{list_any, position_or_len}
 use Rattle.json.specs.Json.{Json, document}
@@ -12,11 +12,11 @@ use Rattle.tracing_tree_go_test.specs.declared.failed.Kept.{Kept}
 use Rattle.tracing_tree_go_test.specs.declared.failed.Verdict.{Verdict}
 use Rattle.tracing_tree_go_test.specs.declared.failed.Verdict.TheVariants.{Open, Good, Bad}
 
--- what is kept of a package by the names of its outermost tests; the package's own lines have the empty name
+-- what is kept of a package by its outermost tests; the package's own lines have the empty name
 abbrev pub Untold : Type 0
 Untold = List (List ℕ × List Kept)
 
--- what is known of all lines and of those that were told, and what is kept by the packages' paths
+-- what is known of all lines and of those that were shown, and what is kept by the packages' paths
 pub record FailedState : Type 0 where
   pub whole : GoState
   pub shown : GoState
@@ -62,11 +62,11 @@ is_bad Bad = true
 abbrev pub is_inner : List ℕ → Bool
 is_inner test = list_any (λ b. b == 47) test
 
--- the name of the outermost test in which a test stands
+-- the name of the outermost test in which a test is nested
 abbrev pub outermost : List ℕ → List ℕ
 outermost test = take (position_or_len (λ b. b == 47) test) test
 
--- a line says of the test that it came to such an end
+-- a line says that the test came to such an end
 abbrev pub says : (Verdict → Bool) → Kept → List ℕ → Bool
 says is one test = is one.verdict && bytes_eq one.test test
 
@@ -74,13 +74,13 @@ says is one test = is one.verdict && bytes_eq one.test test
 abbrev pub someone_says : (Verdict → Bool) → List Kept → List ℕ → Bool
 someone_says is kept test = list_any (λ one. says is one test) kept
 
--- the test passed or was skipped, as these lines say, and none says that it failed
+-- the test passed or was skipped, as these lines say, and no line says that it failed
 abbrev pub is_over : List Kept → List ℕ → Bool
 is_over kept test = someone_says is_good kept test && not (someone_says is_bad kept test)
 
--- ---- what is told
+-- ---- what is shown
 
--- a line is told
+-- shows a line
 abbrev pub line_shown : List ℕ → Option Json → GoState → GoState
 line_shown line None shown = takes_text line shown
 line_shown line (Some value) shown = unwrap_or (takes_json value (timed value shown)) shown
@@ -88,7 +88,7 @@ line_shown line (Some value) shown = unwrap_or (takes_json value (timed value sh
 abbrev pub kept_shown : Kept → GoState → GoState
 kept_shown one shown = line_shown one.line (document one.line) shown
 
--- a line of a package is told, unless its test is over and was not told in part
+-- shows a line of a package, unless its test is over and wasn't shown in part
 abbrev pub released_one : List ℕ → (List ℕ → Bool) → Kept → GoState → GoState
 released_one path over one shown =
     if over one.test && not (runs path one.test shown) then shown else kept_shown one shown
@@ -98,7 +98,7 @@ released_each path over [] shown = shown
 released_each path over (one ∷ others) shown =
     released_each path over others (released_one path over one shown)
 
--- lines of a package are told, without those of tests that passed or were skipped
+-- shows lines of a package, without those of tests that passed or were skipped
 abbrev pub released : List ℕ → List Kept → GoState → GoState
 released path kept shown = released_each path (is_over kept) kept shown
 
@@ -118,7 +118,7 @@ package_released path untold shown =
 
 -- ---- what is kept
 
--- a line behind those of an outermost test, or with an empty name behind the package's own
+-- adds a line to those of an outermost test, or with an empty name to the package's own
 abbrev pub with_line : List ℕ → Kept → Untold → Untold
 with_line test one untold = put test (kept_in test untold ++ one ∷ []) (without test untold)
 
@@ -138,13 +138,13 @@ line_kept path test verdict line s =
     (with_line (outermost test) (record { test = test; verdict = verdict; line = line })
     (untold_of path s)) (without_untold path s)
 
--- nothing is kept of an outermost test any more, or of a package where the name is empty
+-- nothing is kept of an outermost test any more, or of a package if the name is empty
 abbrev pub forgotten : List ℕ → List ℕ → FailedState → FailedState
 forgotten path test s =
     if length test == 0 then without_untold path s
     else with_untold path (without test (untold_of path s)) (without_untold path s)
 
--- what is kept of an outermost test is told, or of a package where the name is empty
+-- shows what is kept of an outermost test, or of a package if the name is empty
 abbrev pub told_of : List ℕ → List ℕ → FailedState → FailedState
 told_of path test s =
     record (forgotten path test s) {
@@ -158,12 +158,12 @@ told_of path test s =
 abbrev pub path_of : Json → List ℕ
 path_of value = unwrap_or (package_of value) []
 
--- a line that is told
+-- a line that is shown
 abbrev pub value_shown : List ℕ → Json → FailedState → FailedState
 value_shown line value s = record s { shown = line_shown line (Some value) s.shown }
 
--- A line is kept, unless it ends an outermost test or a package. Then what is kept of that is told with it
--- if it failed or was told in part, and else forgotten.
+-- A line is kept, unless it ends an outermost test or a package. Then what is kept of that is shown
+-- with it if it failed or was shown in part, and otherwise forgotten.
 abbrev pub value_taken_of : List ℕ → List ℕ → Verdict → List ℕ → Json → FailedState → FailedState
 value_taken_of path test verdict line value s =
     if is_open verdict || is_inner test then line_kept path test verdict line s
@@ -174,12 +174,12 @@ abbrev pub value_taken : List ℕ → Json → FailedState → FailedState
 value_taken line value s =
     value_taken_of (path_of value) (test_of value) (verdict_in value) line value s
 
--- a line that isn't JSON is told at once
+-- a line that isn't JSON is shown at once
 abbrev pub line_taken : List ℕ → Option Json → FailedState → FailedState
 line_taken line None s = record s { shown = line_shown line None s.shown }
 line_taken line (Some value) s = value_taken line value s
 
--- what is known of all lines goes on with a line that is known, and nothing changes by another
+-- a known line updates what is known of all lines; an unknown line changes nothing
 abbrev pub Knows : Option (Step GoState) → FailedState → FailedState → Bool → Type 0
 Knows (Some step) old new known = (new ≡ record old { whole = step.source }) × (known ≡ true)
 Knows None old new known = (new ≡ old) × (known ≡ false)
@@ -194,7 +194,7 @@ abbrev pub failed_step : List ℕ → Option Json → FailedState → Step GoSta
 failed_step line value s step =
     failed_handed_out (line_taken line value (record s { whole = step.source }))
 
--- what is told when a line comes; what is known of all lines says whether it is known
+-- what is shown when a line comes; what is known of all lines says whether it is known
 abbrev pub failed_takes : FailedState → List ℕ → Option Json → Option (Step FailedState)
 failed_takes s line value = option_map (failed_step line value s) (go_takes s.whole line value)
 
@@ -207,7 +207,7 @@ abbrev pub failed_ends : FailedState → List Call
 failed_ends s =
     (all_ended (all_released s.packages s.shown)).calls ++ tally_call (all_ended s.whole) ∷ []
 
--- the source after the end: nothing is kept, nothing runs, and what was told is handed out
+-- the source after the end: nothing is kept, nothing runs, and what was shown is returned
 abbrev pub failed_ended : FailedState → FailedState
 failed_ended s = record {
   whole = all_ended s.whole;

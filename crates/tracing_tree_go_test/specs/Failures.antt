@@ -16,13 +16,13 @@ is_fail (Some action) (Some path) = bytes_eq action (codes "fail")
 is_fail (Some action) None = false
 is_fail None path = false
 
--- what a line says of a failure, by its text and by the JSON value that it is, if it is one: a line of
--- a build that isn't JSON tells of one where it begins with `FAIL` and a tab
+-- whether a line reports a failure, by the line and its JSON value, if it has one: a build's line
+-- that isn't JSON does if it begins with `FAIL` and a tab
 abbrev pub is_failure : List ℕ → Option Json → Bool
 is_failure line None = begins (codes "FAIL\t") line
 is_failure line (Some value) = is_fail (text_at (codes "Action") value) (package_of value)
 
--- a line tells that a test or a package failed
+-- a line reports that a test or a package failed
 abbrev pub tells_failure : List ℕ → Bool
 tells_failure line =
     if is_skipped line then false
@@ -37,6 +37,6 @@ has_begun None = false
 abbrev pub package_runs : List ℕ × Tests → Bool
 package_runs (path, tests) = has_begun (named [] tests)
 
--- a line tells of a failure, or a package still runs after all lines
+-- a line reports a failure, or a package still runs after all lines
 abbrev pub some_failed : List (List ℕ) → GoState → Bool
 some_failed lines s = list_any tells_failure lines || list_any package_runs s.packages

@@ -1,4 +1,4 @@
--- Go's tests: what each line of `go test -json` tells.
+-- Go's tests: what each line of `go test -json` means.
 use Rattle.std.specs.Prelude.{◌≡◌, ℕ, zero, suc, pos, ◌+◌, ◌-◌, ◌==◌, ◌&&◌, ◌||◌, nat_le, Bool, true, false, not, if◌then◌else◌, List, [], ◌∷◌, ◌++◌, length, take, drop, Option, Some, None, is_some, unwrap_or, option_map, option_and_then, codes, bytes_eq}
 use Rattle.std.specs.Fmt.{digits}
 use Rattle.std.specs.List.{position_or_len}
@@ -37,10 +37,10 @@ use Rattle.tracing_tree_go_test.specs.declared.go_test.tally.Tally.{Tally}
 abbrev pub Tests : Type 0
 Tests = List (List ℕ × Running)
 
--- What is known of the tests that run: the id of the next span, the moment of the last line, what runs
--- by the packages' paths, what builds printed that isn't told yet, how many tests and packages came to
--- which end, the names of those that failed, the package whose build tells lines that aren't JSON, the
--- span of the last call, and the calls that were told and not handed out yet.
+-- What is known of the running tests: the id of the next span, the moment of the last line, what
+-- runs by package path, the build output that isn't reported yet, the counts of tests and packages
+-- by their ends, the names of those that failed, the package whose build prints lines that aren't
+-- JSON, the span of the last call, and the calls that weren't returned yet.
 pub record GoState : Type 0 where
   pub next : ℕ
   pub moment : Moment
@@ -101,7 +101,7 @@ counts_failure tally = not (tally.failed == 0) || not (tally.packages_failed == 
 abbrev pub has_failed : GoState → Bool
 has_failed s = counts_failure s.tally
 
--- the names of what failed, after one more that is called so: ten of them, and no more
+-- the names of what failed, after one more: at most ten of them
 abbrev pub more_names : ℕ → List ℕ → List ℕ → List ℕ
 more_names count names name =
     if nat_le 10 count then names
@@ -138,7 +138,7 @@ package_failed path s = record s {
       { packages = more_names s.tally.packages_failed s.failing.packages path };
 }
 
--- a package that came to this end; one that doesn't end has failed
+-- a package that came to this end; a package that doesn't end has failed
 abbrev pub package_counted : Ending → List ℕ → GoState → GoState
 package_counted Passed path s = one_ended s
 package_counted Failed path s = package_failed path (one_ended s)
@@ -147,11 +147,11 @@ package_counted Unfinished path s = package_failed path (one_ended s)
 
 -- ---- calls
 
--- a call, after which this is the last span
+-- adds a call, after which this is the last span
 abbrev pub told : Option Id → Call → GoState → GoState
 told last call s = record s { calls = s.calls ++ call ∷ []; last = last }
 
--- an event with these further fields in this span, unless its text is blank
+-- an event with these further fields in this span, unless its message is blank
 abbrev pub event_told : Level → List ℕ → List Field → Option Id → GoState → GoState
 event_told level text rest above s =
     if is_skipped text then s
@@ -161,7 +161,7 @@ abbrev pub elapsed_fields : Option (List ℕ) → List Field
 elapsed_fields None = []
 elapsed_fields (Some elapsed) = rendered_field (codes "elapsed") elapsed ∷ []
 
--- whether a package's result is one of an earlier run, and how much of it was covered
+-- whether a package's result is cached from an earlier run, and its coverage
 abbrev pub cached_fields : Bool → List Field
 cached_fields is_cached = if is_cached then truth_field (codes "cached") true ∷ [] else []
 
@@ -175,7 +175,7 @@ abbrev pub end_fields : Option (List ℕ) → Running → List Field
 end_fields elapsed one =
     elapsed_fields elapsed ++ cached_fields one.is_cached ++ coverage_fields one.coverage
 
--- the end of a test that told nothing
+-- the end of a test without a span, as an event
 abbrev pub quiet_told : Ending → List ℕ → List Field → Option Id → GoState → GoState
 quiet_told ending name rest above s =
     event_told (level_of ending) (word_of ending ++ codes " " ++ name) rest above s
@@ -202,7 +202,7 @@ without_package path s = record s { packages = without path s.packages }
 abbrev pub with_package : List ℕ → Tests → GoState → GoState
 with_package path tests s = record s { packages = put path tests s.packages }
 
--- ---- what runs, taken out while it is told of
+-- ---- what runs, removed from the state while it is used
 
 pub record Held : Type 0 where
   pub one : Running
@@ -244,7 +244,7 @@ noted line one = record one {
 abbrev pub framed : List ℕ → Held → Held
 framed line h = if is_empty h.one.test then record h { one = noted line h.one } else h
 
--- this line of it is told, unless it only frames
+-- reports this line of it, unless it only frames
 abbrev pub line_of : Level → List ℕ → Held → Held
 line_of level text h =
     let line = without_line_end text in
@@ -253,7 +253,7 @@ line_of level text h =
 abbrev pub level_of_line : Bool → Level
 level_of_line is_error = if is_error then Error else Info
 
--- the line that it has printed is told
+-- reports the line that it has printed
 abbrev pub line_told : Held → Held
 line_told h =
     line_of (level_of_line h.one.is_error) h.one.part
@@ -292,23 +292,23 @@ begun path test = record {
   coverage = [];
 }
 
--- it has begun, and not only its build
+-- it has started, and not only its build
 abbrev pub started : Held → Held
 started h = record h { one = record h.one { has_begun = true } }
 
--- what runs under this name; a package that isn't known yet begins
+-- what runs under this name; an unknown package starts
 abbrev pub running_as : List ℕ → List ℕ → Tests → Running
 running_as path name tests = unwrap_or (named name tests) (begun path [])
 
--- of a name and its beginnings at a `/` that are at most so long, the longest that runs; else the
--- empty name, which is the package's
+-- the longest running test among a name's prefixes of at most n bytes that end at a `/` or are the
+-- name; otherwise the empty name, which is the package's
 abbrev pub owner_within : Tests → List ℕ → ℕ → List ℕ
 owner_within tests test zero = []
 owner_within tests test (suc n) =
     if ends_word 47 (drop (suc n) test) && is_some (named (take (suc n) test) tests)
     then take (suc n) test else owner_within tests test n
 
--- the longest beginning of a name that runs
+-- the longest prefix of a name that runs
 abbrev pub owner : Tests → List ℕ → List ℕ
 owner tests test = owner_within tests test (length test)
 
@@ -321,12 +321,12 @@ abbrev pub with_span : Option Running → Option Running
 with_span (Some one) = if is_some one.span then Some one else None
 with_span None = None
 
--- what runs under the beginning of a name that is so long and ends at a `/`, if it has a span
+-- what runs under the name's prefix of n bytes that ends at a `/`, if it has a span
 abbrev pub shown_at : Tests → List ℕ → ℕ → Option Running
 shown_at tests test n =
     if ends_word 47 (drop n test) then with_span (named (take n test) tests) else None
 
--- of the beginnings of a name that are at most so long, the longest that runs and has a span
+-- of the name's prefixes of at most n bytes, the longest that runs and has a span
 abbrev pub outer_within : Tests → List ℕ → ℕ → Option Running
 outer_within tests test zero = None
 outer_within tests test (suc n) =
@@ -335,31 +335,31 @@ outer_within tests test (suc n) =
       found_or (Some one) shorter = Some one
       found_or None shorter = shorter
 
--- the span of the test that it stands in, or the package's
+-- the span of the test that it is nested in, or the package's
 abbrev pub span_of : Option Id → Option Running → Option Id
 span_of root (Some outer) = outer.span
 span_of root None = root
 
--- its name as it is shown in that test, or in the package
+-- its name as shown in that test, or in the package
 abbrev pub shown_name : Option Running → Running → List ℕ
 shown_name (Some outer) one = own_name outer.test one.test
 shown_name None one = whole_name one
 
--- It stands in this test, or in the package, whose span `root` is. The name is that in the test in which
--- its span opened.
+-- It is nested in this test, or in the package, whose span `root` is. The name is that in the test
+-- in which its span opened.
 abbrev pub placed_in : Option Id → Option Running → Running → Running
 placed_in root outer one = record one {
   above = span_of root outer;
   name = if is_some one.span then one.name else shown_name outer one;
 }
 
--- it stands in the test with the longest beginning of its name that still runs and has a span, else in
--- the package: what it began in may have ended
+-- It is nested in the test with the longest prefix of its name that still runs and has a span,
+-- otherwise in the package: its first parent may have ended.
 abbrev pub placed : Option Id → Tests → Running → Running
 placed root others one =
     placed_in root (outer_within others one.test (length one.test)) one
 
--- what runs under the longest beginning of a name is taken out
+-- removes what runs under the longest prefix of a name
 unfoldable pub held : List ℕ → List ℕ → GoState → Held
 held path test s =
     let tests : Tests = tests_of path s in
@@ -368,40 +368,40 @@ held path test s =
     holds (placed (span_in others []) others (running_as path name tests))
     (with_package path others (without_package path s))
 
--- what doesn't tell of its end is counted
+-- a test or package without a reported end is counted
 abbrev pub noted_left : Ending → Running → GoState → GoState
 noted_left ending one s =
     if is_empty one.test then package_counted ending one.path s
     else counted ending one.path one.test s
 
--- what still runs comes to this end; a package doesn't run before it has begun
+-- what still runs comes to this end; a package doesn't run before it has started
 abbrev pub left_one : Ending → Running → GoState → GoState
 left_one ending one s =
     if one.has_begun then finished ending None (holds one (noted_left ending one s)) else s
 
 -- ---- actions
 
--- what a test stands in that begins; if one of its name runs already, that one ends unfinished
+-- where a new test is nested; if a test of its name runs already, that one ends unfinished
 unfoldable pub above_held : List ℕ → List ℕ → GoState → Held
 above_held path test s =
     let h = held path test s in
     if is_empty test || not (bytes_eq h.one.test test) then h
     else held path test (left_one Unfinished h.one h.state)
 
--- a test begins in what is held, or its package
+-- a test, or its package, starts in what is held
 abbrev pub begun_in : List ℕ → List ℕ → Held → GoState
 begun_in path test h =
     if is_empty test then kept h else kept (holds (begun path test) (kept h))
 
--- a line that isn't ended yet comes before what begins after it
+-- a line that isn't ended yet comes before what starts after it
 abbrev pub ran : List ℕ → List ℕ → GoState → GoState
 ran path test s = begun_in path test (started (opened (part_told (above_held path test s))))
 
--- the line that this text ends is told
+-- reports the line that this string ends
 abbrev pub told_if_ended : List ℕ → Held → Held
 told_if_ended text h = if ends_line text then line_told h else h
 
--- a text behind what is printed of a line; an error makes its line one
+-- a string after what is printed of a line; an error makes its line an error
 abbrev pub more_printed : Bool → List ℕ → Held → Held
 more_printed is_error text h =
     record h {
@@ -424,7 +424,7 @@ fails_as Plain = false
 fails_as Frame = false
 fails_as Failure = true
 
--- a string only frames: the line says so, or it reads so
+-- a string only frames: the line's type says so, or it has the form of a frame
 abbrev pub is_framing : Kind → List ℕ → List ℕ → Bool
 is_framing Plain test text = is_frame_line test text
 is_framing Frame test text = true
@@ -442,7 +442,7 @@ printed kind path test text s = kept (string_printed kind text (started (held pa
 
 -- ---- builds
 
--- what a build has printed that isn't told yet
+-- the build output that isn't reported yet
 abbrev pub build_of : List ℕ → GoState → Build
 build_of path s = unwrap_or (named path s.builds) (record { path = path; texts = [] })
 
@@ -452,21 +452,21 @@ without_build path s = record s { builds = without path s.builds }
 abbrev pub with_build : List ℕ → Build → GoState → GoState
 with_build path build s = record s { builds = put path build s.builds }
 
--- with one more text
+-- with one more string
 abbrev pub more_built : List ℕ → Build → Build
 more_built text build = record build { texts = build.texts ++ text ∷ [] }
 
--- a build prints: the text is told when it is known whether the build fails
+-- a build prints: its output is reported once it is known whether the build fails
 abbrev pub build_printed : List ℕ → List ℕ → GoState → GoState
 build_printed path text s =
     with_build path (more_built text (build_of path s)) (without_build path s)
 
--- a text without its first line, if that names the package
+-- a string without its first line, if that names the package
 abbrev pub without_heading : List ℕ → List ℕ
 without_heading text =
     if begins (codes "# ") text then drop (position_or_len (λ b. b == 10) text + 1) text else text
 
--- a text that a build printed is told, unless nothing is left of it
+-- reports a string that a build printed, unless nothing is left of it
 abbrev pub build_said : Level → List ℕ → Held → Held
 build_said level text h =
     let line = without_line_end (without_heading text) in
@@ -476,7 +476,7 @@ abbrev pub builds_said : Level → List (List ℕ) → Held → Held
 builds_said level [] h = h
 builds_said level (text ∷ later) h = builds_said level later (build_said level text h)
 
--- what a build printed is told in its package
+-- reports the build output in its package
 abbrev pub texts_told : Level → Build → GoState → GoState
 texts_told level build s = kept (builds_said level build.texts (held build.path [] s))
 
@@ -487,22 +487,22 @@ told_of_build level (Some build) s = texts_told level build s
 abbrev pub build_told : Level → List ℕ → GoState → GoState
 build_told level path s = told_of_build level (named path s.builds) (without_build path s)
 
--- what still runs of a package comes to this end, from the last name on, so that a test ends after those in it
--- and stands in those of earlier names
+-- what still runs of a package comes to this end, from the last name on: a test ends after those in
+-- it, and is nested in those of earlier names
 abbrev pub left_over : Ending → Option Id → Tests → Tests → GoState → GoState
 left_over ending root earlier [] s = s
 left_over ending root earlier (test ∷ later) s =
     left_one ending (placed root earlier test.1)
     (left_over ending root (earlier ++ test ∷ []) later s)
 
--- nothing runs of a package any more but the package itself
+-- only the package itself still runs of a package
 abbrev pub all_left_over : Ending → List ℕ → GoState → GoState
 all_left_over ending path s =
     let tests : Tests = tests_of path s in
     left_over ending (running_as path [] tests).span [] (without [] tests)
     (without_package path s)
 
--- how a test ends that still runs when its package ends so: Go doesn't say that a benchmark passed
+-- how a test ends that still runs when its package ends: Go doesn't report that a benchmark passed
 abbrev pub left_as : Ending → Ending
 left_as Passed = Passed
 left_as Failed = Unfinished
@@ -517,7 +517,7 @@ package_ended ending path elapsed s =
     (holds (running_as path [] (tests_of path counted_too))
     (all_left_over (left_as ending) path counted_too))
 
--- a test ends that runs, or that didn't
+-- a test ends, whether it runs or not
 abbrev pub test_ended : Ending → List ℕ → Option (List ℕ) → Held → GoState
 test_ended ending test elapsed h =
     if bytes_eq h.one.test test then finished ending elapsed h
@@ -535,15 +535,15 @@ ended ending path test elapsed s =
 
 -- ---- lines
 
--- a line that no build prints
+-- the level of a line that isn't a build's
 abbrev pub level_of_text : List ℕ → Level
 level_of_text line = if begins_trace line then Error else Info
 
--- no build is known to print, or `go` says what it does
+-- a line outside of builds: no build is known to print, or `go` says what it does
 abbrev pub is_aside : List ℕ → GoState → Bool
 is_aside line s = is_empty s.building || begins (codes "go: downloading ") line
 
--- a line that a build prints, or anything else
+-- a line that a build prints, or any other line
 abbrev pub takes_plain : List ℕ → GoState → GoState
 takes_plain line s =
     if is_package_frame line then s
@@ -559,25 +559,25 @@ abbrev pub takes_heading : Option (List ℕ) → List ℕ → GoState → GoStat
 takes_heading (Some rest) line s = record s { building = up_to_space rest }
 takes_heading None line s = takes_failure (after_mark (codes "FAIL\t") line) line s
 
--- a line that isn't JSON: of a build that fails, or of anything else that prints
+-- a line that isn't JSON: a failing build's, or any other output
 abbrev pub takes_text : List ℕ → GoState → GoState
 takes_text line s = takes_heading (after_mark (codes "# ") line) line s
 
--- the test of a line; a package's line has none
+-- the test of a line; empty on a package's line
 abbrev pub test_of : Json → List ℕ
 test_of value = unwrap_or (text_at (codes "Test") value) []
 
 abbrev pub elapsed_in : Json → Option (List ℕ)
 elapsed_in value = option_and_then as_number (get (codes "Elapsed") value)
 
--- the package of a line; that of a build's line is the beginning of its import path
+-- the package of a line; that of a build's line is the first word of its import path
 abbrev pub package_of : Json → Option (List ℕ)
 package_of value = package_or_path (text_at (codes "Package") value) where
   package_or_path : Option (List ℕ) → Option (List ℕ)
   package_or_path (Some path) = Some path
   package_or_path None = option_map up_to_space (text_at (codes "ImportPath") value)
 
--- what a line says that its string is
+-- the kind of a string, by what its line says
 abbrev pub kind_named : List ℕ → Kind
 kind_named word =
     if bytes_eq word (codes "frame") then Frame
@@ -596,7 +596,7 @@ abbrev pub build_printed_if : List ℕ → Option (List ℕ) → GoState → Opt
 build_printed_if path None s = None
 build_printed_if path (Some text) s = Some (build_printed path text s)
 
--- a test begins or ends, or its package; every other action tells nothing
+-- a test or its package starts or ends; every other action does nothing
 abbrev pub moved : List ℕ → List ℕ → List ℕ → Option (List ℕ) → GoState → GoState
 moved action path test elapsed s =
     if bytes_eq action (codes "run") then ran path test s
@@ -606,8 +606,8 @@ moved action path test elapsed s =
     else if bytes_eq action (codes "skip") then ended Skipped path test elapsed s
     else s
 
--- What a line does. What the package's build printed is an error if the build fails; if another line of
--- the package comes, the build has ended well.
+-- What a line does. What the package's build printed is an error if the build fails; if another
+-- line of the package comes, the build has succeeded.
 abbrev pub acted : List ℕ → List ℕ → List ℕ → Json → GoState → Option GoState
 acted action path test value s =
     if bytes_eq action (codes "build-output")
@@ -630,7 +630,7 @@ takes_json value s = acted_for (text_at (codes "Action") value) (package_of valu
 abbrev pub timed : Json → GoState → GoState
 timed value s = record s { moment = moment_after (text_at (codes "Time") value) s.moment }
 
--- what is known of a line is done, and nothing of another
+-- a known line is processed, and an unknown one changes nothing
 abbrev pub takes_value_as : Option GoState → GoState → GoState → Bool → Type 0
 takes_value_as (Some state) old new known = (new ≡ state) × (known ≡ true)
 takes_value_as None old new known = (new ≡ old) × (known ≡ false)
@@ -644,12 +644,12 @@ takes_value value old new known = takes_value_as (takes_json value (timed value 
 abbrev pub handed_out : GoState → Step GoState
 handed_out s = record { calls = s.calls; source = record s { calls = [] } }
 
--- what a line tells
+-- what a line means
 abbrev pub go_takes : GoState → List ℕ → Option Json → Option (Step GoState)
 go_takes s line None = Some (handed_out (takes_text line s))
 go_takes s line (Some value) = option_map handed_out (takes_json value (timed value s))
 
--- the first key that a line lacks of which nothing is known
+-- the first key that an unknown line lacks
 abbrev pub lack_in : Json → Lack
 lack_in value =
     if not (is_some (text_at (codes "Action") value)) then Action
@@ -660,7 +660,7 @@ abbrev pub go_lacks : Option Json → Lack
 go_lacks None = Object
 go_lacks (Some value) = lack_in value
 
--- how many have no name in the list
+-- how many names aren't in the list
 abbrev pub more_text : ℕ → List ℕ
 more_text count =
     if nat_le count 10 then []
@@ -706,16 +706,16 @@ abbrev pub packages_left : List (List ℕ × Tests) → GoState → GoState
 packages_left [] s = s
 packages_left (one ∷ others) s = packages_left others (package_left one.1 s)
 
--- what builds printed is told, one after the other
+-- reports what builds printed, one after the other
 abbrev pub builds_told : List (List ℕ × Build) → GoState → GoState
 builds_told [] s = s
 builds_told (one ∷ others) s = builds_told others (texts_told Warn one.1 s)
 
--- no package runs any more
+-- no package is running
 abbrev pub packages_ended : GoState → GoState
 packages_ended s = packages_left s.packages (record s { packages = [] })
 
--- nothing runs any more, and nothing is left that a build printed
+-- nothing is running, and nothing is left that a build printed
 abbrev pub all_ended : GoState → GoState
 all_ended s = builds_told s.builds (packages_ended (record s { builds = [] }))
 
@@ -724,6 +724,6 @@ go_ends s =
     let ended : GoState = all_ended s in
     ended.calls ++ tally_call ended ∷ []
 
--- the source after the end: nothing runs, and all calls are handed out
+-- the source after the end: nothing runs, and all calls are returned
 abbrev pub go_ended : GoState → GoState
 go_ended s = (handed_out (all_ended s)).source

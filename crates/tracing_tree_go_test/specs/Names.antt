@@ -15,7 +15,7 @@ module _ {X : Type 0} where
   abbrev pub without : List ℕ → List (List ℕ × X) → List (List ℕ × X)
   without name list = remove_entry (is_at (slice_cmp nat_cmp name)) list
 
-  -- with this under this name
+  -- with this entry under this name
   abbrev pub put : List ℕ → X → List (List ℕ × X) → List (List ℕ × X)
   put name one list = insert_entry (slice_cmp nat_cmp) list name one
 

@@ -1,15 +1,15 @@
--- Texts of Go's tests: names, lines that only frame, and how a package ended.
+-- Strings of Go's tests: names, lines that only frame, and how a package ended.
 use Rattle.std.specs.Prelude.{ℕ, ◌+◌, ◌-◌, ◌==◌, ◌&&◌, ◌||◌, Bool, true, if◌then◌else◌, List, [], ◌∷◌, length, take, drop, Option, Some, None, is_some, unwrap_or, option_and_then, codes, bytes_eq}
 use Rattle.std.specs.List.{ends_with, position_or_len}
 use Rattle.tracing_tree_sources.specs.Marks.{after_mark, begins, is_empty}
 
--- the name of a test as it is shown in the span of this outer test: what comes after that one's name and a `/`
+-- the name of a test in the span of this outer test: what follows that one's name and a `/`
 abbrev pub own_name : List ℕ → List ℕ → List ℕ
 own_name outer test =
     if is_empty outer then test
     else unwrap_or (option_and_then (after_mark (codes "/")) (after_mark outer test)) test
 
--- nothing or this byte begins what is left
+-- the rest is empty, or begins with this byte
 abbrev pub ends_word : ℕ → List ℕ → Bool
 ends_word byte [] = true
 ends_word byte (b ∷ rest) = b == byte
@@ -47,11 +47,11 @@ coverage_of text = option_and_then percent (after_mark (codes "coverage: ") text
 abbrev pub after_path : List ℕ → List ℕ
 after_path line = after_tab (after_tab line)
 
--- the result of a package is one of an earlier run
+-- the result of a package is cached from an earlier run
 abbrev pub is_cached : List ℕ → Bool
 is_cached line = begins (codes "(cached)") (after_path line)
 
--- the percentage in a line that says it by itself, or behind a package's time
+-- the percentage in a line by itself, or after a package's time
 unfoldable pub coverage_in : List ℕ → Option (List ℕ)
 coverage_in line = or_behind (coverage_of line) where
   or_behind : Option (List ℕ) → Option (List ℕ)
@@ -60,7 +60,7 @@ coverage_in line = or_behind (coverage_of line) where
 
 -- ---- lines that only frame
 
--- the line is this mark, the test's name and nothing more, or a time after it
+-- the line is only this mark and the test's name, or has a time after them
 abbrev pub frames : List ℕ → List ℕ → List ℕ → Bool
 frames line test mark =
     begins mark line && begins test (drop (length mark) line)
@@ -90,7 +90,7 @@ abbrev pub is_test_frame : List ℕ → List ℕ → Bool
 is_test_frame test line =
     is_step_frame test line || is_end_frame test line || is_name_frame test line
 
--- a line of a package that only frames, or says how it was covered
+-- a line of a package that only frames, or reports its coverage
 abbrev pub is_summary : List ℕ → Bool
 is_summary line = is_package_frame line || is_some (coverage_in line)
 

@@ -36,7 +36,7 @@ is_error Info = false
 is_error Warn = false
 is_error Error = true
 
--- a failure is its first line, and then its text; the case failed if it is an error
+-- a failure is its first line, and then its contents; the case failed if it is an error
 abbrev pub with_failure : Level → PartState → CaseState → CaseState
 with_failure level part case = record case {
   is_failed = case.is_failed || is_error level;

@@ -1,4 +1,4 @@
--- What a document says.
+-- What a document means.
 use Rattle.std.specs.Prelude.{ℕ, zero, suc, Bool, true, List, length, Option, Some, None, Result, Ok, Err}
 use Rattle.tracing_tree_context.specs.declared.context.Moment.{Moment}
 use Rattle.tracing_tree_layer.specs.declared.call.Call.{Call}
@@ -10,12 +10,12 @@ use Rattle.tracing_tree_xml.specs.declared.reader.Unfinished.{Unfinished}
 use Rattle.tracing_tree_junit.specs.Junit.{JunitState}
 use Rattle.tracing_tree_junit.specs.Reading.{at_start, finished, is_open, taken}
 
--- a document as far as it is read, and whether it ends early
+-- a document as far as it is read, and whether it is truncated
 pub record ReadDocument : Type 0 where
   pub state : JunitState
   pub is_cut : Bool
 
--- the end of a document: it is cut if an element is open
+-- the end of a document: it is truncated if an element is open
 abbrev pub at_end : JunitState → ReadDocument
 at_end s = record { state = s; is_cut = is_open s }
 
@@ -34,7 +34,7 @@ abbrev pub read_document : ℕ → Moment → List ℕ → ReadDocument
 read_document next moment text =
     read_within (length text) (document_start text) (at_start next moment)
 
--- the document as it is drawn: what is open at its end closes
+-- the document in its drawn form: what is open at its end closes
 abbrev pub document_state : ℕ → Moment → List ℕ → JunitState
 document_state next moment text = finished (read_document next moment text).state
 

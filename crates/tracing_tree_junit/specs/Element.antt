@@ -32,11 +32,11 @@ role_in Output in_case = Output
 role_in Property in_case = Property
 role_in Other in_case = Other
 
--- what an element is by where it is: nothing is in a part of a case but its text
+-- what an element is by its position: in a part of a case, only characters count
 abbrev pub role_of : Element → Bool → Bool → Element
 role_of element in_case in_part = if in_part then Other else role_in element in_case
 
--- the value of the first attribute of this name; empty if there is none
+-- the value of the first attribute of this name, or an empty string
 abbrev pub attribute_in : List ℕ → List Field → List ℕ
 attribute_in name [] = []
 attribute_in name (attribute ∷ others) =

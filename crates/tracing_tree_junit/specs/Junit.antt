@@ -1,4 +1,4 @@
--- What is known of a document as far as it is read.
+-- What is known of a document while it is read.
 use Rattle.std.specs.Prelude.{ℕ, Bool, List, Option}
 use Rattle.tracing_tree_context.specs.declared.context.Moment.{Moment}
 use Rattle.tracing_tree_layer.specs.declared.call.Call.{Call}
@@ -8,9 +8,9 @@ use Rattle.tracing_tree_junit.specs.declared.reading.Class.{Class}
 use Rattle.tracing_tree_junit.specs.declared.reading.Suite.{Suite}
 use Rattle.tracing_tree_junit.specs.declared.reading.Tally.{Tally}
 
--- The id of the next span, the moment of all calls, the elements that are open, the tag that is read,
--- the suites that are open, the span of a class, the case and the part that are read, how many cases
--- ended how, and the calls. What is innermost comes last.
+-- The id of the next span, the moment of all calls, the elements that are open, the tag that is
+-- read, the suites that are open, the span of a class, the case and the part that are read, the
+-- counts of cases by their ends, and the calls. What is innermost comes last.
 pub record JunitState : Type 0 where
   pub next : ℕ
   pub moment : Moment

@@ -12,7 +12,7 @@ is_line_end byte = byte == 10
 abbrev pub has_line_end : List ℕ → Bool
 has_line_end text = nat_lt (position_or_len is_line_end text) (length text)
 
--- the first line of a text, and what comes after it
+-- the first line of a string, and what comes after it
 abbrev pub line_of : List ℕ → List ℕ
 line_of text = if has_line_end text then before_first is_line_end text else text
 
@@ -58,7 +58,7 @@ rows_within (suc turns) kept text =
     else line_rows kept (line_of text)
     ++ rows_within turns (kept_after kept (line_of text)) (after_line text)
 
--- The lines of a text that are shown. Each turn reads a byte or more.
+-- The lines of a string that are shown. Each turn reads a byte or more.
 abbrev pub printed_rows : List ℕ → List Row
 printed_rows text = rows_within (length text) None text
 
@@ -66,6 +66,6 @@ printed_rows text = rows_within (length text) None text
 abbrev pub head_of : List ℕ → List ℕ → List ℕ
 head_of message name = if is_blank_text (line_of message) then name else line_of message
 
--- why a case was skipped: the message, or otherwise the text of the element
+-- why a case was skipped: the message, otherwise the element's contents
 abbrev pub reason_of : List ℕ → List ℕ → List ℕ
 reason_of message body = if is_blank_text message then trim body else message

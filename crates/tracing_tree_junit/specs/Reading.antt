@@ -1,4 +1,4 @@
--- What a document's tokens say, one after another.
+-- What a document's tokens mean, one after another.
 use Rattle.std.specs.Prelude.{ℕ, zero, suc, ◌-◌, ◌==◌, ◌||◌, not, Bool, true, false, if◌then◌else◌, List, [], ◌∷◌, ◌++◌, length, take, slice_get, Option, Some, None, is_some, codes, bytes_eq, pos}
 use Rattle.tracing_tree_spans.specs.Registry.Ids.{id_of}
 use Rattle.tracing_tree_context.specs.declared.context.Id.{Id}
@@ -116,7 +116,7 @@ class_opened s = record (opened s.case.classname [] (innermost_span s.suites) s)
   class = Some (record { name = s.case.classname; span = id_of s.next });
 }
 
--- a case comes to the span of its class
+-- a case enters the span of its class
 abbrev pub class_entered : JunitState → JunitState
 class_entered s =
     if wants_class s
@@ -267,7 +267,7 @@ property_added s =
 abbrev pub added_to_body : List ℕ → JunitState → JunitState
 added_to_body text s = record s { part = record s.part { body = s.part.body ++ text } }
 
--- text counts in a part
+-- characters count only in a part
 abbrev pub text_added : List ℕ → JunitState → JunitState
 text_added run s = if s.in_part then added_to_body (text_decoded run) s else s
 
@@ -290,7 +290,7 @@ begun_as Output s = part_begun s
 begun_as Property s = property_added s
 begun_as Other s = cdata_added (codes "\n") s
 
--- an element begins: that of the tag; in a part its text begins a line
+-- an element begins: that of the tag; in a part its contents begin a line
 abbrev pub begun : JunitState → JunitState
 begun s = begun_as (element_of s) (record s { elements = s.elements ++ element_of s ∷ [] })
 
@@ -317,7 +317,7 @@ ended s = ended_element (innermost s.elements) (record s { elements = outer s.el
 abbrev pub tag_begun : List ℕ → JunitState → JunitState
 tag_begun name s = record s { tag = record { name = name; attributes = [] } }
 
--- what a token says
+-- what a token means
 abbrev pub taken : XmlToken → JunitState → JunitState
 taken (start_tag name) s = tag_begun name s
 taken (attribute name value) s = record s { tag = with_attribute name value s.tag }

@@ -6,7 +6,7 @@ use Rattle.tracing_tree_sources.specs.Marks.{after_mark}
 abbrev pub is_digit : ℕ → Bool
 is_digit byte = nat_le 48 byte && nat_le byte 57
 
--- what a digit counts
+-- the value of a digit
 abbrev pub digit_in : ℕ → ℕ
 digit_in byte = byte - 48
 
@@ -26,7 +26,7 @@ abbrev pub after_three : List ℕ → List ℕ
 after_three (a ∷ b ∷ c ∷ rest) = rest
 after_three _ = []
 
--- the billionths that the digits after a point write; those after the ninth are cut off
+-- the billionths that the digits after a point write; digits after the ninth are ignored
 abbrev pub billionths : List ℕ → ℕ
 billionths digits =
     thousandths digits * 1_000_000 + thousandths (after_three digits) * 1000
@@ -99,6 +99,6 @@ abbrev pub zero_or : List ℕ → Option (List ℕ) → Option ℕ
 zero_or text (Some rest) = Some 0
 zero_or text None = unsigned_of text
 
--- the nanoseconds of a number of seconds; a number below zero counts as zero
+-- the nanoseconds of a number of seconds; a negative number counts as zero
 abbrev pub nanoseconds_of : List ℕ → Option ℕ
 nanoseconds_of text = zero_or text (after_mark (codes "-") text)

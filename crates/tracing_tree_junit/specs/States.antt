@@ -1,4 +1,4 @@
--- What is known of a document as far as it is read.
+-- What is known of a document while it is read.
 use Rattle.std.specs.Prelude.{ℕ, Bool, List, [], ◌∷◌, ◌++◌, Option}
 use Rattle.tracing_tree_xml.specs.Decoded.{attribute_decoded}
 use Rattle.tracing_tree_text.specs.declared.field.Field.{Field}
@@ -21,7 +21,7 @@ pub record TagState : Type 0 where
   pub name : List ℕ
   pub attributes : List Field
 
--- a part of a case or of a suite: the name of its element, its message and its text
+-- a part of a case or of a suite: the name of its element, its message and its contents
 pub record PartState : Type 0 where
   pub name : List ℕ
   pub message : List ℕ

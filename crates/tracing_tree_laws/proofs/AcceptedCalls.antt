@@ -1,4 +1,4 @@
--- Calls that were accepted are accepted in the run of them alone.
+-- Calls that were accepted are also accepted in a run of only these calls.
 use Rattle.std.proofs.Common.{◌≡◌, ◌≤◌, suc, false, List, [], ◌∷◌, ◌++◌, length, Option, Some, None, Result, Ok, Err, refl, sym, ap, subst, ◌∙◌, arith, length-append}
 use Rattle.tracing_tree_context.specs.declared.context.Id.{Id}
 use Rattle.tracing_tree_context.specs.declared.context.Refusal.{Refusal}
@@ -53,7 +53,7 @@ module _ (settings : Settings) (timer : Timer) where
       let first : Run = run_by_cause settings timer state call (Some refusal) in
       absurd (omega (arith, replied, no_more_replies first.state after))
 
-  -- where each call has its reply, each is accepted
+  -- if each call has its reply, each is accepted
   each_is_accepted : (state : State) (before : List Call) (call : Call) (after : List Call) →
       length (run settings timer state (before ++ call ∷ after)).replies ≡ length (before ++ call ∷ after) →
       cause_of settings timer (run settings timer state before).state call ≡ None
@@ -64,7 +64,7 @@ module _ (settings : Settings) (timer : Timer) where
       each_is_accepted first.state before call after
       (omega (arith, replied, length-append first.replies rest.replies, at_most_one state one (cause_of settings timer state one), no_more_replies first.state (before ++ call ∷ after)))
 
--- so it is after a run that nothing made fail
+-- so each call is accepted in a run that didn't fail
 pub all_accepted : {W FT : Type 0} (see : LayeredView W FT → Seen) (calls : List Call) (answers : List (Result Reply Refusal)) (old new : LayeredView W FT)
     (first : Option Id) → (see old).state ≡ opening_state first → (see new).state.failed ≡ false →
     IsRunOf calls answers (see old) (see new) → AreAnswered see calls answers old new →

@@ -1,4 +1,4 @@
--- A frame is the text of its columns.
+-- A frame is the string of its columns.
 use Rattle.std.proofs.Common.{◌≡◌, ◌==◌, ℕ, zero, suc, ◌+◌, ◌-◌, ◌*◌, ◌/◌, ◌<◌, ◌≤◌, max, Bool, true, false, List, [], ◌++◌, map, refl, sym, ap, ◌∙◌, arith, append_assoc}
 use Rattle.std.specs.Prelude.{nat_le, encode_utf8_all, if◌then◌else◌}
 use Rattle.std.specs.List.{range_with_len}
@@ -59,19 +59,19 @@ glyphs_text-parts glyph from character filled filler spaces here after =
     ∙ ap (λ text. columns from space ++ text ++ glyphs_text glyph (from + 1) filled) (glyphs_text-one glyph from character here)
     ∙ ap (λ text. columns from space ++ encode_utf8 character ++ text) rest
 
--- before two corners stand spaces
+-- before two corners are spaces
 corner_columns-spaces : (left right from to k : ℕ) → k < from → from < to → (corner_columns left right from to).glyph k ≡ space
 corner_columns-spaces left right from to k h e = grind (arith, nat_tests)
 
--- in the column `from` stands the first corner
+-- in the column `from` is the first corner
 corner_columns-left : (left right from to : ℕ) → (corner_columns left right from to).glyph from ≡ left
 corner_columns-left left right from to = grind (arith, nat_tests)
 
--- between the corners stands the line
+-- between the corners is the line
 corner_columns-line : (left right from to k : ℕ) → from < k → k < to → (corner_columns left right from to).glyph k ≡ horizontal
 corner_columns-line left right from to k h e = grind (arith, nat_tests)
 
--- in the last column stands the second corner
+-- in the last column is the second corner
 corner_columns-right : (left right from to : ℕ) → from < to → (corner_columns left right from to).glyph to ≡ right
 corner_columns-right left right from to e = grind (arith, nat_tests)
 
@@ -98,11 +98,11 @@ corners-columns left right from to h =
     let e : from + 1 + (to - from - 1) ≡ to = omega arith in
     sym (filled-text left right from (to - from - 1)) ∙ ap (λ last. columns_text (corner_columns left right from last)) e
 
--- spaces alone
+-- only spaces
 blank-columns : (width : ℕ) → columns width space ≡ columns_text (blank_columns width)
 blank-columns width = sym (glyphs_text-same (blank_columns width).glyph space 0 width (λ k low high. refl))
 
--- the corners of a verbose row, if its amount leaves room for them
+-- the corners of a verbose row, if its amount leaves space for them
 verbose-columns : (left right amount before : ℕ) (room : Bool) → nat_le 2 amount ≡ room →
     (if room then corners left right (before + amount / 2) (before + amount) else columns (before + amount + 1) space)
     ≡ columns_text (if room then corner_columns left right (before + amount / 2) (before + amount) else blank_columns (before + amount + 1))
@@ -122,15 +122,15 @@ parent-columns : (left right before apart : ℕ) →
     corners left right before (before + max apart 1) ≡ columns_text (corner_columns left right before (before + max apart 1))
 parent-columns left right before apart = corners-columns left right before (before + max apart 1) (omega arith)
 
--- before a branch stand spaces
+-- before a branch are spaces
 branch_columns-spaces : (from width k : ℕ) → k < from → (branch_columns from width).glyph k ≡ space
 branch_columns-spaces from width k h = grind (arith, nat_tests)
 
--- in its column stands the branch
+-- in its column is the branch
 branch_columns-branch : (from width : ℕ) → (branch_columns from width).glyph from ≡ branch
 branch_columns-branch from width = grind (arith, nat_tests)
 
--- after a branch stands the line
+-- after a branch is the line
 branch_columns-line : (from width k : ℕ) → from < k → (branch_columns from width).glyph k ≡ horizontal
 branch_columns-line from width k h = grind (arith, nat_tests)
 
@@ -147,15 +147,15 @@ branch-columns from amount some =
     (λ k low high. branch_columns-line from (from + amount) k low) in
     sym parts ∙ ap (λ many. glyphs_text glyph 0 many) width
 
--- before a bar stand spaces
+-- before a bar are spaces
 bar_columns-spaces : (from amount k : ℕ) → k < from → (bar_columns from amount).glyph k ≡ space
 bar_columns-spaces from amount k h = grind (arith, nat_tests)
 
--- in its column stands the bar
+-- in its column is the bar
 bar_columns-bar : (from amount : ℕ) → (bar_columns from amount).glyph from ≡ vertical
 bar_columns-bar from amount = grind (arith, nat_tests)
 
--- after a bar stand spaces too
+-- after a bar are spaces too
 bar_columns-after : (from amount k : ℕ) → from < k → (bar_columns from amount).glyph k ≡ space
 bar_columns-after from amount k h = grind (arith, nat_tests)
 

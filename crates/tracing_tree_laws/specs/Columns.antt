@@ -1,4 +1,4 @@
--- The columns of a frame: how many there are, and which character stands in each.
+-- The columns of a frame: their count, and the character in each.
 use Rattle.std.specs.Prelude.{ℕ, ◌+◌, ◌-◌, ◌*◌, ◌/◌, max, nat_lt, nat_le, ◌==◌, ◌&&◌, Bool, true, false, if◌then◌else◌, List, map, encode_utf8_all}
 use Rattle.std.specs.List.{range_with_len}
 use Rattle.tracing_tree_drawing.specs.Format.Picture.{continuation_shift, shift_of}
@@ -32,7 +32,7 @@ corner_columns left right from to = record {
       else (if nat_lt from column && nat_lt column to then code "─" else code " "));
 }
 
--- a span's corners; in a verbose row with room the first is half an amount further right
+-- a span's corners; in a verbose row with enough space the first is half an amount further right
 abbrev pub span_columns : ℕ → ℕ → Bool → ℕ → ℕ → FrameColumns
 span_columns left right false amount before = corner_columns left right before (before + amount)
 span_columns left right true amount before =

@@ -1,4 +1,4 @@
--- What is read back of a run, from its text alone.
+-- What is read back of a run from its text.
 use Rattle.std.specs.Prelude.{◌≡◌, ◌&&◌, false, List, [], ◌∷◌, ◌++◌, Option, None, IsTrue}
 use Rattle.tracing_tree_context.specs.declared.context.Id.{Id}
 use Rattle.tracing_tree_drawing.specs.Format.Settings.{Settings, retraces}
@@ -13,7 +13,7 @@ use Rattle.tracing_tree_layer.specs.declared.call.Call.{Call}
 use Rattle.tracing_tree_lines.specs.Laws.Ancestry.{FindsAncestors}
 use Rattle.tracing_tree_time.specs.Clock.{Timer}
 
--- no span is live, there is no last span, and nothing has failed; the first id, if any is left
+-- no span is live, there is no last span, and nothing has failed; the first id, if an id is left
 pub record IsEmpty {W FT : Type 0} (first : Option Id) (layered : LayeredView W FT) : Type 0 where
   pub no_span : layered.forest ≡ record { spans = []; next = first }
   pub no_last : layered.layer.last ≡ None

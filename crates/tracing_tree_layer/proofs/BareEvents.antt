@@ -1,4 +1,4 @@
--- An event on a layer alone, by the turn that the layer does.
+-- An event on a layer by itself, by the turn that the layer does.
 use Rattle.std.proofs.Common.{◌≡◌, Bool, false, ℕ, List, Option, None, Result, Ok, Err, refl, sym, ap, subst, ◌∙◌}
 use Rattle.tracing_tree_context.specs.declared.context.Context.{Context}
 use Rattle.tracing_tree_context.specs.declared.context.Refusal.{Refusal}

@@ -1,4 +1,4 @@
--- The causes that may stand against a call, by their names.
+-- The causes for which a call may be refused, by their names.
 use Rattle.std.specs.Prelude.{Bool, [], ◌∷◌, Option, option_map}
 use Rattle.std.specs.Bool.{then_some}
 use Rattle.tracing_tree_context.specs.declared.context.Id.{Id}
@@ -6,7 +6,7 @@ use Rattle.tracing_tree_context.specs.declared.context.Refusal.{Refusal}
 use Rattle.tracing_tree_context.specs.declared.context.Refusal.TheVariants.{NotHeld, TooWide, TooMany, Timer as TimerFault, Failed}
 use Rattle.tracing_tree_layer.specs.Layered.Refused.{first_of_all}
 
--- which causes stand against a call
+-- the causes that apply to a call
 pub record Causes : Type 0 where
   pub failed : Bool
   pub not_held : Option Id

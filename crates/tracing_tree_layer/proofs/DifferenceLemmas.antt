@@ -17,7 +17,7 @@ module _ {C A U : Type 0} (calls : Shared C (Bor A × Unit {0}) U) (eq : U → U
   Differs-from_ne {k} {m} {x} {y} b here first second e =
       subst (λ (p : Option A × Bool). MatchBool p.1 (Differs calls eq compare p.0 y) (Matches calls eq compare p.0 y)) (λ i. (sym here i, sym e i)) (Keys-by_test first second (eq k m) refl)
 
-  -- where `compare` returns what `key` does, the two keys are those
+  -- if `compare` returns what `key` does, the two keys are those
   pub KeysCompare-keys : (key : A → U) → ReturnsKey calls compare key → (x y : A) (b : Bool) → KeysCompare calls eq compare x y b
       → eq (key x) (key y) ≡ b
   KeysCompare-keys key known x y b h = sym (ap₂ eq (known x h.0 h.2) (known y h.1 h.3)) ∙ h.4

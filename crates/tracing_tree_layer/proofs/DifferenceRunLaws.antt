@@ -1,4 +1,4 @@
--- The runs of the two sides behind a run of a `DifferenceIter`.
+-- The runs of the two sides of a run of a `DifferenceIter`.
 use Rattle.std.proofs.Common.{◌≡◌, ◌∙◌, refl, sym, ap, ap₂, subst, arith, ℕ, ◌+◌, ◌≤◌, length, is_some, if◌then◌else◌, Bool, true, false, true≢false, List, [], ◌∷◌, ◌++◌, append_assoc, Option, Some, None, option_to_list, unwrap_or, MatchBool, MatchOption, Bor}
 use Rattle.std.proofs.lemmas.List.Elements.{All-head, All-tail}
 use Rattle.std.proofs.iter.Next.{tell_yes, tell_no}
@@ -13,7 +13,8 @@ use Rattle.tracing_tree_layer.specs.declared.difference.DifferenceIter.{Differen
 use Rattle.tracing_tree_layer.specs.Difference.Steps.{difference_left, difference_right, difference_compare, both_steps, difference_steps, differing, IsFresh, ReturnsKey, Matches, Differs, AllMatch, GivesDiffering, DifferenceRuns}
 
 module _ {L A : Type 0} (lefts : L → Option A → L → Type 0) where
-  -- calls led a fused iterator from s to t and gave xs; the flags say whether it had ended before and whether it has ended after, and once it has there is no call
+  -- calls led a fused iterator from s to t and returned xs; the flags say whether it had ended
+  -- before and whether it has ended after; once it has ended, no call is made
   abbrev FusedRun : Bool → L → List A → Bool → Type 0
   FusedRun true s xs ended = (xs ≡ []) × (ended ≡ true)
   FusedRun false s xs ended = (t : L) × Yields lefts s xs t × (ended ≡ true → (u : L) × lefts t None u)
@@ -44,7 +45,7 @@ module _ {L A : Type 0} (lefts : L → Option A → L → Type 0) where
       by false = (fuse_source s, refl, λ e. absurd (true≢false (sym e)))
 
 module _ {L R C A U : Type 0} (lefts : L → Option A → L → Type 0) (rights : R → Option A → R → Type 0) (calls : Shared C (Bor A × Unit {0}) U) (eq : U → U → Bool) (compare : C) where
-  -- what both sides gave from s on, of which zs differ
+  -- what both sides returned from s on, of which zs differ
   record Behind (s : DifferenceIter L R C) (zs : List A) (whole : Bool) : Type 0 where
     ended : Bool
     xs : List A
@@ -121,7 +122,7 @@ module _ {L R C A U : Type 0} (lefts : L → Option A → L → Type 0) (rights 
   adds_item (Some x) y zs h = λ key rest ys known n e. ap (λ l. y ∷ l) e
       ∙ sym (differing-unequal (λ x y. eq (key x) (key y)) x rest y ys (KeysCompare-keys calls eq compare key known x y false h))
 
-  -- one more pair before what both sides gave
+  -- one more pair before what both sides returned
   behind-more : (s t : DifferenceIter L R C) (p : Option A × A) (zs ws : List A) (whole : Bool)
       → both_steps lefts rights s (Some p) t → Adds p zs ws → Behind t zs whole → Behind s ws whole
   behind-more s t p zs ws whole h adds i =
@@ -137,7 +138,7 @@ module _ {L R C A U : Type 0} (lefts : L → Option A → L → Type 0) (rights 
             ∙ sym (ap (λ l. differing (λ x y. eq (key x) (key y)) l (p.1 ∷ i.ys)) (append_assoc (option_to_list p.0) i.xs rest));
       }
 
-  -- pairs that are passed over add nothing
+  -- pairs that are skipped add nothing
   behind-passed : (ps : List (Option A × A)) (s t : DifferenceIter L R C) (zs : List A) (whole : Bool)
       → Yields (both_steps lefts rights) s ps t → AllMatch calls eq compare ps
       → Behind t zs whole → Behind s zs whole

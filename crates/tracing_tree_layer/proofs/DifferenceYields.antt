@@ -1,4 +1,4 @@
--- What a `DifferenceIter` gives, where it is known what its two sides give.
+-- What a `DifferenceIter` yields, if it is known what its two sides yield.
 use Rattle.std.proofs.Common.{◌≡◌, ◌∙◌, refl, sym, ap, ap₂, subst, arith, length, get_or, drop, unwrap_or, is_some, Bool, true, false, true≢false, List, [], ◌∷◌, Option, Some, None, MatchBool, MatchOption, Bor}
 use Rattle.std.proofs.lemmas.Iterator.{YieldsList}
 use Rattle.std.proofs.lemmas.List.Elements.{All-head, All-tail}
@@ -13,11 +13,11 @@ use Rattle.tracing_tree_layer.specs.declared.difference.DifferenceIter.{Differen
 use Rattle.tracing_tree_layer.specs.Difference.Steps.{difference_left, difference_right, difference_compare, both_steps, difference_steps, differing, IsFresh, ReturnsKey, YieldsDiffering, Matches, Differs, AllMatch, GivesDiffering}
 
 module _ {L A V : Type 0} (lefts : L → Option A → L → Type 0) (v : A → V) where
-  -- what a fused iterator still gives
+  -- what a fused iterator still yields
   abbrev pub GivesFused : Fuse L → List V → Type 0
   GivesFused s xs = MatchBool (fuse_done s) (xs ≡ []) (AlwaysYields lefts v (fuse_source s) xs)
 
-  -- o is the first of xs, and t gives the others
+  -- o is the first of xs, and t yields the others
   abbrev Took : Option A → List V → Fuse L → Type 0
   Took o xs t = (rest : List V) × MatchOption o ((xs ≡ []) × (rest ≡ [])) (λ x. xs ≡ v x ∷ rest) × GivesFused t rest
 
@@ -46,7 +46,7 @@ module _ {R A V : Type 0} (rights : R → Option A → R → Type 0) (v : A → 
 
 module _ {L R C A U V : Type 0} (lefts : L → Option A → L → Type 0) (rights : R → Option A → R → Type 0) (calls : Shared C (Bor A × Unit {0}) U) (eq : U → U → Bool)
     (v : A → V) (key : V → U) (compare : C) (known : ReturnsKey calls compare (λ x. key (v x))) where
-  -- the left side still gives xs, and the right one ys
+  -- the left side still yields xs, and the right one ys
   record Sides (s : DifferenceIter L R C) (xs ys : List V) : Type 0 where
     left : GivesFused lefts v (difference_left s) xs
     right : AlwaysYields rights v (difference_right s) ys
@@ -86,7 +86,7 @@ module _ {L R C A U V : Type 0} (lefts : L → Option A → L → Type 0) (right
       let b = right_item rights v (difference_right s) (difference_right t) p.1 ys h.1.2.1 i.right in
       record { rest = a.0; more = b.0; left_item = a.1; right_item' = b.1; sides = record { left = a.2; right = b.2; same = h.0 ∙ i.same } }
 
-  -- the lists that are left at a state, of which the difference is zs
+  -- the lists that are left at a state, and their difference zs
   record Leaves (t : DifferenceIter L R C) (zs : List V) : Type 0 where
     xs : List V
     ys : List V
@@ -107,7 +107,7 @@ module _ {L R C A U V : Type 0} (lefts : L → Option A → L → Type 0) (right
         is = passed_over p.0 p.1 xs ys m.rest m.more m.left_item m.right_item' (All-head (λ p. Matches calls eq compare p.0 p.1) p ps a) ∙ n.is;
       }
 
-  -- where an item comes, it is the first of the difference, and the difference of what is left follows
+  -- an item that comes is the first of the difference, and the difference of what is left follows
   item_by : (o : Option (Option A × A)) (t u : DifferenceIter L R C) (z : A) (zs : List V) → Leaves t zs → both_steps lefts rights t o u
       → GivesDiffering calls eq compare o (Some z) → (rest : List V) × (zs ≡ v z ∷ rest) × Leaves u rest
   item_by None t u z zs i h a = absurd (true≢false (ap is_some a))
@@ -119,7 +119,7 @@ module _ {L R C A U V : Type 0} (lefts : L → Option A → L → Type 0) (right
         record { xs = m.rest; ys = m.more; sides = m.sides; is = refl },
       )
 
-  -- where none comes, there is no difference
+  -- if no item comes, there is no difference
   end_by : (o : Option (Option A × A)) (r : Option A) (t u : DifferenceIter L R C) (zs : List V) → r ≡ None → Leaves t zs
       → both_steps lefts rights t o u
       → GivesDiffering calls eq compare o r → zs ≡ []
@@ -127,7 +127,7 @@ module _ {L R C A U V : Type 0} (lefts : L → Option A → L → Type 0) (right
       ∙ ap (differing same_key i.xs) (right_end rights v (difference_right t) (difference_right u) i.ys h.1.2 i.sides.right)
   end_by (Some p) r t u zs n i h a = absurd (true≢false (sym (ap is_some (sym n ∙ a.0))))
 
-  -- the pairs that are passed over leave the difference as it was
+  -- the pairs that are skipped leave the difference unchanged
   arrives : (s t : DifferenceIter L R C) (r : Option A) (zs : List V) → Leaves s zs
       → (h : difference_steps lefts rights calls eq s r t) → Leaves h.2.0 zs
   arrives s t r zs i h =
@@ -152,7 +152,7 @@ module _ {L R C A U V : Type 0} (lefts : L → Option A → L → Type 0) (right
         ),
   )
 
-  -- from an iterator that has just been made, all of the two lists
+  -- from a new iterator, all of the two lists
   pub AlwaysYields-differing : (left : L) (right : R) (s : DifferenceIter L R C) (xs ys : List V)
       → IsFresh (difference_left s) left → difference_right s ≡ right → difference_compare s ≡ compare
       → AlwaysYields lefts v left xs → AlwaysYields rights v right ys
@@ -170,7 +170,8 @@ module _ {L R C A U V : Type 0} (lefts : L → Option A → L → Type 0) (right
 
 module _ {L R C A U : Type 0} {lefts : L → Option A → L → Type 0} {rights : R → Option A → R → Type 0} {calls : Shared C (Bor A × Unit {0}) U} {eq : U → U → Bool}
     {left : L} {right : R} {compare : C} {s : DifferenceIter L R C} where
-  -- A chain proof through `DifferenceIter::new`. The first four facts are its clauses `yields`, `left`, `right` and `compare`, the first to show what is called. v reads the items.
+  -- A chain proof through `DifferenceIter::new`. The first four facts are its clauses `yields`,
+  -- `left`, `right` and `compare`; the first shows what is called. v reads the items.
   pub YieldsList-from_difference : {V : Type 0} {v : A → V} {xs ys : List V} (key : V → U)
       → YieldsDiffering lefts rights calls eq left right compare s
       → IsFresh (difference_left s) left → difference_right s ≡ right → difference_compare s ≡ compare
@@ -180,7 +181,7 @@ module _ {L R C A U : Type 0} {lefts : L → Option A → L → Type 0} {rights 
   YieldsList-from_difference {v = v} {xs = xs} {ys = ys} key law fresh is same known a b =
       record { runs = AlwaysYields-differing lefts rights calls eq v key compare known left right s xs ys fresh is same a.runs b.runs }
 
-  -- the same at the items themselves, where the clause `yields` is enough
+  -- the same at the items themselves, for which the clause `yields` is enough
   pub YieldsList-from_yields : {xs ys : List A} (key : A → U) → YieldsDiffering lefts rights calls eq left right compare s
       → ReturnsKey calls compare key
       → YieldsList lefts (λ x. x) left xs → YieldsList rights (λ x. x) right ys

@@ -5,7 +5,7 @@ use Rattle.std.specs.List.{enumerate_from, cons_option}
 use Rattle.tracing_tree_layer.specs.Difference.Steps.{has_equal_at, differing}
 
 module _ {L R : Type 0} (equal : L → R → Bool) where
-  -- what differs, where the first right item stands at this place
+  -- what differs, if the first right item is at this place
   abbrev from_place : List L → ℕ → List R → List R
   from_place left n right =
       filter_map (λ entry. if has_equal_at equal left entry.0 entry.1 then None else Some entry.1) (enumerate_from n right)
@@ -13,7 +13,7 @@ module _ {L R : Type 0} (equal : L → R → Bool) where
   get-next : (x : L) (left : List L) (n : ℕ) → slice_get (x ∷ left) (n + 1) ≡ slice_get left n
   get-next x left n = let e : n + 1 ≡ suc n = omega arith in ap (slice_get (x ∷ left)) e
 
-  -- both sides one place on
+  -- both sides one place further
   from_place-next : (x : L) (left : List L) (n : ℕ) (right : List R) → from_place (x ∷ left) (n + 1) right ≡ from_place left n right
   from_place-next x left n [] = refl
   from_place-next x left n (y ∷ right) =

@@ -64,7 +64,7 @@ wide-from_some settings rows refusal some =
       | false ↦ (λ narrow. let e = cause-narrow settings rows narrow in cc)
     ] refl
 
--- the cause against the first rows stands against all, whatever the timer says
+-- the cause against the first rows holds against all, whatever the timer says
 pub cause-first : (settings : Settings) (first second : List Row) (faults : Bool) (refusal : Refusal) → rows_cause settings first false ≡ Some refusal →
     rows_cause settings (first ++ second) faults ≡ Some refusal
 cause-first settings first second faults refusal some =
@@ -72,7 +72,7 @@ cause-first settings first second faults refusal some =
     let all : draws_too_wide settings (first ++ second) ≡ true = rw (draws_too_wide-append settings first second, wide) refl in
     cause-wide settings (first ++ second) all faults ∙ sym (cause-wide settings first wide false) ∙ some
 
--- where none stands against the first rows, that against the others stands against all
+-- if there is no cause against the first rows, that against the others holds against all
 pub cause-second : (settings : Settings) (first second : List Row) → rows_cause settings first false ≡ None → (faults : Bool) →
     rows_cause settings (first ++ second) faults ≡ rows_cause settings second faults
 cause-second settings first second none faults =
@@ -112,7 +112,7 @@ draws_both settings first second faults (Err refusal) a b c h (inr memory) = inr
 wide-single : (settings : Settings) (row : Row) → draws_too_wide settings (row ∷ []) ≡ is_too_wide settings row
 wide-single settings row = elim (is_too_wide settings row) as (λ b. (b || false) ≡ b) [ true ↦ refl | false ↦ refl ]
 
--- a span that isn't live stands in none
+-- a span that isn't live has an empty path
 pub path-if_live : (forest : Forest) (i : Id) → path_of_any forest (if_live forest (Some i)) ≡ path_of forest i
 path-if_live forest i =
     elim (is_live forest i) as (λ b. is_live forest i ≡ b → path_of_any forest (if b then Some i else None) ≡ path_of forest i) [
@@ -120,7 +120,7 @@ path-if_live forest i =
       | false ↦ (λ e. sym (path_of-none forest i e))
     ] refl
 
--- a beginning of a text
+-- a prefix of a string
 cut-front : (n : ℕ) (front back whole : List ℕ) → n ≡ length front → whole ≡ front ++ back → take n whole ≡ front
 cut-front n front back whole here e =
     ap (take n) e ∙ ap (λ k. take k (front ++ back)) here ∙ take-append_seam front back
@@ -147,7 +147,7 @@ row-begun drawing place old begun whole block here fits started filled =
           ∙ ap (λ t. t ++ first) (sym (cut-front place.start (string_bytes old) (first ++ block) (string_bytes whole) start both));
     }
 
--- such a row is drawn, where it has this level
+-- such a row is drawn, if it has this level
 pub row-drawn : (settings : Settings) (row : Row) (drawing : RowDrawing) (place : RowPlace) (old begun whole new : List ℕ) →
     settings ≡ drawing.config.now → row_of drawing [] ≡ unnamed_row row.mode row.level [] row.prefix →
     place ≡ record { start = length old; block = length begun } →
@@ -169,7 +169,7 @@ row-drawn settings row drawing place old begun whole new same like here fits sta
       picture ∙ ap (λ rows. old ++ rows) (sym (append-nil (drawn_row settings row))),
     )
 
--- where one planned row is refused, they all are
+-- if one planned row is refused, they all are
 pub planned_refused : (settings : Settings) (context : Context) (forest : Forest) (planned : List PlannedRow) (k : ℕ) (row : PlannedRow) (refusal : Refusal) (a b c : List ℕ) →
     DrawsRows settings (rows_of_planned settings context forest (take k planned)) false (Ok tt) a b →
     DrawsRows settings (row_of_planned settings context forest row ∷ []) false (Err refusal) b c →
@@ -196,12 +196,12 @@ IsDrawn settings rows faults quiet (Ok done) old new = DrawsRows settings rows f
 IsDrawn settings rows faults quiet (Err refusal) old new =
     IsUndrawn (rows_cause settings rows faults) quiet refusal
 
--- a call that takes memory may want for it
+-- a call that takes memory may run out of it
 loud-undrawn : (cause : Option Refusal) (quiet : Bool) (refusal : Refusal) → IsUndrawn cause quiet refusal → IsUndrawn cause false refusal
 loud-undrawn cause quiet refusal (inl h) = inl h
 loud-undrawn cause quiet refusal (inr memory) = inr (memory.0, refl)
 
--- a turn is drafted where its rows are drawn and its plan comes to it
+-- a turn is drafted if its rows are drawn and it is its plan's turn
 pub drafts : (settings : Settings) (context : Context) (forest : Forest) (turn : Turn) (quiet : Bool) (result : Result (Unit {0}) Refusal) (old new : List ℕ) (plan : PlanView) →
     turn_of_plan settings context forest plan ≡ turn → (has_no_row turn.rows ≡ false → quiet ≡ false) →
     DrawsRows settings (rows_of_planned settings context forest plan.rows) false result old new →
@@ -267,14 +267,14 @@ fits-event settings timer forest event context depth level tested deep at test o
 
 -- ---- what is written
 
--- rows are refused since one is too wide, or since the timer has no text
+-- rows are refused since one is too wide, or since the timer has no string
 cause-kind : (wide faults : Bool) (refusal : Refusal) → option_or (then_some wide TooWide) (then_some faults Timer) ≡ Some refusal →
     (refusal ≡ TooWide) ⊎ (refusal ≡ Timer)
 cause-kind true faults refusal e = inl cc
 cause-kind false true refusal e = inr cc
 cause-kind false false refusal e = absurd cc
 
--- rows that are not drawn leave the writer alone
+-- rows that aren't drawn leave the writer unchanged
 undrawn : (settings : Settings) (rows : List Row) (faults quiet : Bool) (refusal : Refusal) (writer : SeenWriter) →
     IsUndrawn (rows_cause settings rows faults) quiet refusal → IsWritten settings rows faults quiet (Err refusal) writer writer
 undrawn settings rows faults quiet refusal writer (inr (memory, some)) =
@@ -287,12 +287,12 @@ undrawn settings rows faults quiet refusal writer (inl cause) =
       | inr e ↦ subst P (sym e) (record { answer = cause ∙ ap (λ r. Some r) e; written = (Keeps-refl writer.bytes, refl) })
     ]
 
--- what is cut short is something
+-- a string with a proper prefix isn't empty
 pub cut-some : (text front : List ℕ) → IsCutShort text front → text ≢ []
 cut-some text [] cut none = cut.cut (sym cut.whole ∙ none)
 cut-some text (x ∷ front) cut none = let e = sym cut.whole ∙ none in cc
 
--- rows that were drawn and sent are written, or refused as they may be
+-- rows that were drawn and sent are written, or refused for an allowed cause
 pub written : (settings : Settings) (rows : List Row) (faults quiet : Bool) (drawn sent : Result (Unit {0}) Refusal) (a b c : List ℕ) (old new : SeenWriter) →
     IsDrawn settings rows faults quiet drawn a b → a ≡ [] → Sends drawn sent b c old new →
     IsWritten settings rows faults quiet sent old new
@@ -329,7 +329,7 @@ pub refused-same : {A : Type 0} → (sent : Result (Unit {0}) Refusal) (next bef
 refused-same (Ok done) next before e = cc
 refused-same (Err refusal) next before e = refl
 
--- a turn whose rows were not written is refused
+-- a turn whose rows weren't written is refused
 pub gives_up : {W FT : Type 0} → (see : W → SeenWriter) (settings : Settings) (forest : Forest) (turn : Turn) (faults quiet : Bool) (drawn sent : Result (Unit {0}) Refusal) (a b c : List ℕ) (plan : PlanView)
     (writer next : W) (timer : FT) (last : Option Id) (was failed : Bool) →
     Drafts settings forest turn faults quiet drawn a b plan → a ≡ [] → Sends drawn sent b c (see writer) (see next) →

@@ -1,4 +1,4 @@
--- Values are equal where all their parts are.
+-- Values are equal if all their parts are.
 use Rattle.std.proofs.Common.{◌≡◌, ◌==◌, ◌&&◌, Bool, true, false, T, ℤ, List, Option, None, Some, unwrap_or, refl, sym, ap, ◌∙◌, subst, int_eq, rules}
 use Rattle.std.specs.Bool.{Decides}
 use Rattle.std.specs.Str.{bytes_eq}
@@ -58,7 +58,7 @@ attributes_decide a b =
     (Decides-and _ _ (bytes_eq-Decides a.name b.name) (Decides-and _ _ (bytes_eq-Decides a.target b.target)
     (Decides-and _ _ (parent_decides a.parent b.parent) (fields_decide a.fields b.fields))))
 
--- where an instant lies tells which it is
+-- an instant is determined by its nanoseconds
 true_same : (b : Bool) (x y : T b) → x ≡ y
 true_same true x y = refl
 true_same false x y = absurd x
@@ -102,7 +102,7 @@ context_decides a b =
     (Decides-and _ _ (option_decides (λ x y. x.0 == y.0) id_decides a.current b.current) (Decides-and _ _ (Decides-eqb a.thread_id b.thread_id)
     (Decides-and _ _ (option_decides bytes_eq bytes_eq-Decides a.thread_name b.thread_name) (moment_decides a.moment b.moment))))
 
--- two calls of one kind are the same exactly where both parts are
+-- two calls of one kind are equal exactly if both parts are
 both : {A B C : Type 0} (make : A → B → C) (first : C → A → A) (second : C → B → B) →
     ((a : A) (b : B) (d : A) → first (make a b) d ≡ a) → ((a : A) (b : B) (d : B) → second (make a b) d ≡ b) →
     (a x : A) (b y : B) (p q : Bool) → Decides p (a ≡ x) → Decides q (b ≡ y) → Decides (p && q) (make a b ≡ make x y)

@@ -1,4 +1,4 @@
--- Marks change nothing of what closes.
+-- Marks change nothing about what closes.
 use Rattle.std.proofs.Common.{◌≡◌, ◌+◌, ◌==◌, ◌&&◌, ◌-◌, cond, take, Bool, true, false, List, [], ◌∷◌, map, filter, reverse, Option, Some, None, option_map, if◌then◌else◌, refl, sym, ap, ◌∙◌}
 use Rattle.std.specs.Prelude.{take_while}
 use Rattle.std.specs.Option.{option_map_or}
@@ -36,7 +36,7 @@ handles_of-marked ids forest i = ap (λ (o : Option Span). option_map_or (λ spa
     by None = refl
     by (Some s) = handles-marked ids s
 
--- a handle is taken before or after the marks
+-- a handle is dropped before or after the marks
 taken-marked : (ids : List Id) (i : Id) (s : Span) →
     (if has_id i (marked ids s) then record (marked ids s) { handles = (marked ids s).handles - 1 } else marked ids s)
     ≡ marked ids (if has_id i s then record s { handles = s.handles - 1 } else s)
@@ -101,7 +101,7 @@ going_up-marked ids forest i =
 pub closing_of-marked : (ids : List Id) (forest : Forest) (i : Id) → closing_of (mark_all ids forest) i ≡ closing_of forest i
 closing_of-marked ids forest i = ap (λ f. going_up f i) (take_handle-marked ids i forest) ∙ going_up-marked ids (take_handle i forest) i
 
--- a turn of closes marks spans alone
+-- a turn of closes only marks spans
 pub closes-marked : (settings : Settings) (context : Context) (ids : List Id) (forest : Forest) (last : Option Id) →
     (turn_of_closes settings context ids forest last).forest ≡ mark_all (plan_of_closes settings forest ids (empty_plan last)).fresh forest
 closes-marked settings context ids forest last = sym (ap (λ (t : Turn). t.forest) (turn-closes settings context forest ids last))

@@ -18,7 +18,7 @@ use Rattle.tracing_tree_layer.specs.Difference.Items.{differing, has_equal_at, P
 abbrev same_at : List Id → List Id → ℕ → Bool
 same_at old new place = option_map_or (λ i. has_equal_at same_id old place i) (slice_get new place) false
 
--- where two places agree, so do all before them
+-- if two places agree, so do all before them
 abbrev AgreeDownward : List Id → List Id → Type 0
 AgreeDownward old new = (low high : ℕ) → low < high → same_at old new high ≡ true → same_at old new low ≡ true
 
@@ -71,14 +71,14 @@ any-descends : (forest : Forest) → IsForest forest → (o : Option Id) → Des
 any-descends forest formed None = tt
 any-descends forest formed (Some i) = path-descends forest formed i
 
--- where two paths of one forest agree, so do all places before
+-- if two paths of one forest agree at a place, so do all places before
 paths-agree_downward : (forest : Forest) → IsForest forest → (last : Option Id) (i : Id) → AgreeDownward (path_of_any forest last) (path_of forest i)
 paths-agree_downward forest formed last i =
     agree-below forest None None (path_of_any forest last) (path_of forest i) (any-descends forest formed last) (path-descends forest formed i)
 
 -- ---- items that differ
 
--- where no place agrees all items differ
+-- if no place agrees, all items differ
 differing-none : (left right : List Id) → ((place : ℕ) → same_at left right place ≡ false) → differing same_id left right ≡ right
 differing-none [] right h = differing-no_left same_id right
 differing-none (i ∷ left) [] h = refl
@@ -88,7 +88,7 @@ differing-none (i ∷ left) (j ∷ right) h =
 pub drop-next : (n : ℕ) (j : Id) (right : List Id) → drop (1 + n) (j ∷ right) ≡ drop n right
 drop-next n j right = let e : 1 + n ≡ suc n = omega arith in ap (λ m. drop m (j ∷ right)) e
 
--- where lists agree downward, what differs is what follows their common beginning
+-- if lists agree downward, what differs is what follows their common prefix
 differing-agreeing : (left right : List Id) → AgreeDownward left right →
     differing same_id left right ≡ drop (common_prefix_len same_id left right) right
 differing-agreeing [] right h = differing-no_left same_id right

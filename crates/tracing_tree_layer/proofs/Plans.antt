@@ -1,4 +1,4 @@
--- Plans come to the turns of the definitions.
+-- Plans result in the turns of the definitions.
 use Rattle.std.proofs.Common.{◌≡◌, ◌&&◌, ℕ, ◌≤◌, length, drop, arith, subst, Bool, true, false, not, List, [], ◌∷◌, ◌++◌, map, Option, Some, None, is_some, option_map, if◌then◌else◌, refl, sym, ap, ◌∙◌, append_assoc, append-nil}
 use Rattle.std.specs.Option.{option_map_or, option_or}
 use Rattle.std.specs.List.{common_prefix_len}
@@ -146,7 +146,7 @@ module _ (settings : Settings) (context : Context) (forest : Forest) where
 
   -- ---- calls
 
-  -- an empty plan comes to a turn without rows
+  -- an empty plan results in a turn without rows
   pub empty-turn : (last : Option Id) → turn_of_plan settings context forest (empty_plan last) ≡ quiet_turn forest last
   empty-turn last = λ k. record { rows = []; forest = mark_all-none forest k; last = last }
 
@@ -190,12 +190,12 @@ module _ (settings : Settings) (context : Context) (forest : Forest) where
       ∙ ap (λ marked. if settings.deferred_spans then quiet_turn forest last else (if settings.span_retrace then retrace_to settings context marked last i
       else record { rows = parent_rows settings context forest entry PreOpen i ++ span_row settings context forest (Open entry) i ∷ []; forest = marked; last = Some i })) (sym (mark_printed-all i forest))
 
--- two paths of one forest part once, that of the last span too, if there is one
+-- two paths of one forest part once, even if one is that of the last span, which may be missing
 pub last_paths_part_once : (forest : Forest) → IsForest forest → (last : Option Id) (i : Id) → PartOnce (path_of_any forest last) (path_of forest i)
 last_paths_part_once forest formed None i = nothing_parts_once (path_of forest i)
 last_paths_part_once forest formed (Some j) i = paths_part_once forest formed j i
 
--- right below the last path a span alone is fresh
+-- right below the current branch only one span is fresh
 beyond-more : (path : List Id) (i : Id) → drop (common_prefix_len same_id path (path ++ i ∷ [])) (path ++ i ∷ []) ≡ i ∷ []
 beyond-more [] i = refl
 beyond-more (j ∷ path) i =
@@ -218,16 +218,16 @@ fresh-below forest formed i shown last e same =
 pub common_within : (old new : List Id) (n : ℕ) → n ≡ common_prefix_len same_id old new → n ≤ length new
 common_within old new n e = subst (λ k. k ≤ length new) (sym e) (common-right old new)
 
--- a path shares all of itself with itself
+-- a path shares all of its ids with itself
 whole-shared : (path : List Id) → common_prefix_len same_id path path ≡ length path
 whole-shared [] = refl
 whole-shared (i ∷ path) = let rest = whole-shared path in rw (same-refl i) (omega (arith, rest))
 
--- nothing is fresh before the last span itself
+-- nothing is fresh before the last span
 fresh-there : (forest : Forest) (i : Id) → fresh_ids forest (Some i) i ≡ []
 fresh-there forest i = let path = path_of forest i in ap (λ n. drop n path) (whole-shared path) ∙ drop-length path
 
--- so a plan that retraces to the last span stays as it is
+-- so a plan that retraces to the last span is unchanged
 pub retraced-there : (settings : Settings) (forest : Forest) (i : Id) (plan : PlanView) → plan.last ≡ Some i → plan ≡ retraced_plan settings forest i plan
 retraced-there settings forest i plan there =
     let none = ap (λ last. fresh_ids forest last i) there ∙ fresh-there forest i in

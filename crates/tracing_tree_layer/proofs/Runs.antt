@@ -26,7 +26,7 @@ use Rattle.tracing_tree_layer.proofs.Reading.Ancestors.{reading-laws}
 
 -- ---- one call
 
--- a layer that has failed stays so
+-- a layer that has failed stays failed
 sound_before : (settings : Settings) (timer : Timer) (state : State) (call : Call) (answer : Result Reply Refusal) →
     (state_after_answer settings timer state call answer).failed ≡ false → state.failed ≡ false
 sound_before settings timer state call (Ok reply) e = e
@@ -73,7 +73,7 @@ run_more settings timer begun calls call reply may =
       replies = before.replies ++ sym may.1 i ∷ [];
     })
 
--- so it makes any such run longer
+-- so it extends any such run
 pub continues : (call : Call) (reply : Reply) (old new : Seen) → IsAnswered call (Ok reply) old new → Continues call reply old new
 continues call reply old new h = record { joined = joined; text = h.written.0 }
   where
@@ -94,7 +94,7 @@ continues call reply old new h = record { joined = joined; text = h.written.0 }
         ∙ ap from (sym led)
         ∙ ap to (sym (ap (λ (s : Seen). s.state) h.left))
 
--- a refused call that leaves state and bytes isn't in the run
+-- a refused call that keeps state and bytes isn't in the run
 runs_refused : (calls : List Call) (replies : List Reply) (old new : Seen) (writer : SeenWriter) → Keeps old.writer.bytes writer.bytes →
     Runs calls replies (record old { writer = writer }) new → Runs calls replies old new
 runs_refused calls replies old new writer kept h = record {
@@ -105,7 +105,7 @@ runs_refused calls replies old new writer kept h = record {
   continued = h.continued;
 }
 
--- an answered call before a run that goes on from the state that it leaves
+-- an answered call before a run that continues from the state that it leaves
 runs_first : (call : Call) (calls : List Call) (answer : Result Reply Refusal) (answers : List (Result Reply Refusal)) (old new : Seen) (writer : SeenWriter) →
     let after = state_after_answer old.settings old.timer old.state call answer in
     MayAnswer old.settings old.timer old.state call answer →
@@ -225,9 +225,9 @@ module _ {W FT : Type 0} (see : LayeredView W FT → Seen) where
   answered_more (one ∷ calls) (other ∷ answers) call answer old between new (next, h, rest) k =
       (next, h, answered_more calls answers call answer next between new rest k)
 
--- ---- calls that are answered where they lie
+-- ---- calls that are answered in place
 
--- the first of the items that are left lies at the place that is reached, and another may be put there
+-- the first of the items that are left is at the current place, and another may be put there
 pub next_item : {A : Type 0} (items taken rest : List A) (place : ℕ) (d : A) → items ≡ taken ++ rest → length taken ≡ place → place < length items
     → (others : List A) × (rest ≡ slice_index_or items place d ∷ others)
     × ((left : A) → slice_set items place left ≡ (taken ++ left ∷ []) ++ others)

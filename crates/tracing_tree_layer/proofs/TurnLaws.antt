@@ -36,7 +36,8 @@ use Rattle.tracing_tree_layer.specs.Layer.Drawn.{rows_cause, failed_by, IsWritte
 
 -- ---- refusals
 
--- A refusal of rows is one of the call that draws them: it has their cause, and leaves what they leave. The call takes memory.
+-- A refusal of rows is a refusal of the call that draws them: it has the same cause and effect. The
+-- call takes memory.
 pub answered_refused : (call : Call) (rows : List Row) (faults quiet : Bool) (refusal : Refusal) (old new : Seen) → old.state.failed ≡ false →
     cause_of old.settings old.timer old.state call ≡ rows_cause old.settings rows faults →
     call_text old.settings old.timer old.state call ≡ draw old.settings rows → (quiet ≡ false → (old.state.failed || takes_no_memory old.settings old.timer old.state.forest call) ≡ false) →
@@ -58,7 +59,7 @@ answered_refused call rows faults quiet Writer old new sound cause text memory h
 answered_refused call rows faults quiet Failed old new sound cause text memory h left =
     record { allowed = cause ∙ h.answer; left = left ∙ ap (λ failed. seen_later old (record old.state { failed = failed }) new.writer) (sym sound); written = h.written }
 
--- of causes against rows alone the first is that of the rows
+-- of causes only against rows, the first is that of the rows
 pub first_cause_of_rows : (wide faults : Bool) →
     first_cause (record { failed = false; not_held = None; too_many = false; too_wide = wide; timer_faults = faults })
     ≡ option_or (then_some wide TooWide) (then_some faults Refused.Timer)
@@ -66,7 +67,7 @@ first_cause_of_rows true faults = refl
 first_cause_of_rows false true = refl
 first_cause_of_rows false false = refl
 
--- why a call is refused that finds what it needs: for its rows, or by the timer
+-- why a call that finds what it needs is refused: for its rows, or by the timer
 pub cause-turn : (settings : Settings) (timer : Timer) (state : State) (call : Call) → state.failed ≡ false →
     id_not_held state.forest call ≡ None → is_too_many state.forest call ≡ false →
     cause_of settings timer state call
@@ -85,7 +86,8 @@ cause-turn settings timer state call sound held few =
 -- ---- what is seen of a refusal
 
 module _ {W FT : Type 0} (time : FormatTime FT) (output : Output W) where
-  -- A call whose rows are refused is refused for their cause, and leaves the spans, the marks and the last span.
+  -- A call whose rows are refused is refused for their cause, and keeps the spans, the marks and
+  -- the last span.
   pub turn_refused : (call : Call) (rows : List Row) (faults quiet : Bool) (refusal : Refusal) (old new : LayeredView W FT) →
       let before = seen time output old in
       old.layer.failed ≡ false →
@@ -202,7 +204,7 @@ module _ {W FT : Type 0} (time : FormatTime FT) (output : Output W) where
         });
       }
 
--- Marks leave a handle, and what closes with it.
+-- Marks keep handles, and what closes with them.
 pub closes_held : (settings : Settings) (context : Context) (i : Id) (forest marked : Forest) (last : Option Id) (ids : List Id) →
     unless_handle forest i ≡ None → marked ≡ (turn_of_closes settings context ids forest last).forest → unless_handle marked i ≡ None
 closes_held settings context i forest marked last ids held marks =

@@ -18,7 +18,7 @@ use Rattle.tracing_tree_layer.specs.Layered.Run.{run, text_of}
 use Rattle.tracing_tree_layer.specs.declared.call.Call.{Call}
 use Rattle.tracing_tree_layer.specs.declared.call.Call.TheVariants.{New, Event, Close}
 
--- amount 2, no colours and all else off
+-- amount 2, no colours and all other options off
 abbrev pub plain : Settings
 plain = record default_settings { ansi = false }
 
@@ -86,7 +86,7 @@ two_roots = made (codes "a") outside ∷ made (codes "b") outside ∷ []
 abbrev pub written_after_root : Settings → List Call → List ℕ
 written_after_root settings calls = written_after settings (made (codes "a") outside ∷ []) calls
 
--- at this time on the clock that only goes forward
+-- at this time on the monotonic clock
 abbrev pub at_mono : ℕ → Context → Context
 at_mono mono context = record context { moment = record context.moment { mono = mono } }
 

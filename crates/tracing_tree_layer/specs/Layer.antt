@@ -1,4 +1,4 @@
--- A layer: what is seen of it, the rows of each call, and calls on it alone.
+-- A layer: what is seen of it, the rows of each call, and calls on a layer by itself.
 pub mod CloseRetrace
 pub mod Turns
 pub mod Block

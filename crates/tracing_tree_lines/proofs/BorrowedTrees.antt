@@ -1,4 +1,4 @@
--- What a JSON value stands for is what its line reads as.
+-- The data of a JSON value is what its line reads as.
 use Rattle.std.specs.Prelude.{◌≡◌, ℕ, ◌==◌, ◌||◌, Bool, true, false, List, [], ◌∷◌, drop, slice_index, Option, Some, None, option_map, option_and_then, if◌then◌else◌, Float, refl}
 use Rattle.std.proofs.Common.{sym, ap, ◌∙◌, Ordering, Less, Equal, Greater}
 use Rattle.std.proofs.lemmas.Bool.{and_parts}
@@ -17,7 +17,7 @@ use Rattle.serde_json.specs.Written.{has_float, items_have_float, members_have_f
 use Rattle.tracing_tree_lines.specs.Lines.Spelled.{field_value}
 use Rattle.tracing_tree_lines.specs.Lines.Borrowed.{HasNoFloat, number_data, is_whole_number, data_of, items_data, members_data, is_whole, items_are_whole, members_are_whole}
 
--- ---- a value that reads as data stands for it
+-- ---- a value that reads as data has this data
 
 number_read : (o : Option Num) (d : Data) → option_map number o ≡ Some d → number_data o ≡ d
 number_read None d e = absurd (none-some d e)
@@ -137,13 +137,13 @@ mutual
       let parts = and_parts (is_whole j) (members_are_whole ms) e in
       members_no_float ms (put k (data_of j) found) parts.1 (no_float_put k (data_of j) found (whole_no_float j parts.0) none)
 
--- ---- texts and fields
+-- ---- strings and fields
 
 pub no_str : (o : Option Num) → as_str (number_data o) ≡ None
 no_str None = refl
 no_str (Some n) = refl
 
--- a number is no field
+-- a number isn't a field
 pub no_field : (o : Option Num) → field_value (number_data o) ≡ None
 no_field None = refl
 no_field (Some n) = refl
@@ -158,7 +158,7 @@ finite_i64 : (b : Bool) (x : Float) → option_and_then as_i64 (if b then Some (
 finite_i64 true x = refl
 finite_i64 false x = refl
 
--- a float of a text is no whole number
+-- a float isn't a whole number
 pub float_u64 : (sign : Bool) (p : Parts) → option_and_then as_u64 (float_of sign p) ≡ None
 float_u64 sign p = finite_u64 (float_is_finite (nearest binary64 sign p)) (nearest binary64 sign p)
 
@@ -178,22 +178,22 @@ plain_text s e = rw e
 abbrev whole_text_value : Option (json.Json × List Token) → Option Data
 whole_text_value o = option_and_then of_json (option_and_then (λ p. json.if_last p.0 p.1) o)
 
--- a text that is one value
+-- a string that is one value
 pub tree_read : (text : List ℕ) (j : json.Json) → json.value 127 (tokens text) ≡ Some (j, []) → read text ≡ of_json j
 tree_read text j e = ap whole_text_value e
 
--- a text with more than one value is none
+-- a string with more than one value isn't a value
 pub tree_and_more : (text : List ℕ) (j : json.Json) (t : Token) (more : List Token) → json.value 127 (tokens text) ≡ Some (j, t ∷ more) → read text ≡ None
 tree_and_more text j t more e = ap whole_text_value e
 
 pub no_tree : (text : List ℕ) → json.value 127 (tokens text) ≡ None → read text ≡ None
 no_tree text e = ap whole_text_value e
 
--- a tree that reads as data is settled where each number is whole
+-- a tree that reads as data is settled if each number is whole
 pub whole_settled : (line : List ℕ) (j : json.Json) → read line ≡ of_json j → is_whole j ≡ true → (read line ≡ Some (data_of j)) × (has_float (data_of j) ≡ false)
 whole_settled line j e whole = (e ∙ whole_read j whole, whole_no_float j whole)
 
--- the same where the line has no float
+-- the same if the line has no float
 pub float_settled : (line : List ℕ) (j : json.Json) → read line ≡ of_json j → HasNoFloat line → (read line ≡ Some (data_of j)) × (has_float (data_of j) ≡ false)
 float_settled line j e h =
     let same : data_of j ≡ h.value = data_read j h.value (sym e ∙ h.reads) in

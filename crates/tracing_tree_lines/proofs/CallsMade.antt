@@ -11,7 +11,7 @@ use Rattle.tracing_tree_layer.specs.declared.call.Reply.{Reply}
 use Rattle.tracing_tree_layer.proofs.Runs.{change_then}
 use Rattle.tracing_tree_lines.specs.Lines.Runs.{AreAccepted, AreMade}
 
--- nothing is passed on
+-- nothing is flushed
 nothing_passed : (seen : Seen) → Flushes seen seen
 nothing_passed seen = record { kept = Keeps-refl seen.writer.bytes; same = refl }
 
@@ -43,7 +43,7 @@ module _ {W FT : Type 0} (see : LayeredView W FT → Seen) where
   made_more (one ∷ calls) (other ∷ answers) call answer old now next (shown, between, passed, first, rest) k =
       (shown, between, passed, first, made_more calls answers call answer between now next rest k)
 
-  -- one call alone
+  -- only one call
   pub made_once : (call : Call) (answer : Result Reply Refusal) (now next : LayeredView W FT) → Changes see (IsAnswered call answer) now next →
       AreMade see (call ∷ []) (answer ∷ []) now next
   made_once call answer now next k = (now, next, still now, k, still next)

@@ -24,7 +24,7 @@ use Rattle.tracing_tree_lines.proofs.LineRuns.{goes_on, ends_at, ends_input, sho
 
 -- ---- one line
 
--- what becomes of this line wherever it comes first
+-- the outcome of this line wherever it comes first
 abbrev pub JudgesFirst : {W FT : Type 0} → (LayeredView W FT → Seen) → List ℕ → Result Judged LineCause → LayeredView W FT → LayeredView W FT → Type 0
 JudgesFirst see line result old new = (known left : Option (List ℕ)) → TakesLine known left line → Changes see (JudgesLine known left result) old new
 
@@ -38,7 +38,7 @@ line_at held inner start n found =
     (subst (TakesLine (prepend_known (drop start held) inner) (prepend_known (drop (n + 1) (drop start held)) inner)) line
     (held_line (drop start held) inner n found))
 
--- the place of the next line end, as it is found
+-- the place of the next line end, relative to the start
 pub found_at : (held : List ℕ) (start n : ℕ) (found : Option ℕ) → found ≡ position is_end (slice_range held start (length held)) → found ≡ Some n →
     position is_end (drop start held) ≡ Some n
 found_at held start n found is some =
@@ -46,16 +46,16 @@ found_at held start n found is some =
     ap (λ k. take k (drop start held)) (sym (length-drop start held)) ∙ take-length (drop start held) in
     sym (ap (position is_end) all) ∙ sym is ∙ some
 
--- ---- the text of held bytes
+-- ---- held bytes as a string
 
--- bytes that are one text can be cut at their start
+-- bytes that are one string can be cut at their start
 pub whole_text : {T E : Type 0} (now : T → List ℕ) (checked : Result T E) (held : List ℕ) →
     MatchResult checked (λ text. (now text ≡ held) × IsUtf8 held) (λ e. ¬ (IsUtf8 held)) →
     IfSome (result_ok checked) (λ text. (now text ≡ held) × IsUtf8 held × IsCharBoundary held 0)
 whole_text now (Ok text) held checked = (checked.0, checked.1, IsCharBoundary-start held checked.1)
 whole_text now (Err error) held checked = tt
 
--- where the line at this place of the held bytes ends
+-- the end of the line at this place of the held bytes
 record LineEnd (held : List ℕ) (place : ℕ) : Type 0 where
   inside : place < length held
   is_low : get_or held place 0 < 128
@@ -66,7 +66,7 @@ line_end held start n found =
     let ten : get_or held (start + n) 0 ≡ 10 = sym (get_or-drop start held n 0) ∙ eqb-true (get_or (drop start held) n 0) 10 p.1 in
     record { inside = omega (arith, p.0, length-drop start held); is_low = omega (arith, ten) }
 
--- the text can be cut where a line ends, and after the line end
+-- the string can be cut at the end of a line, and after the line end
 pub cut_at_end : {T : Type 0} (now : T → List ℕ) (whole : Option T) (held : List ℕ) (start n : ℕ) → position is_end (drop start held) ≡ Some n →
     IfSome whole (λ text. (now text ≡ held) × IsUtf8 held × IsCharBoundary held start) →
     IfSome whole (λ text. (now text ≡ held) × IsCharBoundary held start × IsCharBoundary held (start + n))
@@ -101,7 +101,7 @@ counted_room End run room below = (omega (arith, room), omega (arith, below))
 counted_room Skipped run room below = (omega (arith, room), omega (arith, below))
 counted_room Accepted run room below = (omega (arith, room), omega (arith, below))
 
--- after a line more the run is further on
+-- after one more line the run is further on
 pub onward : (start first number next : ℕ) → (0 < start → first < number) → (start ≡ 0 → number ≡ first) → next ≡ number + 1 → first < next
 onward zero first number next some none more = omega (arith, none refl, more)
 onward (suc start) first number next some none more = omega (arith, some (omega arith), more)
@@ -120,7 +120,7 @@ module _ {W FT : Type 0} (see : LayeredView W FT → Seen) where
   held_more held before run start n judged found more old now next so_far line = λ known inner first from.
       goes_on see known _ _ run judged more first now next (so_far known inner first from) (line _ _ (line_at held inner start n found))
 
-  -- one that ends it
+  -- a line that ends the run
   pub held_ends : (held : List ℕ) (before run : Progress) (start n : ℕ) (cause : LineCause) → position is_end (drop start held) ≡ Some n → run.number < last_number →
       (old now next : LayeredView W FT) → RunsHeld see held before run (Ok start) old now → JudgesFirst see (slice_range held start (start + n)) (Err cause) now next →
       RunsHeld see held before run (Err cause) old next
@@ -134,7 +134,8 @@ split : (held rest : List ℕ) (unread : Option (List ℕ)) → prepend_known (h
 split held rest None = refl
 split held rest (Some more) = ap Some (append_assoc held rest more)
 
--- The whole lines `held` and a part of a line (`rest`) are in the buffer, and `known` is left of the input.
+-- The whole lines `held` and a part of a line (`rest`) are in the buffer, and `known` is left of
+-- the input.
 pub record IsInput (known : Option (List ℕ)) (held rest : List ℕ) : Type 0 where
   pub unread : Option (List ℕ)
   pub is : known ≡ prepend_known held (prepend_known rest unread)
@@ -177,7 +178,7 @@ module _ {W FT : Type 0} (see : LayeredView W FT → Seen) where
       (ran known (prepend_known rest input.unread) start
       (subst (λ l. GoesOver see known l before.accepted before.number start first) input.is from))
 
-  -- ---- the next line, if none was held
+  -- ---- the next line, if no line was held
 
   -- it doesn't end the run
   pub next_more : (middle left : Option (List ℕ)) (held rest : List ℕ) (before run : Progress) (judged : Judged) →
@@ -188,7 +189,7 @@ module _ {W FT : Type 0} (see : LayeredView W FT → Seen) where
       shown_first see known middle left run.accepted run.number (Ok judged) (goes_on see known middle left run judged more) start now next
       (none_judged middle held rest before run input first now ran known start from) line
 
-  -- there is none
+  -- no line is left
   pub next_none : (middle left : Option (List ℕ)) (held rest : List ℕ) (before run : Progress) →
       IsInput middle held rest → run.number < last_number → (first now next : LayeredView W FT) → RunsHeld see held before run (Ok 0) first now →
       ShowsAndJudges see middle left (Ok End) now next →

@@ -1,4 +1,4 @@
--- Where lines end in the bytes that a reader shows, and which line comes first.
+-- The line ends in the bytes that a reader shows, and which line comes first.
 use Rattle.std.proofs.Common.{◌≡◌, ℕ, ◌+◌, ◌<◌, ◌==◌, Bool, true, false, not, List, [], ◌∷◌, ◌++◌, length, length-drop, take, drop, get_or, get_or-drop, take-append-drop, Option, Some, None, Ok, position, refl, sym, ap, subst, ◌∙◌, arith, append_assoc, append-nil, eqb-true, ⊎_elim}
 use Rattle.std.specs.Io.KnownBytes.{Consumes, Keeps, IsAtEnd, prepend_known}
 use Rattle.memchr.specs.Find.{IsFirstByte, Nowhere, Passes, is_byte}
@@ -22,7 +22,7 @@ is_end byte = byte == 10
 
 -- ---- the bytes that a reader shows
 
--- what stands before the first line end, and up to it
+-- what precedes the first line end, and up to it
 pub record EndsAt (held : List ℕ) (i : ℕ) : Type 0 where
   pub clean : HasNoLineEnd (take i held)
   pub through : take (i + 1) held ≡ take i held ++ 10 ∷ []
@@ -42,7 +42,7 @@ ends_at held i e =
       inside = found.0;
     }
 
--- bytes without a place of a line end have none
+-- bytes in which no line end is found have no line end
 pub has_no_end : (held : List ℕ) → position is_end held ≡ None → HasNoLineEnd held
 has_no_end held e = λ k d lt. fails_before_first is_end held k d (grind (arith, common_steps))
 
@@ -51,7 +51,7 @@ not_true : (b : Bool) → ¬ (b ≡ true) → b ≡ false
 not_true true none = absurd (none refl)
 not_true false none = refl
 
--- bytes from a place on, where no line end stands
+-- bytes from a place on, without a line end
 pub no_end_from : (held : List ℕ) (from : ℕ) → Nowhere (Passes (is_byte 10) held) from (length held) → HasNoLineEnd (drop from held)
 no_end_from held from none = λ k d lt.
     let inside : from + k < length held = omega (arith, lt, length-drop from held) in
@@ -59,7 +59,7 @@ no_end_from held from none = λ k d lt.
     get_or-drop from held k d ∙ get_or_default_zero held (from + k) d inside in
     ap is_end same ∙ not_true (is_end (get_or held (from + k) 0)) (none (from + k) (omega arith) inside)
 
--- a place before another isn't the first where the other is
+-- a place before another isn't the first if the other is
 not_before : (held : List ℕ) (i k : ℕ) → is_end (get_or held i 0) ≡ true → ((j : ℕ) → j < k → is_end (get_or held j 0) ≡ false) → i < k → ⊥
 not_before held i k here none lt = false≢true (sym (none i lt) ∙ here)
 
@@ -92,7 +92,7 @@ first_line_of line rest clean =
     let some : 0 < length (parts_of rest) = omega (arith, length-slice_split is_end rest) in
     ap without_empty_last (slice_split_at is_end line 10 rest clean refl) ∙ first_stays line (parts_of rest) some
 
--- one that isn't empty is the only one
+-- a line that isn't empty is the only one
 pub only_line_of : (line : List ℕ) → HasNoLineEnd line → (length line == 0) ≡ false → input_lines line ≡ line ∷ []
 only_line_of line clean some = ap without_empty_last (slice_split_none is_end line clean) ∙ rw some refl
 
@@ -168,7 +168,7 @@ held_taken held n None = tt
 held_taken held n (Some rest) =
     ap (λ bytes. bytes ++ rest) (sym (take-append-drop n held)) ∙ append_assoc (take n held) (drop n held) rest
 
--- held bytes up to a line end are the first line, whatever stands behind them
+-- held bytes up to a line end are the first line, whatever follows them
 pub held_line : (held : List ℕ) (inner : Option (List ℕ)) (i : ℕ) → position is_end held ≡ Some i →
     TakesLine (prepend_known held inner) (prepend_known (drop (i + 1) held) inner) (take i held)
 held_line held inner i found =
@@ -178,7 +178,7 @@ held_line held inner i found =
       taken = subst (Consumes (prepend_known held inner) (prepend_known (drop (i + 1) held) inner)) e.through (held_taken held (i + 1) inner);
     })
 
--- a line that the buffer holds was taken out of it
+-- a line that the buffer holds was removed from it
 pub takes_held : (known left : Option (List ℕ)) (held line : List ℕ) (end : ℕ) → HoldsFront held known → position is_end held ≡ Some end → DropsHeld (end + 1) held known left →
     line ≡ take end held → TakesLine known left line
 takes_held known left held line end front found drops is =

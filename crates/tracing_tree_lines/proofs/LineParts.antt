@@ -1,4 +1,4 @@
--- What is read of an object at the keys of calls spells what the object spells.
+-- What is read of an object at the keys of calls encodes what the object encodes.
 use Rattle.std.specs.Prelude.{◌≡◌, ℕ, pos, Bool, true, false, List, [], ◌∷◌, Option, Some, None, codes, bytes_eq, if◌then◌else◌, option_map, option_and_then, refl, Result, Ok, Err}
 use Rattle.std.specs.Option.{option_map_or}
 use Rattle.std.proofs.Common.{sym, ap, ap₂, ◌∙◌, subst, true≢false}
@@ -77,7 +77,7 @@ pub fields_read : (fields : List Field) → item_fields (fields_data fields) ≡
 fields_read [] = refl
 fields_read (field ∷ others) = rw (fields_read others)
 
--- ---- a member more
+-- ---- one more member
 
 at_put : (key other : List ℕ) (d : Data) (found : Members) (b : Bool) → bytes_eq key other ≡ b
     → (if b then readable key d else readable_at other (object found)) ≡ readable_at other (object (put key d found))
@@ -105,7 +105,7 @@ no_key no_members key d none = refl
 no_key (member other old ms) key d none =
     ap (λ b. member other (if b then d else old) (with_key key d ms)) none.0 ∙ ap (member other old) (no_key ms key d none.1)
 
--- a key of no call changes nothing
+-- a key that no call has changes nothing
 pub other_key : (key : List ℕ) (d : Data) (p : Parts) → HasNoKey (parts_members p) key → with_key key d (parts_members p) ≡ parts_members p
 other_key key d p none = no_key (parts_members p) key d none
 
@@ -133,7 +133,7 @@ no_float_parts p =
     (neither _ _ (no_float_part p.target) (neither _ _ (no_float_part p.parent) (neither _ _ (no_float_list p.fields) (neither _ _ (no_float_part p.current)
     (neither _ _ (no_float_part p.thread) (neither _ _ (no_float_part p.thread_name) (neither _ _ (no_float_part p.mono) (neither _ _ (no_float_part p.wall) refl)))))))))))
 
--- ---- what is read of a value says what the value says
+-- ---- what is read of a value means what the value means
 
 -- another key than that of the fields
 pub word_read : (key : List ℕ) (d : Data) → (key ≡ codes "fields" → ⊥) → readable key d ≡ readable_word d
@@ -245,17 +245,17 @@ found_same : {A : Type 0} (f : Data → A) (key : List ℕ) (o : Option Data) (a
 found_same f key None absent same = refl
 found_same f key (Some d) absent same = ap (λ o. option_map_or f o absent) (readable_there key d) ∙ read_mapped f (readable key) (unless_null d) absent same
 
--- the value at a key, as it is read
+-- the value at a key, in the form that is read
 pub same_at : {A : Type 0} (f : Data → A) (key : List ℕ) (value : Data) (absent : A) → ((d : Data) → f (readable key d) ≡ f d)
     → option_map_or f (unless_null (readable_at key value)) absent ≡ option_map_or f (option_and_then unless_null (get key value)) absent
 same_at f key value absent same = found_same f key (get key value) absent same
 
--- ---- the object that holds what is read spells what the object spells
+-- ---- the object that holds what is read encodes what the object encodes
 
 abbrev kept : Data → Data
 kept value = object (call_members value)
 
--- this is read of both
+-- both read the same
 abbrev IsKept : {A : Type 0} → (Data → A) → Data → Type 0
 IsKept reader value = reader (kept value) ≡ reader value
 
@@ -358,7 +358,7 @@ whole_parts line p found whole =
     let settled = whole_settled line tree found.reads (sym found.kept.whole ∙ whole) in
     record { text = found.text; value = data_of tree; reads = settled.0; no_float = settled.1; kept = found.kept.kept }
 
--- the same of an object in which none is
+-- the same of an object without floats
 without_float : (line : List ℕ) (p : Parts) → IsObjectLine line p → HasNoFloat line → HasParts line p
 without_float line p found none =
     let tree = json.object found.members in

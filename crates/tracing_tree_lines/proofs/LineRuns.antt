@@ -58,14 +58,14 @@ outside_line known left Read seen outside = refl
 outside_line known left Memory seen outside = refl
 outside_line known left (Refused refusal) seen outside = cc
 
--- the count of the writer's faults after a line that ends no run
+-- the count of the writer's faults after a line that doesn't end the run
 pub calm_line : (known left : Option (List ℕ)) (judged : Judged) (old new : Seen) → JudgesLine known left (Ok judged) old new →
     new.writer.faults ≡ old.writer.faults
 calm_line known left End old new h = ap (λ (s : Seen). s.writer.faults) h.1
 calm_line known left Skipped old new h = ap (λ (s : Seen). s.writer.faults) h.1
 calm_line known left Accepted old new h = h.1.made.answered.written.1
 
--- the same after one that ends the run
+-- the same after a line that ends the run
 pub counts_line : (known left : Option (List ℕ)) (cause : LineCause) (old new : Seen) → JudgesLine known left (Err cause) old new →
     CountsEnd (Some cause) old.writer.faults new.writer.faults
 counts_line known left NoSettings old new h = absurd h
@@ -80,7 +80,7 @@ counts_line known left (Refused Refusals.Memory) old new h = h.made.answered.wri
 counts_line known left (Refused Refusals.Timer) old new h = h.made.answered.written.1
 counts_line known left (Refused Refusals.Failed) old new h = h.made.answered.written.1
 
--- ---- spelled calls
+-- ---- encoded calls
 
 abbrev is_judged : List ℕ → Bool
 is_judged line = not (is_skipped line)
@@ -89,7 +89,7 @@ is_judged line = not (is_skipped line)
 judged_more : (lines : List (List ℕ)) (line : List ℕ) → filter is_judged (lines ++ line ∷ []) ≡ filter is_judged lines ++ filter is_judged (line ∷ [])
 judged_more lines line = filter-append is_judged lines (line ∷ [])
 
--- a skipped line more
+-- one more skipped line
 spells_blank : (lines : List (List ℕ)) (calls : List Call) (line : List ℕ) → SpellCalls lines calls → is_skipped line ≡ true → SpellCalls (lines ++ line ∷ []) calls
 spells_blank lines calls line h blank = rw (judged_more lines line, blank, append-nil (filter is_judged lines)) h
 
@@ -100,7 +100,7 @@ zip_more R [] (z ∷ ys) x y all one = absurd all
 zip_more R (w ∷ xs) [] x y all one = absurd all
 zip_more R (w ∷ xs) (z ∷ ys) x y all one = (all.0, zip_more R xs ys x y all.1 one)
 
--- a line more that spells a call
+-- a line more that encodes a call
 spells_call : (lines : List (List ℕ)) (calls : List Call) (line : List ℕ) (last : Call) → SpellCalls lines calls → is_skipped line ≡ false → SpellsCall line last →
     SpellCalls (lines ++ line ∷ []) (calls ++ last ∷ [])
 spells_call lines calls line last h judged spelled = rw (judged_more lines line, judged) (zip_more SpellsCall (filter is_judged lines) calls line last h spelled)
@@ -108,7 +108,7 @@ spells_call lines calls line last h judged spelled = rw (judged_more lines line,
 -- ---- the run so far
 
 module _ (first : Seen) where
-  -- the run of an accepted call behind that of other calls
+  -- the run of an accepted call after that of other calls
   abbrev with_call : Run → Call → Run
   with_call r call = record {
     state = state_after first.settings first.timer r.state call;
@@ -146,7 +146,7 @@ module _ (first : Seen) where
   one_done : (lines done others after : List (List ℕ)) (line : List ℕ) → lines ≡ done ++ others → others ≡ line ∷ after → lines ≡ (done ++ line ∷ []) ++ after
   one_done lines done others after line apart e = apart ∙ ap (λ rest. done ++ rest) e ∙ sym (append_assoc done (line ∷ []) after)
 
-  -- a skipped line more
+  -- one more skipped line
   pub skips : (Made Next : List Call → Type 0) → ((calls : List Call) → Made calls → Next calls) →
       (known middle left : Option (List ℕ)) (accepted number : ℕ) (now next : Seen) →
       IsKnownSoFar first Made known middle accepted number now → SkipsLine middle left × (next ≡ now) → IsKnownSoFar first Next known left accepted (number + 1) next
@@ -188,7 +188,7 @@ module _ (first : Seen) where
     made = more so_far.calls so_far.made;
   }
 
-  -- the text of a call behind the text of the run so far
+  -- the text of a call after the text of the run so far
   adds_call : (r : Run) (call : Call) (old mid new : Option (List ℕ)) → Appends old mid (draw first.settings r.rows) →
       Appends mid new (call_text first.settings first.timer r.state call) → Appends old new (draw first.settings (with_call r call).rows)
   adds_call r call old mid new before more =
@@ -196,7 +196,7 @@ module _ (first : Seen) where
       subst (Appends old new) (sym (draw-append first.settings r.rows added))
       (Appends-trans old mid new (draw first.settings r.rows) (draw first.settings added) before more)
 
-  -- an accepted call more
+  -- one more accepted call
   pub accepts : (Made Next : List Call → Type 0) (known middle left : Option (List ℕ)) (accepted number : ℕ) (now next : Seen) →
       IsKnownSoFar first Made known middle accepted number now → (h : (reply : Reply) × MakesCall middle left (Ok reply) now next) →
       ((calls : List Call) → Made calls → Next (calls ++ h.1.made.call ∷ [])) →
@@ -235,7 +235,7 @@ module _ (first : Seen) where
   may_end : (number : ℕ) (cause : LineCause) → number < last_number → MayEndAt number cause
   may_end number cause below = (omega (arith, below), λ last. absurd (omega (arith, below, last)))
 
-  -- the line behind others
+  -- the line after others
   line_behind : (done after : List (List ℕ)) (line : List ℕ) → slice_get (done ++ line ∷ after) (length done) ≡ Some line
   line_behind [] after line = refl
   line_behind (other ∷ done) after line = line_behind done after line
@@ -257,7 +257,7 @@ module _ (first : Seen) where
   ends_outside state line Memory outside = tt
   ends_outside state line (Refused refusal) outside = cc
 
-  -- what was written stays where nothing has changed
+  -- what was written stays if nothing has changed
   kept : (now next : Seen) (text : List ℕ) → next ≡ now → Appends first.writer.bytes now.writer.bytes text →
       Appends first.writer.bytes next.writer.bytes (text ++ [])
   kept now next text e h =
@@ -350,7 +350,7 @@ module _ (first : Seen) where
         made = subst (λ o. Makes (Some cause) o so_far.calls) (sym at) makes;
       }
 
-  -- what a refused call leaves behind the text
+  -- what a refused call leaves after the text
   leaves : (state : State) (line : List ℕ) (call : Call) (refusal : Refusal) (old new : SeenWriter) → SpellsCall line call →
       Writes {A = Reply} (call_text first.settings first.timer state call) (Err refusal) old new →
       (front : List ℕ) × IsLeft first.settings first.timer state old.whole (Some (Refused refusal)) (Some line) front × Appends old.bytes new.bytes front
@@ -362,7 +362,7 @@ module _ (first : Seen) where
   leaves state line call Refusals.Timer old new spelled h = ([], refl, Appends-kept old.bytes old.bytes new.bytes [] (Appends-nil old.bytes) h.0)
   leaves state line call Refusals.Failed old new spelled h = ([], refl, Appends-kept old.bytes old.bytes new.bytes [] (Appends-nil old.bytes) h.0)
 
-  -- a line that spells nothing
+  -- a line that encodes nothing
   pub fails : (Made : List Call → Type 0) (Makes : Option LineCause → Option (List ℕ) → List Call → Type 0) → ((line : Option (List ℕ)) (calls : List Call) → Made calls → Makes (Some NotACall) line calls) →
       (known middle left : Option (List ℕ)) (accepted number : ℕ) (now next : Seen) → number < last_number →
       IsKnownSoFar first Made known middle accepted number now → FailsLine middle left × (next ≡ now) →
@@ -440,7 +440,7 @@ module _ {W FT : Type 0} (see : LayeredView W FT → Seen) where
     calm = ap (λ (s : Seen). s.writer.faults) k.changed.same ∙ h.calm;
   }
 
-  -- what was drawn may be passed on before a line is judged
+  -- what was drawn may be flushed before a line is judged
   pub shown_first : (known middle left : Option (List ℕ)) (accepted number : ℕ) (result : Result Judged LineCause) {Both : LayeredView W FT → LayeredView W FT → Type 0} →
       ((first now next : LayeredView W FT) → GoesOver see known middle accepted number first now → Changes see (JudgesLine middle left result) now next → Both first next) →
       (first now next : LayeredView W FT) → GoesOver see known middle accepted number first now → ShowsAndJudges see middle left result now next → Both first next
@@ -468,7 +468,7 @@ module _ {W FT : Type 0} (see : LayeredView W FT → Seen) where
         calm = calm_line middle left Accepted (see now) (see next) k.changed ∙ h.calm;
       }
 
-  -- the same, as it is counted
+  -- the same, in the form that is counted
   pub goes_on : (known middle left : Option (List ℕ)) (run : Progress) (judged : Judged) → (judged ≡ End → ⊥) → (first now next : LayeredView W FT) →
       GoesOver see known middle run.accepted run.number first now → Changes see (JudgesLine middle left (Ok judged)) now next →
       GoesOver see known left (counted judged run).accepted (counted judged run).number first next

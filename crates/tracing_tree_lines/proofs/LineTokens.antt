@@ -46,7 +46,7 @@ no_members_read first parts none whole = record {
   kept = none;
 }
 
--- what stands at another key than that of the fields
+-- the value at another key than that of the fields
 pub word_member : (key : List ℕ) (old new : List Token) (part : Part) (before after : Parts) (b : Bool) → (key ≡ codes "fields" → ⊥) → IsTaken old new before.is_whole b part
     → parts_members after ≡ with_key key (part_data part) (parts_members before) → after.is_whole ≡ b → IsMemberTaken key old new before after
 word_member key old new part before after b other_key is set whole = record {
@@ -54,7 +54,7 @@ word_member key old new part before after b other_key is set whole = record {
   put = set ∙ ap (λ d. with_key key d (parts_members before)) (is.kept ∙ sym (word_read key (data_of is.passed.value) other_key));
 }
 
--- what stands at the key of the fields
+-- the value at the key of the fields
 pub fields_member : (key : List ℕ) (old new : List Token) (list : FieldsPart) (before after : Parts) (b : Bool) → key ≡ codes "fields" → IsListTaken old new before.is_whole b list
     → parts_members after ≡ with_key (codes "fields") (listed_data list) (parts_members before) → after.is_whole ≡ b → IsMemberTaken key old new before after
 fields_member key old new list before after b same is set whole = record {
@@ -62,7 +62,7 @@ fields_member key old new list before after b same is set whole = record {
   put = set ∙ ap (λ d. with_key (codes "fields") d (parts_members before)) is.kept ∙ sym (ap (λ k. with_key k (readable k (data_of is.passed.value)) (parts_members before)) same);
 }
 
--- a member more
+-- one more member
 pub member_read : (first now s r : List Token) (parts new : Parts) (key : List ℕ) → ReadsMembers first now parts → read_key now ≡ Some (Some key, s) → IsMemberTaken key s r parts new
     → ReadsMembers first r new
 member_read first now s r parts new key read at is = record {
@@ -88,7 +88,7 @@ key_failed first now parts read none = key_unread 126 first now true parts.is_wh
 
 -- ---- fields
 
--- some items were read; these are their fields, where each is one
+-- some items were read; these are their fields, if each is one
 pub record ReadsItems (first now : List Token) (before after : Bool) (fields : List Field) (are_fields : Bool) : Type 0 where
   pub passed : PassesItems 125 first now before after
   pub all : are_fields ≡ true → (rest : json.Items) → item_fields (items_data (passed.onto rest)) ≡ behind fields (item_fields (items_data rest))
@@ -105,7 +105,7 @@ no_items_read first b = record {
     nothing_before None = refl
     nothing_before (Some fields) = refl
 
--- an item more, which is a field
+-- one more item, which is a field
 pub field_item_read : (first now r : List Token) (before b c : Bool) (fields new : List Field) (are_fields : Bool) (field : Field) → ReadsItems first now before b fields are_fields
     → after_end_array now ≡ None → IsItemTaken now r b c (Some field) → new ≡ fields ++ field ∷ [] → ReadsItems first r before c new are_fields
 field_item_read first now r before b c fields new are_fields field read going is pushed =
@@ -124,7 +124,7 @@ either_all : (b : Bool) (P : Type 0) → (b ≡ true → P) → (b ≡ false →
 either_all true P all other = all refl
 either_all false P all other = other refl
 
--- an item more, which is no field
+-- one more item, which isn't a field
 pub other_item_read : (first now r : List Token) (before b c : Bool) (fields : List Field) (are_fields : Bool) → ReadsItems first now before b fields are_fields → after_end_array now ≡ None
     → IsItemTaken now r b c None → ReadsItems first r before c fields false
 other_item_read first now r before b c fields are_fields read going is =
@@ -156,12 +156,12 @@ item_failed first now before b fields are_fields read going none = item_unread 1
 
 -- ---- faults
 
--- a fault that is passed on
+-- a fault that is returned
 pub fault_is : {A : Type 0} (result : Result A LineCause) (cause : LineCause) → IsErr result → IsErrAnd result (λ passed. passed ≡ cause) → result ≡ Err cause
 fault_is (Ok a) cause failed is = cc
 fault_is (Err passed) cause failed is = ap Err is
 
--- a cause for which nothing could be read of the rest is one for the whole
+-- a cause for which the rest couldn't be read is one for the whole
 pub unless_memory : (P Q : Type 0) (cause : LineCause) → (P → Q) → IsUnlessMemory NotACall P cause → IsUnlessMemory NotACall Q cause
 unless_memory P Q NoSettings then is = (is.0, then is.1)
 unless_memory P Q NotACall then is = (is.0, then is.1)

@@ -8,7 +8,7 @@ use Rattle.tracing_tree_lines.specs.Lines.Steps.{MakesSpelled}
 use Rattle.tracing_tree_lines.specs.declared.lines.LineCause.{LineCause}
 use Rattle.tracing_tree_lines.specs.declared.lines.LineCause.TheVariants.{Settings as NoSettings, NotACall, Read, Memory, Refused}
 
--- what is spelled in one way is spelled in the other
+-- what is encoded in one way is encoded in the other
 pub spelled_as : (P Q : Call → Type 0) (result : Result Reply LineCause) (old new : Seen) → ((call : Call) → P call → Q call) → ((call : Call) → Q call → P call)
     → MakesSpelled P result old new → MakesSpelled Q result old new
 spelled_as P Q (Ok reply) old new to back made = record { call = made.call; spelled = to made.call made.spelled; answered = made.answered }
@@ -21,7 +21,7 @@ spelled_as P Q (Err (Refused refusal)) old new to back made = record { call = ma
 not_settings : NotACall ≡ NoSettings → ⊥
 not_settings e = cc
 
--- where no call could be read, nothing has changed
+-- if no call could be read, nothing has changed
 pub unread : (P : Call → Type 0) (cause : LineCause) (seen : Seen) → IsUnlessMemory NotACall ((call : Call) → ¬ P call) cause
     → MakesSpelled P (Err cause) seen seen
 unread P NoSettings seen failed = absurd (not_settings failed.0)

@@ -1,4 +1,4 @@
--- The moment that a value spells is one, and what calls it spells.
+-- A value encodes at most one moment, and what calls it encodes.
 use Rattle.std.specs.Prelude.{◌≡◌, ℕ, false, List, Option, Some, None, codes, refl, Result}
 use Rattle.std.proofs.Common.{sym, ap, ◌∙◌}
 use Rattle.std.proofs.lemmas.Option.{same_Some, none-some}
@@ -30,7 +30,7 @@ same_instant a b e = λ i. record {
 same_parts : (a b : Moment) → a.mono ≡ b.mono → a.wall ≡ b.wall → a ≡ b
 same_parts a b mono wall = λ i. record { mono = mono i; wall = wall i }
 
--- a value spells one moment
+-- a value encodes at most one moment
 pub same_moment : (value : Data) (a b : Moment) → IsMomentIn value a → IsMomentIn value b → a ≡ b
 same_moment value a b first second =
     same_parts a b (same_Some a.mono b.mono (sym first.mono ∙ second.mono))
@@ -40,7 +40,7 @@ absent_then : {A B : Type 0} (first : Option A) (next : A → Option B) → ((x 
 absent_then None next none = refl
 absent_then (Some x) next none = none x
 
--- where no kind of call is named there is no call
+-- if no kind of call is named, there is no call
 pub no_kind : (value : Data) (moment : Moment) → IsKindIn value None → object_call value moment ≡ None
 no_kind value moment none =
     absent_then (context_in value moment) (λ context. read_or None as_str (codes "call") value >>= (λ name. call_named name value context)) none

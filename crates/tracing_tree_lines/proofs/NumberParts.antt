@@ -1,4 +1,4 @@
--- The part that a number's text stands for.
+-- The part that the digits of a number encode.
 use Rattle.std.specs.Prelude.{◌≡◌, ℕ, ℤ, Bool, true, false, List, Option, Some, None, option_and_then, if◌then◌else◌, Float, refl}
 use Rattle.std.specs.Float.{binary64, float_is_finite}
 use Rattle.std.proofs.Common.{sym, ap, ◌∙◌}
@@ -30,7 +30,7 @@ not_below false n m o none is = absurd (none-some m (sym none ∙ is))
 pub whole_read : (p : Parts) (m : ℕ) → option_and_then as_u64 (number_from false p) ≡ Some m → number_from false p ≡ Some (unsigned m)
 whole_read p m is = not_below _ _ m (float_of false p) (float_u64 false p) is
 
--- a number that isn't whole, and of which no call is read
+-- a number that isn't whole, from which no call is read
 abbrev IsUnread : Option Num → Type 0
 IsUnread o = (is_whole_number o ≡ false) × (boolean false ≡ readable_word (number_data o))
 

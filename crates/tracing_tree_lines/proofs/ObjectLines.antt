@@ -1,4 +1,4 @@
--- A line that is no object of JSON spells no call.
+-- A line that isn't an object of JSON encodes no call.
 use Rattle.std.specs.Prelude.{◌≡◌, ℕ, true, false, List, [], ◌∷◌, length, Option, Some, None, MatchOption, is_some, option_map, option_and_then, refl, Err, IsUtf8, codes, ⊤}
 use Rattle.std.proofs.Common.{sym, ap, ◌∙◌, subst, arith, true≢false}
 use Rattle.std.proofs.lemmas.Option.{same_Some, none-some}
@@ -26,13 +26,13 @@ use Rattle.tracing_tree_lines.specs.Lines.Spelled.{◌>>=◌, object_call, read_
 use Rattle.tracing_tree_lines.specs.declared.lines.LineCause.{LineCause}
 use Rattle.tracing_tree_lines.specs.declared.lines.parts.Parts.{Parts}
 
--- ---- what a call is spelled by
+-- ---- what encodes a call
 
 -- the object that a value is, if it is one
 abbrev only_object : Data → Option Data
 only_object value = option_map object (as_object value)
 
--- what spells a call is an object
+-- what encodes a call is an object
 spelled_object : (value : Data) (moment : Moment) (call : Call) → object_call value moment ≡ Some call → only_object value ≡ Some value
 spelled_object null moment call e = absurd (none-some call e)
 spelled_object (boolean b) moment call e = absurd (none-some call e)
@@ -41,7 +41,7 @@ spelled_object (string s) moment call e = absurd (none-some call e)
 spelled_object (array ds) moment call e = absurd (none-some call e)
 spelled_object (object ms) moment call e = refl
 
--- a line that spells a call is one
+-- a line that encodes a call is an object
 read_object : (line : List ℕ) (call : Call) (s : SpellsCall line call) → (read line >>= only_object) ≡ Some s.value
 read_object line call s = rw s.reads (spelled_object s.value s.moment call s.spelled)
 
@@ -53,7 +53,7 @@ no_array : (o : Option Items) (value : Data) → (option_map array o >>= only_ob
 no_array None value e = none-some value e
 no_array (Some ds) value e = none-some value e
 
--- what reads as an object is one
+-- what reads as an object is an object
 is_object : (j : json.Json) (value : Data) → (of_json j >>= only_object) ≡ Some value → (ms : json.Members) × (j ≡ json.object ms)
 is_object json.null value e = absurd (none-some value e)
 is_object (json.boolean b) value e = absurd (none-some value e)
@@ -151,7 +151,7 @@ object_and_more line ts left None new parts is after some taken = absurd (true�
 object_and_more line ts left (Some t) new parts is after some taken =
     unread_call line (tree_and_more line (json.object taken.members) (token_of t) new (object_value line ts (token_of t ∷ new) taken.members is (taken.taken ∙ ap (λ r. Some (taken.members, r)) after)))
 
--- the object alone
+-- only the object
 pub object_alone : (line : List ℕ) (ts left : List spec.Token) (next : Option Token) (new : List spec.Token) (parts : Parts) → IsUtf8 line → tokens line ≡ spec.begin_object ∷ ts
     → MatchOption next ((left ≡ []) × (new ≡ [])) (λ t. left ≡ token_of t ∷ new) → is_some next ≡ false → ArePartsTaken ts left parts → IsObjectLine line parts
 object_alone line ts left (Some t) new parts text is after none taken = absurd (true≢false none)
@@ -164,7 +164,7 @@ object_alone line ts left None new parts text is after none taken = record {
 
 -- ---- the context
 
--- where no context can be read, there is no call
+-- if no context can be read, there is no call
 pub no_context : (value : Data) (cause : LineCause) → IsUnlessMemory NotACall ((moment : Moment) → IsMomentIn value moment → context_in value moment ≡ None) cause
     → IsUnlessMemory NotACall ((call : Call) → ¬ ValueSpells value call) cause
 no_context value cause failed =

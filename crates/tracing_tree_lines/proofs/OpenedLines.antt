@@ -59,7 +59,7 @@ opened_known remaining lines reader inner empty capacity =
     let P : ℕ → Type 0 = λ n. (if n == 0 then None else prepend_known (reader_buffer lines) (remaining lines.inner)) ≡ remaining reader in
     subst P (sym capacity) (ap (λ bytes. prepend_known bytes (remaining lines.inner)) empty ∙ prepend_known-nil (remaining lines.inner) ∙ ap remaining inner)
 
--- a first line that no settings were read of
+-- a first line without readable settings
 pub ends_first : (known left : Option (List ℕ)) (line : List ℕ) (cause : LineCause) → TakesLine known left line →
     IsUnlessMemory NoSettings ((settings : Settings) (timer : Timer) → ¬ SpellsSettings line settings timer) cause → IfSome known (λ input. EndsAtFirst input cause)
 ends_first None left line cause first reads = tt
@@ -101,7 +101,7 @@ module _ {W : Type 0} (output : Output W) where
   }
 
   module _ {FT : Type 0} (time : FormatTime FT) where
-    -- what is changed, and calls that are made, where the timers are what they state
+    -- what is changed, and calls that are made, if the timers are what they state
     changes-stated : (Holds : Seen → Seen → Type 0) (old new : LayeredView W FT) → Changes (seen time output) Holds old new →
         Changes (seen_over output) Holds (stated time old) (stated time new)
     changes-stated Holds old new h = record {
@@ -161,7 +161,7 @@ module _ {W : Type 0} (output : Output W) where
       made = makes-stated h.cause (slice_get lines h.judged) h.calls old new h.made;
     }
 
-    -- the first line spells settings that can be set, and the run over the others is the whole run
+    -- the first line encodes settings that can be set, and the run over the others is the whole run
     pub concludes : (known left : Option (List ℕ)) (setup : Settings × AskedTimer) (accepted : ℕ) (fault : Option LineFault) (writer end : W)
         (old new : LayeredView W FT) → OpensWith known left setup → stated time old ≡ opened_with setup.0 (asked_timer setup.1) writer → new.layer.writer ≡ end →
         IfSome left (λ rest. RunsOver (input_lines rest) accepted fault (seen time output old) (seen time output new).writer

@@ -1,4 +1,4 @@
--- Reading a pair of texts, a token at a time.
+-- Reading a pair of strings, a token at a time.
 use Rattle.std.specs.Prelude.{◌≡◌, ℕ, Bool, List, ◌∷◌, length, Option, Some, None, option_and_then, MatchResult, Result, Ok, Err, refl}
 use Rattle.std.specs.Borrow.{Bor}
 use Rattle.std.proofs.Common.{sym, ap, ◌∙◌, arith}
@@ -21,7 +21,7 @@ use Rattle.tracing_tree_text.specs.declared.field.Field.{Field}
 use Rattle.tracing_tree_lines.proofs.BorrowedTrees.{no_str, no_field}
 use Rattle.tracing_tree_lines.proofs.Taken.{whole_taken, same_taken, PassesItems, no_items_passed, item_passed, items_passed, item_unread}
 
--- some items were read, and these texts are what may be a pair of them
+-- some items were read, and these strings are what may be a pair of them
 pub record ReadsTexts (first now : List Token) (before after : Bool) (texts : Texts) : Type 0 where
   pub passed : PassesItems 124 first now before after
   pub stands : (rest : json.Items) → pair_with texts (items_data rest) ≡ pair_field (items_data (passed.onto rest))
@@ -29,7 +29,7 @@ pub record ReadsTexts (first now : List Token) (before after : Bool) (texts : Te
 pub no_texts_read : (first : List Token) (b : Bool) → ReadsTexts first first b b NoText
 no_texts_read first b = record { passed = no_items_passed 124 first b; stands = λ rest. refl }
 
--- an item more
+-- one more item
 pub text_item_read : (first now r : List Token) (before b c : Bool) (texts new : Texts) (text : Option (List ℕ)) → ReadsTexts first now before b texts → after_end_array now ≡ None
     → IsTextTaken now r b c text → ((value : _) (rest : Items) → text ≡ as_str value → pair_with new rest ≡ pair_with texts (item value rest)) → ReadsTexts first r before c new
 text_item_read first now r before b c texts new text read going is more = record {
@@ -58,7 +58,7 @@ field_in j = field_value (data_of j)
 abbrev found : {A : Type 0} → (json.Json → Option A) → Option (json.Json × List Token) → Option A
 found f o = option_and_then (λ p. f p.0) o
 
--- nothing is found in what is wrapped so
+-- nothing is found in what is wrapped this way
 found_none : {A B : Type 0} (f : json.Json → Option A) (wrap : B → json.Json) (o : Option (B × List Token)) → ((b : B) → f (wrap b) ≡ None) → found f (parse_map wrap o) ≡ None
 found_none f wrap None none = refl
 found_none f wrap (Some p) none = none p.0
@@ -87,7 +87,7 @@ no_pair_in (Read.Bool b) ts other = ap (found field_in) (value_is 125 (Token.boo
 no_pair_in Read.Null ts other = ap (found field_in) (value_is 125 (Token.null ∷ ts))
 no_pair_in Read.Bad ts other = ap (found field_in) (value_is 125 (Token.bad ∷ ts))
 
--- a text
+-- a string
 pub text_read : (old new : List Token) (b : Bool) (text : List ℕ) → old ≡ Token.string text ∷ new → IsTextTaken old new b b (Some text)
 text_read old new b text is = record { passed = whole_taken 124 old new b (json.string text) (ap (json.value 124) is ∙ value_is 124 (Token.string text ∷ new)) refl; is = refl }
 
@@ -118,7 +118,7 @@ pub pair_taken : {E : Type 0} → (old ts new : List Token) (b c : Bool) (result
 pair_taken old ts new b c (Ok pair) is taken = pair_read old ts new b c pair is taken
 pair_taken old ts new b c (Err invalid) is failed = pair_failed old ts is failed
 
--- a value that is no array
+-- a value that isn't an array
 pub no_pair_read : (first : ReadToken) (old ts new : List Token) (b c : Bool) → old ≡ token_of first ∷ ts → (first ≡ Read.BeginArray → ⊥)
     → IsValueTaken 125 (token_of first ∷ ts) new b c → IsItemTaken old new b c None
 no_pair_read first old ts new b c is other passed = record {

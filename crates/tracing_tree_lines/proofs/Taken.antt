@@ -24,7 +24,7 @@ parsed_twice f g (Some p) = refl
 
 -- ---- one value
 
--- null, a text or a truth value
+-- null, a string or a truth value
 abbrev pub is_word : ReadToken → Bool
 is_word Read.BeginObject = false
 is_word Read.EndObject = false
@@ -83,16 +83,16 @@ object_unread depth inner ts deep none =
     let one_less : depth - 1 ≡ inner = omega arith in
     value-begin_object depth ts (omega arith) ∙ ap (λ d. parse_map json.object (json.members (json.value d) (length ts) ts)) one_less ∙ ap (parse_map json.object) none
 
--- no token is no value
+-- without a token there is no value
 pub end_unread : (depth : ℕ) (ts : List Token) → ts ≡ [] → json.value depth ts ≡ None
 end_unread depth ts none = ap (json.value depth) none ∙ value_is depth []
 
--- where nothing may nest
+-- if nothing may nest
 pub nested_unread : (depth : ℕ) (ts : List Token) → depth ≡ 0 → (json.value depth (Token.begin_array ∷ ts) ≡ None) × (json.value depth (Token.begin_object ∷ ts) ≡ None)
 nested_unread depth ts none =
     (ap (λ d. json.value d (Token.begin_array ∷ ts)) none ∙ value_is 0 (Token.begin_array ∷ ts), ap (λ d. json.value d (Token.begin_object ∷ ts)) none ∙ value_is 0 (Token.begin_object ∷ ts))
 
--- a value that opens nothing, of no number
+-- a value that opens nothing and isn't a number
 pub word_taken : (depth : ℕ) (first : ReadToken) (ts : List Token) (b : Bool) → is_word first ≡ true → IsValueTaken depth (token_of first ∷ ts) ts b b
 word_taken depth (Read.String s) ts b is = whole_taken depth _ ts b (json.string s.now) (value_is depth (Token.string s.now ∷ ts)) refl
 word_taken depth (Read.Bool t) ts b is = whole_taken depth _ ts b (json.boolean t) (value_is depth (Token.boolean t ∷ ts)) refl
@@ -133,7 +133,7 @@ no_items_passed depth first b = record {
   whole = λ rest. refl;
 }
 
--- an item more
+-- one more item
 abbrev pub item_passed : (depth : ℕ) (first now r : List Token) (before b c : Bool) → PassesItems depth first now before b → after_end_array now ≡ None → IsValueTaken depth now r b c → PassesItems depth first r before c
 item_passed depth first now r before b c read going item =
     let less = skip_value-shorter depth now r (ap left item.taken) in
@@ -178,7 +178,7 @@ no_members_passed depth first b c same = record {
   whole = λ rest. ap (λ w. w && members_are_whole rest) same;
 }
 
--- a member more
+-- one more member
 abbrev pub member_passed : (depth : ℕ) (first now s r : List Token) (key : List ℕ) (before b c : Bool) → PassesMembers depth first now before b → read_key now ≡ Some (Some key, s) → IsValueTaken depth s r b c
     → PassesMembers depth first r before c
 member_passed depth first now s r key before b c read at item =

@@ -6,7 +6,7 @@ use Rattle.tracing_tree_text.specs.declared.field.Field.{Field}
 use Rattle.tracing_tree_sources.specs.Told.{shown}
 use Rattle.tracing_tree_sources.specs.JsonText.{json_text}
 
--- a field with this value, as it is drawn
+-- a field with this value, in its drawn form
 abbrev pub field_of : List ℕ → List ℕ → List Field
 field_of name value = (record { name = shown name; value = value }) ∷ []
 
@@ -38,7 +38,7 @@ abbrev mutual
 abbrev pub member_fields : List (List ℕ) → List ℕ → Json → List Field
 member_fields keys key value = if list_any (bytes_eq key) keys then [] else value_fields key value
 
--- an object's members as fields, but those with one of these keys
+-- an object's members as fields, except those with one of these keys
 abbrev pub members_fields : List (List ℕ) → Members → List Field
 members_fields keys no_members = []
 members_fields keys (member key value others) =

@@ -1,4 +1,4 @@
--- What an object of a service's log says.
+-- What an object of a service's log means.
 use Rattle.std.specs.Prelude.{ℕ, ◌==◌, nat_lt, Bool, false, if◌then◌else◌, List, [], ◌∷◌, ◌++◌, length, Option, Some, None, is_some, unwrap_or, option_and_then, codes, bytes_eq}
 use Rattle.std.specs.List.{list_any, position_or_len, before_first}
 use Rattle.std.specs.Str.{str_eq_ignore_ascii_case}
@@ -38,7 +38,7 @@ group_keys =
 
 -- ---- words
 
--- a word: a string that isn't empty, or a number as it is written
+-- a word: a nonempty string, or a number as it is written
 abbrev pub word_of : Json → Option (List ℕ)
 word_of null = None
 word_of (boolean _) = None
@@ -50,7 +50,7 @@ word_of (object _) = None
 abbrev pub word_at : List ℕ → Json → Option (List ℕ)
 word_at key value = option_and_then word_of (get key value)
 
--- the first of these keys at which a word is
+-- the first of these keys that has a word
 abbrev pub first_key : List (List ℕ) → Json → Option (List ℕ)
 first_key [] value = None
 first_key (key ∷ others) value =
@@ -69,7 +69,7 @@ abbrev pub bare_level : List ℕ → List ℕ
 bare_level word =
     if nat_lt (position_or_len is_plus word) (length word) then before_first is_plus word else word
 
--- two words are the same but for the case of their letters
+-- two words are equal, except for the case of their letters
 unfoldable pub same_word : List ℕ → List ℕ → Bool
 same_word word other = str_eq_ignore_ascii_case word other
 
@@ -125,13 +125,13 @@ level_key value = if_level (first_key level_keys value) where
   if_level (Some key) = if is_some (level_at key value) then Some key else None
   if_level None = None
 
--- the level of a line; INFO if it names none
+-- the level of a line; INFO if the line has no level
 abbrev pub level_in : Json → Level
 level_in value = unwrap_or (option_and_then (λ key. level_at key value) (level_key value)) Info
 
 -- ---- time
 
--- the moment of a line; that of the line before if it tells none
+-- the moment of a line; that of the line before if the line has no time
 abbrev pub moment_in : Json → Moment → Moment
 moment_in value before = moment_of_word (first_word time_keys value) before
 
@@ -141,7 +141,7 @@ is_time_at key value = if_time (word_at key value) where
   if_time (Some word) = is_time word
   if_time None = false
 
--- the key at which a line tells its time
+-- the key of a line's time
 abbrev pub time_key : Json → Option (List ℕ)
 time_key value = if_key (first_key time_keys value) where
   if_key : Option (List ℕ) → Option (List ℕ)
@@ -164,7 +164,7 @@ abbrev pub listed : Option (List ℕ) → List (List ℕ)
 listed (Some key) = key ∷ []
 listed None = []
 
--- the keys that are no fields: those of the level, the time, the message and the group
+-- the keys that aren't fields: those of the level, the time, the message and the group
 abbrev pub used_keys : Json → List (List ℕ)
 used_keys value =
     listed (level_key value) ++ listed (time_key value)

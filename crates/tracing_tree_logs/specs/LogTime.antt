@@ -7,7 +7,7 @@ use Rattle.tracing_tree_context.specs.declared.context.Moment.{Moment}
 use Rattle.tracing_tree_sources.specs.Marks.{is_empty}
 use Rattle.tracing_tree_sources.specs.Moments.{moment_after, moment_at, moment_of}
 
--- one digit or more, and nothing else
+-- one digit or more, and only digits
 abbrev pub is_digits : List ℕ → Bool
 is_digits text = not (is_empty text) && all_ascii_digits text
 
@@ -17,7 +17,7 @@ whole_of text =
     if is_digits text && nat_lt (digits_value 10 text) (2 ^ 64)
     then Some (digits_value 10 text) else None
 
--- what a digit counts
+-- the value of a digit
 abbrev pub digit_in : ℕ → ℕ
 digit_in byte = byte - 48
 
@@ -33,7 +33,7 @@ abbrev pub after_three : List ℕ → List ℕ
 after_three (a ∷ b ∷ c ∷ rest) = rest
 after_three _ = []
 
--- the billionths that the digits after a point write; those after the ninth are cut off
+-- the billionths that the digits after a point write; digits after the ninth are ignored
 abbrev pub billionths : List ℕ → ℕ
 billionths digits =
     thousandths digits * 1_000_000 + thousandths (after_three digits) * 1000
@@ -63,13 +63,13 @@ decimal_of before after =
     then option_and_then (λ whole. nanoseconds whole (billionths after)) (whole_of before)
     else None
 
--- the nanoseconds since 1970 of a number: digits alone, or digits, a point and digits
+-- the nanoseconds since 1970 of a number: only digits, or digits, a point and digits
 abbrev pub nanoseconds_of : List ℕ → Option ℕ
 nanoseconds_of text =
     if has_point text then decimal_of (before_first is_point text) (after_first is_point text)
     else option_and_then (λ whole. nanoseconds whole 0) (whole_of text)
 
--- the moment that a number tells
+-- the moment that a number encodes
 abbrev pub moment_of_number : List ℕ → Option Moment
 moment_of_number text = option_map (λ n. moment_at (pos n)) (nanoseconds_of text)
 
@@ -77,12 +77,12 @@ abbrev pub moment_or_text : Option Moment → List ℕ → Moment → Moment
 moment_or_text (Some moment) word before = moment
 moment_or_text None word before = moment_after (Some word) before
 
--- a word tells a moment
+-- a word encodes a moment
 abbrev pub is_time : List ℕ → Bool
 is_time word = is_some (nanoseconds_of word) || is_some (moment_of word)
 
--- The moment that a word tells, as a number or as RFC 3339 writes it; that of the line before if it
--- tells none.
+-- The moment that a word encodes, as a number or in the format of RFC 3339; that of the line before
+-- if it encodes no moment.
 abbrev pub moment_of_word : Option (List ℕ) → Moment → Moment
 moment_of_word (Some word) before = moment_or_text (moment_of_number word) word before
 moment_of_word None before = before

@@ -1,4 +1,4 @@
--- JSON logs of services: what each line says.
+-- JSON logs of services: what each line means.
 use Rattle.std.specs.Prelude.{ℕ, if◌then◌else◌, List, [], ◌∷◌, ◌++◌, Option, Some, None, is_some, codes}
 use Rattle.json.specs.Find.{as_object}
 use Rattle.json.specs.Json.{Json}
@@ -17,7 +17,7 @@ use Rattle.tracing_tree_logs.specs.Groups.{span_of, with_span}
 use Rattle.tracing_tree_logs.specs.LogLine.{event_fields, first_key, group_key, group_keys, group_name, level_in, moment_in, word_at}
 
 -- What is known of the groups: the id of the next span, the moment of the last line, the span of
--- each group, that of the last line's group, and the calls that weren't passed on yet.
+-- each group, that of the last line's group, and the calls that weren't returned yet.
 pub record LogsState : Type 0 where
   pub next : ℕ
   pub moment : Moment
@@ -59,7 +59,7 @@ abbrev pub at_or_opened : Option Id → List ℕ → List ℕ → LogsState → 
 at_or_opened (Some span) name id s = arrived (Some span) s
 at_or_opened None name id s = opened name id s
 
--- a line comes to the span of this group
+-- a line enters the span of this group
 abbrev pub entered : List ℕ → List ℕ → LogsState → LogsState
 entered name id s = at_or_opened (span_of (group_key name id) s.groups) name id s
 
@@ -67,7 +67,7 @@ abbrev pub entered_if : List ℕ → Option (List ℕ) → LogsState → LogsSta
 entered_if name (Some id) s = entered name id s
 entered_if name None s = arrived None s
 
--- a line is in the span of its group, whose id is at this key, and at the root if it has none
+-- a line is in the span of its group, whose id is at this key; at the root if it has no group
 abbrev pub located : Option (List ℕ) → Json → LogsState → LogsState
 located (Some key) value s = entered_if (group_name key) (word_at key value) s
 located None value s = arrived None s
@@ -98,14 +98,14 @@ line_told line (Some value) s =
 abbrev pub handed_out : LogsState → Step LogsState
 handed_out s = record { calls = s.calls; source = record s { calls = [] } }
 
--- what a line says: each is known
+-- what a line means: each is known
 abbrev pub logs_takes : LogsState → List ℕ → Option Json → Option (Step LogsState)
 logs_takes s line value = Some (handed_out (line_told line value s))
 
 abbrev pub logs_lacks : Option Json → Lack
 logs_lacks value = Object
 
--- The group of the last line closes at the end, and no other: its row would be drawn again.
+-- At the end only the group of the last line closes: the row of any other would be drawn again.
 abbrev pub close_of : Moment → Option Id → List Call
 close_of moment (Some span) = close_call moment span None ∷ []
 close_of moment None = []

@@ -12,7 +12,7 @@ use Rattle.tracing_tree_otlp.specs.Read.{count_at, id_of, level_of}
 abbrev one : List ℕ → Json → Json
 one key value = object (member key value no_members)
 
--- ids in upper case are those in lower case, and zeros are none
+-- ids in upper case are those in lower case, and zeros are an absent id
 lower_case : id_of (codes "00FF") ≡ codes "00ff"
 lower_case = refl
 
@@ -37,7 +37,7 @@ levels = (refl, refl, refl, refl, refl, refl)
 failure : (has_failed (one (codes "code") (number (codes "2"))) ≡ true) × (has_failed (one (codes "code") (number (codes "1"))) ≡ false)
 failure = (refl, refl)
 
--- a span that is its own parent has none
+-- a span that is its own parent is a root
 own_parent : (above_of (codes "a") (codes "a") ≡ []) × (above_of (codes "a") (codes "b") ≡ codes "b")
 own_parent = (refl, refl)
 

@@ -1,4 +1,4 @@
--- A value of OTLP (`AnyValue`) as text.
+-- A value of OTLP (`AnyValue`) as a string.
 use Rattle.std.specs.Prelude.{ℕ, ◌==◌, Bool, true, false, ◌||◌, if◌then◌else◌, List, [], ◌++◌, flat_map, Option, Some, None, unwrap_or, codes, bytes_eq}
 use Rattle.std.specs.Char.{encode_utf8}
 use Rattle.std.specs.Str.{chars}
@@ -97,20 +97,20 @@ abbrev mutual
   array_json with_keys (array items) = items_json with_keys true items
   array_json with_keys (object _) = []
 
-  -- the items with a comma between them; `first` says that none is written yet
+  -- the items with a comma between them; `first` says that no item is written yet
   pub items_json : Bool → Bool → Items → List ℕ
   items_json with_keys first no_items = []
   items_json with_keys first (item value others) =
       separator first ++ value_json with_keys value ++ items_json with_keys false others
 
--- the text of a string, or of bytes as base64
+-- a string, or bytes as base64
 abbrev pub raw_text : Json → Option (List ℕ)
 raw_text value = or_bytes (text_at (codes "stringValue") value) where
   or_bytes : Option (List ℕ) → Option (List ℕ)
   or_bytes (Some text) = Some text
   or_bytes None = text_at (codes "bytesValue") value
 
--- a value as text: a string by itself, and any other value as JSON
+-- a value as a string: a string by itself, and any other value as JSON
 abbrev pub any_text : Json → List ℕ
 any_text value = or_json (raw_text value) where
   or_json : Option (List ℕ) → List ℕ

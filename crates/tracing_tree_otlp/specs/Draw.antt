@@ -20,8 +20,8 @@ use Rattle.tracing_tree_otlp.specs.declared.item.Shape.{Shape}
 use Rattle.tracing_tree_otlp.specs.declared.item.Shape.TheVariants.{Trace, Span as OfSpan, Note as OfNote}
 use Rattle.tracing_tree_otlp.specs.declared.item.Span.{Span}
 
--- The id of the next span, the moment of the last row, the rows that are nested in no open span, what
--- is open with the innermost first, and the calls so far.
+-- The id of the next span, the moment of the last row, the rows that aren't nested in an open span,
+-- what is open with the innermost first, and the calls so far.
 pub record TreeState : Type 0 where
   pub next : ℕ
   pub moment : Moment
@@ -29,12 +29,12 @@ pub record TreeState : Type 0 where
   pub frames : List Frame
   pub calls : List Call
 
--- ---- rows by the span in which they are nested
+-- ---- rows by the span that they are in
 
 abbrev pub key_in : Item → List ℕ
 key_in item = key_of item.trace item.above
 
--- a row comes before those of its span that are there
+-- a row before the rows of its span that are already there
 abbrev pub put_first : Item → List (List ℕ × List Item) → List (List ℕ × List Item)
 put_first item groups =
     with_kept (key_in item) (item ∷ unwrap_or (kept_at (key_in item) groups) [])
@@ -109,7 +109,7 @@ span_fields nanoseconds service parent kind =
 abbrev pub without_group : List ℕ → TreeState → TreeState
 without_group key s = record s { groups = without_kept key s.groups }
 
--- the rows nested in a span; they are nested in no other
+-- the rows nested in a span, and in no other span
 abbrev pub group_at : List ℕ → TreeState → List Item
 group_at key s = unwrap_or (kept_at key s.groups) []
 
@@ -174,8 +174,8 @@ closed_as (Some id) frame s =
 abbrev pub closed : Frame → TreeState → TreeState
 closed frame s = closed_as frame.id frame s
 
--- Rows that no root leads to are nested in each other. The rows of the first span of those are shown in
--- their trace.
+-- Rows that no root leads to are nested in each other. The rows of the first span of these are
+-- shown in their trace.
 abbrev pub left_over_as : Option (List Item) → TreeState → TreeState
 left_over_as None s = s
 left_over_as (Some items) s = trace_opened (trace_of items) items s
@@ -195,7 +195,7 @@ abbrev pub stepped_as : Option Item → TreeState → TreeState
 stepped_as (Some item) s = row_shown item s
 stepped_as None s = left s
 
--- the next row of the innermost span is shown; if it has none, it closes
+-- shows the next row of the innermost span; if no row is left, closes it
 abbrev pub stepped : TreeState → TreeState
 stepped s = stepped_as (next_row s.frames) (record s { frames = after_row s.frames })
 

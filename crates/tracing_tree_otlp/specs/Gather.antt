@@ -1,4 +1,4 @@
--- What the lines of an input say together: rows, and where each is nested.
+-- What the lines of an input say together: rows, and the span of each.
 use Rattle.std.specs.Prelude.{ℕ, ◌-◌, ◌^◌, min, ◌||◌, if◌then◌else◌, List, [], ◌∷◌, ◌++◌, length, Option, Some, None, is_some, codes}
 use Rattle.std.specs.Ordering.{nat_cmp, ordering_then}
 use Rattle.std.specs.declared.cmp.Ordering.{Ordering}
@@ -71,7 +71,7 @@ trace_seen trace time s = trace_seen_as (kept_at (key_of trace []) s.known) trac
 
 -- ---- spans
 
--- links come before all else in a span
+-- links come first in a span
 abbrev pub links_taken : List ℕ → List ℕ → ℕ → Items → GatheredState → GatheredState
 links_taken trace span time no_items s = s
 links_taken trace span time (item value others) s =
@@ -87,7 +87,7 @@ events_taken trace span no_items s = s
 events_taken trace span (item value others) s =
     events_taken trace span others (event_taken trace span value s)
 
--- a failure comes after all else in a span
+-- a failure comes last in a span
 abbrev pub status_taken : List ℕ → List ℕ → ℕ → Option Json → GatheredState → GatheredState
 status_taken trace span end None s = s
 status_taken trace span end (Some status) s =
@@ -194,11 +194,11 @@ abbrev pub text_taken_as : Option Json → List ℕ → GatheredState → Gather
 text_taken_as (Some value) text s = value_taken (Some value) (next_line s)
 text_taken_as None text s = lines_taken (lines text) s
 
--- a text is one value, which may take several lines, or else each of its lines is one
+-- an input is one value, which may take several lines; otherwise each line is a value
 abbrev pub gathered_in : List ℕ → GatheredState
 gathered_in text = text_taken_as (document text) text nothing_gathered
 
--- ---- where rows are nested
+-- ---- the spans in which rows are nested
 
 abbrev pub timed : Option ℕ → Item → Item
 timed (Some time) row = record row { time = time; place = record row.place { time = time } }
@@ -217,7 +217,7 @@ resolved_as (Note note) known row = held (kept_at (key_of row.trace row.above) k
 abbrev pub resolved : List (List ℕ × ℕ) → Item → Item
 resolved known row = resolved_as row.shape known row
 
--- by the time, events and logs first, by the id, and then as they came
+-- by the time, events and logs first, by the id, and then in their order
 abbrev pub item_cmp : Item → Item → Ordering
 item_cmp a b =
     ordering_then

@@ -1,4 +1,4 @@
--- What a span, its links, its events and its status, and a log say.
+-- What a span, its links, its events and its status, and a log mean.
 use Rattle.std.specs.Prelude.{ℕ, ◌+◌, ◌-◌, ◌*◌, ◌%◌, ◌^◌, ◌==◌, nat_le, Bool, true, false, ◌&&◌, if◌then◌else◌, List, [], ◌∷◌, Option, Some, None, codes, bytes_eq}
 use Rattle.json.specs.Json.{Json, null, boolean, number, string, array, object, Members, no_members, member}
 use Rattle.json.specs.Find.{get}
@@ -14,7 +14,7 @@ use Rattle.tracing_tree_otlp.specs.declared.item.Span.{Span}
 
 -- ---- events and logs
 
--- the time of a log: when it happened, or else when it was observed
+-- the time of a log: when it happened, otherwise when it was observed
 abbrev pub log_time : Json → ℕ
 log_time value =
     if count_at (codes "timeUnixNano") value == 0
@@ -24,7 +24,7 @@ abbrev pub has_members : Members → Bool
 has_members no_members = false
 has_members (member _ _ _) = true
 
--- a value that says nothing is no message
+-- null and an empty object aren't messages
 abbrev pub has_body : Json → Bool
 has_body null = false
 has_body (boolean _) = true
@@ -71,7 +71,7 @@ link_note value = record {
 abbrev pub reason_fields : List ℕ → List Field
 reason_fields text = if is_empty text then [] else field_of (codes "message") text ∷ []
 
--- what a span ends with whose status is that it failed
+-- the last row of a span whose status is that it failed
 abbrev pub failed_note : Json → Note
 failed_note status = record {
   level = Error;
@@ -96,7 +96,7 @@ span_of service value = record {
   fields = attributes_in value;
 }
 
--- The span in which a span is nested. One that is its own parent has none.
+-- The span in which a span is nested. A span that is its own parent is a root.
 abbrev pub above_of : List ℕ → List ℕ → List ℕ
 above_of id parent = if bytes_eq id parent then [] else parent
 
@@ -108,7 +108,7 @@ hex_digit byte =
     else if nat_le 97 byte && nat_le byte 102 then byte - 87
     else 0
 
--- one digit more, of which the last sixteen count
+-- one digit more; the last sixteen count
 abbrev pub digit_added : ℕ → ℕ → ℕ
 digit_added sum byte = (sum * 16 % 2 ^ 64 + hex_digit byte) % 2 ^ 64
 

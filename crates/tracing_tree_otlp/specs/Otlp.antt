@@ -1,4 +1,4 @@
--- What an input of OTLP/JSON tells.
+-- What an input of OTLP/JSON means.
 use Rattle.std.specs.Prelude.{◌≡◌, ◌<◌, ℕ, List, length, map, Result, Ok, Err, MatchOption, IsPermutation, IsSorted, ⊤}
 use Rattle.tracing_tree_context.specs.declared.context.Moment.{Moment}
 use Rattle.tracing_tree_context.specs.declared.context.Refusal.{Refusal}
@@ -15,11 +15,11 @@ use Rattle.tracing_tree_otlp.specs.Draw.{calls_in_order}
 use Rattle.tracing_tree_otlp.specs.Gather.{GatheredState, gathered_in, item_cmp, resolved}
 use Rattle.tracing_tree_otlp.specs.declared.item.Item.{Item}
 
--- rows in the one order in which they are drawn
+-- rows in the only order in which they are drawn
 abbrev pub IsInOrder : List Item → List Item → Type 0
 IsInOrder rows ordered = IsPermutation rows ordered × IsSorted item_cmp ordered
 
--- the rows of an input, each where it is nested
+-- the rows of an input, each with the span in which it is nested
 abbrev pub rows_of : GatheredState → List Item
 rows_of gathered = map (resolved gathered.known) gathered.items
 
@@ -40,8 +40,8 @@ DrawsUpTo next moment gathered refusal old new =
     (calls : List Call) × AreCallsOf next moment gathered calls
     × StopsIn Makes IsAnswered calls (Refused refusal) old new
 
--- what was gathered is drawn, or the drawing ends at a call that was refused, or nothing is drawn if an
--- allocation failed
+-- what was gathered is drawn, or the drawing ends at a call that was refused, or nothing is drawn
+-- because memory ran out
 abbrev pub DrawsOrEnds : ℕ → Moment → GatheredState → Result ⊤ LineCause → Seen → Seen → Type 0
 DrawsOrEnds next moment gathered (Ok done) old new = DrawsAll next moment gathered old new
 DrawsOrEnds next moment gathered (Err NoSettings) old new = ⊥
@@ -51,8 +51,8 @@ DrawsOrEnds next moment gathered (Err Memory) old new = new ≡ old
 DrawsOrEnds next moment gathered (Err (Refused refusal)) old new =
     DrawsUpTo next moment gathered refusal old new
 
--- What ended a run: nothing was drawn if an allocation failed, or if the notes ended the run after a
--- problem; or the drawing ends at a call that was refused.
+-- What ended a run: nothing was drawn because memory ran out, or because the notes ended the run
+-- after a problem; or the drawing ends at a call that was refused.
 abbrev pub EndsRun : ℕ → Moment → GatheredState → LineCause → Seen → Seen → Type 0
 EndsRun next moment gathered NoSettings old new = ⊥
 EndsRun next moment gathered NotACall old new = (0 < length gathered.problems) × (new ≡ old)
@@ -69,7 +69,7 @@ RunsOtlp next moment text run old new =
     (DrawsAll next moment gathered old new × (run.unknown ≡ length gathered.problems))
     (λ fault. (fault.line ≡ 1) × EndsRun next moment gathered fault.cause old new)
 
--- Why no calls were read: an allocation failed, or the notes ended the run after a problem.
+-- Why no calls were read: memory ran out, or the notes ended the run after a problem.
 abbrev pub EndsReading : LineCause → GatheredState → Type 0
 EndsReading NoSettings gathered = ⊥
 EndsReading NotACall gathered = 0 < length gathered.problems

@@ -1,4 +1,4 @@
--- What the objects of OTLP/JSON have at their keys.
+-- The values of OTLP/JSON's objects at their keys.
 use Rattle.std.specs.Prelude.{ℕ, ◌^◌, ◌==◌, ◌&&◌, nat_le, nat_lt, Bool, not, if◌then◌else◌, List, [], ◌∷◌, ◌++◌, map, Option, Some, None, unwrap_or, option_and_then, codes, bytes_eq}
 use Rattle.std.specs.Char.{to_ascii_lowercase}
 use Rattle.std.specs.List.{list_all}
@@ -16,7 +16,7 @@ use Rattle.tracing_tree_otlp.specs.AnyValue.{any_text}
 
 -- ---- numbers
 
--- one digit or more, and nothing else
+-- one digit or more, and only digits
 abbrev pub is_digits : List ℕ → Bool
 is_digits text = not (is_empty text) && all_ascii_digits text
 
@@ -26,7 +26,7 @@ whole_of text =
     if is_digits text && nat_lt (digits_value 10 text) (2 ^ 64)
     then Some (digits_value 10 text) else None
 
--- a number as it is written, which may be in a string
+-- the digits of a number, which may be in a string
 abbrev pub word_of : Json → Option (List ℕ)
 word_of null = None
 word_of (boolean _) = None
@@ -38,13 +38,13 @@ word_of (object _) = None
 abbrev pub number_at : List ℕ → Json → Option ℕ
 number_at key value = option_and_then whole_of (option_and_then word_of (get key value))
 
--- the count at a key, 0 if none is there
+-- the count at a key, or 0
 abbrev pub count_at : List ℕ → Json → ℕ
 count_at key value = unwrap_or (number_at key value) 0
 
 -- ---- strings, lists and ids
 
--- the string at a key, empty if none is there
+-- the string at a key, or an empty string
 abbrev pub string_at : List ℕ → Json → List ℕ
 string_at key value = unwrap_or (text_at key value) []
 
@@ -55,7 +55,7 @@ items_at key value = unwrap_or (array_at key value) no_items
 abbrev pub is_zero : ℕ → Bool
 is_zero byte = byte == 48
 
--- An id in lower case. One of zeros only is none, as an empty one is.
+-- An id in lower case. An id of only zeros is absent, as an empty one is.
 abbrev pub id_of : List ℕ → List ℕ
 id_of text = if list_all is_zero text then [] else map to_ascii_lowercase text
 
@@ -89,14 +89,14 @@ attribute_fields (item attribute others) = attribute_field attribute ∷ attribu
 abbrev pub attributes_in : Json → List Field
 attributes_in value = attribute_fields (items_at (codes "attributes") value)
 
--- the value of the first of these attributes with this key, empty if there is none
+-- the value of the first of these attributes with this key, or an empty string
 abbrev pub attribute_at : List ℕ → Items → List ℕ
 attribute_at key no_items = []
 attribute_at key (item attribute others) =
     if bytes_eq (string_at (codes "key") attribute) key then attribute_text attribute
     else attribute_at key others
 
--- the name of the service with this resource, empty if it has none
+-- the name of the service with this resource, or an empty string
 abbrev pub service_of : Json → List ℕ
 service_of resource = attribute_at (codes "service.name") (items_at (codes "attributes") resource)
 
@@ -110,7 +110,7 @@ service_in value = service_or_none (get (codes "resource") value)
 
 -- ---- levels
 
--- the level of a log's severity number; INFO if it says none
+-- the level of a log's severity number; INFO if it has no number
 abbrev pub level_of : ℕ → Level
 level_of severity =
     if nat_le 17 severity then Error

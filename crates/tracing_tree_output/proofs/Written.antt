@@ -11,6 +11,6 @@ moves_front all done rest n e =
     e ∙ ap (λ l. done ++ l) (sym (take-append-drop n rest)) ∙ sym (append_assoc done (take n rest) (drop n rest))
     ∙ ap (λ l. (done ++ take n rest) ++ l) (sym (take_rest rest n))
 
--- a write that took all leaves nothing
+-- a write that took everything leaves nothing
 pub none_left : (rest : List ℕ) (n : ℕ) → n ≡ length rest → take (length rest - n) (drop n rest) ≡ []
 none_left rest n e = let zero : length rest - n ≡ 0 = omega arith in rw zero refl

@@ -14,17 +14,17 @@ use Rattle.tracing_tree_page.proofs.Kept.{number-kept}
 use Rattle.std.specs.Fmt.{decimal, signed_decimal}
 use Rattle.std.specs.Int.{int_div_euclid, int_rem_euclid}
 
--- one text and then another
+-- one string and then another
 pub twice : (old mid new a b : List ℕ) → mid ≡ old ++ a → new ≡ mid ++ b → new ≡ old ++ (a ++ b)
 twice old mid new a b h k = k ∙ ap (λ text. text ++ b) h ∙ append_assoc old a b
 
--- a text and then an append that may fail
+-- a string and then an append that may fail
 pub then_ok : {E : Type 0} (r : Result (Unit {0}) E) (old mid new a b all : List ℕ) → mid ≡ old ++ a → OnOk r (new ≡ mid ++ b) → a ++ b ≡ all →
     OnOk r (new ≡ old ++ all)
 then_ok (Ok done) old mid new a b all h k e = twice old mid new a b h k ∙ ap (λ text. old ++ text) e
 then_ok (Err fault) old mid new a b all h k e = tt
 
--- a text and then a prefix of another
+-- a string and then a prefix of another
 pub grown : (old mid new a : List ℕ) → mid ≡ old ++ a → IsExtended mid new → IsExtended old new
 grown old mid new a h k = extended_twice old mid new (record { front = a; appended = h }) k
 

@@ -82,7 +82,7 @@ quoted_harmless text =
     one_more 34 (flat_map escaped text ++ 34 ∷ []) refl
     (joined (flat_map escaped text) (34 ∷ []) (mapped escaped escaped_harmless text) (record { all = refl }))
 
--- a byte between two harmless texts
+-- a byte between two harmless strings
 around : (a b : List ℕ) (byte : ℕ) → is_harmless byte ≡ true → AreHarmless a → AreHarmless b → AreHarmless (a ++ byte ∷ b)
 around a b byte e h k = joined a (byte ∷ b) h (one_more byte b e k)
 

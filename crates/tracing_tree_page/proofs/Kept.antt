@@ -1,4 +1,4 @@
--- Bytes that stand in a text as they are.
+-- Bytes that are unchanged in a string.
 use Rattle.std.proofs.Common.{◌≡◌, ◌≢◌, ℕ, zero, suc, ◌+◌, ◌/◌, ◌%◌, ◌<◌, ◌≤◌, eqb, Bool, true, false, cond, List, [], ◌∷◌, ◌++◌, arith, refl, sym, ap, ◌∙◌, flat_map}
 use Rattle.std.proofs.lemmas.List.Concat.{flat_map-append}
 use Rattle.std.proofs.lemmas.Str.{encodes-append}
@@ -59,11 +59,11 @@ pub decimal-kept : (n : ℕ) → flat_map escaped (decimal n) ≡ decimal n
 unfolding digits
 decimal-kept n = (onto_kept 64 n [] none).same
 
--- a number before a text
+-- a number before a string
 pub number-kept : (n : ℕ) (text : List ℕ) → decimal n ++ flat_map escaped text ≡ flat_map escaped (decimal n ++ text)
 number-kept n text = sym (flat_map-append escaped (decimal n) text ∙ ap (λ front. front ++ flat_map escaped text) (decimal-kept n))
 
--- ---- a text so far
+-- ---- a string so far
 
 -- one more character
 pub one-more-char : (start mid new cs : List ℕ) (c : ℕ) → mid ≡ start ++ flat_map escaped (encodes cs) → new ≡ mid ++ flat_map escaped (encode c) →

@@ -1,4 +1,4 @@
--- What is written is a prefix of the lines of the calls, also if the output fails.
+-- What is written is a prefix of the lines of the calls, even if the output fails.
 use Rattle.std.proofs.Common.{◌≡◌, ◌≢◌, ℕ, List, [], ◌∷◌, ◌++◌, Option, Some, None, Ok, Err, arith, refl, sym, ap, ◌∙◌, subst}
 use Rattle.std.proofs.KnownBytes.{Appends-nil, Appends-trans}
 use Rattle.std.proofs.lemmas.Bool.{ne_eqb}
@@ -79,7 +79,7 @@ calm text (Err Timer) old new h w = w.1
 calm text (Err Writer) old new h w = absurd h
 calm text (Err Failed) old new h w = w.1
 
--- one text, and then a prefix of another
+-- one string, and then a prefix of another
 longer : (old between new : SeenWriter) (first later all : List ℕ) → Appends old.bytes between.bytes first → WritesPrefix later between new → all ≡ first ++ later →
     WritesPrefix all old new
 longer old between new first later all h k e = record {
@@ -89,7 +89,7 @@ longer old between new first later all h k e = record {
   appends = Appends-trans old.bytes between.bytes new.bytes first k.front h k.appends;
 }
 
--- a text that is cut short, and then nothing
+-- a truncated string, and then nothing
 cut : (old between new : SeenWriter) (text : List ℕ) → LeavesCut text old between → Appends between.bytes new.bytes [] → WritesPrefix text old new
 cut old between new text h k = record {
   front = h.front;

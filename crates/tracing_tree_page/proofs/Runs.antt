@@ -33,7 +33,7 @@ wrote form forest call (Err Timer) old new held h = kept old.bytes new.bytes h.0
 wrote form forest call (Err Writer) old new held h = absurd held
 wrote form forest call (Err Failed) old new held h = kept old.bytes new.bytes h.0
 
--- While the output takes everything, calls append the lines of the steps of those that are accepted.
+-- While the output takes everything, calls append the lines of the steps of the accepted ones.
 pub run_is_written : (form : LineForm) (calls : List Call) (answers : List Answer) (old new : SeenSteps) → old.form ≡ form → OutputHeld answers → AnswersEach calls answers old new →
     Appends old.writer.bytes new.writer.bytes (lines_of form (accepted_steps old.forest calls answers))
 run_is_written form [] [] old new same held h = subst (λ (seen : SeenSteps). Appends old.writer.bytes seen.writer.bytes []) (sym h) (Appends-nil old.writer.bytes)
@@ -56,7 +56,7 @@ run_keeps_form [] (answer ∷ answers) old new h = absurd h
 run_keeps_form (call ∷ calls) [] old new h = absurd h
 run_keeps_form (call ∷ calls) (answer ∷ answers) old new (between, one, others) = run_keeps_form calls answers between new others ∙ one.form
 
--- A beginning, calls and an end make a page.
+-- Begin, calls and end make a page.
 page_ended : (tail : List ℕ) (old new : SeenSteps) → Writes {A = Unit {0}} (line_of old.form End ++ tail) (Ok tt) old.writer new.writer → EndsPage {A = Unit {0}} tail (Ok tt) old new
 page_ended tail old new h head title calls answers fresh begun first told held =
     let form = fresh.form in

@@ -145,7 +145,7 @@ line_of form step =
 
 -- ---- what no input can write
 
--- a byte that neither is `<` nor a control character: from it, no HTML element can begin or end
+-- a byte other than `<` and control characters: from it, no HTML element can begin or end
 abbrev pub is_harmless : ℕ → Bool
 is_harmless byte = nat_le 32 byte && not (byte == 60)
 

@@ -69,14 +69,14 @@ tried_steps forest (call ∷ calls) (answer ∷ answers) =
     ++ tried_steps (forest_after_answer forest call answer) calls answers
 tried_steps forest calls answers = []
 
--- a prefix of a text was written
+-- a prefix of a string was written
 pub record WritesPrefix (text : List ℕ) (old new : SeenWriter) : Type 0 where
   pub front : List ℕ
   pub rest : List ℕ
   pub whole : text ≡ front ++ rest
   pub appends : Appends old.bytes new.bytes front
 
--- Whatever calls are made on an output without faults, what is written is a prefix of the lines of the
+-- Whatever calls are made on an output without faults, a prefix is written of the lines of the
 -- steps of the accepted calls and of the call at which the output failed.
 abbrev pub RunsWritePrefixes : Type 0
 RunsWritePrefixes =

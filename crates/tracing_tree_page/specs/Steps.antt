@@ -12,8 +12,8 @@ use Rattle.tracing_tree_text.specs.declared.style.Level.{Level}
 use Rattle.tracing_tree_text.specs.declared.field.Field.{Field}
 use Rattle.tracing_tree_drawing.specs.Format.Texts.{thread_name_text}
 
--- when and in which thread a step happens: the nanoseconds of the monotonic clock, by how many the
--- wall clock is ahead of it, and the thread
+-- when and in which thread a step happens: the nanoseconds of the monotonic clock, how far the wall
+-- clock is ahead of it, and the thread
 pub record Stamp : Type 0 where
   pub mono : ℕ
   pub ahead : ℤ
@@ -31,7 +31,7 @@ stamp_of context = record {
 }
 
 -- A step: the start of a run with its title, a new span, fields that are recorded later, an event,
--- a span that closes, and the end of the run. Spans are named by their ids, and 0 is no span's.
+-- a span that closes, and the end of the run. Spans are named by their ids; 0 means no span.
 pub data Step : Type 0 where
   About : (title : List ℕ) → Step
   New : (stamp : Stamp) (id parent : ℕ) (name target : List ℕ) (fields : List Field) → Step
@@ -69,9 +69,9 @@ abbrev pub record_steps : Bool → Id → List Field → List Step
 record_steps true i fields = record_step i fields ∷ []
 record_steps false i fields = []
 
--- What an accepted call does. An event is in its span if that is live, and otherwise in none; a
--- record of a span that isn't live does nothing; a close has one step for each span that closes, the
--- deepest first.
+-- What an accepted call does. An event is in its span if that is live, otherwise at the root; a
+-- record of a span that isn't live does nothing; a close has one step for each span that closes,
+-- the deepest first.
 abbrev pub steps_of : Forest → Call → List Step
 steps_of forest (Calls.New attributes context) =
     new_step context (new_id forest) attributes ∷ []

@@ -1,8 +1,8 @@
 -- How a string between quotes is parsed.
 use Rattle.std.specs.Prelude.{ℕ, ◌+◌, ◌*◌, ◌-◌, nat_lt, ◌==◌, if◌then◌else◌, List, [], ◌∷◌, Option, Some, None}
 
--- the state of the parser: between characters, after a backslash, or in a code with this many digits
--- left, and the value of its digits so far
+-- the state of the parser: between characters, after a backslash, or in a code with this many
+-- digits left, and the value of its digits so far
 pub data Mode : Type 0 where
   Plain : Mode
   Slash : Mode

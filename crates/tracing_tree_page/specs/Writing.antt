@@ -39,7 +39,7 @@ seen_steps output it =
 abbrev pub lines_of : LineForm → List Step → List ℕ
 lines_of form steps = flat_map (line_of form) steps
 
--- the id that a new span gets, or the refusal for which it gets none
+-- the id that a new span gets, or the refusal if it gets no id
 abbrev pub IsFree : Attributes → Context → Result Id Refusal → Forest → Type 0
 IsFree attributes context (Ok i) forest =
     (missing_parent forest attributes context ≡ None) × (forest.next ≡ Some i)
@@ -92,7 +92,7 @@ pub record WritesBytes {A : Type 0} (bytes : List ℕ) (answer : Result A Refusa
   pub forest : new.forest ≡ old.forest
   pub written : Writes bytes answer old.writer new.writer
 
--- the output passed on what it held back
+-- the output flushed
 pub record PassesOn (old new : SeenSteps) : Type 0 where
   pub form : new.form ≡ old.form
   pub forest : new.forest ≡ old.forest

@@ -12,7 +12,7 @@ use Rattle.tracing_tree_sources.specs.Told.{shown}
 use Rattle.tracing_tree_prefix.specs.declared.prefix.Mark.{Mark}
 use Rattle.tracing_tree_prefix.specs.declared.prefix.Mark.TheVariants.{Bar, Bracket, Time}
 
--- a source, and the mark at which prefixes end, if lines have them
+-- a source, and the mark at which prefixes end, if lines have prefixes
 pub record Marked (S : Type 0) : Type 0 where
   pub source : S
   pub mark : Option Mark
@@ -87,8 +87,8 @@ module _ {S : Type 0} where
     source = record { source = step.source; mark = mark };
   }
 
-  -- A line means what its rest after the prefix means, with the prefix in each event. A line without
-  -- a prefix means what it means to the source.
+  -- A line means what its rest after the prefix means, with the prefix in each event. A line
+  -- without a prefix means what it means to the source.
   abbrev pub prefixed_takes : (S → List ℕ → Option Json → Option (Step S)) → Marked S → List ℕ
       → Option Json → Option (Step (Marked S))
   prefixed_takes takes marked line value = by_parts (parts_of marked.mark line value) where

@@ -69,7 +69,7 @@ has_map P Q f [] h = absurd h
 has_map P Q f (x ∷ xs) (inl h) = inl (f x h)
 has_map P Q f (x ∷ xs) (inr h) = inr (has_map P Q f xs h)
 
--- ---- the least
+-- ---- the smallest
 
 abbrev pub In : ℕ → List ℕ → Type 0
 In place places = Has (λ other. other ≡ place) places
@@ -82,12 +82,12 @@ least_some : (found : ℕ) (xs : List ℕ) → least (Some found) xs ≡ None �
 least_some found [] e = cc
 least_some found (x ∷ xs) e = least_some (min found x) xs e
 
--- without a least place there is none
+-- without a smallest place there is no place
 pub least_none : (xs : List ℕ) → least None xs ≡ None → (place : ℕ) → In place xs → ⊥
 least_none [] e place h = h
 least_none (x ∷ xs) e place h = least_some x xs e
 
--- the least place is one of them, or the one that was found before, and no other is below
+-- the smallest place is one of them, or the one that was found before, and no other is below
 pub record IsLeast (found : ℕ) (xs : List ℕ) (place : ℕ) : Type 0 where
   pub among : (found ≡ place) ⊎ In place xs
   pub found_above : place ≤ found

@@ -1,4 +1,4 @@
--- Which places of a history are wrong, told by a walk over the receipts.
+-- Which places of a history are wrong, found by a walk over the receipts.
 use Rattle.std.proofs.Common.{◌≡◌, ◌∙◌, ℕ, zero, suc, ◌+◌, ◌<◌, ◌≤◌, Bool, true, false, not, ◌&&◌, eqb, leb, cond, max, List, [], ◌∷◌, ◌++◌, length, get_or, ◌⊎◌, refl, sym, ap, subst, inl, inr, arith, Option, Some, None, Any, All, IsSomeAnd, flat_map, slice_get, count_by, nat_lt, Decides, if◌then◌else◌, ◌==◌, rules, IfSome, IfNone, drop, min, zero-add}
 use Rattle.std.specs.Option.{option_map_or}
 use Rattle.std.proofs.lemmas.Bool.{cases_lt, leb-true, le-leb, ltb-true, ltb-false, lt-ltb, ne_eqb, or_cases, or_left, or_right, not-true, not_from_false, both_ways}
@@ -278,7 +278,7 @@ module _ (history : List Entry) where
   abbrev pub HaveOne : List Slips → ℕ → Type 0
   HaveOne passes end = (other : ℕ) → other < end → slips_at passes other ≡ 1
 
-  -- the first misplaced receipt comes not before this
+  -- the first misplaced receipt isn't before this
   abbrev pub ComesFrom : List Slips → ℕ → Type 0
   ComesFrom passes end = (other : ℕ) → In other (all_misplaced passes) → end ≤ other
 
@@ -317,7 +317,7 @@ count_none place (s ∷ ss) none =
     ∙ zero-add (count_by (λ (slip : Slip). slip.place == place) ss)
     ∙ count_none place ss (λ k d lt. none (suc k) d (omega (arith, lt)))
 
--- one place where it may stand
+-- the only place where it may be
 pub count_split : (place : ℕ) (slips : Slips) (i : ℕ) →
     ((k : ℕ) (d : Slip) → k < i → k < length slips → (get_or slips k d).place < place) →
     ((k : ℕ) (d : Slip) → i < k → k < length slips → (get_or slips k d).place ≡ place → ⊥) →
@@ -336,7 +336,7 @@ count_split place (s ∷ ss) (suc i) before after =
     ∙ zero-add (count_by (λ (slip : Slip). slip.place == place) ss)
     ∙ count_split place ss i (λ k d lt within. before (suc k) d (omega (arith, lt)) (omega (arith, within))) (λ k d lt within. after (suc k) d (omega (arith, lt)) (omega (arith, within)))
 
--- where the receipts for smaller places end
+-- the place at which the receipts for smaller places end
 pub count_at_point : (place : ℕ) (slips : Slips) (i : ℕ) → RisesUpTo place slips →
     IsPartitionPoint (λ (slip : Slip). nat_lt slip.place place ≡ true) (λ (slip : Slip). nat_lt slip.place place ≡ false) slips i →
     count_by (λ (slip : Slip). slip.place == place) slips ≡ option_map_or (λ (slip : Slip). if slip.place == place then 1 else 0) (slice_get slips i) 0
@@ -347,7 +347,7 @@ count_at_point place slips i rising point =
     after k d order lt e =
         omega (arith, rising i k d order lt (omega (arith, e)), e, ltb-false (get_or slips i d).place place (point.1 i d (omega arith) (omega arith)))
 
--- the receipt that stands there
+-- the receipt at that place
 pub count_found : (place : ℕ) (slips : Slips) (i : ℕ) (slip : Slip) → RisesUpTo place slips →
     IsPartitionPoint (λ (slip : Slip). nat_lt slip.place place ≡ true) (λ (slip : Slip). nat_lt slip.place place ≡ false) slips i →
     i < length slips → slip ≡ get_or slips i slip → count_by (λ (slip : Slip). slip.place == place) slips ≡ cond (eqb slip.place place) 1 0

@@ -145,7 +145,7 @@ keeps_answered first history call answer old new whole h k =
     let P : Seen → Type 0 = λ s. IsKept s.settings s.timer first (history ++ entries_of call answer) s.state new.writer.bytes in
     subst P (sym h.left) (kept_answer old.settings old.timer first history old.state old.writer new.writer call answer whole k h.allowed h.written)
 
--- One that was refused for want of memory too.
+-- A call that was refused because memory ran out, too.
 pub keeps_replay : (first : Option Id) (history : List Entry) (call : Call) (answer : Result Reply Refusal) (old new : Seen) →
     IsTrue old.writer.whole → IsAnsweredOrLacks call answer old new → KeepsReplay first history old →
     KeepsReplay first (history ++ entries_of call answer) new
@@ -156,7 +156,7 @@ keeps_replay first history call answer old new whole (inr lacks) k =
     let R : List Entry → Type 0 = λ entries. KeepsReplay first entries old in
     subst P (sym lacks.same) (subst Q (sym lacks.cause) (subst R (sym (append-nil history)) k))
 
--- What is answered to a draft is answered on some layer.
+-- A draft's answer is a call's answer on some layer.
 pub answered_on_some : {FT : Type 0} {time : FormatTime FT} {call : Call} {result : Result Slip Answers.Refused} {old new : BookView TapeView FT} →
     IsApplied time call result old new → IsAnsweredOnSome time call (answer_shown result)
 answered_on_some {old = old} {new = new} applied = (old.layered, new.layered, applied.answered)

@@ -29,7 +29,7 @@ pub short_replay : IsKept lined no_timer (Some (id_of 1)) short_history (left_by
 unfolding encode_utf8
 short_replay = record { forest = refl; last = refl; sound = refl; replies = refl; output = refl }
 
--- the receipt for place 0 stands behind that for place 1
+-- the receipt for place 0 comes after that for place 1
 abbrev pub slip_at : ℕ → Slip
 slip_at place = record { place = place; entry = (closed 1, Closed true) }
 
@@ -42,14 +42,14 @@ late_slip = record { sooner = 0; later = 1; order = omega arith; not_smaller = o
 abbrev silent : FormatTime Bool
 silent = record { timer = λ value. no_timer }
 
--- one that shows `now` at each event
+-- a timer that shows `now` at each event
 abbrev now_timer : Timer
 now_timer = record { moment_text = λ moment. Some (codes "now"); elapsed_text = λ ansi nanos. Some [] }
 
 abbrev one_event : List Entry
 one_event = (informed (codes "x") outside, Done) ∷ []
 
--- What is drawn with times has some timer, but none of a type that states none.
+-- A drawing with times has some timer, but no timer of a type that never states a time.
 pub timed_is_kept : IsKept lined now_timer (Some (id_of 1)) one_event (opening_state (Some (id_of 1))) (Some (encode_utf8_all (codes "now INFO x\n")))
 unfolding encode_utf8
 timed_is_kept = record { forest = refl; last = refl; sound = refl; replies = refl; output = refl }
@@ -58,7 +58,7 @@ pub timed_is_no_replay : IsReplay silent lined one_event (encode_utf8_all (codes
 unfolding encode_utf8
 timed_is_no_replay r = let differ : Some (encode_utf8_all (codes "now INFO x\n")) ≡ Some (encode_utf8_all (codes "INFO x\n")) = r.kept.output in cc
 
--- drawn without times, it is one
+-- a drawing without times has a timer of that type
 pub untimed_replay : IsReplay silent lined one_event (encode_utf8_all (codes "INFO x\n"))
 unfolding encode_utf8
 untimed_replay = record {
@@ -76,11 +76,11 @@ with_timer timer = record {
   layer = record { settings = lined; writer = record { bytes = []; faults = 0 }; timer = timer; last = None; failed = false; unwritten = [] };
 }
 
--- a call that is refused for memory changes nothing
+-- a call that is refused because memory ran out changes nothing
 pub refused_call : (call : Call) → Changes (seen_on_tape silent) (IsAnsweredOrLacks call (Err Memory)) (with_timer false) (with_timer false)
 refused_call call = record { changed = inr (record { cause = refl; sound = refl; same = refl }); fixed = refl }
 
--- No call changes the timer, also not for one that states the same.
+-- A call never changes the timer, not even for one that states the same.
 pub timer_stays : (call : Call) (answer : Result Reply Refusal)
     → Changes (seen_on_tape silent) (IsAnsweredOrLacks call answer) (with_timer false) (with_timer true) → ⊥
 timer_stays call answer changes = let same : true ≡ false = ap (λ (l : LayerView TapeView Bool). l.timer) changes.fixed in cc

@@ -8,7 +8,7 @@ settings_code true false = 1
 settings_code false true = 2
 settings_code true true = 3
 
--- The amount of a ledger: 4 for each call that a history has room for, and the code of ansi and
+-- The amount of a ledger: 4 for each call that a history has space for, and the code of ansi and
 -- targets.
 abbrev pub full_amount : Bool → Bool → ℕ
 full_amount ansi targets = 4 * 2 ^ 64 + settings_code ansi targets

@@ -16,7 +16,7 @@ pub record DraftView : Type 0 where
   pub call : Call
   pub tail : Option TailView
 
--- a text is the tail of a call under these settings
+-- a string is the tail of a call under these settings
 abbrev pub IsTailOf : Settings → Call → List ℕ → Type 0
 IsTailOf settings (New attributes context) text = ⊥
 IsTailOf settings (Clone i) text = ⊥
@@ -28,17 +28,17 @@ IsTailOf settings (Close i context) text = ⊥
 abbrev pub settings_with : Bool → Bool → Settings
 settings_with ansi targets = record default_settings { ansi = ansi; targets = targets }
 
--- a tail, where there is one, is the call's
+-- a tail, if there is one, is the call's
 abbrev pub KeepsTail : Call → Option TailView → Type 0
 KeepsTail call None = ⊤
 KeepsTail call (Some tail) = IsTailOf (settings_with tail.ansi tail.targets) call tail.text
 
--- a copy, where there is one, is the call's
+-- a copy, if there is one, is the call's
 abbrev pub IsCopyOf : Call → Option Call → Type 0
 IsCopyOf call None = ⊤
 IsCopyOf call (Some copy) = copy ≡ call
 
--- the tail of an event under these two settings; other calls have none
+-- the tail of an event under these two settings; other calls have no tail
 abbrev pub tail_under : Bool → Bool → Call → Option TailView
 tail_under ansi targets (New attributes context) = None
 tail_under ansi targets (Clone i) = None

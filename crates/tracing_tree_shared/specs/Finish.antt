@@ -1,4 +1,4 @@
--- What taking all passes back answers, and how the first wrong place is found.
+-- The answer of taking all passes back, and how the first wrong place is found.
 use Rattle.std.specs.Prelude.{◌≡◌, ◌<◌, ◌≤◌, ◌&&◌, ◌||◌, ℕ, min, max, Bool, false, not, nat_le, if◌then◌else◌, List, [], ◌∷◌, ◌++◌, length, slice_get, slice_index_or, sum_by, Option, Some, None, Result, Ok, Err}
 use Rattle.std.specs.Option.{option_map_or}
 use Rattle.tracing_tree_drawing.specs.Format.Settings.{Settings}
@@ -73,7 +73,7 @@ abbrev pub greater : Option ℕ → ℕ → Option ℕ
 greater None place = Some place
 greater (Some greatest) place = Some (max greatest place)
 
--- the least place so far
+-- the smallest place so far
 abbrev pub lesser : Option ℕ → ℕ → Option ℕ
 lesser None place = Some place
 lesser (Some least) place = Some (min least place)
@@ -89,12 +89,13 @@ misplaced history greatest (slip ∷ slips) =
     (if is_misplaced history greatest slip then slip.place ∷ [] else [])
     ++ misplaced history (greater greatest slip.place) slips
 
--- the least of these places, and of one that was found before
+-- the smallest of these places, and of one that was found before
 abbrev pub least : Option ℕ → List ℕ → Option ℕ
 least found [] = found
 least found (place ∷ places) = least (lesser found place) places
 
--- Receipts rise up to a place: of two the later is for a greater place, unless it is for one above.
+-- Receipts rise up to a place: of two, the later is for a greater place, unless it is for one
+-- above.
 abbrev pub RisesUpTo : ℕ → Slips → Type 0
 RisesUpTo place slips =
     (i j : ℕ) (d : Slip) → i < j → j < length slips → (slice_index_or slips j d).place ≤ place →

@@ -30,8 +30,8 @@ abbrev pub IsTrueHistory : Settings → Timer → Option Id → List Entry → T
 IsTrueHistory settings timer first history =
     (replay settings timer first history).replies ≡ replies_in history
 
--- What is kept beside a history: the state, `failed` aside, and each reply are those of the replay, in which nothing fails, and the
--- bytes are the drawing of its rows.
+-- What is kept with a history: the state, except `failed`, and each reply are those of the replay,
+-- in which nothing fails, and the bytes are the drawing of its rows.
 pub record IsKept (settings : Settings) (timer : Timer) (first : Option Id) (history : List Entry)
     (state : State) (bytes : Option (List ℕ)) : Type 0 where
   pub forest : state.forest ≡ (replay settings timer first history).state.forest
@@ -42,12 +42,12 @@ pub record IsKept (settings : Settings) (timer : Timer) (first : Option Id) (his
 
 -- ---- receipts
 
--- what shows that a call stands at a place of the history, with its reply
+-- the proof that a call is at a place of the history, with its reply
 pub record Slip : Type 0 where
   pub place : ℕ
   pub entry : Entry
 
--- what a thread holds: its receipts, in the order in which it was given them
+-- what a thread holds: its receipts, in the order in which it received them
 abbrev pub Slips : Type 0
 Slips = List Slip
 
@@ -69,7 +69,7 @@ HasOther history passes place =
     (slip : Slip) × Any (λ other. other ≡ slip) (all_slips passes) × (slip.place ≡ place)
     × ¬ (KeepsSlip history slip)
 
--- a receipt for this place stands after one that is not for a smaller place
+-- a receipt for this place comes after one whose place isn't smaller
 pub record IsLateIn (slips : Slips) (place : ℕ) : Type 0 where
   pub sooner : ℕ
   pub later : ℕ
@@ -77,8 +77,8 @@ pub record IsLateIn (slips : Slips) (place : ℕ) : Type 0 where
   pub not_smaller : IsSomeAnd (slice_get slips sooner) (λ slip. place ≤ slip.place)
   pub late : IsSomeAnd (slice_get slips later) (λ slip. slip.place ≡ place)
 
--- what is wrong at a place: not one receipt, but none or several; a receipt past the end or of
--- another call; or one out of order
+-- what is wrong at a place: not exactly one receipt; a receipt past the end or of another call; or
+-- one out of order
 abbrev pub IsStrange : List Entry → List Slips → ℕ → Type 0
 IsStrange history passes place =
     ((place < length history) × ¬ (slips_at passes place ≡ 1))
@@ -90,7 +90,7 @@ IsFirstStrange history passes place =
     IsStrange history passes place
     × ((other : ℕ) → other < place → ¬ (IsStrange history passes other))
 
--- nothing is wrong anywhere: each receipt's call stands once, with its reply, and in the order of
+-- nothing is wrong anywhere: each receipt's call appears once, with its reply, and in the order of
 -- its pass
 abbrev pub IsOneHistory : List Entry → List Slips → Type 0
 IsOneHistory history passes = (place : ℕ) → ¬ (IsStrange history passes place)

@@ -1,4 +1,4 @@
--- What a book keeps beside its history, and what a draft leaves in it.
+-- What a book keeps with its history, and what a draft leaves in it.
 use Rattle.std.specs.Prelude.{◌≡◌, ◌⊎◌, ℕ, true, false, List, [], ◌∷◌, ◌++◌, length, Option, Some, Result, Ok, Err, ⊤}
 use Rattle.tracing_tree_context.specs.declared.context.Id.{Id}
 use Rattle.tracing_tree_context.specs.declared.context.Refusal.{Refusal}
@@ -13,7 +13,7 @@ use Rattle.tracing_tree_layer.specs.declared.call.Reply.{Reply}
 use Rattle.tracing_tree_shared.specs.History.{Entry, Slip, IsKept}
 use Rattle.tracing_tree_shared.specs.declared.draft.Refused.{Refused}
 
--- what is kept beside a history, of what is seen
+-- what is kept with a history, of what is seen
 abbrev pub KeepsReplay : Option Id → List Entry → Seen → Type 0
 KeepsReplay first history seen =
     IsKept seen.settings seen.timer first history seen.state seen.writer.bytes
@@ -46,13 +46,13 @@ seen_on_tape time layered = record {
   };
 }
 
--- room was lacking in a layer that hasn't failed, and nothing changed
+-- memory ran out in a layer that hasn't failed, and nothing changed
 pub record LacksMemory (answer : Result Reply Refusal) (old new : Seen) : Type 0 where
   pub cause : answer ≡ Err Memory
   pub sound : old.state.failed ≡ false
   pub same : new ≡ old
 
--- a call is answered as `Layered::call` answers it, or room for it was lacking
+-- a call is answered as `Layered::call` answers it, or memory for it ran out
 abbrev pub IsAnsweredOrLacks : Call → Result Reply Refusal → Seen → Seen → Type 0
 IsAnsweredOrLacks call answer old new =
     IsAnswered call answer old new ⊎ LacksMemory answer old new
@@ -67,8 +67,9 @@ abbrev pub ShowsCall : Call → ℕ → Result Slip Refused → Type 0
 ShowsCall call place (Ok receipt) = (receipt.place ≡ place) × (receipt.entry.0 ≡ call)
 ShowsCall call place (Err refused) = ⊤
 
--- A draft is applied: its call is answered as `Layered::call` answers it, or room for it was lacking. The history gains the call with
--- its reply, which the receipt shows with their place, and keeps all else.
+-- A draft is applied: its call is answered as `Layered::call` answers it, or memory for it ran out.
+-- The history gains the call with its reply, which the receipt shows with their place, and the rest
+-- is unchanged.
 pub record IsApplied {FT : Type 0} (time : FormatTime FT) (call : Call)
     (result : Result Slip Refused) (old new : BookView TapeView FT) : Type 0 where
   pub answered : Changes (seen_on_tape time) (IsAnsweredOrLacks call (answer_shown result))
@@ -82,8 +83,8 @@ abbrev pub answer_given : Result Reply Refused → Result Reply Refusal
 answer_given (Ok reply) = Ok reply
 answer_given (Err refused) = Err refused.cause
 
--- There is a registry with a layer over a tape on which a call is answered so. Of a layer behind a
--- lock no more can be said.
+-- There is a registry with a layer over a tape on which a call is answered this way. Contracts
+-- can't say more of a layer behind a lock.
 abbrev pub IsAnsweredOnSome : {FT : Type 0} → FormatTime FT → Call → Result Reply Refusal → Type 0
 IsAnsweredOnSome {FT} time call answer =
     (old : LayeredView TapeView FT) × (new : LayeredView TapeView FT)

@@ -25,20 +25,20 @@ abbrev pub answer_numbered : Result Numbered Refused → Result Reply Refusal
 answer_numbered (Ok numbered) = Ok numbered.reply
 answer_numbered (Err refused) = Err refused.cause
 
--- an accepted call has the next number, and a refused one none
+-- an accepted call has the next number, and a refused one has no number
 abbrev pub IsCounted : Result Numbered Refused → ℕ → ℕ → Type 0
 IsCounted (Ok numbered) old new = (numbered.number ≡ old) × (new ≡ min (old + 1) (2 ^ 64 - 1))
 IsCounted (Err refused) old new = new ≡ old
 
--- A draft is applied: its call is answered as `Layered::call` answers it, or room for it was lacking.
+-- A draft is applied: its call is answered as `Layered::call` answers it, or memory for it ran out.
 pub record IsStreamed {W FT : Type 0} (time : FormatTime FT) (output : Output W) (call : Call)
     (result : Result Numbered Refused) (old new : CountedView W FT) : Type 0 where
   pub answered : Changes (seen time output) (IsAnsweredOrLacks call (answer_numbered result))
       old.layered new.layered
   pub counted : IsCounted result old.accepted new.accepted
 
--- There is a registry with a layer, and a count, to which a draft is applied so. Of those behind a
--- lock no more can be said.
+-- There is a registry with a layer, and a count, to which a draft is applied this way. Contracts
+-- can't say more of those behind a lock.
 abbrev pub IsStreamedOnSome : {W FT : Type 0} → FormatTime FT → Output W → Call
     → Result Numbered Refused → Type 0
 IsStreamedOnSome {W} {FT} time output call result =

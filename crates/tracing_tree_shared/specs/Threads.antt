@@ -18,29 +18,29 @@ pub record SharedCallsView : Type 0 where
   pub layer : SharedView
   pub receipts : Slips
 
--- the receipts after an answer: that of an accepted call came last, and a refused one has none
+-- the receipts after an answer: an accepted call adds its receipt, a refused one doesn't
 abbrev pub Receives : Call → Result Reply Refusal → Slips → Slips → Type 0
 Receives call (Ok reply) old new =
     (place : ℕ) × (new ≡ old ++ record { place = place; entry = (call, reply) } ∷ [])
 Receives call (Err refusal) old new = new ≡ old
 
--- A call is answered as some registry with a layer over a tape answers it, or memory was refused.
--- Of a layer behind a lock no more can be said.
+-- A call is answered as some registry with a layer over a tape answers it, or memory ran out.
+-- Contracts can't say more of a layer behind a lock.
 pub record IsAnsweredShared {FT : Type 0} (time : FormatTime FT) (call : Call)
     (answer : Result Reply Refusal) (old new : SharedCallsView) : Type 0 where
   pub answered : (answer ≡ Err Memory) ⊎ IsAnsweredOnSome time call answer
   pub received : Receives call answer old.receipts new.receipts
   pub same : new.layer ≡ old.layer
 
--- there is a registry with a layer on which a call is answered so
+-- there is a registry with a layer on which a call is answered this way
 abbrev pub IsAnsweredOnSomeLayer : {W FT : Type 0} → FormatTime FT → Output W → Call
     → Result Reply Refusal → Type 0
 IsAnsweredOnSomeLayer {W} {FT} time output call answer =
     (old : LayeredView W FT) × (new : LayeredView W FT)
     × Changes (seen time output) (IsAnsweredOrLacks call answer) old new
 
--- A call is answered as some registry with a layer answers it, or memory was refused. Of a layer
--- behind a lock no more can be said.
+-- A call is answered as some registry with a layer answers it, or memory ran out. Contracts can't
+-- say more of a layer behind a lock.
 pub record IsAnsweredStreaming {W FT : Type 0} (time : FormatTime FT) (output : Output W)
     (call : Call) (answer : Result Reply Refusal) (old new : StreamingView) : Type 0 where
   pub answered : (answer ≡ Err Memory) ⊎ IsAnsweredOnSomeLayer time output call answer

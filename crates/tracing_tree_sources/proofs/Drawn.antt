@@ -1,4 +1,4 @@
--- A run on a `Layered` is drawn: what any receiver is given, seen on this one.
+-- A run on a `Layered` is drawn: what any receiver gets, seen on this one.
 use Rattle.std.proofs.Common.{◌≡◌, ℕ, zero, suc, List, [], ◌∷◌, Option, Some, None, Result, Ok, Err, refl, sym, subst}
 use Rattle.std.specs.Prelude.{⊤, MatchOption, option_map}
 use Rattle.json.specs.Json.{Json}
@@ -65,7 +65,7 @@ module _ {W FT : Type 0} (time : FormatTime FT) (output : Output W) where
   breaks_draws (Refused refusal) [] old new h = absurd h
   breaks_draws (Refused refusal) (call ∷ rest) old new h = h
 
-  -- calls of which something ended the rest
+  -- calls, the rest of which something ended
   pub stops_draws : (calls : List Call) (cause : LineCause) (old new : LayeredView W FT) → StopsIn Made on_layer calls cause old new → Changes see (StopsIn Makes IsAnswered calls cause) old new
   stops_draws calls cause old new h =
       change_then see {First = Makes h.made} {Second = Breaks IsAnswered cause h.rest} {Both = StopsIn Makes IsAnswered calls cause}

@@ -6,7 +6,7 @@ use Rattle.tracing_tree_lines.specs.declared.lines.LineCause.{LineCause}
 use Rattle.tracing_tree_lines.specs.declared.lines.LineCause.TheVariants.{Settings as NoSettings, NotACall, Read, Memory, Refused}
 use Rattle.tracing_tree_sources.specs.Source.{MayEnd}
 
--- what may end it after no unknown line may after some
+-- what may end it without an unknown line may also end it after some
 pub ends_line : (cause : LineCause) (unknown : ℕ) → MayEnd cause 0 → MayEnd cause unknown
 ends_line NoSettings unknown h = h
 ends_line NotACall unknown h = absurd (omega (arith, h))
@@ -39,13 +39,13 @@ pub of_error : (result : Result ⊤ LineCause) (cause : LineCause) → result �
 of_error (Ok done) cause is h = cc
 of_error (Err other) cause is h = cc
 
--- the notes, or memory for what is noted, end it after an unknown line
+-- the notes end it after an unknown line, or memory for a note runs out
 pub ends_noted : {L E : Type 0} (lack : Result L E) (result : Result ⊤ LineCause) (cause : LineCause) (unknown : ℕ) →
     MatchResult lack (λ _. IfErr result (λ cause. cause ≡ NotACall)) (λ _. result ≡ Err Memory) → result ≡ Err cause → MayEnd cause (unknown + 1)
 ends_noted (Ok lack) result cause unknown h is = noted cause unknown (subst (λ r. IfErr r (λ cause. cause ≡ NotACall)) is h)
 ends_noted (Err e) result cause unknown h is = refused cause (unknown + 1) (of_error result cause is h)
 
--- the notes end a run for this cause, or memory does that is refused for what is noted
+-- the notes end a run for this cause, or memory for a note runs out
 abbrev pub IsOfNotes : LineCause → Type 0
 IsOfNotes NoSettings = ⊥
 IsOfNotes NotACall = ⊤

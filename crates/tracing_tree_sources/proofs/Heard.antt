@@ -1,4 +1,4 @@
--- What a source's lines told, one line more, and what a run over them leaves at its end.
+-- What a source's lines mean, one line more, and what a run over them leaves at its end.
 use Rattle.std.proofs.Common.{◌≡◌, ℕ, ◌+◌, Bool, true, false, List, [], ◌∷◌, ◌++◌, ◌-◌, take, Option, Some, None, IfSome, Result, Ok, Err, inl, inr, length, refl, sym, ap, subst, ◌∙◌, arith, append_assoc, append-nil, length-append}
 use Rattle.std.specs.Prelude.{⊤, MatchOption, if◌then◌else◌, IsUtf8}
 use Rattle.std.specs.Str.{is_utf8}
@@ -151,7 +151,7 @@ module _ {C : Type 0} (answers : Call → Result Reply Refusal → C → C → T
     -- ---- the run so far
 
     module _ (lacks : Option Json → Lack) where
-      -- the calls of the lines before the others were made, and the source is where these lines left it
+      -- the calls of the lines before the others were made, and these lines led to the source
       pub record IsSoFar (lines others : List (List ℕ)) (begun source : S) (number unknown : ℕ) (noted notes : Option (List Note)) (old now : C) : Type 0 where
         pub before : List (List ℕ)
         pub split : before ++ others ≡ lines
@@ -231,7 +231,7 @@ module _ {C : Type 0} (answers : Call → Result Reply Refusal → C → C → T
             makes = subst Q (sym (ap (λ (h : Heard S). h.calls) all)) (accepts_then answers flushes before.calls heard.calls old now next so_far.makes made);
           }
 
-      -- what was noted where a line ends the run, or the end does
+      -- what was noted if a line ends the run, or the end does
       pub noted_outside : (known middle : Option (List ℕ)) (begun source : S) (number unknown : ℕ) (noted notes : Option (List Note)) (old now : C) →
           IsKnownSoFar known middle begun source number unknown noted notes old now → (cause : LineCause) → MayEnd cause 0 →
           IfSome known (λ input. AddsNotes (notes_of takes lacks 1 begun
@@ -243,7 +243,7 @@ module _ {C : Type 0} (answers : Call → Result Reply Refusal → C → C → T
           let count : number - 1 + noted_at cause ≡ length so_far.before = omega (arith, so_far.numbered, not_noted cause may) in
           subst N (sym (ap (λ n. take n (input_lines x)) count ∙ ap (λ lines. take (length so_far.before) lines) (sym so_far.split) ∙ take_all so_far.before (input_lines y))) so_far.noted_is
 
-      -- what was noted where the notes end the run, or memory for what is noted
+      -- what was noted if the notes end the run, or if memory for a note runs out
       pub noted_last : (known middle left : Option (List ℕ)) (line : List ℕ) (begun source after : S) (number unknown : ℕ) (noted notes left_notes : Option (List Note)) (old now next : C) →
           IsKnownSoFar known middle begun source number unknown noted notes old now → TakesLine middle left line × HearsLine Made answers takes line source after (Ok false) now next →
           (cause : LineCause) → IsOfNotes cause → AddsNotes (take (noted_at cause) ((number, lack_of lacks line) ∷ [])) notes left_notes →
@@ -298,7 +298,7 @@ module _ {C : Type 0} (answers : Call → Result Reply Refusal → C → C → T
           subst P (sym (append_assoc heard.calls later.calls (ends later.source)))
           (stops_more answers flushes heard.calls (later.calls ++ ends later.source) cause old new h)
 
-      -- a beginning of all calls was made where a run ended early
+      -- a first part of all calls was made if a run ended early
       pub beginning : (lines : List (List ℕ)) (source : S) (run : SourceRun) (fault : LineFault) (old new : C) →
           EndsAt Made answers takes ends lines source run fault old new → StopsIn Made answers (calls_of takes ends source lines) fault.cause old new
       beginning lines source run fault old new h =
@@ -336,7 +336,7 @@ module _ {C : Type 0} (answers : Call → Result Reply Refusal → C → C → T
             counts = outside_counts cause before.unknown (next_unknown takes before.source (input_lines y)) unknown may so_far.counted;
           }
 
-      -- the notes end the run after an unknown line, or memory for what is noted
+      -- the notes end the run after an unknown line, or memory for a note runs out
       pub stops_noted : (known middle left : Option (List ℕ)) (line : List ℕ) (begun source after : S) (number unknown : ℕ) (noted notes : Option (List Note)) (cause : LineCause) → IsOfNotes cause → (old now next : C) →
           IsKnownSoFar lacks known middle begun source number unknown noted notes old now →
           TakesLine middle left line × HearsLine Made answers takes line source after (Ok false) now next →
@@ -382,7 +382,7 @@ module _ {C : Type 0} (answers : Call → Result Reply Refusal → C → C → T
             h.2 ∙ ap ended (sym so_far.reached),
           )
 
-      -- what was noted where the end of the input is reached
+      -- what was noted when the end of the input is reached
       pub noted_whole : (known middle left : Option (List ℕ)) (line : List ℕ) (begun source after : S) (number unknown : ℕ) (noted notes : Option (List Note)) (old now next : C) →
           IsKnownSoFar lacks known middle begun source number unknown noted notes old now → HearsNext Made answers takes ends ended middle left line source after (Ok End) now next →
           IfSome known (λ input. AddsNotes (notes_of takes lacks 1 begun (input_lines input)) noted notes)

@@ -1,4 +1,4 @@
--- An instant is told by its nanoseconds.
+-- An instant is determined by its nanoseconds.
 use Rattle.std.proofs.Common.{◌≡◌, ℕ, sym, arith}
 use Rattle.std.specs.Prelude.{ℤ}
 use Rattle.std.proofs.Props.{props}

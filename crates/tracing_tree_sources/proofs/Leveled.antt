@@ -1,4 +1,4 @@
--- What is shown of what a source told.
+-- What is shown of a source's calls.
 use Rattle.std.proofs.Common.{◌≡◌, List, Option, Some, None, option_map, ap, ◌∙◌}
 use Rattle.tracing_tree_text.specs.declared.style.Level.{Level}
 use Rattle.tracing_tree_layer.specs.declared.call.Call.{Call}

@@ -1,4 +1,4 @@
--- What stands after a mark.
+-- What follows a mark.
 use Rattle.std.proofs.Common.{◌≡◌, ℕ, true, false, List, Option, Some, None, drop, option_map, refl, sym, ap, ◌∙◌, MatchOption}
 use Rattle.std.specs.Borrow.{Bor}
 use Rattle.std.specs.Str.Pattern.{FindsTextPrefix, StripsPrefix}

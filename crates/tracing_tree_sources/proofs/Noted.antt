@@ -21,7 +21,7 @@ adds_then first second (Some old) (Some now) next h k =
     let there : AddsNotes second (Some (old ++ first)) next = subst P h k in
     there ∙ ap Some (append_assoc old first second)
 
--- a line at which a run ended for a cause of its own is not noted
+-- a line at which a run ended for another cause than the notes isn't noted
 pub not_noted : (cause : LineCause) → MayEnd cause 0 → noted_at cause ≡ 0
 not_noted NoSettings h = refl
 not_noted NotACall h = absurd (omega (arith, h))
@@ -59,14 +59,14 @@ take_first (x ∷ xs) y ys =
     ap (λ n. take n (x ∷ (xs ++ y ∷ ys))) count ∙ ap (λ zs. x ∷ zs) (take_first xs y ys)
 
 module _ {E : Type 0} (number : ℕ) (wanted : Lack) where
-  -- the run goes on after a note
+  -- the run continues after a note
   pub note_made : (lack : Result Lack E) (result : Result ⊤ LineCause) (done : ⊤) →
       MatchResult lack (λ _. IfErr result (λ cause. cause ≡ NotACall)) (λ _. result ≡ Err Memory) → result ≡ Ok done →
       IfOk lack (λ lack. lack ≡ wanted) → note_if number lack ≡ (number, wanted) ∷ []
   note_made (Ok lack) result done h is e = ap (λ l. (number, l) ∷ []) e
   note_made (Err error) result done h is e = cc
 
-  -- the notes end the run, or memory for what would be noted
+  -- the notes end the run, or memory for a note runs out
   pub note_last : (lack : Result Lack E) (result : Result ⊤ LineCause) (cause : LineCause) →
       MatchResult lack (λ _. IfErr result (λ cause. cause ≡ NotACall)) (λ _. result ≡ Err Memory) → result ≡ Err cause →
       IfOk lack (λ lack. lack ≡ wanted) → note_if number lack ≡ take (noted_at cause) ((number, wanted) ∷ [])

@@ -1,4 +1,4 @@
--- Examples computed from the definitions: of lines, levels, moments, and of whose output an input is.
+-- Examples computed from the definitions: of lines, levels, moments, and of formats.
 use Rattle.std.proofs.Common.{◌≡◌, true, false, None, Some, [], ◌∷◌, codes, refl, arith}
 use Rattle.std.specs.Prelude.{negsuc}
 use Rattle.json.specs.Json.{array, boolean, string, object, no_items, member, no_members}
@@ -68,7 +68,7 @@ a_word_about_goroutines_is_no_trace = refl
 pub a_carriage_return_is_left_out : without_return (codes "x\r") ≡ codes "x"
 a_carriage_return_is_left_out = refl
 
--- ---- where a run ends
+-- ---- the line at which a run ends
 
 pub the_line_at_which_the_notes_end_a_run_is_counted : CountsUnknown NotACall 2 1 3
 the_line_at_which_the_notes_end_a_run_is_counted = (refl, refl)
@@ -112,7 +112,7 @@ time_stands_where_a_line_has_none before = refl
 pub no_time_before_1970 : since_1970 (negsuc 9) ≡ 0
 no_time_before_1970 = refl
 
--- ---- whose output a line begins
+-- ---- the format of a line
 
 pub a_level_and_a_target_are_of_tracing : format_of (Some (object (member (codes "level") (string (codes "WARN")) (member (codes "target") (string (codes "shop")) no_members)))) ≡ Some Tracing
 a_level_and_a_target_are_of_tracing = refl

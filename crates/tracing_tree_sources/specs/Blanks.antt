@@ -4,12 +4,12 @@ use Rattle.std.specs.Prelude.{ℕ, ◌==◌, ◌||◌, Bool, if◌then◌else◌
 abbrev pub is_blank : ℕ → Bool
 is_blank byte = (byte == 32) || (byte == 9) || (byte == 13) || (byte == 10)
 
--- what stands from the first byte on that is no blank
+-- the bytes from the first one on that isn't a blank
 abbrev pub after_blanks : List ℕ → List ℕ
 after_blanks [] = []
 after_blanks (byte ∷ others) = if is_blank byte then after_blanks others else byte ∷ others
 
--- the first byte that is no blank
+-- the first byte that isn't a blank
 abbrev pub first_byte : List ℕ → Option ℕ
 first_byte [] = None
 first_byte (byte ∷ others) = if is_blank byte then first_byte others else Some byte

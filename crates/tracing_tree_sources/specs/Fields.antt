@@ -7,7 +7,7 @@ use Rattle.tracing_tree_text.specs.declared.field.Field.{Field}
 use Rattle.tracing_tree_sources.specs.JsonText.{json_text}
 use Rattle.tracing_tree_sources.specs.Told.{shown}
 
--- a value as it is drawn: an array and an object as compact JSON
+-- a value in its drawn form: an array and an object as compact JSON
 abbrev pub text_of : Json → List ℕ
 text_of null = codes "null"
 text_of (boolean b) = if b then codes "true" else codes "false"
@@ -27,7 +27,7 @@ members_fields keys no_members = []
 members_fields keys (member key value others) =
     member_fields keys key value ++ members_fields keys others
 
--- an object's members as fields, but those with these keys
+-- an object's members as fields, except those with these keys
 abbrev pub fields_besides : List (List ℕ) → Json → List Field
 fields_besides keys value = members_fields keys (unwrap_or (as_object value) no_members)
 

@@ -94,7 +94,7 @@ abbrev pub format_of : Option Json → Option Format
 format_of None = None
 format_of (Some value) = format_of_value value
 
--- an object that isn't whole goes on in the lines below
+-- an object that isn't whole continues in the lines below
 abbrev pub format_by : Bool → Option Json → Option Format
 format_by begins_object value =
     if begins_object && is_none value then Some Chrome else format_of value
@@ -107,7 +107,7 @@ abbrev pub list_begins : List ℕ → Bool
 list_begins [] = false
 list_begins (byte ∷ rest) = if byte == 91 then may_follow (first_byte rest) else false
 
--- a list of objects begins, or nothing but a list does: 91 begins a list and 93 ends it
+-- a list begins, and then an object (123), the list's end (93) or nothing follows: 91 begins a list
 abbrev pub begins_list : List ℕ → Bool
 begins_list line = list_begins (after_blanks line)
 
@@ -132,7 +132,7 @@ abbrev pub object_begins : List ℕ → Bool
 object_begins [] = false
 object_begins (byte ∷ rest) = if byte == 123 then may_be_key (first_byte rest) else false
 
--- an object with a key begins, or nothing but an object does: 123 begins an object
+-- an object begins, and then a key or nothing follows: 123 begins an object
 abbrev pub begins_object : List ℕ → Bool
 begins_object line = object_begins (after_blanks line)
 

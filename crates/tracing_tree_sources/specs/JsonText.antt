@@ -1,4 +1,4 @@
--- A JSON value as it is drawn in a field: compact, and with its strings between quotes.
+-- A JSON value in a field's form: compact, and with its strings between quotes.
 use Rattle.std.specs.Prelude.{ℕ, ◌==◌, Bool, true, false, if◌then◌else◌, List, [], ◌++◌, flat_map, codes}
 use Rattle.std.specs.Char.{encode_utf8}
 use Rattle.std.specs.Str.{chars}
@@ -32,7 +32,7 @@ abbrev mutual
   json_text (array items) = codes "[" ++ items_text true items ++ codes "]"
   json_text (object members) = codes "{" ++ members_text true members ++ codes "}"
 
-  -- the items with a comma between them; `first` says that none is written yet
+  -- the items with a comma between them; `first` says that no item is written yet
   pub items_text : Bool → Items → List ℕ
   items_text first no_items = []
   items_text first (item value others) =

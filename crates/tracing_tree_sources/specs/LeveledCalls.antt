@@ -7,7 +7,7 @@ use Rattle.tracing_tree_layer.specs.declared.call.Reply.{Reply}
 use Rattle.tracing_tree_layer.specs.declared.call.Reply.TheVariants.{Done}
 use Rattle.tracing_tree_sources.specs.Levels.{is_shown}
 
--- a receiver, and the least level of an event that it gets
+-- a receiver, and the minimum level of the events that it gets
 pub record LeveledCalls (C : Type 0) : Type 0 where
   pub receiver : C
   pub min_level : Level

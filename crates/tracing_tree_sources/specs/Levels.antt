@@ -1,4 +1,4 @@
--- The level of a line, and a source of which only events of a level and above are told.
+-- The level of a line, and a source that shows only events of a level and above.
 use Rattle.std.specs.Prelude.{ℕ, nat_le, Bool, true, List, Option, option_map, option_and_then, codes}
 use Rattle.std.specs.List.{filter}
 use Rattle.json.specs.Json.{Json}
@@ -14,7 +14,7 @@ use Rattle.tracing_tree_sources.specs.Values.{text_at}
 abbrev pub level_in : Json → Option Level
 level_in value = option_and_then level_named (text_at (codes "level") value)
 
--- a source, and the least level of an event that is told of it
+-- a source, and the minimum level of the events that are shown
 pub record Leveled (S : Type 0) : Type 0 where
   pub source : S
   pub least : Level
@@ -27,7 +27,7 @@ rank Info = 2
 rank Warn = 3
 rank Error = 4
 
--- an event is shown from the least level on, and every other call is
+-- an event is shown from the minimum level on, and every other call is shown
 abbrev pub is_shown : Level → Call → Bool
 is_shown least (Event event context) = nat_le (rank least) (rank event.level)
 is_shown least (New attributes context) = true
@@ -39,7 +39,7 @@ abbrev pub shown_calls : Level → List Call → List Call
 shown_calls least calls = filter (is_shown least) calls
 
 module _ {S : Type 0} where
-  -- what is shown of what a source told, and the source afterwards, under the same least level
+  -- what is shown of a source's step, and the source afterwards, with the same minimum level
   abbrev pub shown_step : Level → Step S → Step (Leveled S)
   shown_step least step = record {
     calls = shown_calls least step.calls;

@@ -1,4 +1,4 @@
--- When a line happened, as it tells.
+-- When a line happened, as it says.
 use Rattle.std.specs.Prelude.{ℕ, ◌-◌, ◌^◌, min, ℤ, pos, negsuc, neg_ℤ, List, Option, Some, None, Result, Ok, Err}
 use Rattle.std.specs.Int.{int_max, int_min}
 use Rattle.std.proofs.Common.{arith}
@@ -32,7 +32,7 @@ abbrev pub moment_read : Result ℤ Error → Option Moment
 moment_read (Ok n) = Some (moment_at n)
 moment_read (Err error) = None
 
--- the moment that a text tells, as RFC 3339 writes it
+-- the moment that a string encodes, in the format of RFC 3339
 abbrev pub moment_of : List ℕ → Option Moment
 moment_of text = moment_read (parse_timestamp text)
 
@@ -40,7 +40,7 @@ abbrev pub moment_or : Option Moment → Moment → Moment
 moment_or (Some moment) before = moment
 moment_or None before = before
 
--- the moment of a line by the text of its time; that of the line before where it tells none
+-- the moment of a line by the string of its time; that of the line before if it has no moment
 abbrev pub moment_after : Option (List ℕ) → Moment → Moment
 moment_after (Some text) before = moment_or (moment_of text) before
 moment_after None before = before

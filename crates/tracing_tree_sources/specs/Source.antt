@@ -1,5 +1,5 @@
--- What lines of another tool's output mean: a source takes a line's text and value in and gives calls
--- and its next state out.
+-- What lines of another tool's output mean: a source takes a line and its value, and returns calls
+-- and its next state.
 use Rattle.std.specs.Prelude.{◌≡◌, ◌⊎◌, ℕ, zero, suc, ◌+◌, Bool, true, false, if◌then◌else◌, List, [], ◌∷◌, ◌++◌, ◌-◌, ◌==◌, length, take, Option, Some, None, Result, Ok, Err, option_map, IfSome, MatchOption, ⊤, ◌<◌}
 use Rattle.std.specs.Io.KnownBytes.{Appends}
 use Rattle.std.specs.Option.{option_map_or}
@@ -23,12 +23,12 @@ use Rattle.tracing_tree_sources.specs.declared.run.SourceRun.{SourceRun}
 use Rattle.tracing_tree_sources.specs.declared.run.Judged.{Judged}
 use Rattle.tracing_tree_sources.specs.declared.run.Judged.TheVariants.{End, Known, Unknown}
 
--- the calls that something told, and the source afterwards
+-- the calls of a step, and the source afterwards
 pub record Step (S : Type 0) : Type 0 where
   pub calls : List Call
   pub source : S
 
--- what lines told: calls, the source after them, and how many lines told nothing that is known
+-- what lines mean: calls, the source after them, and how many lines are unknown
 pub record Heard (S : Type 0) : Type 0 where
   pub calls : List Call
   pub source : S
@@ -54,21 +54,21 @@ module _ {S : Type 0} where
   }
 
   module _ (takes : S → List ℕ → Option Json → Option (Step S)) where
-    -- what a line tells: a blank one nothing, and one that isn't UTF-8 nothing that is known
+    -- what a line means: a blank one nothing, and one that isn't UTF-8 is unknown
     abbrev pub hear_line : S → List ℕ → Heard S
     hear_line source line =
         if is_skipped line then nothing_heard source
         else if is_utf8 line then heard_step source (takes source line (document line))
         else heard_step source None
 
-    -- what lines tell, one after another
+    -- what lines mean, one after another
     abbrev pub hear : S → List (List ℕ) → Heard S
     hear source [] = nothing_heard source
     hear source (line ∷ lines) =
         let heard = hear_line source line in
         then_heard heard (hear heard.source lines)
 
-    -- all calls of an input: those of its lines, and those that its end brings
+    -- all calls of an input: those of its lines, and those of its end
     abbrev pub calls_of : (S → List Call) → S → List (List ℕ) → List Call
     calls_of ends source lines =
         let heard = hear source lines in
@@ -84,8 +84,8 @@ module _ {C : Type 0} (flushes : C → C → Type 0) where
   FlushedTimes zero old new = new ≡ old
   FlushedTimes (suc count) old new = (shown : C) × flushes old shown × FlushedTimes count shown new
 
--- The receiver accepted these calls, one after another. It may have been flushed before each call and
--- after the last one.
+-- The receiver accepted these calls, one after another. It may have been flushed before each call
+-- and after the last one.
 module _ {C : Type 0} (answers : Call → Result Reply Refusal → C → C → Type 0)
     (flushes : C → C → Type 0) where
   abbrev pub Accepts : List Call → C → C → Type 0
@@ -94,7 +94,7 @@ module _ {C : Type 0} (answers : Call → Result Reply Refusal → C → C → T
       (count : ℕ) × (shown between : C) × (reply : Reply) × FlushedTimes flushes count old shown
       × answers call (Ok reply) shown between × Accepts calls between new
 
--- what a line's text and value tell is answered, and the source goes on from there
+-- what a line and its value mean is returned, and the source continues from there
 abbrev pub Tells : {S : Type 0} → Option (Step S) → S → S → Option (List Call) → Type 0
 Tells None old new None = new ≡ old
 Tells None old new (Some calls) = ⊥
@@ -109,7 +109,7 @@ pub record Makes (calls : List Call) (old new : Seen) : Type 0 where
   pub all : length (run_from old calls).replies ≡ length calls
   pub calm : new.writer.faults ≡ old.writer.faults
 
--- of what ends a run early, a refused call alone leaves anything; it is the first of the rest
+-- of what ends a run early, only a refused call leaves anything; it is the first of the rest
 module _ {C : Type 0} (answers : Call → Result Reply Refusal → C → C → Type 0) where
   abbrev pub Breaks : LineCause → List Call → C → C → Type 0
   Breaks (Refused refusal) [] old new = ⊥
@@ -132,9 +132,9 @@ MayEnd Read unknown = ⊤
 MayEnd Memory unknown = ⊤
 MayEnd (Refused refusal) unknown = ⊤
 
--- How many unknown lines were counted where a run ended at a line: those before it (`before`), and the
--- line itself where the notes ended the run. `here` is 1 where that line is unknown, and else 0. Memory
--- may be refused before the line is known and after.
+-- How many unknown lines were counted when a run ended at a line: those before it (`before`), and
+-- the line itself if the notes ended the run. `here` is 1 if that line is unknown, otherwise 0.
+-- Memory may run out before the line is known and after.
 abbrev pub CountsUnknown : LineCause → ℕ → ℕ → ℕ → Type 0
 CountsUnknown NoSettings before here unknown = unknown ≡ before
 CountsUnknown NotACall before here unknown = (here ≡ 1) × (unknown ≡ before + 1)
@@ -144,7 +144,7 @@ CountsUnknown (Refused refusal) before here unknown = unknown ≡ before
 
 module _ {C : Type 0} (accepts : List Call → C → C → Type 0)
     (answers : Call → Result Reply Refusal → C → C → Type 0) where
-  -- a beginning of these calls was accepted, and then this ended the run
+  -- a first part of these calls was accepted, and then this ended the run
   pub record StopsIn (calls : List Call) (cause : LineCause) (old new : C) : Type 0 where
     pub made : List Call
     pub rest : List Call
@@ -158,7 +158,7 @@ module _ {C : Type 0} (accepts : List Call → C → C → Type 0)
   MakesEach calls (Ok done) old new = accepts calls old new
   MakesEach calls (Err refusal) old new = StopsIn calls (Refused refusal) old new
 
-  -- all of these calls were accepted, or a beginning
+  -- all of these calls were accepted, or a first part
   abbrev pub MakesAll : List Call → Result ⊤ LineCause → C → C → Type 0
   MakesAll calls (Ok done) old new = accepts calls old new
   MakesAll calls (Err cause) old new = StopsIn calls cause old new
@@ -168,11 +168,11 @@ module _ {C : Type 0} (accepts : List Call → C → C → Type 0)
   MakesSome None old new = (calls : List Call) × accepts calls old new
   MakesSome (Some cause) old new = (calls : List Call) × StopsIn calls cause old new
 
--- what a line lacks of which nothing is known
+-- what an unknown line lacks
 abbrev pub lack_of : (Option Json → Lack) → List ℕ → Lack
 lack_of lacks line = if is_utf8 line then lacks (document line) else Utf8
 
--- the note of a line, if nothing is known of it
+-- the note of a line, if it is unknown
 abbrev pub note_of : (Option Json → Lack) → ℕ → List ℕ → ℕ → List Note
 note_of lacks number line unknown =
     if unknown == 0 then [] else (number, lack_of lacks line) ∷ []
@@ -185,25 +185,25 @@ noted_at Read = 0
 noted_at Memory = 0
 noted_at (Refused refusal) = 0
 
--- the lines of which a run noted those that are unknown: all, or those up to the fault
+-- the lines of which a run noted the unknown ones: all, or those up to the fault
 abbrev pub noted_lines : SourceRun → List (List ℕ) → List (List ℕ)
 noted_lines run lines =
     option_map_or (λ fault. take (fault.line - 1 + noted_at fault.cause) lines) run.fault lines
 
 module _ {S : Type 0} (takes : S → List ℕ → Option Json → Option (Step S)) where
-  -- the notes of these lines, numbered from `number` on: one for each of which nothing is known
+  -- the notes of these lines, numbered from `number` on: one for each unknown line
   abbrev pub notes_of : (Option Json → Lack) → ℕ → S → List (List ℕ) → List Note
   notes_of lacks number source [] = []
   notes_of lacks number source (line ∷ lines) =
       let heard = hear_line takes source line in
       note_of lacks number line heard.unknown ++ notes_of lacks (number + 1) heard.source lines
 
-  -- the calls of the next of these lines, or those of the end where there is none
+  -- the calls of the next of these lines, or those of the end if no line is left
   abbrev pub next_calls : (S → List Call) → S → List (List ℕ) → List Call
   next_calls ends source [] = ends source
   next_calls ends source (line ∷ others) = (hear_line takes source line).calls
 
-  -- how many lines are unknown of the next alone
+  -- how many lines are unknown among the next line only
   abbrev pub next_unknown : S → List (List ℕ) → ℕ
   next_unknown source [] = 0
   next_unknown source (line ∷ others) = (hear_line takes source line).unknown
@@ -211,7 +211,7 @@ module _ {S : Type 0} (takes : S → List ℕ → Option Json → Option (Step S
 module _ {C : Type 0} (accepts : List Call → C → C → Type 0)
     (answers : Call → Result Reply Refusal → C → C → Type 0) {S : Type 0}
     (takes : S → List ℕ → Option Json → Option (Step S)) where
-  -- what one line did; where it is known, the source goes on as it says
+  -- what one line did; if it is known, the source continues as it says
   abbrev pub HearsLine : List ℕ → S → S → Result Bool LineCause → C → C → Type 0
   HearsLine line before after (Ok known) old new =
       let heard = hear_line takes before line in
@@ -220,7 +220,7 @@ module _ {C : Type 0} (accepts : List Call → C → C → Type 0)
   HearsLine line before after (Err cause) old new =
       StopsIn accepts answers (hear_line takes before line).calls cause old new
 
-  -- What the next line did, or the end. Where it ended the run, these were calls of its own.
+  -- What the next line did, or the end. If it ended the run, these were its calls.
   abbrev pub HearsNext : (S → List Call) → (S → S) → Option (List ℕ) → Option (List ℕ) → List ℕ → S
       → S → Result Judged LineCause → C → C → Type 0
   HearsNext ends ended known left line before after (Ok End) old new =
@@ -235,7 +235,7 @@ module _ {C : Type 0} (accepts : List Call → C → C → Type 0)
       StopsIn accepts answers (next_calls takes ends before (input_lines input)) cause old new)
 
   -- A run ended at a line, or at the end of the input: the calls of all lines before it were made,
-  -- and a first part of its own. The fault has its number.
+  -- and a first part of its own calls. The fault has its number.
   pub record EndsAt (ends : S → List Call) (lines : List (List ℕ)) (source : S) (run : SourceRun)
       (fault : LineFault) (old new : C) : Type 0 where
     pub before : List (List ℕ)
@@ -249,8 +249,8 @@ module _ {C : Type 0} (accepts : List Call → C → C → Type 0)
     pub counts : CountsUnknown fault.cause (hear takes source before).unknown
         (next_unknown takes (hear takes source before).source others) run.unknown
 
-  -- The calls of the known lines were accepted, and those that the end brings, and the source has
-  -- taken these lines and the end. If something ended the run, a first part of these calls was.
+  -- The calls of the known lines and of the end were accepted, and the source has taken these lines
+  -- and the end. If something ended the run, a first part of these calls was accepted.
   abbrev pub RunsLines : (S → List Call) → (S → S) → List (List ℕ) → S → S → SourceRun → C → C
       → Type 0
   RunsLines ends ended lines source after run old new =

@@ -1,4 +1,4 @@
--- Calls as a source tells them: each names the span that it stands in as its current span.
+-- The calls of a source: each names the span that it is in as its current span.
 use Rattle.std.specs.Prelude.{ℕ, ◌==◌, ◌||◌, ◌&&◌, nat_lt, nat_le, Bool, false, if◌then◌else◌, List, [], ◌++◌, flat_map, map, Option, Some, None, codes}
 use Rattle.std.specs.Char.{encode_utf8}
 use Rattle.std.specs.Fmt.{digits}
@@ -20,7 +20,7 @@ context_at moment current = record {
   moment = moment;
 }
 
--- A character that is shown by its code: a control character, but for a tab and a line end.
+-- A character that is shown by its code: a control character, except a tab and a line end.
 abbrev pub is_escaped : ℕ → Bool
 is_escaped c =
     if (c == 9) || (c == 10) then false else nat_lt c 32 || (nat_le 127 c && nat_le c 159)
@@ -29,7 +29,7 @@ abbrev pub shown_char : ℕ → List ℕ
 shown_char c =
     if is_escaped c then codes "\\u{" ++ digits 16 false c ++ codes "}" else encode_utf8 c
 
--- A text as it is shown.
+-- A string in the form that is drawn.
 abbrev pub shown : List ℕ → List ℕ
 shown text = flat_map shown_char (chars text)
 

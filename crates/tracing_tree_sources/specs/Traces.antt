@@ -17,7 +17,7 @@ abbrev pub after_digits : List ℕ → List ℕ
 after_digits [] = []
 after_digits (byte ∷ others) = if is_digit byte then after_digits others else byte ∷ others
 
--- a text holds this mark somewhere
+-- a string holds this mark somewhere
 abbrev pub holds_mark : List ℕ → List ℕ → Bool
 holds_mark mark [] = false
 holds_mark mark (byte ∷ others) = begins mark (byte ∷ others) || holds_mark mark others
@@ -53,7 +53,7 @@ without_return line =
 abbrev pub plain_level : List ℕ → Level
 plain_level line = if begins_trace line then Error else Info
 
--- the event of a line that is no JSON object, in the span above
+-- the event of a line that isn't a JSON object, in the span above
 abbrev pub plain_event : Moment → List ℕ → Option Id → Call
 plain_event moment line above =
     event_call moment (plain_level line) (message_field (without_return line) ∷ []) above

@@ -3,7 +3,7 @@ use Rattle.std.specs.Prelude.{ℕ, List, Option, option_and_then}
 use Rattle.json.specs.Json.{Json, Items}
 use Rattle.json.specs.Find.{get, as_array, as_str}
 
--- the text at a key
+-- the string at a key
 abbrev pub text_at : List ℕ → Json → Option (List ℕ)
 text_at key value = option_and_then as_str (get key value)
 

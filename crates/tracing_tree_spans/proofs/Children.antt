@@ -1,4 +1,4 @@
--- The children of a span are newer than it, so that only the newer spans have to be looked at.
+-- The children of a span are newer than it, so only the newer spans have to be examined.
 use Rattle.std.proofs.Common.{◌≡◌, Bool, true, false, ◌&&◌, not, List, [], ◌∷◌, ◌++◌, filter, Option, Some, None, refl, sym, ◌∙◌, subst}
 use Rattle.std.specs.Option.{option_map_or}
 use Rattle.std.specs.List.{list_all, list_any}
@@ -20,7 +20,7 @@ all-filter p q (x ∷ xs) = by (all-filter p q xs) (p x) (q x) refl refl
     by ih true false e h = rw (e, h) refl
     by ih false b e h = rw e ih
 
--- an id that no older span has is not the parent, which an older span has
+-- an id that no older span has isn't the parent, which an older span has
 not-parent : (older : List Span) (i : Id) (o : Option Id) → list_any (has_id i) older ≡ false →
     option_map_or (λ above. list_any (has_id above) older) o true ≡ true → option_map_or (same_id i) o false ≡ false
 not-parent older i None fresh live = refl
@@ -32,7 +32,7 @@ not-parent older i (Some above) fresh live = by (same_id i above) refl
         absurd (let both : true ≡ false = sym live ∙ none in cc)
     by false e = refl
 
--- an id that no span has is no parent
+-- an id that no span has isn't a parent
 fresh-childless : (spans : List Span) (i : Id) → IsGrown spans → list_any (has_id i) spans ≡ false → list_any (is_child_of i) spans ≡ false
 fresh-childless [] i grown fresh = refl
 fresh-childless (x ∷ older) i grown fresh =
@@ -40,7 +40,7 @@ fresh-childless (x ∷ older) i grown fresh =
     let first : is_child_of i x ≡ false = not-parent older i x.parent parts.1 grown.1 in
     rw first (fresh-childless older i grown.2 parts.1)
 
--- the newest of some spans is the parent of none of them
+-- the newest of some spans isn't the parent of any of them
 newest-childless : (s : Span) (older : List Span) → IsGrown (s ∷ older) → list_any (is_child_of s.id) (s ∷ older) ≡ false
 newest-childless s older grown =
     let fresh = not-true (list_any (has_id s.id) older) grown.0 in

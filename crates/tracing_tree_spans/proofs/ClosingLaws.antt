@@ -1,4 +1,4 @@
--- What closes is the longest list upward in which each span goes after the one before it.
+-- What closes is the longest list upward in which each span closes after the one before it.
 use Rattle.std.proofs.Common.{◌≡◌, Bool, true, false, List, [], ◌∷◌, ◌++◌, map, zip, reverse, take_while, Option, Some, None, refl, sym, ap, ◌∙◌, subst, if◌then◌else◌}
 use Rattle.std.specs.List.{list_all, last_or}
 use Rattle.std.proofs.lemmas.List.Sums.{take_while-cons}
@@ -6,14 +6,14 @@ use Rattle.tracing_tree_spans.specs.Registry.Forest.{Forest, goes_after, closing
 use Rattle.tracing_tree_spans.specs.Registry.Registered.{going_after}
 use Rattle.tracing_tree_context.specs.declared.context.Id.{Id}
 
--- ids, each with the one before it, where something stands before the first
+-- ids, each with the one before it; `before` precedes the first
 abbrev steps : Option Id → List Id → List (Option Id × Id)
 steps before ids = zip (before ∷ map (λ i. Some i) ids) ids
 
 abbrev goes : Forest → Option Id × Id → Bool
 goes forest step = goes_after forest step.0 step.1
 
--- what goes of ids with a first: that one and what goes after it, or nothing
+-- what closes of a nonempty list of ids: the first and what closes after it, or nothing
 pub going-cons : (forest : Forest) (before : Option Id) (i : Id) (more : List Id) →
     going_after forest before (i ∷ more) ≡ (if goes_after forest before i then i ∷ going_after forest (Some i) more else [])
 going-cons forest before i more =
@@ -22,7 +22,7 @@ going-cons forest before i more =
     (if b then (before, i) ∷ take_while (goes forest) (steps (Some i) more) else [])
     ≡ (if b then i ∷ going_after forest (Some i) more else [])) [ true ↦ refl | false ↦ refl ]
 
--- the longest beginning behind this one
+-- the longest closing prefix after this one
 record IsLongestBehind (forest : Forest) (before : Option Id) (ids found : List Id) : Type 0 where
   rest : List Id
   whole : ids ≡ found ++ rest
@@ -51,7 +51,7 @@ going-longest forest before (i ∷ more) =
     subst (λ found. IsLongestBehind forest before (i ∷ more) found) (sym (going-cons forest before i more))
     (behind-by forest before i more (going-longest forest (Some i) more) (goes_after forest before i) refl)
 
--- what closes with one handle of a span, of the way from it up to its root
+-- what closes with one handle of a span, on the path from it up to its root
 pub closing_of-longest : (forest : Forest) (i : Id) →
     IsLongestGoing (take_handle i forest) (reverse (path_of (take_handle i forest) i)) (closing_of forest i)
 closing_of-longest forest i =

@@ -29,7 +29,7 @@ lacks-all : (cs : List Span) → list_all (λ (child : Span). false) cs ≡ (len
 lacks-all [] = refl
 lacks-all (x ∷ cs) = let more : (length (x ∷ cs) == 0) ≡ false = grind (arith, nat_tests) in sym more
 
--- where no span has the id, none of those chosen has
+-- if no span has the id, no chosen span has it
 lacks-none : (b i : Id) (spans : List Span) → list_any (has_id b) spans ≡ false →
     list_all (λ child. same_id child.id b) (filter (is_child_of i) spans) ≡ (length (filter (is_child_of i) spans) == 0)
 lacks-none b i [] h = refl
@@ -54,7 +54,7 @@ above-lacks b (x ∷ spans) h =
     let other : has_id b x ≡ false = grind (arith, nat_tests, parts.0) in
     rw other (above-lacks b spans parts.1)
 
--- one that is found is counted
+-- an element that is found is counted
 found-counted : (p q : Span → Bool) (spans : List Span) (t : Span) → find p spans ≡ Some t → q t ≡ true → 0 < length (filter q spans)
 found-counted p q [] t h own = cc
 found-counted p q (x ∷ spans) t h own = by (λ k. found-counted p q spans t k own) (p x) refl
@@ -111,7 +111,7 @@ lacks-one (x ∷ spans) b i t rising found child = by (λ k. lacks-one spans b i
 
 -- ---- the part of a path that closes
 
--- `count` spans have closed, up to one whose parent is looked at next
+-- `count` spans have closed, up to one whose parent is next
 pub record HasClosed (spans : List Span) (i : Id) (whole count : ℕ) (above : Option Id) : Type 0 where
   pub going : List Id
   pub last : Id
@@ -137,11 +137,11 @@ kept-found nodes i node tied here = record {
   path = tied.paths i node here;
 }
 
--- one less is nothing where there was one
+-- one less is 0 if there was one
 none-left : (n : ℕ) → 0 < n → (n - 1 == 0) ≡ (n == 1)
 none-left n some = grind (arith, nat_tests)
 
--- the test of a span of which a handle is given back
+-- the test of a span of which a handle is dropped
 first-test : (nodes : List KeptSpan) (i : Id) (node : KeptSpan) → IsKeptAt nodes i node → 0 < node.span.handles →
     ((node.span.handles - 1 == 0) && lacks_others (spans_of nodes) None i) ≡ ((node.span.handles == 1) && (node.children == 0))
 first-test nodes i node h some =
@@ -149,7 +149,7 @@ first-test nodes i node h some =
     lacks-all (filter (is_child_of i) (spans_of nodes)) ∙ ap (λ n. n == 0) (sym h.count) in
     ap (λ b. (node.span.handles - 1 == 0) && b) lacks ∙ ap (λ b. b && (node.children == 0)) (none-left node.span.handles some)
 
--- where one handle keeps a span, and no child, it closes, and then what closes above it
+-- if only one handle keeps a span, and no child, it closes, and then what closes above it
 pub part-begins : (nodes : List KeptSpan) (i : Id) (node : KeptSpan) → IsKept (spans_of nodes) None → IsKeptAt nodes i node →
     0 < node.span.handles → ((node.span.handles == 1) && (node.children == 0)) ≡ true → HasClosed (spans_of nodes) i (length node.path) 1 node.span.parent
 part-begins nodes i node kept h some alone_there =
@@ -168,7 +168,7 @@ part-begins nodes i node kept h some alone_there =
           let sum = length-append (path_of_any (alone spans) node.span.parent) (i ∷ []) in omega (arith, n, sum);
     }
 
--- where others keep it, nothing closes
+-- if others keep it, nothing closes
 pub part-stays : (nodes : List KeptSpan) (i : Id) (node : KeptSpan) → IsKept (spans_of nodes) None → IsKeptAt nodes i node →
     0 < node.span.handles → ((node.span.handles == 1) && (node.children == 0)) ≡ false → closing_of (alone (spans_of nodes)) i ≡ []
 part-stays nodes i node kept h some others =
@@ -240,7 +240,7 @@ part-end nodes i node going kept h e =
     drop-front [] back = refl
     drop-front (x ∷ front) back = drop-front front back
 
--- it ends where nothing more closes
+-- it ends when nothing more closes
 pub part-ends : (nodes : List KeptSpan) (i : Id) (node : KeptSpan) (count : ℕ) (o : Option Id) → IsKept (spans_of nodes) None → IsKeptAt nodes i node →
     (closed : HasClosed (spans_of nodes) i (length node.path) count o) → going_after (alone (spans_of nodes)) (Some closed.last) (way_up (alone (spans_of nodes)) o) ≡ [] →
     reverse (drop (length node.path - count) node.path) ≡ closing_of (alone (spans_of nodes)) i
@@ -268,7 +268,7 @@ part-cut nodes i node slice count o kept h same closed none =
     ap (λ (ids : List Id). reverse ids) (take_rest slice (length slice - count))
     ∙ ap (λ (ids : List Id). reverse (drop (length ids - count) ids)) same ∙ part-ends nodes i node count o kept h count' none
 
--- and where nothing closes
+-- and if nothing closes
 pub part-empty : (slice closing : List Id) → closing ≡ [] → reverse (take (length slice - length slice) (drop (length slice) slice)) ≡ closing
 part-empty slice closing none =
     let nothing : length slice - length slice ≡ 0 = omega arith in
@@ -282,7 +282,7 @@ part-empty slice closing none =
 pub rest-root : (spans : List Span) (before : Id) (o : Option Id) → o ≡ None → going_after (alone spans) (Some before) (way_up (alone spans) o) ≡ []
 rest-root spans before o e = ap (λ p. going_after (alone spans) (Some before) (way_up (alone spans) p)) e
 
--- nor at an id that isn't live
+-- it stops at an id that isn't live
 pub rest-missing : (nodes : List KeptSpan) (before a : Id) (o : Option Id) → IsKept (spans_of nodes) None → kept_at nodes a ≡ None → o ≡ Some a →
     going_after (alone (spans_of nodes)) (Some before) (way_up (alone (spans_of nodes)) o) ≡ []
 rest-missing nodes before a o kept none e =
@@ -290,7 +290,7 @@ rest-missing nodes before a o kept none e =
     ap (λ p. going_after (alone (spans_of nodes)) (Some before) (way_up (alone (spans_of nodes)) p)) e
     ∙ ap (λ ids. going_after (alone (spans_of nodes)) (Some before) ids) (way-none (alone (spans_of nodes)) a gone)
 
--- nor at a span that a handle or another child keeps
+-- and at a span that a handle or another child keeps
 pub rest-kept : (nodes : List KeptSpan) (i a : Id) (node : KeptSpan) (whole count : ℕ) (o : Option Id) → IsKept (spans_of nodes) None → IsKeptAt nodes a node → o ≡ Some a →
     (closed : HasClosed (spans_of nodes) i whole count o) → ((node.span.handles == 0) && (node.children == 1)) ≡ false →
     going_after (alone (spans_of nodes)) (Some closed.last) (way_up (alone (spans_of nodes)) o) ≡ []
@@ -310,7 +310,7 @@ pub record HasRemoved (old now : List Span) (first above : Option Id) (count : �
   pub spans : left (rest_of now above) now ≡ left (rest_of old first) old
   pub counted : count ≡ length (rest_of now above)
 
--- a live span is the next to go
+-- a live span is the next to be removed
 pub record IsNextToGo (now : List Span) (i : Id) : Type 0 where
   pub childless : list_any (is_child_of i) now ≡ false
   pub closes : rest_of now (Some i) ≡ i ∷ rest_of (without i now) (option_and_then (λ (s : Span). s.parent) (find (has_id i) now))
@@ -337,7 +337,7 @@ next-goes now i kept some = by (find (has_id i) now) refl
             let none : length (rest_of now (Some i)) ≡ 0 = ap (λ (ids : List Id). length ids) (rest-stays now kept i s e g) in
             absurd (omega (arith, none, some))
 
--- it goes, and the rest is left
+-- it is removed, and the rest is left
 pub removed-more : (old now new : List Span) (first o above : Option Id) (i : Id) (count : ℕ) → IsKept now None → IsNextToGo now i → o ≡ Some i →
     new ≡ without i now → above ≡ option_and_then (λ (s : Span). s.parent) (find (has_id i) now) → HasRemoved old now first o count →
     HasRemoved old new first above (count - 1)
@@ -353,7 +353,7 @@ removed-more old now new first o above i count kept next e gone up h =
       counted = let n = h.counted ∙ ap (λ (ids : List Id). length ids) (closes ∙ ap (λ ids. i ∷ ids) same) in omega (arith, n);
     }
 
--- it ends where nothing is left to remove
+-- it ends when nothing is left to remove
 pub removed-all : (old now : List Span) (first o : Option Id) → HasRemoved old now first o 0 → now ≡ left (rest_of old first) old
 removed-all old now first o h = by (rest_of now o) refl
   where

@@ -1,4 +1,5 @@
--- What closes with a span, span by span: read off a registry that stays, and as one span after the other is removed.
+-- What closes with a span, span by span: read from an unchanged registry, and while one span after
+-- the other is removed.
 use Rattle.std.proofs.Common.{◌≡◌, ℕ, suc, nat_lt, ◌-◌, ◌<◌, ◌==◌, Bool, true, false, ◌&&◌, ◌||◌, not, List, [], ◌∷◌, ◌++◌, length, map, reverse, find, filter, get_or, slice_get, Option, Some, None, IfSome, if◌then◌else◌, arith, refl, sym, ap, ◌∙◌, subst}
 use Rattle.std.specs.Option.{option_map_or}
 use Rattle.std.specs.List.{list_all, list_any, remove}
@@ -22,7 +23,7 @@ use Rattle.tracing_tree_spans.proofs.ClosingWalk.{way_up, way-step, way-none, wa
 
 -- ---- one step of what closes
 
--- from a live span on: the span and what goes on above it, or nothing
+-- from a live span on: the span and what closes above it, or nothing
 pub going-step : (forest : Forest) → IsForest forest → (before : Option Id) (i : Id) (s : Span) → span_at forest i ≡ Some s →
     going_after forest before (way_up forest (Some i)) ≡ (if goes_after forest before i then i ∷ going_after forest (Some i) (way_up forest s.parent) else [])
 going-step forest formed before i s h =
@@ -30,7 +31,7 @@ going-step forest formed before i s h =
 
 -- ---- with a handle less
 
--- another span is found as before
+-- another span is found unchanged
 find-other : (change : Span → Span) → IsSame change → (i j : Id) (spans : List Span) → same_id i j ≡ false →
     find (has_id j) (map (changed change i) spans) ≡ find (has_id j) spans
 find-other change same i j [] h = refl
@@ -67,7 +68,7 @@ other-changed u h i before (x ∷ spans) =
     ∙ ap (λ (o : Option Id). (option_map_or (same_id i) o false && not (option_map_or (same_id x.id) before false)) || list_any (is_other_child i before) (map u spans)) (h.parents x)
     ∙ ap (λ b. is_other_child i before x || b) (other-changed u h i before spans)
 
--- a change of spans leaves each its children
+-- a change of spans keeps the children of each
 lacks-changed : (u : Span → Span) → IsSame u → (before : Option Id) (i : Id) (spans : List Span) →
     lacks_others (map u spans) before i ≡ lacks_others spans before i
 lacks-changed u h before i spans =
@@ -75,7 +76,7 @@ lacks-changed u h before i spans =
     ∙ ap (λ b. not b) (other-changed u h i before spans)
     ∙ sym (all-filter (is_child_of i) (λ child. option_map_or (same_id child.id) before false) spans)
 
--- and each its way up
+-- and each its path upward
 pub way-changed : (change : Span → Span) → IsSame change → (i : Id) (forest : Forest) (o : Option Id) →
     way_up (update_span change i forest) o ≡ way_up forest o
 way-changed change same i forest None = refl
@@ -87,11 +88,11 @@ way-changed change same i forest (Some j) =
 abbrev pub one_less : Span → Span
 one_less span = record span { handles = span.handles - 1 }
 
--- a handle less changes neither id nor parent
+-- dropping a handle changes neither id nor parent
 pub less-same : IsSame one_less
 less-same = record { ids = λ s. refl; parents = λ s. refl }
 
--- the handle of a span is not asked where another span is
+-- the handle of a span doesn't matter at another span
 goes-other : (forest : Forest) (i : Id) (before : Option Id) (j : Id) → same_id i j ≡ false →
     goes_after (take_handle i forest) before j ≡ goes_after forest before j
 goes-other forest i before j h =
@@ -99,7 +100,7 @@ goes-other forest i before j h =
     (find-other one_less less-same i j forest.spans h)
     ∙ ap (λ b. (handles_of forest j == 0) && b) (lacks-changed (changed one_less i) (changed-same one_less i less-same) before j forest.spans)
 
--- nor is it asked by what closes where the span does not stand
+-- it doesn't matter either for what closes on a path without the span
 going-other : (forest : Forest) (i : Id) (before : Option Id) (ids : List Id) → list_any (same_id i) ids ≡ false →
     going_after (take_handle i forest) before ids ≡ going_after forest before ids
 going-other forest i before [] h = refl
@@ -110,7 +111,7 @@ going-other forest i before (j ∷ ids) h =
     ∙ ap (λ rest. if goes_after forest before j then j ∷ rest else []) (going-other forest i (Some j) ids parts.1)
     ∙ sym (going-cons forest before j ids)
 
--- the first that closes with a handle of a span, and the rest, read off the forest before
+-- the first that closes with a handle of a span, and the rest, read from the forest before
 pub closing-first : (forest : Forest) → IsGrownForest forest → (i : Id) (s : Span) → span_at forest i ≡ Some s →
     closing_of forest i
     ≡ (if (s.handles - 1 == 0) && lacks_others forest.spans None i then i ∷ going_after forest (Some i) (way_up forest s.parent) else [])
@@ -126,7 +127,7 @@ closing-first forest formed i s h =
     ∙ ap (λ rest. if (s.handles - 1 == 0) && lacks_others forest.spans None i then i ∷ rest else [])
     (going-other forest i (Some i) (way_up forest s.parent) (way-fresh forest formed i s h))
 
--- what closes is the longest way up that goes, of the span's path
+-- what closes is the longest closing part of the span's path upward
 pub closing_of-is : (forest : Forest) → IsForest forest → (i : Id) → is_live forest i ≡ true → (ids : List Id) → ids ≡ closing_of forest i →
     IsClosing forest i ids
 unfolding IsClosing
@@ -139,7 +140,7 @@ closing_of-is forest formed i live ids h = (
 
 -- ---- one removal after the other
 
--- a span whose child is none keeps none
+-- a span without children keeps nothing
 pub childless : (i : Id) (spans : List Span) → lacks_others spans None i ≡ true → list_any (is_child_of i) spans ≡ false
 childless i [] h = refl
 childless i (x ∷ spans) h = by (λ k. childless i spans k) (is_child_of i x) refl
@@ -153,7 +154,7 @@ childless i (x ∷ spans) h = by (λ k. childless i spans k) (is_child_of i x) r
     by ih false e =
         rw e (ih (subst (λ b. list_all (λ (child : Span). false) (if b then x ∷ filter (is_child_of i) spans else filter (is_child_of i) spans) ≡ true) e h))
 
--- a removal of a span without children leaves each other its path
+-- a removal of a span without children keeps the path of each other span
 pub path-without : (i : Id) (spans : List Span) → list_any (is_child_of i) spans ≡ false → (j : Id) → same_id i j ≡ false →
     path_among (without i spans) j ≡ path_among spans j
 path-without i [] h j other = refl
@@ -182,13 +183,13 @@ path_of-without i spans grown h j e =
     path_of-among (alone (without i spans)) (subst IsGrown (sym turned) (grown-without i (reverse spans) grown none)) j
     ∙ ap (λ xs. path_among xs j) turned ∙ path-without i (reverse spans) none j e ∙ sym (path_of-among (alone spans) grown j)
 
--- and its way up
+-- and its path upward
 pub way-without : (i : Id) (spans : List Span) → IsGrown (reverse spans) → list_any (is_child_of i) spans ≡ false → (o : Option Id) →
     option_map_or (same_id i) o false ≡ false → way_up (alone (without i spans)) o ≡ way_up (alone spans) o
 way-without i spans grown h None e = refl
 way-without i spans grown h (Some j) e = ap (λ (path : List Id). reverse path) (path_of-without i spans grown h j e)
 
--- another span is found without it as before
+-- another span is found without it, unchanged
 find-without : (i j : Id) (spans : List Span) → same_id i j ≡ false → find (has_id j) (without i spans) ≡ find (has_id j) spans
 find-without i j [] h = refl
 find-without i j (x ∷ spans) h = by (find-without i j spans h) (has_id i x) refl
@@ -206,7 +207,7 @@ none-above i q (x ∷ spans) h =
     let other : has_id i x ≡ false = higher_not x i (grind (arith, nat_tests, parts.0)) in
     rw other (none-above i q spans parts.1)
 
--- no span but the one that is found has its id
+-- only the span that is found has its id
 only-one : (i : Id) (s : Span) (q : Span → Bool) (spans : List Span) → IsRising spans → find (has_id i) spans ≡ Some s → q s ≡ false →
     list_any (λ x. has_id i x && q x) spans ≡ false
 only-one i s q [] rising h unlike = cc
@@ -221,7 +222,7 @@ only-one i s q (x ∷ spans) rising h unlike = by (λ k. only-one i s q spans ri
         rw (e, first) (none-above i q spans (subst (λ (j : Id). all_above j.0 spans ≡ true) own rising.0))
     by ih false e = rw e (ih (subst (λ b. (if b then Some x else find (has_id i) spans) ≡ Some s) e h))
 
--- a choice that leaves the span out is the same without the span
+-- a choice without the span is the same in the list without the span
 filter-without : (i : Id) (q : Span → Bool) (spans : List Span) → list_any (λ x. has_id i x && q x) spans ≡ false →
     filter q (without i spans) ≡ filter q spans
 filter-without i q [] h = refl
@@ -236,7 +237,7 @@ filter-without i q (x ∷ spans) h =
         rw (e, first) ih
     by ih unlike false e = rw e (ap (λ xs. if q x then x ∷ xs else xs) ih)
 
--- a span that is neither this one nor its parent goes as before
+-- a span that is neither this one nor its parent still closes
 goes-without : (i : Id) (s : Span) (spans : List Span) → IsRising spans → find (has_id i) spans ≡ Some s → (before : Option Id) (r : Id) →
     same_id i r ≡ false → is_child_of r s ≡ false → goes_after (alone (without i spans)) before r ≡ goes_after (alone spans) before r
 goes-without i s spans rising found before r other parent =
@@ -257,7 +258,7 @@ going-without i s spans rising found before (r ∷ ids) h k =
     ∙ ap (λ rest. if goes_after (alone spans) before r then r ∷ rest else []) (going-without i s spans rising found (Some r) ids others.1 parents.1)
     ∙ sym (going-cons (alone spans) before r ids)
 
--- with the span gone, its parent lacks children where it had that one alone
+-- with the span removed, its parent has no children if it had only that one
 lacks-parent : (i p : Id) (spans : List Span) → lacks_others (without i spans) None p ≡ lacks_others spans (Some i) p
 lacks-parent i p [] = refl
 lacks-parent i p (x ∷ spans) = by (lacks-parent i p spans) (has_id i x) (is_child_of p x) refl refl
@@ -269,7 +270,7 @@ lacks-parent i p (x ∷ spans) = by (lacks-parent i p spans) (has_id i x) (is_ch
     by ih false true e h = rw (e, h) (let own : same_id x.id i ≡ false = e in rw own refl)
     by ih false false e h = rw (e, h) ih
 
--- with the span gone, its parent goes where it went after the span
+-- with the span removed, its parent closes if it closed after the span
 goes-parent : (i p : Id) (spans : List Span) → same_id i p ≡ false → goes_after (alone (without i spans)) None p ≡ goes_after (alone spans) (Some i) p
 goes-parent i p spans other =
     ap (λ o. (option_map_or (λ (span : Span). span.handles) o 0 == 0) && lacks_others (without i spans) None p) (find-without i p spans other)
@@ -277,7 +278,7 @@ goes-parent i p spans other =
 
 -- ---- what is left to close
 
--- what closes from this id on upward, where no handle and no other child holds it
+-- what closes from this id on upward, if no handle and no other child holds it
 abbrev pub rest_of : List Span → Option Id → List Id
 rest_of spans o = going_after (alone spans) None (way_up (alone spans) o)
 
@@ -285,7 +286,7 @@ rest_of spans o = going_after (alone spans) None (way_up (alone spans) o)
 abbrev pub left : List Id → List Span → List Span
 left ids spans = filter (λ span. not (list_any (same_id span.id) ids)) spans
 
--- what no span has, the one that is found has not
+-- what no span has, the one that is found doesn't have
 not-found : (p q : Span → Bool) (spans : List Span) (s : Span) → find p spans ≡ Some s → list_any q spans ≡ false → q s ≡ false
 not-found p q [] s h none = cc
 not-found p q (x ∷ spans) s h none =
@@ -297,7 +298,7 @@ not-found p q (x ∷ spans) s h none =
         subst (λ y. q y ≡ false) (same_Some x s (subst (λ b. (if b then Some x else find p spans) ≡ Some s) e h)) unlike
     by ih unlike false e = ih (subst (λ b. (if b then Some x else find p spans) ≡ Some s) e h)
 
--- the same of ids that are compared the other way
+-- the same of ids that are compared in the other direction
 turned-none : (p : Id) (ids : List Id) → list_any (same_id p) ids ≡ false → list_any (λ r. same_id r p) ids ≡ false
 turned-none p [] h = refl
 turned-none p (r ∷ ids) h =
@@ -305,7 +306,7 @@ turned-none p (r ∷ ids) h =
     let first : same_id r p ≡ false = grind (arith, nat_tests, parts.0) in
     rw first (turned-none p ids parts.1)
 
--- once the span is gone, what closes above it is what closes from its parent on
+-- once the span is removed, what closes above it is what closes from its parent on
 above-gone : (spans : List Span) → IsKept spans None → (i : Id) (s : Span) → find (has_id i) spans ≡ Some s →
     list_any (is_child_of i) spans ≡ false → (o : Option Id) → s.parent ≡ o →
     going_after (alone spans) (Some i) (way_up (alone spans) o) ≡ rest_of (without i spans) o
@@ -341,7 +342,8 @@ above-gone spans kept i s found children (Some p) e = by (find (has_id p) spans)
         ∙ sym (going-cons (alone (without i spans)) None p up)
         ∙ sym (ap (λ ids. going_after (alone (without i spans)) None ids) (same ∙ step))
 
--- what is left to close from a live span on: the span and what is left once it is gone, or nothing
+-- what is left to close from a live span on: the span and what is left once it is removed, or
+-- nothing
 pub rest-goes : (spans : List Span) → IsKept spans None → (i : Id) (s : Span) → find (has_id i) spans ≡ Some s →
     s.handles ≡ 0 → lacks_others spans None i ≡ true → rest_of spans (Some i) ≡ i ∷ rest_of (without i spans) s.parent
 rest-goes spans kept i s found handles none =
@@ -358,11 +360,11 @@ rest-stays spans kept i s found stays =
     going-step (alone spans) (as_forest (alone spans) kept.0) None i s found
     ∙ ap (λ b. if b then i ∷ going_after (alone spans) (Some i) (way_up (alone spans) s.parent) else []) goes
 
--- nor from an id that isn't live
+-- nothing from an id that isn't live
 pub rest-lost : (spans : List Span) → IsKept spans None → (i : Id) → find (has_id i) spans ≡ None → rest_of spans (Some i) ≡ []
 rest-lost spans kept i none = ap (λ ids. going_after (alone spans) None ids) (way-none (alone spans) i none)
 
--- a span goes, then the others
+-- a span is removed, then the others
 pub left-cons : (i : Id) (ids : List Id) (spans : List Span) → left (i ∷ ids) spans ≡ left ids (without i spans)
 left-cons i ids [] = refl
 left-cons i ids (x ∷ spans) = by (left-cons i ids spans) (has_id i x) refl
@@ -373,7 +375,7 @@ left-cons i ids (x ∷ spans) = by (left-cons i ids spans) (has_id i x) refl
         let own : same_id x.id i ≡ false = e in
         rw own (ap (λ xs. if not (list_any (same_id x.id) ids) then x ∷ xs else xs) ih)
 
--- where none goes, all stay
+-- if nothing is removed, all stay
 pub left-none : (spans : List Span) → left [] spans ≡ spans
 left-none [] = refl
 left-none (x ∷ spans) = ap (λ xs. x ∷ xs) (left-none spans)
@@ -412,7 +414,7 @@ pub lost : (slice spans : List Span) → IsKept spans None → (i : Id) (o : Opt
     o ≡ Some i → rest_of spans o ≡ []
 lost slice spans kept i o same none e = ap (rest_of spans) e ∙ rest-lost spans kept i (ap (λ xs. find (has_id i) xs) (sym same) ∙ none)
 
--- a span that goes, with what is left once it is gone
+-- a span that closes, with what is left once it is removed
 pub record Goes (spans : List Span) (i : Id) (at : ℕ) (s : Span) : Type 0 where
   pub kept : (next : Option Id) → IsKept spans next → IsKept (remove spans at) next
   pub fewer : length (remove spans at) < length spans
@@ -434,7 +436,7 @@ handle-left old spans next i s view found some =
     let first : (s.handles == 0) ≡ false = grind (arith, nat_tests) in
     ap (λ n. then_some (n == 0) i) count ∙ ap (λ b. then_some b i) first
 
--- the forest after a close, where the spans with a handle less are left without what closes
+-- the forest after a close, if the spans with a handle less are left without what closes
 pub closed : (old : Forest) (spans new : List Span) (next : Option Id) (i : Id) (went : Bool) → forest_of spans next ≡ take_handle i old →
     new ≡ (without_spans (going_up (alone spans) i) (alone spans)).spans → went ≡ not (length (going_up (alone spans) i) == 0) →
     (went ≡ not (length (closing_of old i) == 0)) × (forest_of new next ≡ after_close i old)
@@ -443,7 +445,7 @@ closed old spans new next i went view removed answer = (
   (λ k. forest_of (removed k) next) ∙ ap (λ (forest : Forest). without_spans (going_up forest i) forest) view,
 )
 
--- of no next id a registry keeps less
+-- a registry's invariant also holds without a next id
 pub kept-none : (spans : List Span) (next : Option Id) → IsKept spans next → IsKept spans None
 kept-none spans next kept = (record { grown = kept.0.grown; below_next = refl }, kept.1, kept.2)
 
@@ -462,18 +464,19 @@ listed spans formed before i at s answer here test =
 
 -- ---- the list of what closes
 
--- a look for another child, of the span at a place
+-- a search for another child, of the span at a place
 pub looked : (spans : List Span) (i : Id) (at : ℕ) (s : Span) (answer : Bool) → IsPlace spans i at s →
     IfSome (slice_get spans at) (λ span. answer ≡ not (lacks_others spans None span.id)) → answer ≡ not (lacks_others spans None i)
 looked spans i at s answer here test =
     subst (λ j. answer ≡ not (lacks_others spans None j)) here.same
     (MatchOption-at_some ⊤ (λ span. answer ≡ not (lacks_others spans None span.id)) s here.read test)
 
--- memory is wanted only where something closes
+-- memory is needed only if something closes
 pub wanted : (i : Id) (closing rest : List Id) → closing ≡ i ∷ rest → closing ≡ [] → ⊥
 wanted i closing rest e none = let both : [] ≡ i ∷ rest = sym none ∙ e in cc
 
--- what is known of a span with a handle, where a slice of the spans is read at the place that a search gave
+-- what is known of a span with a handle, if a slice of the spans is read at the place that a search
+-- returned
 pub record IsHeld (old : Forest) (slice : List Span) (next : Option Id) (i : Id) (at : ℕ) (s : Span) : Type 0 where
   pub view : forest_of slice next ≡ old
   pub kept : IsKept slice next

@@ -1,4 +1,4 @@
--- The way from a span up to its root, and what closes on it.
+-- The path from a span up to its root, and what closes on it.
 use Rattle.std.proofs.Common.{◌≡◌, ◌<◌, Bool, true, false, ◌&&◌, ◌||◌, List, [], ◌∷◌, ◌++◌, length, reverse, Option, Some, None, arith, refl, sym, ap, ◌∙◌, subst, append_assoc, length-append}
 use Rattle.std.specs.List.{list_all, list_any}
 use Rattle.std.proofs.lemmas.Bool.{not-true, and_parts, or_parts}
@@ -12,19 +12,19 @@ use Rattle.tracing_tree_context.specs.declared.context.Id.{Id}
 use Rattle.tracing_tree_spans.proofs.PathLaws.{path_above, look-by, parent-among, above-older, path_of-step, path_of-none, path_of_any-among}
 use Rattle.tracing_tree_spans.proofs.ForestLaws.{path_among, look, look-turned, look-newest, path-newest, path-older, same_id-eq}
 
--- ---- the way up
+-- ---- the path upward
 
 -- from an id that may be missing up to its root
 abbrev pub way_up : Forest → Option Id → List Id
 way_up forest o = reverse (path_of_any forest o)
 
--- the way up begins at the span, and goes on at its parent
+-- the path upward begins at the span, and continues at its parent
 pub way-step : (forest : Forest) → IsForest forest → (i : Id) (s : Span) → span_at forest i ≡ Some s →
     way_up forest (Some i) ≡ i ∷ way_up forest s.parent
 way-step forest formed i s h =
     ap (λ (path : List Id). reverse path) (path_of-step forest formed i s h) ∙ reverse-append (path_of_any forest s.parent) (i ∷ [])
 
--- from a span that isn't live there is no way
+-- from a span that isn't live the path upward is empty
 pub way-none : (forest : Forest) (i : Id) → span_at forest i ≡ None → way_up forest (Some i) ≡ []
 way-none forest i h = ap (λ (path : List Id). reverse path) (path_of-none forest i (rw h refl))
 
@@ -46,13 +46,13 @@ holds_one : {A : Type 0} (before after : List A) (x : A) → ¬ (before ++ x ∷
 holds_one [] after x e = cc
 holds_one (y ∷ before) after x e = cc
 
--- where a span is met on the way up from an id, that is live
+-- an id is live if a live span is on its path upward
 pub way-live : (forest : Forest) → IsForest forest → (i first : Id) (s : Span) (ids : List Id) → span_at forest i ≡ Some s →
     ids ++ way_up forest (Some i) ≡ way_up forest (Some first) → ¬ (span_at forest first ≡ None)
 way-live forest formed i first s ids h way gone =
     holds_one ids (way_up forest s.parent) i (ap (λ xs. ids ++ xs) (sym (way-step forest formed i s h)) ∙ way ∙ way-none forest first gone)
 
--- ---- an id stands once on its way up
+-- ---- an id appears once on its path upward
 
 -- each of these ids is among these spans
 abbrev all_live : List Span → List Id → Bool
@@ -65,7 +65,7 @@ live-more x spans (j ∷ ids) h =
     let parts = and_parts (list_any (has_id j) spans) (all_live spans ids) h in
     rw (parts.0, live-more x spans ids parts.1) (elim (has_id j x) as (λ b. ((b || true) && true) ≡ true) [ true ↦ refl | false ↦ refl ])
 
--- a path goes over live spans
+-- a path has only live spans
 path-live : (spans : List Span) (i : Id) → all_live spans (path_among spans i) ≡ true
 path-live [] i = refl
 path-live (x ∷ older) i = by x.parent (λ j. path-live older j) (has_id i x) refl
@@ -84,12 +84,12 @@ path-live (x ∷ older) i = by x.parent (λ j. path-live older j) (has_id i x) r
     by o ih false e =
         ap (λ ids. all_live (x ∷ older) ids) (path-older x older i e) ∙ live-more x older (path_among older i) (ih i)
 
--- the path above a span goes over live spans
+-- the path above a span has only live spans
 above-live : (spans : List Span) (o : Option Id) → all_live spans (path_above spans o) ≡ true
 above-live spans None = refl
 above-live spans (Some above) = path-live spans above
 
--- an id that is not among the spans is none of these
+-- an id that isn't among the spans isn't one of these
 fresh-none : (spans : List Span) (i : Id) (ids : List Id) → all_live spans ids ≡ true → list_any (has_id i) spans ≡ false →
     list_any (same_id i) ids ≡ false
 fresh-none spans i [] h fresh = refl
@@ -103,7 +103,7 @@ fresh-none spans i (j ∷ ids) h fresh =
         absurd (let both : true ≡ false = sym live ∙ dead in cc)
     by ih live false e = rw e ih
 
--- above a span its id does not stand
+-- a span's id isn't on the path above it
 above-fresh : (spans : List Span) → IsGrown spans → (i : Id) (s : Span) → look spans i ≡ Some s → list_any (same_id i) (path_above spans s.parent) ≡ false
 above-fresh [] grown i s h = cc
 above-fresh (x ∷ older) grown i s h = by (λ k. above-fresh older grown.2 i s k) (has_id i x) refl
@@ -124,7 +124,7 @@ above-fresh (x ∷ older) grown i s h = by (λ k. above-fresh older grown.2 i s 
         let below : look older i ≡ Some s = sym (look-by x older i e) ∙ h in
         ap (λ ids. list_any (same_id i) ids) (above-older x older fresh s.parent (parent-among older grown.2 i s below)) ∙ ih below
 
--- what none has, none has turned round
+-- what no id of a list has, no id of its reverse has
 any-turned : (p : Id → Bool) (ids : List Id) → list_any p ids ≡ false → list_any p (reverse ids) ≡ false
 any-turned p [] h = refl
 any-turned p (j ∷ ids) h =
@@ -132,7 +132,7 @@ any-turned p (j ∷ ids) h =
     ap (λ js. list_any p js) (reverse-append (j ∷ []) ids) ∙ list_any-append p (reverse ids) (j ∷ [])
     ∙ rw (any-turned p ids parts.1, parts.0) refl
 
--- on the way up from its parent a span's id does not stand
+-- a span's id isn't on the path upward from its parent
 pub way-fresh : (forest : Forest) → IsGrownForest forest → (i : Id) (s : Span) → span_at forest i ≡ Some s →
     list_any (same_id i) (way_up forest s.parent) ≡ false
 way-fresh forest formed i s h =

@@ -1,4 +1,4 @@
--- Two paths part once, so that their common beginning is found from its end.
+-- Two paths part once, so their common prefix is found from its end.
 use Rattle.std.proofs.Common.{◌≡◌, ℕ, zero, suc, ◌+◌, ◌-◌, ◌<◌, ◌≤◌, Bool, true, false, List, [], ◌∷◌, ◌++◌, length, get_or, take, drop, append_assoc, slice_get, min, Option, Some, None, arith, refl, sym, ap, ◌∙◌, subst}
 use Rattle.std.specs.List.{common_prefix_len}
 use Rattle.std.specs.Option.{option_map_or}
@@ -29,7 +29,7 @@ agree-past (x ∷ old) [] (suc k) past = none (slice_get old k)
 agree-past (x ∷ old) (y ∷ new) zero past = absurd (omega arith)
 agree-past (x ∷ old) (y ∷ new) (suc k) past = agree-past old new k (omega arith)
 
--- the first place where they don't agree is the length of the common beginning
+-- the first place where they don't agree is the length of the common prefix
 pub prefix-is : (old new : List Id) (n : ℕ) → ((j : ℕ) → j < n → agree_at old new j ≡ true) → agree_at old new n ≡ false →
     common_prefix_len same_id old new ≡ n
 prefix-is [] new zero all parts = refl
@@ -42,11 +42,11 @@ prefix-is (x ∷ old) (y ∷ new) (suc n) all parts =
     let rest : common_prefix_len same_id old new ≡ n = prefix-is old new n (λ j h. all (suc j) (omega arith)) parts in
     rw first (omega arith)
 
--- where none agrees they share nothing
+-- if no place agrees, they share nothing
 pub prefix-none : (old new : List Id) (n : ℕ) → ((k : ℕ) → n ≤ k → agree_at old new k ≡ false) → n ≡ 0 → n ≡ common_prefix_len same_id old new
 prefix-none old new n apart none = none ∙ sym (prefix-is old new 0 (λ j h. absurd (omega arith)) (apart 0 (omega arith)))
 
--- where the place before agrees, and none from there on, they share all up to there
+-- if the place before agrees, and no place from there on, they share all up to there
 pub prefix-some : (old new : List Id) (n : ℕ) (i j : Id) → PartOnce old new → ((k : ℕ) → n ≤ k → agree_at old new k ≡ false) →
     0 < n → n ≤ length old → n ≤ length new → same_id (get_or old (n - 1) i) (get_or new (n - 1) j) ≡ true → n ≡ common_prefix_len same_id old new
 prefix-some old new n i j once apart some within within' same =
@@ -55,7 +55,7 @@ prefix-some old new n i j once apart some within within' same =
 
 -- ---- paths of one forest
 
--- where two lists begin alike, they agree
+-- if two lists begin alike, they agree
 same-agree : (old new : List Id) (n k : ℕ) → take n old ≡ take n new → k < n → k < length old → agree_at old new k ≡ true
 same-agree [] new n k same low within = absurd (omega arith)
 same-agree (x ∷ old) new zero k same low within = absurd (omega arith)
@@ -117,6 +117,6 @@ paths_part_once forest formed i j k h n le =
     let within = slice_get_within (path_of forest i) k both.0 both.1 in
     same-agree (path_of forest i) (path_of forest j) (k + 1) n same (omega arith) (omega arith)
 
--- and so do no path and another
+-- and so do an empty path and another
 pub nothing_parts_once : (path : List Id) → PartOnce [] path
 nothing_parts_once path k h n le = absurd (let never : false ≡ true = h in cc)

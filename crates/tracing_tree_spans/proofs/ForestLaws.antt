@@ -1,5 +1,5 @@
--- Where each span stands after its parent, there is a path to each live span: it begins at a root, each span is the parent of
--- the next, and it ends at the span.
+-- If each span comes after its parent, there is a path to each live span: it begins at a root, each
+-- span is the parent of the next, and it ends at the span.
 use Rattle.std.proofs.Common.{◌≡◌, Bool, true, false, ◌||◌, List, [], ◌∷◌, ◌++◌, reverse, find, Option, Some, None, is_some, option_map, refl, sym, ap, ◌∙◌, subst, if◌then◌else◌}
 use Rattle.std.specs.Option.{option_map_or, option_or}
 use Rattle.std.specs.List.{list_any, last_or}
@@ -11,7 +11,8 @@ use Rattle.tracing_tree_spans.specs.Registry.Spans.{Span}
 use Rattle.tracing_tree_spans.specs.Registry.Forest.{Forest, has_id, span_at, is_live, Descends, IsPath, IsGrown}
 use Rattle.tracing_tree_context.specs.declared.context.Id.{Id}
 
--- the path of a span among these, the newest first: the path of its parent among the older ones, and the span
+-- the path of a span among these, newest first: its parent's path among the older ones, and the
+-- span
 abbrev pub path_among : List Span → Id → List Id
 path_among [] i = []
 path_among (span ∷ older) i =
@@ -149,7 +150,7 @@ find-turned span older fresh i true e =
     rw (none, e) refl
 find-turned span older fresh i false e = rw e (or-none (look older i))
 
--- turning the list round changes no lookup
+-- reversing the list changes no lookup
 pub look-reverse : (spans : List Span) → IsGrown spans → (i : Id) → look (reverse spans) i ≡ look spans i
 look-reverse [] grown i = refl
 look-reverse (span ∷ older) grown i =
@@ -163,7 +164,7 @@ descends-falls : (forest : Forest) (above : Option Id) (path : List Id) → Fall
 descends-falls forest above [] h = tt
 descends-falls forest above (i ∷ below) h = (h.0, descends-falls forest (Some i) below h.1)
 
--- turned back, the list is looked up as it is
+-- reversed, the list is looked up unchanged
 pub look-turned : (forest : Forest) → IsGrown (reverse forest.spans) → (i : Id) → look (reverse forest.spans) i ≡ span_at forest i
 look-turned forest grown i = sym (look-reverse (reverse forest.spans) grown i) ∙ ap (λ xs. look xs i) (reverse-reverse forest.spans)
 

@@ -1,4 +1,4 @@
--- A forest whose spans stand in the order in which they were made is well-formed.
+-- A forest whose spans are in the order in which they were made is well-formed.
 use Rattle.std.proofs.Common.{◌≡◌, ℕ, zero, suc, false, List, [], ◌∷◌, ◌++◌, length, map, reverse, Option, Some, None, option_map, refl, sym, ap, ◌∙◌, subst}
 use Rattle.std.specs.List.{list_any, AllByRecursion, IsDistinct}
 use Rattle.std.proofs.lemmas.Bool.{not-true, or_parts}
@@ -17,7 +17,7 @@ all-push : (P : Id → Type 0) (ids : List Id) (i : Id) → AllByRecursion P ids
 all-push P [] i all own = (own, tt)
 all-push P (j ∷ ids) i all own = (all.0, all-push P ids i all.1 own)
 
--- with an id that is none of them ids stay distinct
+-- ids stay distinct with an id that isn't one of them
 distinct-push : (ids : List Id) (i : Id) → IsDistinct same_id ids → list_any (same_id i) ids ≡ false → IsDistinct same_id (ids ++ i ∷ [])
 unfolding IsDistinct
 distinct-push [] i h fresh = (tt, tt)
@@ -47,9 +47,9 @@ as_forest forest formed =
     (subst (λ spans. IsDistinct same_id (ids_of spans)) (reverse-reverse forest.spans) (distinct-turned (reverse forest.spans) formed.grown))
     (λ i live. (path_among (reverse forest.spans) i, among-is_path forest formed.grown i live))
 
--- ---- changes that leave ids and parents
+-- ---- changes that keep ids and parents
 
--- where spans are seen changed, as many steps up find the same
+-- if spans look changed, as many steps up find the same
 up-same : (u : Span → Span) → IsSame u → (old new : Forest) → ((j : Id) → span_at new j ≡ option_map u (span_at old j)) → (n : ℕ) (i : Id) →
     path_up n new.spans i ≡ path_up n old.spans i
 up-same u h old new seen zero i = refl

@@ -1,4 +1,4 @@
--- The list of spans that a registry keeps, and the spans alone.
+-- The list of spans that a registry keeps, and only the spans.
 use Rattle.std.proofs.Common.{◌≡◌, ℕ, ◌+◌, ◌-◌, Bool, true, false, not, List, [], ◌∷◌, map, find, Option, Some, None, if◌then◌else◌, arith, refl, sym, ap, ◌∙◌, subst}
 use Rattle.std.specs.Option.{option_map, option_map_or}
 use Rattle.std.proofs.lemmas.Bool.{eqb-true}
@@ -11,7 +11,7 @@ use Rattle.tracing_tree_spans.specs.Registry.Kept.{keeps_id, kept_at, spans_of, 
 use Rattle.tracing_tree_context.specs.declared.context.Id.{Id}
 use Rattle.tracing_tree_spans.proofs.RegistryLaws.{changed, without}
 
--- a search of changed elements, where the change leaves the test
+-- a search of changed elements, if the change keeps the test's result
 pub find-map : {X : Type 0} (u : X → X) (p : X → Bool) → ((x : X) → p (u x) ≡ p x) → (xs : List X) → find p (map u xs) ≡ option_map u (find p xs)
 find-map u p same [] = refl
 find-map u p same (x ∷ xs) =
@@ -19,7 +19,7 @@ find-map u p same (x ∷ xs) =
     ∙ ap (λ o. if p x then Some (u x) else o) (find-map u p same xs)
     ∙ elim (p x) as (λ b. (if b then Some (u x) else option_map u (find p xs)) ≡ option_map u (if b then Some x else find p xs)) [ true ↦ refl | false ↦ refl ]
 
--- a span is found where it is kept
+-- a span is found if it is kept
 pub found-span : (nodes : List KeptSpan) (i : Id) → find (has_id i) (spans_of nodes) ≡ option_map (λ node. node.span) (kept_at nodes i)
 found-span [] i = refl
 found-span (x ∷ nodes) i =
@@ -47,7 +47,7 @@ spans-changed change u same i (x ∷ nodes) =
     ∙ ap (λ s. s ∷ map (changed u i) (spans_of nodes))
     (elim (keeps_id i x) as (λ b. (if b then change x else x).span ≡ (if b then u x.span else x.span)) [ true ↦ same x | false ↦ refl ])
 
--- a change of one span that does not
+-- a change of one span that doesn't
 pub spans-same : (change : KeptSpan → KeptSpan) → ((n : KeptSpan) → (change n).span ≡ n.span) → (i : Id) (nodes : List KeptSpan) →
     spans_of (change_kept change i nodes) ≡ spans_of nodes
 spans-same change same i [] = refl
@@ -135,7 +135,7 @@ counted-more (Some p) nodes j node h =
       sym (ap (λ (n : KeptSpan). n.children) e) ∙ omega arith,
     )
 
--- the list with one child less counted where this is the parent
+-- the list with one child less counted at this parent
 abbrev pub without_child : Option Id → List KeptSpan → List KeptSpan
 without_child None nodes = nodes
 without_child (Some p) nodes = change_kept child_less p nodes

@@ -15,17 +15,17 @@ use Rattle.tracing_tree_spans.proofs.SpanLists.{own_id}
 use Rattle.tracing_tree_spans.proofs.ForestLaws.{is_some-find, same_id-eq}
 use Rattle.tracing_tree_spans.proofs.RegistryLaws.{forest_of, any-reverse, fresh-below, all_kept-below, parent-live}
 
--- where no element passes, none is found
+-- if no element passes, nothing is found
 pub find-missing : (p : Span → Bool) (spans : List Span) → list_any p spans ≡ false → find p spans ≡ None
 find-missing p [] h = refl
 find-missing p (x ∷ spans) h = let parts = or_parts (p x) (list_any p spans) h in rw parts.0 (find-missing p spans parts.1)
 
--- and none is left by a filter
+-- and a filter leaves nothing
 pub filter-missing : (p : Span → Bool) (spans : List Span) → list_any p spans ≡ false → filter p spans ≡ []
 filter-missing p [] h = refl
 filter-missing p (x ∷ spans) h = let parts = or_parts (p x) (list_any p spans) h in rw parts.0 (filter-missing p spans parts.1)
 
--- a parent that is among spans, where this id isn't, is another
+-- a parent that is among spans without this id is another span
 pub other-parent : (i : Id) (spans : List Span) → list_any (has_id i) spans ≡ false → (o : Option Id) →
     option_map_or (λ above. list_any (has_id above) spans) o true ≡ true → option_map_or (same_id i) o false ≡ false
 other-parent i spans fresh None h = refl
@@ -44,7 +44,7 @@ no-child i (x ∷ older) grown h =
     let parts = or_parts (has_id i x) (list_any (has_id i) older) h in
     rw (other-parent i older parts.1 x.parent grown.1) (no-child i older grown.2 parts.1)
 
--- the id that is given out next is none's
+-- no span has the next id
 pub fresh-next : (spans : List Span) (next : Option Id) (i : Id) → IsKept spans next → next ≡ Some i → list_any (has_id i) spans ≡ false
 fresh-next spans next i kept here =
     let kept' : IsKept spans (Some i) = subst (λ o. IsKept spans o) here kept in
@@ -76,7 +76,7 @@ newest-new spans next i s old new kept here same one found view made =
     parent-any xs None h = refl
     parent-any xs (Some above) h = sym (is_some-find (has_id above) xs) ∙ h
 
--- and taking it back leaves what was there before
+-- and taking it back restores what was there before
 pub undone-new : (spans : List Span) (next : Option Id) (i : Id) (s : Span) (old new : Forest) → IsKept spans next → next ≡ Some i → s.id ≡ i →
     forest_of spans next ≡ old → new ≡ add_span s old → take_back i new ≡ old
 undone-new spans next i s old new kept here same view made =

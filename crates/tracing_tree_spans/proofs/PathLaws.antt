@@ -1,4 +1,5 @@
--- The path of a live span is its parent's path and the span, and its only path. A span that isn't live has the empty path.
+-- The path of a live span is its parent's path and the span, and it has no other path. A span that
+-- isn't live has the empty path.
 use Rattle.std.proofs.Common.{◌≡◌, ℕ, suc, ◌≤◌, Bool, true, false, ◌||◌, List, [], ◌∷◌, ◌++◌, length, reverse, Option, Some, None, is_some, arith, refl, sym, ap, ◌∙◌, subst}
 use Rattle.std.specs.Option.{option_map_or}
 use Rattle.std.specs.List.{list_any}
@@ -90,16 +91,16 @@ path_of-step forest formed i s h =
     ∙ up-step (length forest.spans) forest i s h
     ∙ ap (λ (ids : List Id). ids ++ i ∷ []) (path_of-far forest formed (length forest.spans) (omega arith) s.parent)
 
--- the path is what a path is, and there is none of a span that isn't live
+-- the path is what a path is, and it is empty for a span that isn't live
 pub path_of-whole : (forest : Forest) → IsForest forest → (i : Id) (path : List Id) → path ≡ path_of forest i → IsPathIfLive forest i path
 path_of-whole forest formed i path h = record {
   live = λ live. subst (IsPath forest i) (sym h) (path_of-is_path forest formed i live);
   gone = λ gone. h ∙ path_of-none forest i gone;
 }
 
--- ---- where each span stands after its parent
+-- ---- if each span comes after its parent
 
--- the path is the one among the spans turned round
+-- the path is the one among the reversed spans
 pub path_of-among : (forest : Forest) → IsGrown (reverse forest.spans) → (i : Id) → path_of forest i ≡ path_among (reverse forest.spans) i
 path_of-among forest grown i = by (is_live forest i) refl
   where

@@ -1,5 +1,5 @@
--- What is found by going up from a span is its path, where it has one: and a path is no longer than the list of spans. In a
--- well-formed forest each live span has one.
+-- What is found by going up from a span is its path, if it has a path. A path is no longer than the
+-- list of spans. In a well-formed forest each live span has a path.
 use Rattle.std.proofs.Common.{◌≡◌, ℕ, zero, suc, ◌+◌, ◌≤◌, Bool, true, false, ◌||◌, List, [], ◌∷◌, ◌++◌, length, map, append_assoc, length-append, Option, Some, None, is_some, option_map, arith, refl, sym, ap, ◌∙◌, subst}
 use Rattle.std.specs.Cmp.{IsEquivalence}
 use Rattle.std.specs.Option.{option_map_or, option_and_then}
@@ -25,7 +25,7 @@ pub up-step : (n : ℕ) (forest : Forest) (i : Id) (s : Span) → span_at forest
     path_up (suc n) forest.spans i ≡ any_up n forest s.parent ++ i ∷ []
 up-step n forest i s h = ap (λ o. option_map_or (λ (span : Span). any_up n forest span.parent ++ i ∷ []) o []) h
 
--- from a span that isn't live none
+-- nothing from a span that isn't live
 pub up-none : (n : ℕ) (forest : Forest) (i : Id) → span_at forest i ≡ None → path_up n forest.spans i ≡ []
 up-none zero forest i h = refl
 up-none (suc n) forest i h = ap (λ o. option_map_or (λ (span : Span). any_up n forest span.parent ++ i ∷ []) o []) h
@@ -41,7 +41,7 @@ some-parent (Some s) above h = (s, refl, some-eq s.parent above h)
     some-eq : {A : Type 0} (a b : A) → Some a ≡ Some b → a ≡ b
     some-eq a b e = cc
 
--- below what enough steps up find, a way down is found by as many steps more
+-- below what enough steps up find, a downward path is found by as many steps more
 down-up : (forest : Forest) (above : Option Id) (front path : List Id) (m : ℕ) → ((n : ℕ) → m ≤ n → any_up n forest above ≡ front) →
     Descends forest above path → (n : ℕ) → m + length path ≤ n → any_up n forest (last_or above path) ≡ front ++ path
 down-up forest above front [] m up h n enough = up n (omega (arith, enough)) ∙ sym (append-nil front)
@@ -69,7 +69,7 @@ one-path forest i left right h k =
 
 -- ---- the length of a path
 
--- a beginning of a way down is a way down
+-- a prefix of a downward path is a downward path
 pub descends-front : (forest : Forest) (above : Option Id) (front : List Id) (i : Id) (back : List Id) → Descends forest above (front ++ i ∷ back) →
     Descends forest above (front ++ i ∷ [])
 descends-front forest above [] i back h = (h.0, tt)
@@ -87,7 +87,7 @@ last_or-append : (above : Option Id) (front back : List Id) → last_or above (f
 last_or-append above [] back = refl
 last_or-append above (i ∷ front) back = last_or-append (Some i) front back
 
--- what has a path is not its own ancestor: it would have a longer one too
+-- what has a path isn't its own ancestor: it would have a longer path too
 pub path-loopless : (forest : Forest) (i : Id) (path : List Id) → IsPath forest i path → IsAncestor forest i i → ⊥
 path-loopless forest i path h loop =
     by loop.0 loop.2 (longer loop.0 loop.1 loop.2)
@@ -106,7 +106,7 @@ path-loopless forest i path h loop =
     by [] ends e = cc
     by (j ∷ way) ends e = let n = ap (λ (ids : List Id). length ids) e ∙ length-append path (j ∷ way) in omega (arith, n)
 
--- on a way down from what is not its own ancestor its id does not come again
+-- on a downward path from an id that isn't its own ancestor, the id doesn't occur again
 apart : (forest : Forest) (i : Id) → (IsAncestor forest i i → ⊥) → (mid back : List Id) → Descends forest (Some i) (mid ++ back) →
     AllByRecursion (λ j. same_id i j ≡ false) back
 apart forest i loopless mid [] h = tt
@@ -131,7 +131,7 @@ distinct-path forest front (i ∷ back) h = (
     below above [] h = h.1
     below above (j ∷ front) h = below (Some j) front h.1
 
--- and those of any way down, where nobody is their own ancestor
+-- and those of any downward path, if no span is its own ancestor
 distinct-down : (forest : Forest) → ((i : Id) → IsAncestor forest i i → ⊥) → (above : Option Id) (way : List Id) → Descends forest above way →
     IsDistinct same_id way
 unfolding IsDistinct
@@ -142,7 +142,7 @@ found : {A B : Type 0} (f : A → B) (o : Option A) (b : B) → option_map f o �
 found f None b h = cc
 found f (Some a) b h = refl
 
--- a way down goes over live spans
+-- a downward path has only live spans
 down-live : (forest : Forest) (above : Option Id) (path : List Id) → Descends forest above path → (i : Id) → list_any (same_id i) path ≡ true →
     is_live forest i ≡ true
 down-live forest above [] h i on = cc
@@ -153,7 +153,7 @@ down-live forest above (j ∷ below) h i on = by (down-live forest (Some j) belo
         subst (λ k. is_live forest k ≡ true) (sym (same_id-eq i j e)) (found (λ (span : Span). span.parent) (span_at forest j) above h.0)
     by ih false e = ih (subst (λ b. (b || list_any (same_id i) below) ≡ true) e on)
 
--- the ids compare as their numbers do
+-- ids are compared as their numbers are
 pub id_laws : IsEquivalence same_id
 id_laws = record {
   refl = λ i. nat_eq_equiv.refl i.0;
@@ -169,7 +169,7 @@ on-ids [] i = refl
 on-ids (x ∷ spans) i =
     ap (λ b. b || list_any (same_id i) (ids_of spans)) (id_laws.symm i x.id) ∙ ap (λ b. has_id i x || b) (on-ids spans i)
 
--- a way down over different ids is no longer than the list of spans
+-- a downward path with different ids is no longer than the list of spans
 way-short : (forest : Forest) (above : Option Id) (way : List Id) → Descends forest above way → IsDistinct same_id way → length way ≤ length forest.spans
 way-short forest above way h distinct =
     let within : (j : Id) → list_any (same_id j) way ≡ true → list_any (same_id j) (ids_of forest.spans) ≡ true =
@@ -178,7 +178,7 @@ way-short forest above way h distinct =
     let many : length (ids_of forest.spans) ≡ length forest.spans = length-map forest.spans (λ (span : Span). span.id) in
     omega (arith, short, many)
 
--- nor is a path
+-- a path isn't longer either
 pub path-short : (forest : Forest) (i : Id) (path : List Id) → IsPath forest i path → length path ≤ length forest.spans
 path-short forest i path h = way-short forest None path h.descends (distinct-path forest [] path h.descends)
 
@@ -192,17 +192,18 @@ live-span : (o : Option Span) → is_some o ≡ true → (s : Span) × (o ≡ So
 live-span None h = absurd cc
 live-span (Some s) h = (s, refl)
 
--- a way down with the span before it
+-- a downward path with the span before it
 down-more : (forest : Forest) (i : Id) (s : Span) (below : List Id) → span_at forest i ≡ Some s → Descends forest (Some i) below → Descends forest s.parent (i ∷ below)
 down-more forest i s below h down = (ap (λ (o : Option Span). option_map (λ (t : Span). t.parent) o) h, down)
 
--- from a live span with a way down there is a path to the end of the way, if the way lacks at most so many ids
+-- from a live span with a downward path there is a path to its end, if the downward path lacks at
+-- most `k` ids
 abbrev Climbs : Forest → Id → ℕ → Type 0
 Climbs forest end k =
     (i : Id) → is_live forest i ≡ true → (below : List Id) → Descends forest (Some i) below → last_or (Some i) below ≡ Some end →
     length forest.spans ≤ length below + k → (path : List Id) × IsPath forest end path
 
--- the way grows with each step up, and is no longer than the list of spans
+-- the path grows with each step up, and is no longer than the list of spans
 climb : (forest : Forest) → IsForest forest → (end : Id) (k : ℕ) → Climbs forest end k
 climb forest formed end zero i live below down ends enough =
     let s = live-span (span_at forest i) live in
@@ -222,7 +223,7 @@ climb forest formed end (suc k) i live below down ends enough =
 pub live-path : (forest : Forest) → IsForest forest → (i : Id) → is_live forest i ≡ true → (path : List Id) × IsPath forest i path
 live-path forest formed i live = climb forest formed i (length forest.spans) i live [] tt refl (omega arith)
 
--- ---- and the other way round
+-- ---- and the converse
 
 pub none-found : (o : Option Span) → is_some o ≡ false → o ≡ None
 none-found None h = refl
@@ -256,7 +257,7 @@ below-live forest above (j ∷ []) i h e =
     subst (λ k. is_live forest k ≡ true) (same_Some j i e) (found (λ (span : Span). span.parent) (span_at forest j) above h.0)
 below-live forest above (j ∷ k ∷ way) i h e = below-live forest (Some j) (k ∷ way) i h.1 e
 
--- where each live span has a path the forest is well-formed, if the ids differ
+-- if each live span has a path, the forest is well-formed, provided that the ids differ
 pub forest-by_paths : (forest : Forest) → IsDistinct same_id (ids_of forest.spans) →
     ((i : Id) → is_live forest i ≡ true → (path : List Id) × IsPath forest i path) → IsForest forest
 forest-by_paths forest distinct paths = record {

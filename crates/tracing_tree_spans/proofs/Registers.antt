@@ -1,4 +1,5 @@
--- A registry over the list of spans that it keeps: what is read of a span, and what is left when one changes, comes or goes.
+-- A registry over the list of spans that it keeps: what is read of a span, and what is left when
+-- one changes, is added or is removed.
 use Rattle.std.proofs.Common.{◌≡◌, ◌≢◌, ℕ, zero, suc, ◌-◌, ◌<◌, ◌≤◌, nat_lt, ◌==◌, Bool, true, false, ◌&&◌, not, List, [], ◌∷◌, ◌++◌, length, map, reverse, find, filter, Option, Some, None, IfSome, IfOk, Result, Ok, Err, Bor, if◌then◌else◌, arith, refl, sym, ap, ◌∙◌, subst, length-append}
 use Rattle.std.specs.List.{list_all, list_any}
 use Rattle.std.specs.Option.{option_map, option_map_or, option_or, option_copied, is_some}
@@ -27,7 +28,7 @@ use Rattle.tracing_tree_spans.proofs.Ties.{KeepsTies, tied-change, tied-push}
 
 -- ---- what is read
 
--- the span of an id, as it is kept
+-- the span of an id, in the form that is kept
 pub seen : (nodes : List KeptSpan) (next : Option Id) (now : Forest) (i : Id) (o : Option KeptSpan) → forest_of (spans_of nodes) next ≡ now →
     kept_at nodes i ≡ o → span_at now i ≡ option_map (λ n. n.span) o
 seen nodes next now i o view h =
@@ -77,7 +78,7 @@ kept-own nodes i node h = ap (λ j. kept_at nodes j) (kept-id nodes i node h) �
 
 -- ---- a span changes
 
--- the registry keeps what it keeps
+-- the registry keeps its invariant
 pub kept-update : (change : KeptSpan → KeptSpan) (u : Span → Span) → KeepsTies change u → (nodes new : List KeptSpan) (next : Option Id) (i : Id) →
     IsKept (spans_of nodes) next → new ≡ change_kept change i nodes → IsKept (spans_of new) next
 kept-update change u h nodes new next i kept e =
@@ -108,7 +109,7 @@ less-ties = record {
   children = λ n. refl;
 }
 
--- ---- a span comes
+-- ---- a span is added
 
 -- all spans are below the next id
 pub below-next : (nodes : List KeptSpan) (next : Option Id) (i : Id) → IsKept (spans_of nodes) next → next ≡ Some i → AreBelow i.0 nodes
@@ -173,7 +174,7 @@ child-fits nodes new node p tied none e few =
 
 -- ---- a new span is taken back
 
--- where none is chosen none passes
+-- if no span is chosen, no span passes
 none-passes : (p : Span → Bool) (spans : List Span) → filter p spans ≡ [] → list_any p spans ≡ false
 none-passes p [] h = refl
 none-passes p (x ∷ spans) h = by (λ k. none-passes p spans k) (p x) refl
@@ -192,7 +193,7 @@ last-of : (x : Span) (xs : List Span) → (init : List Span) × (last : Span) ×
 last-of x [] = ([], x, refl)
 last-of x (y ∷ ys) = let rest = last-of y ys in (x ∷ rest.0, rest.1, ap (λ zs. x ∷ zs) rest.2)
 
--- without its newest span the registry keeps what it keeps
+-- without its newest span the registry keeps its invariant
 pub kept-back : (spans new : List Span) (next : Option Id) (now : Forest) (i : Id) → IsKept spans next → forest_of spans next ≡ now → IsNewest i now →
     new ≡ without i spans → IsKept new (Some i)
 kept-back spans new next now i kept view newest e = by spans refl
@@ -227,7 +228,7 @@ closing-one now formed i s here some closes =
         absurd (closes (closing-first now formed i s here
         ∙ ap (λ b. if b then i ∷ going_after now (Some i) (way_up now s.parent) else []) goes))
 
--- whether it is more than none
+-- whether it is more than 0
 pub more-none : (n : ℕ) → nat_lt 0 n ≡ not (n == 0)
 more-none n = grind (arith, nat_tests)
 
@@ -237,7 +238,7 @@ pub closing-whole : (nodes : List KeptSpan) (next : Option Id) (now : Forest) (i
 closing-whole nodes next now i j part view same closes =
     closes ∙ ap (closing_of (alone (spans_of nodes))) same ∙ ap (λ (forest : Forest). closing_of forest i) view
 
--- ---- a change that may fail and leave all
+-- ---- a change that may fail and change nothing
 
 pub kept-attempt : {X E : Type 0} (change : KeptSpan → KeptSpan) (u : Span → Span) → KeepsTies change u → (r : Result X E) (nodes new : List KeptSpan)
     (next : Option Id) (i : Id) → IsKept (spans_of nodes) next → OnOk r (new ≡ change_kept change i nodes) → OnErr r (new ≡ nodes) → IsKept (spans_of new) next
@@ -271,11 +272,11 @@ error-live (Err e) now i s h = λ none. (let found : Some s ≡ None = sym h ∙
 
 -- ---- paths
 
--- and an id that isn't live has none
+-- and the path of an id that isn't live is empty
 pub path-gone : (now : Forest) (i : Id) → span_at now i ≡ None → path_of now i ≡ []
 path-gone now i h = path_of-none now i (ap (λ (o : Option Span). is_some o) h)
 
--- what is answered of a live span is its path
+-- the answer for a live span is its path
 pub if-whole : {E : Type 0} (now : Forest) → IsGrownForest now → (i : Id) (r : Result (Vec Id Global) E) → IfOk r (λ path. path.items ≡ path_of now i) →
     IfOk r (λ path. IsPathIfLive now i path.items)
 if-whole now formed i (Ok path) h = path_of-whole now (as_forest now formed) i path.items h

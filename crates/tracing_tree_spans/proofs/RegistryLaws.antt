@@ -1,4 +1,5 @@
--- A registry stays well-formed when a span of it changes in all but its id and its parent, comes or goes.
+-- A registry stays well-formed when a span changes in all but its id and its parent, is added or is
+-- removed.
 use Rattle.std.proofs.Common.{◌≡◌, ℕ, ◌+◌, ◌<◌, ◌≤◌, nat_lt, ◌==◌, Bool, true, false, ◌&&◌, ◌||◌, not, List, [], ◌∷◌, ◌++◌, length, get_or, set, map, reverse, find, filter, slice_get, Option, option_map, Some, None, Result, Ok, Err, is_some, if◌then◌else◌, arith, rules, refl, sym, ap, ◌∙◌, subst}
 use Rattle.std.specs.Option.{option_map_or, option_to_list}
 use Rattle.std.specs.Result.{OnOk, OnErr}
@@ -24,13 +25,13 @@ forest_of spans next = record { spans = spans; next = next }
 
 -- ---- a span at its place
 
--- a span that is read where a look-up says, and its id
+-- a span that is read at the place that a look-up returned, and its id
 pub record IsPlace (spans : List Span) (i : Id) (at : ℕ) (s : Span) : Type 0 where
   pub read : slice_get spans at ≡ Some s
   pub found : find (has_id i) spans ≡ Some s
   pub same : s.id ≡ i
 
--- what is read where a search found the id is the span of this id
+-- what is read at the place at which a search found the id is the span of this id
 pub place : (spans : List Span) (i : Id) (at : ℕ) (s : Span) → (at < length spans) × (find (has_id i) spans ≡ slice_get spans at) →
     s ≡ get_or spans at s → IsPlace spans i at s
 place spans i at s h e =
@@ -48,7 +49,7 @@ pub record IsSame (change : Span → Span) : Type 0 where
 abbrev pub changed : (Span → Span) → Id → Span → Span
 changed change i span = if has_id i span then change span else span
 
--- a change of the span with one id leaves ids and parents, where the change does
+-- a change of the span with one id keeps ids and parents, if the change does
 pub changed-same : (change : Span → Span) (i : Id) → IsSame change → IsSame (changed change i)
 changed-same change i h = record {
   ids = λ s. elim (has_id i s) as (λ b. (if b then change s else s).id ≡ s.id) [ true ↦ h.ids s | false ↦ refl ];
@@ -77,19 +78,19 @@ below-changed u h n [] = refl
 below-changed u h n (x ∷ spans) =
     ap (λ (j : Id). nat_lt j.0 n && all_below n (map u spans)) (h.ids x) ∙ ap (λ b. nat_lt x.id.0 n && b) (below-changed u h n spans)
 
--- changed spans rise as before
+-- changed spans still rise
 pub rising-changed : (u : Span → Span) → IsSame u → (spans : List Span) → IsRising spans → IsRising (map u spans)
 rising-changed u h [] rising = tt
 rising-changed u h (x ∷ spans) rising =
     (ap (λ (j : Id). all_above j.0 (map u spans)) (h.ids x) ∙ above-changed u h x.id.0 spans ∙ rising.0, rising-changed u h spans rising.1)
 
--- a parent is among changed spans as before
+-- a parent is still among changed spans
 parent-changed : (u : Span → Span) → IsSame u → (spans : List Span) (o : Option Id) →
     option_map_or (λ above. list_any (has_id above) (map u spans)) o true ≡ option_map_or (λ above. list_any (has_id above) spans) o true
 parent-changed u h spans None = refl
 parent-changed u h spans (Some above) = any-changed u h above spans
 
--- changed spans are well-formed as before
+-- changed spans are still well-formed
 pub grown-changed : (u : Span → Span) → IsSame u → (spans : List Span) → IsGrown spans → IsGrown (map u spans)
 grown-changed u h [] grown = tt
 grown-changed u h (x ∷ spans) grown = (
@@ -109,14 +110,14 @@ find-same u h i (x ∷ spans) = ap (λ (k : Id). if same_id k i then Some (u x) 
     by ih true e = rw e refl
     by ih false e = rw e ih
 
--- a change of each span and a turn round may change places
+-- a change of each span commutes with reversing
 pub reverse-map : (u : Span → Span) (spans : List Span) → reverse (map u spans) ≡ map u (reverse spans)
 reverse-map u [] = refl
 reverse-map u (x ∷ spans) =
     reverse-append (u x ∷ []) (map u spans) ∙ ap (λ xs. xs ++ u x ∷ []) (reverse-map u spans)
     ∙ sym (map-append u (reverse spans) (x ∷ [])) ∙ ap (map u) (sym (reverse-append (x ∷ []) spans))
 
--- changed spans are below the next id as before
+-- changed spans are still below the next id
 next-changed : (u : Span → Span) → IsSame u → (spans : List Span) (o : Option Id) →
     option_map_or (λ (next : Id). all_below next.0 (map u spans)) o true ≡ option_map_or (λ (next : Id). all_below next.0 spans) o true
 next-changed u h spans None = refl
@@ -132,7 +133,7 @@ forest-updated change same i forest formed =
       below_next = next-changed (changed change i) h forest.spans forest.next ∙ formed.below_next;
     }
 
--- the span at its place is written over by its changed self
+-- the span at its place is overwritten by its changed self
 pub kept-set : (change : Span → Span) → IsSame change → (spans : List Span) (next : Option Id) (at : ℕ) (s : Span) → IsKept spans next →
     slice_get spans at ≡ Some s → IsKept (set spans at (change s)) next
 kept-set change same spans next at s kept read =
@@ -173,7 +174,7 @@ pub on_error : {A E P : Type 0} (result : Result A E) → P → OnErr result P
 on_error (Ok answer) p = tt
 on_error (Err error) p = p
 
--- the registry keeps what it keeps, where a span is written over by its changed self
+-- the registry keeps its invariant if a span is overwritten by its changed self
 pub kept-write : (change : Span → Span) → IsSame change → (spans : List Span) (next : Option Id) (i : Id) (at : ℕ) (s new : Span) →
     IsKept spans next → IsPlace spans i at s → new ≡ change s → IsKept (set spans at new) next
 kept-write change same spans next i at s new kept h e = rw e (kept-set change same spans next at s kept h.read)
@@ -186,7 +187,7 @@ forest-write change spans next old i at s new view rising h e =
     subst (λ forest. record { spans = set spans at new; next = next } ≡ update_span change i forest) view
     (rw e (forest-set change (record { spans = spans; next = next }) at i s rising h))
 
--- the same of a change that may fail and leave the span
+-- the same of a change that may fail and keep the span
 pub kept-attempt : {X E : Type 0} (change : Span → Span) → IsSame change → (r : Result X E) (spans : List Span) (next : Option Id)
     (i : Id) (at : ℕ) (s new : Span) → IsKept spans next → IsPlace spans i at s → OnOk r (new ≡ change s) → OnErr r (new ≡ s) →
     IsKept (set spans at new) next
@@ -194,14 +195,14 @@ kept-attempt change same (Ok x) spans next i at s new kept h ok err = kept-write
 kept-attempt change same (Err e) spans next i at s new kept h ok err =
     kept-write (λ s. s) (record { ids = λ s. refl; parents = λ s. refl }) spans next i at s new kept h err
 
--- where it does not fail, the forest is the one with this change
+-- if it doesn't fail, the forest is the one with this change
 pub forest-attempt : {X E : Type 0} (change : Span → Span) (r : Result X E) (spans : List Span) (next : Option Id) (old : Forest)
     (i : Id) (at : ℕ) (s new : Span) → record { spans = spans; next = next } ≡ old → IsRising spans → IsPlace spans i at s →
     OnOk r (new ≡ change s) → OnOk r (record { spans = set spans at new; next = next } ≡ update_span change i old)
 forest-attempt change (Ok x) spans next old i at s new view rising h ok = forest-write change spans next old i at s new view rising h ok
 forest-attempt change (Err e) spans next old i at s new view rising h ok = tt
 
--- a failure comes at a live span alone
+-- only a live span's change can fail
 pub live-attempt : {X E : Type 0} (r : Result X E) (spans : List Span) (next : Option Id) (old : Forest) (i : Id) (at : ℕ) (s : Span) →
     record { spans = spans; next = next } ≡ old → IsPlace spans i at s → OnErr r (span_at old i ≡ None → ⊥)
 live-attempt (Ok x) spans next old i at s view h = tt
@@ -210,7 +211,7 @@ live-attempt (Err e) spans next old i at s view h =
 
 -- ---- a new span
 
--- a test finds the same, turned round
+-- a test has the same result in reverse order
 pub any-reverse : (p : Span → Bool) (spans : List Span) → list_any p (reverse spans) ≡ list_any p spans
 any-reverse p [] = refl
 any-reverse p (x ∷ spans) =
@@ -252,7 +253,7 @@ rising-push (x ∷ spans) s rising h =
     let parts = and_parts (nat_lt x.id.0 s.id.0) (all_below s.id.0 spans) h in
     (above-push x.id.0 spans s rising.0 (grind (arith, nat_tests, parts.0)), rising-push spans s rising.1 parts.1)
 
--- a parent among the spans is among them turned round
+-- a parent among the spans is among the reversed spans
 parent-turned : (spans : List Span) (o : Option Id) → option_map_or (λ above. is_some (find (has_id above) spans)) o true ≡ true →
     option_map_or (λ above. list_any (has_id above) (reverse spans)) o true ≡ true
 parent-turned spans None h = refl
@@ -269,7 +270,7 @@ below-after i spans s h same = elim (i.0 == 18_446_744_073_709_551_615) as (λ b
           below-push (i.0 + 1) spans s (below-more i.0 (i.0 + 1) spans h (omega arith)) (omega arith)
     ]
 
--- the registry keeps what it keeps, where a span with the next id comes whose parent is live
+-- the registry keeps its invariant if a span is added that has the next id and a live parent
 pub kept-push : (spans : List Span) (i : Id) (s : Span) → IsKept spans (Some i) → s.id ≡ i → i.0 < 18_446_744_073_709_551_616 →
     option_map_or (λ above. is_some (find (has_id above) spans)) s.parent true ≡ true → IsKept (spans ++ s ∷ []) (id_after i)
 kept-push spans i s kept same range parent =
@@ -284,7 +285,7 @@ kept-push spans i s kept same range parent =
       below-push 18_446_744_073_709_551_616 spans s kept.2 (omega arith),
     )
 
--- ---- the newest span goes
+-- ---- the newest span is removed
 
 -- without the last, rising spans rise, and are below it
 rising-init : (spans : List Span) (s : Span) → IsRising (spans ++ s ∷ []) → IsRising spans × (all_below s.id.0 spans ≡ true)
@@ -304,14 +305,14 @@ below-init n spans s h =
     let last = (and_parts (nat_lt s.id.0 n) true parts.1).0 in
     (parts.0, grind (arith, nat_tests))
 
--- the last of the spans is at most the last id given out
+-- the last of the spans is at most the last id that was used
 last-below : (spans : List Span) (s : Span) (i : Id) (b : Bool) → (i.0 == 18_446_744_073_709_551_615) ≡ b →
     option_map_or (λ (next : Id). all_below next.0 (spans ++ s ∷ [])) (if b then None else Some (id_of (i.0 + 1))) true ≡ true →
     s.id.0 < 18_446_744_073_709_551_616 → s.id.0 ≤ i.0
 last-below spans s i true e h range = let top = eqb-true i.0 18_446_744_073_709_551_615 e in omega arith
 last-below spans s i false e h range = let parts = below-init (i.0 + 1) spans s h in omega (arith, parts.1)
 
--- where all ids are below this one, a removal of this id leaves all
+-- if all ids are below this one, removing this id keeps all
 pub all_kept-below : (n : ℕ) (i : Id) (spans : List Span) → all_below n spans ≡ true → n ≤ i.0 → filter (λ span. not (has_id i span)) spans ≡ spans
 all_kept-below n i [] h le = refl
 all_kept-below n i (x ∷ spans) h le =
@@ -319,7 +320,7 @@ all_kept-below n i (x ∷ spans) h le =
     let other : has_id i x ≡ false = grind (arith, nat_tests, parts.0) in
     rw other (ap (λ xs. x ∷ xs) (all_kept-below n i spans parts.1 le))
 
--- the last of the spans is the last given out, where that is live
+-- the last of the spans has the last id that was used, if that is live
 last-is : (spans : List Span) (s : Span) (i : Id) → IsKept (spans ++ s ∷ []) (id_after i) →
     is_some (find (has_id i) (spans ++ s ∷ [])) ≡ true → s.id ≡ i
 last-is spans s i kept live =
@@ -337,7 +338,7 @@ last-is spans s i kept live =
         absurd (let both : true ≡ false = sym found ∙ fresh in cc)
     by most below false e = let same : s.id.0 ≡ i.0 = grind (arith, nat_tests) in ap id_of same
 
--- without its newest span the registry keeps what it keeps, and that span's id is the next one
+-- without its newest span the registry keeps its invariant, and that span's id is the next one
 pub kept-pop : (spans : List Span) (s : Span) (i : Id) → IsKept (spans ++ s ∷ []) (id_after i) →
     is_some (find (has_id i) (spans ++ s ∷ [])) ≡ true → IsKept spans (Some i)
 kept-pop spans s i kept live =
@@ -366,7 +367,7 @@ pop_is_filter spans s i kept live =
     ∙ append-nil (filter (λ span. not (has_id i span)) spans)
     ∙ all_kept-below s.id.0 i spans init.1 (omega arith))
 
--- both, of what a pop leaves of spans of which one is live
+-- both laws, of what a pop leaves of spans with a live one
 pub taken-back : (old new : List Span) (taken : Option Span) (next : Option Id) (i : Id) → IsKept old next →
     IsNewest i (forest_of old next) → old ≡ new ++ option_to_list taken → (taken ≡ None → length old ≡ 0) →
     IsKept new (Some i) × (forest_of new (Some i) ≡ take_back i (forest_of old next))
@@ -411,9 +412,9 @@ forest-new spans new next after s old view pushed following =
     let more : spans ++ s ∷ [] ≡ old.spans ++ s ∷ [] = ap (λ (forest : Forest). forest.spans ++ s ∷ []) view in
     λ k. forest_of ((pushed ∙ more) k) (following k)
 
--- ---- a span without children goes
+-- ---- a span without children is removed
 
--- what none has, none of a part has
+-- what no span has, no span of a part has
 any-filter : (p q : Span → Bool) (spans : List Span) → list_any p spans ≡ false → list_any p (filter q spans) ≡ false
 any-filter p q [] h = refl
 any-filter p q (x ∷ spans) h =
@@ -437,7 +438,7 @@ without i spans = filter (λ span. not (has_id i span)) spans
 pub other-id : (i j : Id) (x : Span) → same_id i j ≡ false → has_id i x ≡ true → has_id j x ≡ false
 other-id i j x h e = grind (arith, nat_tests)
 
--- another id is among the spans as before
+-- another id is still among the spans
 any-without : (i j : Id) (spans : List Span) → same_id i j ≡ false → list_any (has_id j) (without i spans) ≡ list_any (has_id j) spans
 any-without i j [] h = refl
 any-without i j (x ∷ spans) h = by (any-without i j spans h) (has_id i x) refl
@@ -447,14 +448,14 @@ any-without i j (x ∷ spans) h = by (any-without i j spans h) (has_id i x) refl
     by ih true e = rw (e, other-id i j x h e) ih
     by ih false e = rw e (ap (λ b. has_id j x || b) ih)
 
--- a parent that is another is among the spans as before
+-- a parent that is another is still among the spans
 parent-without : (i : Id) (spans : List Span) (o : Option Id) → option_map_or (same_id i) o false ≡ false →
     option_map_or (λ above. list_any (has_id above) spans) o true ≡ true →
     option_map_or (λ above. list_any (has_id above) (without i spans)) o true ≡ true
 parent-without i spans None h live = refl
 parent-without i spans (Some above) h live = any-without i above spans h ∙ live
 
--- without a span that is no parent the spans are well-formed
+-- without a span that isn't a parent the spans are well-formed
 pub grown-without : (i : Id) (spans : List Span) → IsGrown spans → list_any (is_child_of i) spans ≡ false → IsGrown (without i spans)
 grown-without i [] grown h = tt
 grown-without i (x ∷ spans) grown h =
@@ -469,7 +470,7 @@ grown-without i (x ∷ spans) grown h =
         let all : IsGrown (x ∷ without i spans) = (rw fresh refl, parent-without i spans x.parent parts.0 grown.1, ih) in
         rw e all
 
--- a choice of spans and a turn round may change places
+-- a choice of spans commutes with reversing
 pub reverse-filter : (p : Span → Bool) (spans : List Span) → reverse (filter p spans) ≡ filter p (reverse spans)
 reverse-filter p [] = refl
 reverse-filter p (x ∷ spans) = by (reverse-filter p spans) (p x) refl
@@ -505,7 +506,7 @@ next-filter : (p : Span → Bool) (spans : List Span) (o : Option Id) → option
 next-filter p spans None h = refl
 next-filter p spans (Some next) h = all-filter (λ span. nat_lt span.id.0 next.0) p spans h
 
--- the registry keeps what it keeps, where a span without children goes
+-- the registry keeps its invariant if a span without children is removed
 pub kept-without : (i : Id) (spans : List Span) (next : Option Id) → IsKept spans next → list_any (is_child_of i) spans ≡ false →
     IsKept (without i spans) next
 kept-without i spans next kept h = (

@@ -1,4 +1,5 @@
--- Lists of spans with gaps, in the order of their ids: where a span lies, and what an edit at its place does.
+-- Lists of spans with gaps, in the order of their ids: a span's place, and what an edit at its
+-- place does.
 use Rattle.std.proofs.Common.{◌≡◌, ℕ, zero, suc, ◌+◌, ◌-◌, ◌<◌, ◌≤◌, nat_lt, Bool, true, false, not, List, [], ◌∷◌, ◌++◌, length, get_or, set, find, filter, slice_get, length-append, take, drop, take-append-drop, length-take-le, Option, Some, None, MatchOption, Result, Ok, Err, if◌then◌else◌, arith, refl, sym, ap, ◌∙◌, subst}
 use Rattle.std.specs.List.{list_all}
 use Rattle.std.specs.Option.{option_map_or, option_and_then, option_to_list}
@@ -26,7 +27,7 @@ ids_above n ids = list_all (λ j. nat_lt n j.0) ids
 abbrev pub ids_below : ℕ → List Id → Bool
 ids_below n ids = list_all (λ j. nat_lt j.0 n) ids
 
--- where all ids are above a number, so is that of each place
+-- if all ids are above a number, so is that of each place
 above-at : (n : ℕ) (slots : List Slot) (k : ℕ) (s : Slot) → ids_above n (slot_ids slots) ≡ true → slice_get slots k ≡ Some s → n < (slot_id s).0
 above-at n [] k s all h = cc
 above-at n (x ∷ slots) zero s all h =
@@ -85,7 +86,7 @@ rise (x ∷ slots) d rising (suc j) (suc k) h within = rise slots d rising.1 j k
 
 -- ---- a search
 
--- what a search of an id answers
+-- the answer of a search for an id
 abbrev pub IsFound : List Slot → Id → Option ℕ → Type 0
 IsFound slots i place =
     MatchOption place (find (slot_has i) slots ≡ None) (λ at. (at < length slots) × (find (slot_has i) slots ≡ slice_get slots at))
@@ -95,7 +96,7 @@ pub record IsLeft (slots : List Slot) (i : Id) (from to : ℕ) : Type 0 where
   pub below : (k : ℕ) (d : Slot) → k < from → k < length slots → (slot_id (get_or slots k d)).0 < i.0
   pub above : (k : ℕ) (d : Slot) → to ≤ k → k < length slots → i.0 < (slot_id (get_or slots k d)).0
 
--- what lies up to a place with a lower id isn't left
+-- the places up to one with a lower id aren't left
 pub left-above : (slots : List Slot) (i : Id) (from to at : ℕ) (s : Slot) → AreRising (slot_ids slots) → IsLeft slots i from to →
     at < length slots → s ≡ get_or slots at s → (slot_id s).0 < i.0 → IsLeft slots i (at + 1) to
 left-above slots i from to at s rising left here read low = record { below = below; above = left.above }
@@ -106,7 +107,7 @@ left-above slots i from to at s rising left here read low = record { below = bel
         let same : (slot_id s).0 ≡ (slot_id (get_or slots at d)).0 = ap (λ (x : Slot). (slot_id x).0) (get_or_read slots at s here read d) in
         omega arith
 
--- and what lies from a place with a higher id on isn't either
+-- and the places from one with a higher id on aren't either
 pub left-below : (slots : List Slot) (i : Id) (from to at : ℕ) (s : Slot) → AreRising (slot_ids slots) → IsLeft slots i from to →
     at < length slots → s ≡ get_or slots at s → i.0 < (slot_id s).0 → IsLeft slots i from at
 left-below slots i from to at s rising left here read high = record { below = left.below; above = above }
@@ -117,7 +118,7 @@ left-below slots i from to at s rising left here read high = record { below = le
         let same : (slot_id s).0 ≡ (slot_id (get_or slots at d)).0 = ap (λ (x : Slot). (slot_id x).0) (get_or_read slots at s here read d) in
         omega arith
 
--- where nothing is left, no place has the id
+-- if nothing is left, no place has the id
 pub none-left : (slots : List Slot) (i : Id) (from to : ℕ) → IsLeft slots i from to → to ≤ from → find (slot_has i) slots ≡ None
 none-left slots i from to left none = find-nowhere slots i by
   where
@@ -127,14 +128,14 @@ none-left slots i from to left none = find-nowhere slots i by
       | false ↦ (λ e. higher-not (slot_id (get_or slots k d)) i (left.above k d (grind (arith, nat_tests)) within))
     ] refl
 
--- what has the number lies where it was read
+-- the slot with the number is at the place that was read
 pub here-found : (slots : List Slot) (i : Id) (at : ℕ) (s : Slot) → AreRising (slot_ids slots) → at < length slots → s ≡ get_or slots at s →
     (slot_id s).0 ≡ i.0 → IsFound slots i (Some at)
 here-found slots i at s rising here read same =
     let found : slice_get slots at ≡ Some s = slice_get-get_or slots at s here ∙ ap (λ (x : Slot). Some x) (sym read) in
     (here, subst (λ (j : Id). find (slot_has j) slots ≡ slice_get slots at) (ap id_of same) (find-at slots at s rising found ∙ sym found))
 
--- the place has the id, so that is where it lies
+-- the place has the id, so it is the span's place
 pub found_at : (slots : List Slot) (i : Id) (at : ℕ) → AreRising (slot_ids slots) → option_map_or (slot_has i) (slice_get slots at) false ≡ true → IsFound slots i (Some at)
 found_at slots i at rising here = by (slice_get slots at) refl
   where
@@ -147,7 +148,7 @@ found_at slots i at rising here = by (slice_get slots at) refl
         let same : slot_id d ≡ i = ap id_of (eqb-true (slot_id d).0 i.0 own) in
         (slice_get_within slots at d e, subst (λ j. find (slot_has j) slots ≡ slice_get slots at) same (find-at slots at d rising e ∙ sym e))
 
--- ---- the spans that lie at a place
+-- ---- the spans that are stored at a place
 
 -- above an id no span has it
 above-none : (i : Id) (slots : List Slot) → ids_above i.0 (slot_ids slots) ≡ true → kept_at (present slots) i ≡ None
@@ -158,7 +159,7 @@ above-none i (Live node ∷ slots) all =
     rw other (above-none i slots parts.1)
 above-none i (Gone j ∷ slots) all = above-none i slots (and_parts (nat_lt i.0 j.0) (ids_above i.0 (slot_ids slots)) all).1
 
--- a span is found where its place is
+-- a span is found at its place
 pub present-find : (i : Id) (slots : List Slot) → AreRising (slot_ids slots) → kept_at (present slots) i ≡ option_and_then slot_node (find (slot_has i) slots)
 present-find i [] rising = refl
 present-find i (Live node ∷ slots) rising =
@@ -183,7 +184,7 @@ above-unchanged change i (Live node ∷ slots) all =
     rw other (ap (λ xs. node ∷ xs) (above-unchanged change i slots parts.1))
 above-unchanged change i (Gone j ∷ slots) all = above-unchanged change i slots (and_parts (nat_lt i.0 j.0) (ids_above i.0 (slot_ids slots)) all).1
 
--- and nothing goes
+-- and nothing is removed
 above-kept : (i : Id) (slots : List Slot) → ids_above i.0 (slot_ids slots) ≡ true → leave_out i (present slots) ≡ present slots
 above-kept i [] all = refl
 above-kept i (Live node ∷ slots) all =
@@ -234,7 +235,7 @@ set-fewer (Live x ∷ slots) (suc at) node j h = let rest = set-fewer slots at n
 set-fewer (Gone k ∷ slots) zero node j h = absurd cc
 set-fewer (Gone k ∷ slots) (suc at) node j h = set-fewer slots at node j h
 
--- a write of the same id leaves the ids
+-- a write of the same id keeps the ids
 set-ids : (slots : List Slot) (at : ℕ) (s t : Slot) → slice_get slots at ≡ Some s → slot_id t ≡ slot_id s → slot_ids (set slots at t) ≡ slot_ids slots
 set-ids [] at s t h same = cc
 set-ids (x ∷ slots) zero s t h same =
@@ -242,7 +243,7 @@ set-ids (x ∷ slots) zero s t h same =
     ap (λ i. i ∷ slot_ids slots) (same ∙ ap slot_id (sym here))
 set-ids (x ∷ slots) (suc at) s t h same = ap (λ ids. slot_id x ∷ ids) (set-ids slots at s t h same)
 
--- a live span over a live one leaves the end
+-- a live span over a live one keeps the end
 set-ends : (slots : List Slot) (at : ℕ) (s t : Slot) → slice_get slots at ≡ Some s → is_gone t ≡ is_gone s → ends_in_gap (set slots at t) ≡ ends_in_gap slots
 set-ends [] at s t h same = cc
 set-ends (x ∷ []) zero s t h same = same ∙ ap is_gone (sym (same_Some x s h))
@@ -251,7 +252,7 @@ set-ends (x ∷ []) (suc at) s t h same = cc
 set-ends (x ∷ y ∷ slots) (suc zero) s t h same = set-ends (y ∷ slots) zero s t h same
 set-ends (x ∷ y ∷ slots) (suc (suc at)) s t h same = set-ends (y ∷ slots) (suc at) s t h same
 
--- as many spans as before are there
+-- the count of spans is unchanged
 set-counts : (slots : List Slot) (at : ℕ) (node new : KeptSpan) → slice_get slots at ≡ Some (Live node) →
     length (present (set slots at (Live new))) ≡ length (present slots)
 set-counts [] at node new h = cc
@@ -260,7 +261,7 @@ set-counts (Live x ∷ slots) (suc at) node new h = let rest = set-counts slots 
 set-counts (Gone k ∷ slots) zero node new h = absurd cc
 set-counts (Gone k ∷ slots) (suc at) node new h = set-counts slots at node new h
 
--- what is written over itself stays
+-- what is overwritten by itself stays
 set-same : (slots : List Slot) (at : ℕ) (s : Slot) → slice_get slots at ≡ Some s → set slots at s ≡ slots
 set-same [] at s h = cc
 set-same (x ∷ slots) zero s h = ap (λ y. y ∷ slots) (sym (same_Some x s h))
@@ -268,7 +269,7 @@ set-same (x ∷ slots) (suc at) s h = ap (λ xs. x ∷ xs) (set-same slots at s 
 
 -- ---- as the code reads and writes
 
--- a place that is read where a search found the id
+-- a place that is read, at which a search found the id
 pub record IsAt (slots : List Slot) (i : Id) (at : ℕ) (slot : Slot) : Type 0 where
   pub read : slice_get slots at ≡ Some slot
   pub found : find (slot_has i) slots ≡ Some slot
@@ -295,7 +296,7 @@ kept-nowhere slice slots now i live laid view same none =
     ap (λ nodes. kept_at nodes i) (sym view) ∙ present-find i slots laid.rising
     ∙ ap (λ o. option_and_then slot_node o) (ap (λ xs. find (slot_has i) xs) (sym same) ∙ none)
 
--- the list stays laid out where a live span is written over by itself, changed
+-- the list stays laid out if a live span is overwritten by itself, changed
 pub laid-write : (slots : List Slot) (i : Id) (at live : ℕ) (node new : KeptSpan) → IsLaidOut slots live → IsAt slots i at (Live node) →
     new.span.id ≡ node.span.id → IsLaidOut (set slots at (Live new)) live
 laid-write slots i at live node new laid h same = record {
@@ -314,20 +315,20 @@ present-write change slots now i at live node new laid view h e =
     ap (λ (n : KeptSpan). present (set slots at (Live n))) e ∙ changed
     ∙ ap (λ j. change_kept change j (present slots)) h.same ∙ ap (λ nodes. change_kept change i nodes) view
 
--- the same of a change that may fail and leave the span: the id stays
+-- the same of a change that may fail and keep the span: the id stays
 pub attempt-id : {X E : Type 0} (change : KeptSpan → KeptSpan) (r : Result X E) (node new : KeptSpan) → (change node).span.id ≡ node.span.id →
     OnOk r (new ≡ change node) → OnErr r (new ≡ node) → new.span.id ≡ node.span.id
 attempt-id change (Ok x) node new same ok err = ap (λ (k : KeptSpan). k.span.id) ok ∙ same
 attempt-id change (Err e) node new same ok err = ap (λ (k : KeptSpan). k.span.id) err
 
--- where it does not fail, the span of the id is changed
+-- if it doesn't fail, the span of the id is changed
 pub present-attempt : {X E : Type 0} (change : KeptSpan → KeptSpan) (r : Result X E) (slots : List Slot) (now : List KeptSpan) (i : Id)
     (at live : ℕ) (node new : KeptSpan) → IsLaidOut slots live → present slots ≡ now → IsAt slots i at (Live node) →
     OnOk r (new ≡ change node) → OnOk r (present (set slots at (Live new)) ≡ change_kept change i now)
 present-attempt change (Ok x) slots now i at live node new laid view h ok = present-write change slots now i at live node new laid view h ok
 present-attempt change (Err e) slots now i at live node new laid view h ok = tt
 
--- a failure comes at a live span alone
+-- only a live span's change can fail
 pub live-attempt : {X E : Type 0} (r : Result X E) (now : List KeptSpan) (i : Id) (node : KeptSpan) → kept_at now i ≡ Some node →
     OnErr r (kept_at now i ≡ None → ⊥)
 live-attempt (Ok x) now i node h = tt
@@ -349,7 +350,7 @@ present-gap change slots now i j at live slot laid view h gone =
     ap present (set-same slots at slot h.read) ∙ view
     ∙ change-none change i now (kept-there slots now i at live slot laid view h ∙ ap slot_node gone)
 
--- ---- a span comes
+-- ---- a span is added
 
 -- with one more above a number all are above it
 more-above : (n : ℕ) (ids : List Id) (i : Id) → ids_above n ids ≡ true → nat_lt n i.0 ≡ true → ids_above n (ids ++ i ∷ []) ≡ true
@@ -362,7 +363,7 @@ rising-more (j ∷ ids) i rising h =
     let parts = and_parts (nat_lt j.0 i.0) (ids_below i.0 ids) h in
     (more-above j.0 ids i rising.0 parts.0, rising-more ids i rising.1 parts.1)
 
--- where the last place is no gap, ids are below what the spans are below
+-- if the last place isn't a gap, all ids are below the bound of the spans' ids
 below-all : (n : ℕ) (slots : List Slot) → AreRising (slot_ids slots) → ends_in_gap slots ≡ false → AreBelow n (present slots) → ids_below n (slot_ids slots) ≡ true
 below-all n [] rising ends below = refl
 below-all n (Live node ∷ []) rising ends below = below
@@ -402,7 +403,7 @@ present-fits [] = omega arith
 present-fits (Live node ∷ slots) = let rest = present-fits slots in omega arith
 present-fits (Gone j ∷ slots) = let rest = present-fits slots in omega arith
 
--- a span with the greatest id comes at the end
+-- a span with the greatest id is added at the end
 pub laid-push : (slots new : List Slot) (node : KeptSpan) (live more : ℕ) → IsLaidOut slots live → AreBelow node.span.id.0 (present slots) →
     new ≡ slots ++ Live node ∷ [] → more ≡ live + 1 → IsLaidOut new more
 laid-push slots new node live more laid below e counted = record {
@@ -419,9 +420,9 @@ pub present-push : (slots new : List Slot) (now : List KeptSpan) (node : KeptSpa
     present new ≡ now ++ node ∷ []
 present-push slots new now node view e = ap present e ∙ present-more slots (Live node ∷ []) ∙ ap (λ xs. xs ++ node ∷ []) view
 
--- ---- a span goes
+-- ---- a span is removed
 
--- what lies where a place was written over by a gap
+-- the ids rise after a gap was written to a place
 pub gone-rising : (slots : List Slot) (i : Id) (at live : ℕ) (slot : Slot) → IsLaidOut slots live → IsAt slots i at slot →
     AreRising (slot_ids (set slots at (Gone i)))
 gone-rising slots i at live slot laid h =
@@ -436,7 +437,7 @@ pub gone-counts : (slots : List Slot) (i : Id) (at live : ℕ) (node : KeptSpan)
     length (present (set slots at (Gone i))) + 1 ≡ live
 gone-counts slots i at live node laid h = set-fewer slots at node i h.read ∙ sym laid.counted
 
--- a span that isn't there leaves all
+-- removing a span that isn't there changes nothing
 pub leave-none : (i : Id) (nodes : List KeptSpan) → kept_at nodes i ≡ None → nodes ≡ leave_out i nodes
 leave-none i [] h = refl
 leave-none i (x ∷ nodes) h = by (λ k. leave-none i nodes k) (keeps_id i x) refl
@@ -445,7 +446,7 @@ leave-none i (x ∷ nodes) h = by (λ k. leave-none i nodes k) (keeps_id i x) re
     by ih true e = absurd (let g : Some x ≡ None = subst (λ b. (if b then Some x else kept_at nodes i) ≡ None) e h in cc)
     by ih false e = rw e (ap (λ xs. x ∷ xs) (ih (subst (λ b. (if b then Some x else kept_at nodes i) ≡ None) e h)))
 
--- a gap written over by itself leaves all
+-- a gap overwritten by itself changes nothing
 pub gap-again : (slots : List Slot) (i j : Id) (at : ℕ) (slot : Slot) → IsAt slots i at slot → slot ≡ Gone j → set slots at (Gone i) ≡ slots
 gap-again slots i j at slot h gone =
     let same : Gone i ≡ slot = ap (λ (k : Id). Gone k) (sym h.same ∙ ap slot_id gone) ∙ sym gone in
@@ -469,7 +470,7 @@ rising-less (j ∷ ids) i rising = (
   rising-less ids i rising.1,
 )
 
--- a gap at the end goes
+-- a gap at the end is removed
 pub record IsTrimmed (old new : List Slot) : Type 0 where
   pub spans : present new ≡ present old
   pub rising : AreRising (slot_ids new)
@@ -490,7 +491,7 @@ trimmed old new (Some (Gone j)) e none ends rising = record {
   fewer = let n = ap (λ (xs : List Slot). length xs) e ∙ length-append new (Gone j ∷ []) in omega arith;
 }
 
--- the last place, or none
+-- the last place, if there is one
 last-part : (old front rest : List Slot) → front ++ rest ≡ old → length front ≡ length old - 1 → ends_in_gap old ≡ true →
     AreRising (slot_ids old) → IsTrimmed old front
 last-part old front [] e n ends rising =
@@ -506,7 +507,7 @@ trimmed_end old ends rising =
     last-part old (take (length old - 1) old) (drop (length old - 1) old) (take-append-drop (length old - 1) old)
     (length-take-le (length old - 1) old (omega arith)) ends rising
 
--- the last place goes in place of becoming a gap
+-- the last place is removed instead of becoming a gap
 pub vacated_end : (slots : List Slot) (at : ℕ) (i : Id) → at ≡ length slots - 1 → at < length slots →
     AreRising (slot_ids (set slots at (Gone i))) → IsTrimmed (set slots at (Gone i)) (take at slots)
 vacated_end slots at i last inside rising =
@@ -535,7 +536,7 @@ present-part [] = refl
 present-part (Live node ∷ slots) = ap (λ xs. node ∷ xs) (present-part slots)
 present-part (Gone j ∷ slots) = present-part slots
 
--- and the last place is no gap
+-- and the last place isn't a gap
 pub ends-part : (slots : List Slot) → ends_in_gap (filter (λ slot. not (is_gone slot)) slots) ≡ false
 ends-part [] = refl
 ends-part (Live node ∷ slots) = by (filter (λ slot. not (is_gone slot)) slots) (ends-part slots)

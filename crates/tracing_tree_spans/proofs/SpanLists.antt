@@ -1,4 +1,4 @@
--- Lists of spans in the order of their ids: where a span lies, and what an edit at its place does.
+-- Lists of spans in the order of their ids: a span's place, and what an edit at its place does.
 use Rattle.std.proofs.Common.{◌≡◌, ℕ, zero, suc, ◌<◌, ◌≤◌, nat_lt, Bool, true, false, not, List, [], ◌∷◌, length, get_or, set, map, find, filter, slice_get, Option, Some, None, MatchOption, if◌then◌else◌, arith, refl, sym, ap, ◌∙◌, subst}
 use Rattle.std.specs.List.{list_all, remove}
 use Rattle.std.specs.Option.{option_map_or}
@@ -15,7 +15,7 @@ use Rattle.tracing_tree_context.specs.declared.context.Id.{Id}
 abbrev pub all_above : ℕ → List Span → Bool
 all_above n spans = list_all (λ other. nat_lt n other.id.0) spans
 
--- where all ids are above a number, so is that of each place
+-- if all ids are above a number, so is that of each place
 above-at : (n : ℕ) (spans : List Span) (k : ℕ) (s : Span) → all_above n spans ≡ true → slice_get spans k ≡ Some s → n < s.id.0
 above-at n [] k s all h = cc
 above-at n (x ∷ spans) zero s all h =
@@ -28,11 +28,11 @@ above-at n (x ∷ spans) (suc k) s all h = above-at n spans k s (and_parts (nat_
 pub own_id : (s : Span) → has_id s.id s ≡ true
 own_id s = grind (arith, nat_tests)
 
--- a span of a lower id has not this id
+-- a span of a lower id doesn't have this id
 pub lower_not : (x : Span) (i : Id) → x.id.0 < i.0 → has_id i x ≡ false
 lower_not x i h = grind (arith, nat_tests)
 
--- a span of a higher id has not this id
+-- a span of a higher id doesn't have this id
 pub higher_not : (x : Span) (i : Id) → i.0 < x.id.0 → has_id i x ≡ false
 higher_not x i h = grind (arith, nat_tests)
 
@@ -72,12 +72,12 @@ rise (x ∷ spans) d rising zero (suc k) h within =
 rise (x ∷ spans) d rising (suc j) zero h within = absurd (omega arith)
 rise (x ∷ spans) d rising (suc j) (suc k) h within = rise spans d rising.1 j k (omega arith) (omega arith)
 
--- what a search of an id answers
+-- the answer of a search for an id
 abbrev pub IsFound : List Span → Id → Option ℕ → Type 0
 IsFound spans i place =
     MatchOption place (find (has_id i) spans ≡ None) (λ at. (at < length spans) × (find (has_id i) spans ≡ slice_get spans at))
 
--- the span at a place has the id, so that is where it lies
+-- the span at a place has the id, so it is the span's place
 pub found_at : (spans : List Span) (i : Id) (at : ℕ) → IsRising spans → option_map_or (has_id i) (slice_get spans at) false ≡ true → IsFound spans i (Some at)
 found_at spans i at rising here = by (slice_get spans at) refl
   where
@@ -111,7 +111,7 @@ set_is_update change (x ∷ spans) (suc k) s rising h =
     let low : x.id.0 < s.id.0 = above-at x.id.0 spans k s rising.0 h in
     rw lower_not (ap (λ xs. x ∷ xs) (set_is_update change spans k s rising.1 h))
 
--- where all ids are above this one, a removal of this id leaves all
+-- if all ids are above this one, removing this id keeps all
 all_kept : (i : Id) (spans : List Span) → all_above i.0 spans ≡ true → filter (λ span. not (has_id i span)) spans ≡ spans
 all_kept i [] all = refl
 all_kept i (x ∷ spans) all =
@@ -119,7 +119,7 @@ all_kept i (x ∷ spans) all =
     let other : has_id i x ≡ false = grind (arith, nat_tests, parts.0) in
     rw other (ap (λ xs. x ∷ xs) (all_kept i spans parts.1))
 
--- a removal at the place of a span leaves all but the span of this id
+-- a removal at the place of a span keeps all but the span of this id
 pub remove_is_filter : (spans : List Span) (k : ℕ) (s : Span) → IsRising spans → slice_get spans k ≡ Some s →
     remove spans k ≡ filter (λ span. not (has_id s.id span)) spans
 remove_is_filter [] k s rising h = cc

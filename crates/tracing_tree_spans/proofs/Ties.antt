@@ -1,4 +1,5 @@
--- Each span stays kept with its path and with the number of its children, as spans change, come and go.
+-- Each span is kept with its path and with the count of its children, while spans change, are added
+-- and are removed.
 use Rattle.std.proofs.Common.{◌≡◌, ℕ, ◌+◌, ◌-◌, ◌<◌, nat_lt, Bool, true, false, not, List, [], ◌∷◌, ◌++◌, length, map, reverse, find, filter, Option, Some, None, IfSome, if◌then◌else◌, arith, refl, sym, ap, ◌∙◌, subst, length-append}
 use Rattle.std.specs.List.{list_any}
 use Rattle.std.specs.Option.{option_map, option_map_or, option_and_then, option_or, is_some}
@@ -26,7 +27,7 @@ use Rattle.tracing_tree_spans.proofs.KeptLists.{found-span, spans-changed, spans
 
 -- ---- a change
 
--- a change that shows in the span alone, and leaves its id and its parent
+-- a change that shows only in the span, and keeps its id and its parent
 pub record KeepsTies (change : KeptSpan → KeptSpan) (u : Span → Span) : Type 0 where
   pub spans : (n : KeptSpan) → (change n).span ≡ u n.span
   pub same : IsSame u
@@ -101,7 +102,7 @@ kept_path-is nodes tied (Some p) = by (kept_at nodes p) refl
         sym (path_of-none (alone (spans_of nodes)) p (ap (λ (o : Option Span). is_some o) gone))
     by (Some node) e = tied.paths p node e
 
--- ---- a span comes
+-- ---- a span is added
 
 -- an id that is among the spans is not the new one
 old-not : (spans : List Span) (s : Span) (j : Id) (t : Span) → list_any (has_id s.id) spans ≡ false → find (has_id j) spans ≡ Some t → has_id j s ≡ false
@@ -114,7 +115,7 @@ old-not spans s j t fresh found = by (has_id j s) refl
         let here : list_any (has_id j) spans ≡ true = sym (is_some-find (has_id j) spans) ∙ ap (λ (o : Option Span). is_some o) found in
         absurd (let both : true ≡ false = sym here ∙ subst (λ k. list_any (has_id k) spans ≡ false) same fresh in cc)
 
--- the newest span stands before all others, once they are turned round
+-- the newest span is before all others, once they are reversed
 path_of-pushed : (spans : List Span) (s : Span) → IsGrown (s ∷ reverse spans) → (j : Id) → path_of (alone (spans ++ s ∷ [])) j ≡ path_among (s ∷ reverse spans) j
 path_of-pushed spans s grown j =
     let turned : reverse (spans ++ s ∷ []) ≡ s ∷ reverse spans = reverse-append spans (s ∷ []) in
@@ -141,7 +142,7 @@ children-more spans s j =
     ∙ elim (is_child_of j s) as (λ b. length (filter (is_child_of j) spans) + length (if b then s ∷ [] else [])
     ≡ length (filter (is_child_of j) spans) + (if b then 1 else 0)) [ true ↦ refl | false ↦ refl ]
 
--- an id that no span has is no parent
+-- an id that no span has isn't a parent
 children-none : (spans : List Span) (j : Id) → IsGrownForest (alone spans) → list_any (has_id j) spans ≡ false → length (children_of (alone spans) j) ≡ 0
 children-none spans j formed fresh =
     let none : list_any (is_child_of j) spans ≡ false =
@@ -224,7 +225,7 @@ tied-push nodes node formed tied new = record {
         m.children + times j node.span.parent ≡ length (children_of (alone (spans_of nodes ++ node.span ∷ [])) j)
     count j m e = count-by j m (kept_at nodes j) refl (found j m e)
 
--- ---- a span goes
+-- ---- a span is removed
 
 -- above an id no span has it
 above-all : (i : Id) (spans : List Span) → all_above i.0 spans ≡ true → without i spans ≡ spans
@@ -282,7 +283,7 @@ tied-remove nodes i node grown rising tied here childless = record {
     found : find (has_id i) (spans_of nodes) ≡ Some node.span
     found = found-span nodes i ∙ ap (λ o. option_map (λ (n : KeptSpan). n.span) o) here
 
--- what is left where a span without children goes, as the code takes it out
+-- the parent of the span that the code removes
 pub parent-read : (nodes : List KeptSpan) (i : Id) (o : Option KeptSpan) → kept_at nodes i ≡ o →
     parent_of (alone (spans_of nodes)) i ≡ option_and_then (λ (n : KeptSpan). n.span.parent) o
 parent-read nodes i o here =
@@ -293,11 +294,11 @@ parent-read nodes i o here =
     by None = refl
     by (Some n) = refl
 
--- an id that isn't live leaves all
+-- an id that isn't live changes nothing
 pub tied-nothing : (nodes new : List KeptSpan) (i : Id) → IsTied nodes → kept_at nodes i ≡ None → new ≡ leave_out i nodes → IsTied new
 tied-nothing nodes new i tied none e = subst IsTied (leave-none i nodes none ∙ sym e) tied
 
--- the parent counts the span that went
+-- the parent counts the span that was removed
 pub child-counted : (nodes new : List KeptSpan) (i p : Id) (node : KeptSpan) → IsRising (spans_of nodes) → IsTied nodes → kept_at nodes i ≡ Some node →
     node.span.parent ≡ Some p → new ≡ leave_out i nodes → IfSome (kept_at new p) (λ k. 0 < k.children)
 child-counted nodes new i p node rising tied here parent e = by (kept_at new p) refl
@@ -318,7 +319,7 @@ child-counted nodes new i p node rising tied here parent e = by (kept_at new p) 
         let fewer = children-without i (spans_of nodes) node.span rising found p in
         omega (arith, count, fewer, one)
 
--- a span goes that counts at its parent
+-- a span is removed that counts at its parent
 pub tied-leaf : (nodes left new : List KeptSpan) (i p : Id) (node : KeptSpan) → IsGrown (reverse (spans_of nodes)) → IsRising (spans_of nodes) → IsTied nodes → kept_at nodes i ≡ Some node →
     list_any (is_child_of i) (spans_of nodes) ≡ false → node.span.parent ≡ Some p → left ≡ leave_out i nodes → new ≡ change_kept child_less p left → IsTied new
 tied-leaf nodes left new i p node grown rising tied here childless parent e e' =
@@ -326,7 +327,7 @@ tied-leaf nodes left new i p node grown rising tied here childless parent e e' =
     e' ∙ ap (change_kept child_less p) e ∙ ap (λ o. without_child o (leave_out i nodes)) (sym parent) in
     subst IsTied (sym whole) (tied-remove nodes i node grown rising tied here childless)
 
--- a root goes
+-- a root is removed
 pub tied-root : (nodes new : List KeptSpan) (i : Id) (node : KeptSpan) → IsGrown (reverse (spans_of nodes)) → IsRising (spans_of nodes) → IsTied nodes → kept_at nodes i ≡ Some node →
     list_any (is_child_of i) (spans_of nodes) ≡ false → node.span.parent ≡ None → new ≡ leave_out i nodes → IsTied new
 tied-root nodes new i node grown rising tied here childless parent e =

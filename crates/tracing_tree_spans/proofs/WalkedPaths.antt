@@ -1,4 +1,4 @@
--- A walk from a span up to its root, look by look.
+-- A walk from a span up to its root, one look-up after the other.
 use Rattle.std.proofs.Common.{◌≡◌, ℕ, ◌<◌, List, [], ◌∷◌, ◌++◌, length, Option, Some, None, arith, refl, sym, ap, ◌∙◌, subst}
 use Rattle.std.specs.Option.{option_map, option_map_or, option_and_then}
 use Rattle.std.proofs.lemmas.Option.{same_Some}
@@ -9,18 +9,18 @@ use Rattle.tracing_tree_context.specs.declared.context.Id.{Id}
 use Rattle.tracing_tree_spans.proofs.SpanLists.{find-id}
 use Rattle.tracing_tree_spans.proofs.ClosingWalk.{way_up, way-none, path-falls, one-up}
 
--- what a look at an id that may be missing shows
+-- the look-up of an id that may be missing
 abbrev pub look_at : Forest → Option Id → Option ShownSpan
 look_at forest at = option_and_then (λ j. option_map shown_span (span_at forest j)) at
 
--- the ids so far, and the rest of the way up
+-- the ids so far, and the rest of the path upward
 pub record IsWalked (forest : Forest) (i : Id) (ids : List Id) (span : Option ShownSpan) : Type 0 where
   pub formed : IsForest forest
   pub at : Option Id
   pub shown : span ≡ look_at forest at
   pub way : ids ++ way_up forest at ≡ way_up forest (Some i)
 
--- how much of the way is left
+-- how much of the path is left
 abbrev pub left_of : Forest → Option ShownSpan → ℕ
 left_of forest span = option_map_or (λ shown. length (path_of forest shown.id)) span 0
 
@@ -33,7 +33,7 @@ walk-begins forest i ids span formed none shown = record {
   way = ap (λ xs. xs ++ way_up forest (Some i)) none;
 }
 
--- a span that is looked at is live
+-- a span that is found is live
 pub record IsLooked (forest : Forest) (shown : ShownSpan) (at : Option Id) : Type 0 where
   pub id : Id
   pub span : Span
@@ -97,7 +97,7 @@ walk-falls forest shown at span formed h next =
             let n = ap (left_of forest) (next ∙ e) ∙ left p (span_at forest p) refl ∙ ap (λ o. option_map_or (λ (s : Span). length (path_of forest p)) o 0) g in
             omega (arith, n, falls)
 
--- it ends where no span is left
+-- it ends when no span is left
 pub walk-ends : (forest : Forest) (i : Id) (ids : List Id) (at : Option Id) → IsForest forest → None ≡ look_at forest at →
     ids ++ way_up forest at ≡ way_up forest (Some i) → ids ≡ way_up forest (Some i)
 walk-ends forest i ids None formed h way = sym (append-nil ids) ∙ way

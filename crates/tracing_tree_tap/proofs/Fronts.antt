@@ -1,4 +1,4 @@
--- What is left of a text without what it begins with.
+-- What is left of a string without its prefix.
 use Rattle.std.proofs.Common.{◌≡◌, ◌≢◌, ◌<◌, ◌≤◌, ◌+◌, ℕ, Bool, true, false, List, [], ◌∷◌, IsUtf8, refl, ap, subst, ◌∙◌, arith}
 use Rattle.std.specs.Prelude.{◌==◌, ◌&&◌, nat_lt, if◌then◌else◌}
 use Rattle.std.proofs.lemmas.Bool.{eq-eqb, eqb-true, lt-ltb, le-ltb}
@@ -35,7 +35,7 @@ margin_full place limit [] h = refl
 margin_full place limit (byte ∷ rest) h =
     ap (λ (is : Bool). if is && (byte == 32) then without_margin_from (place + 1) limit rest else byte ∷ rest) (le-ltb place limit h)
 
--- what comes after an ASCII character is a text
+-- what comes after an ASCII character is UTF-8
 pub rest_utf8 : (mark : ℕ) (text rest : List ℕ) → mark < 128 → text ≡ mark ∷ rest → IsUtf8 text → IsUtf8 rest
 rest_utf8 mark text rest small h utf8 =
     let whole : IsUtf8 (mark ∷ rest) = subst IsUtf8 h utf8 in

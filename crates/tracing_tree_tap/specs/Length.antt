@@ -10,7 +10,7 @@ thousandths_text count =
     decimal (count / 1000) ++ codes "." ++ decimal (count / 100 % 10) ++ decimal (count / 10 % 10)
     ++ decimal (count % 10)
 
--- a length in nanoseconds: as seconds, milliseconds or microseconds, what is below three digits cut
+-- a length in nanoseconds, as seconds, milliseconds or microseconds, truncated to three decimals
 abbrev pub length_text : ℕ → List ℕ
 length_text nanoseconds =
     if nat_le 1_000_000_000 nanoseconds
@@ -19,7 +19,7 @@ length_text nanoseconds =
     then thousandths_text (nanoseconds / 1000) ++ codes "ms"
     else thousandths_text nanoseconds ++ micro_unit
 
--- what a digit counts
+-- the value of a digit
 abbrev pub digit_in : ℕ → ℕ
 digit_in byte = byte - 48
 
@@ -35,7 +35,7 @@ abbrev pub after_three : List ℕ → List ℕ
 after_three (a ∷ b ∷ c ∷ rest) = rest
 after_three _ = []
 
--- the millionths that the digits after a point write; those after the sixth are cut off
+-- the millionths that the digits after a point write; digits after the sixth are ignored
 abbrev pub millionths : List ℕ → ℕ
 millionths digits = thousandths digits * 1000 + thousandths (after_three digits)
 

@@ -115,8 +115,8 @@ space_note_place [] = 0
 space_note_place (byte ∷ rest) =
     if begins (codes " #") (byte ∷ rest) then 0 else space_note_place rest + 1
 
--- the place of the first `#` at the front or behind a space, with that space; the length if none is
--- there. A `\#` is behind a backslash.
+-- the place of the first `#` at the front or after a space, with that space; the length if there is
+-- no such place. A `\#` follows a backslash.
 abbrev pub note_place : List ℕ → ℕ
 note_place text = if begins (codes "#") text then 0 else space_note_place text
 

@@ -18,12 +18,12 @@ before_mark mark text =
 abbrev pub without_end : List ℕ → List ℕ → List ℕ
 without_end mark text = unwrap_or (before_mark mark text) text
 
--- a text from its first byte on that isn't this one
+-- a string from its first byte on that isn't this one
 abbrev pub without_leading : ℕ → List ℕ → List ℕ
 without_leading mark [] = []
 without_leading mark (byte ∷ rest) = if byte == mark then without_leading mark rest else byte ∷ rest
 
--- a text without its first spaces, up to this many; `place` of them are gone
+-- a string without its first spaces, up to column `limit`; `place` of them are removed already
 abbrev pub without_margin_from : ℕ → ℕ → List ℕ → List ℕ
 without_margin_from place limit [] = []
 without_margin_from place limit (byte ∷ rest) =
@@ -52,11 +52,11 @@ first_word text = if has_space text then before_first is_space text else text
 abbrev pub after_word : List ℕ → List ℕ
 after_word text = if has_space text then without_leading 32 (after_first is_space text) else []
 
--- two words are the same but for the case of their letters
+-- two words are equal, except for the case of their letters
 unfoldable pub same_word : List ℕ → List ℕ → Bool
 same_word word other = str_eq_ignore_ascii_case word other
 
--- one digit or more, and nothing else
+-- one digit or more, and only digits
 abbrev pub is_digits : List ℕ → Bool
 is_digits text = not (is_empty text) && all_ascii_digits text
 
@@ -66,12 +66,12 @@ whole_of text =
     if is_digits text && nat_lt (digits_value 10 text) (2 ^ 64)
     then Some (digits_value 10 text) else None
 
--- ---- escapes: `\#` stands for `#`, and `\\` for `\`
+-- ---- escapes: `\#` means `#`, and `\\` means `\`
 
 abbrev pub is_escape : ℕ → Bool
 is_escape c = (c == 35) || (c == 92)
 
--- a character behind a backslash; only those of an escape take it away
+-- a character after a backslash; the backslash is removed only in an escape
 abbrev pub end_of_escape : ℕ → List ℕ
 end_of_escape c = (if is_escape c then [] else codes "\\") ++ encode_utf8 c
 
@@ -86,7 +86,7 @@ past_escape is_escaped c = not is_escaped && (c == 92)
 abbrev pub last_escape : Bool → List ℕ
 last_escape is_escaped = if is_escaped then codes "\\" else []
 
--- characters as they are shown; the first is behind a backslash or not
+-- characters as they are shown; the first follows a backslash or not
 abbrev pub unescaped_from : Bool → List ℕ → List ℕ
 unescaped_from is_escaped [] = last_escape is_escaped
 unescaped_from is_escaped (c ∷ rest) =

@@ -1,4 +1,4 @@
--- How results end, and how many came to which end.
+-- How results end, and the counts of their ends.
 use Rattle.std.specs.Prelude.{ℕ, ◌+◌, ◌==◌, ◌||◌, pos, Bool, true, false, not, if◌then◌else◌, List, [], ◌∷◌, codes}
 use Rattle.tracing_tree_text.specs.Field.{whole_field}
 use Rattle.tracing_tree_text.specs.declared.field.Field.{Field}
@@ -14,7 +14,7 @@ use Rattle.tracing_tree_tap.specs.declared.tally.Verdict.TheVariants.{Passed, Fa
 abbrev pub no_counts : Tally
 no_counts = record { passed = 0; failed = 0; skipped = 0; todo = 0; is_broken = false }
 
--- a result that is skipped or to be done doesn't fail
+-- a result that is skipped or a TODO doesn't fail
 abbrev pub verdict_of : Bool → Directive → Verdict
 verdict_of is_ok Skip = Skipped
 verdict_of is_ok TodoNote = Todo
@@ -43,7 +43,7 @@ counted_tally Todo t = record t { todo = one_more t.todo }
 abbrev pub broken_tally : Tally → Tally
 broken_tally t = record t { is_broken = true }
 
--- a result is a failure, or something else is
+-- a result is a failure, or something other than a result is
 abbrev pub has_failed : Tally → Bool
 has_failed t = t.is_broken || not (t.failed == 0)
 

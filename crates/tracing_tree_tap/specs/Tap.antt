@@ -1,4 +1,4 @@
--- TAP: what each line says.
+-- TAP: what each line means.
 use Rattle.std.specs.Prelude.{ℕ, ◌+◌, ◌-◌, ◌^◌, ◌==◌, ◌&&◌, nat_lt, nat_le, Bool, true, false, not, if◌then◌else◌, List, [], ◌∷◌, ◌++◌, length, Option, Some, None, is_some, option_and_then, codes, bytes_eq, decimal, min}
 use Rattle.json.specs.Json.{Json}
 use Rattle.tracing_tree_spans.specs.Registry.Ids.{id_of}
@@ -33,10 +33,10 @@ use Rattle.tracing_tree_tap.specs.Line.{begins_summary, comment_of, described, d
 use Rattle.tracing_tree_tap.specs.Strings.{first_part, first_word, rest_after, unescaped, without_end, without_leading, without_margin}
 use Rattle.tracing_tree_tap.specs.Tally.{broken_tally, counted_tally, has_failed, level_of, no_counts, tally_fields, verdict_of, word_of}
 
--- What is known after a line: the id of the next span, the moment of all calls, which lines are read,
--- the innermost subtest that runs (or the script), those around it with the nearest first, the name of
--- a subtest that may open, the result that waits for its block, the counts, and the calls that weren't
--- passed on yet.
+-- What is known after a line: the id of the next span, the moment of all calls, which lines are
+-- read, the innermost subtest that runs (or the script), its ancestors with the nearest first, the
+-- name of a subtest that may open, the result that waits for its block, the counts, and the calls
+-- that weren't returned yet.
 pub record TapState : Type 0 where
   pub next : ℕ
   pub moment : Moment
@@ -122,7 +122,7 @@ abbrev pub span_or : Option Id → Option Id → Option Id
 span_or (Some id) parent = Some id
 span_or None parent = parent
 
--- a result ends: an event in its span, which closes, or in the one around it
+-- a result ends: an event in its span, which closes, or in the parent span
 unfoldable pub finished : Waiting → TapState → TapState
 finished w s =
     closed_if w.span w.parent
@@ -179,12 +179,12 @@ left_to (parent ∷ others) s =
 abbrev pub left : TapState → TapState
 left s = left_to s.outer s
 
--- the subtest around the one that runs is deeper than this column
+-- the parent of the running subtest is deeper than this column
 abbrev pub is_nested : ℕ → List Subtest → Bool
 is_nested column [] = false
 is_nested column (parent ∷ others) = nat_lt column parent.column
 
--- those end without a result whose parents are deeper than this column
+-- subtests whose parents are deeper than this column end without a result
 abbrev pub inner_left : ℕ → List Subtest → TapState → TapState
 inner_left column [] s = s
 inner_left column (parent ∷ others) s =
@@ -194,7 +194,7 @@ inner_left column (parent ∷ others) s =
 abbrev pub left_if : ℕ → TapState → TapState
 left_if column s = if nat_lt column s.subtest.column then left s else s
 
--- those end without a result that are deeper than this column
+-- subtests deeper than this column end without a result
 unfoldable pub deeper_left : ℕ → TapState → TapState
 deeper_left column s = left_if column (inner_left column s.outer s)
 
@@ -272,7 +272,7 @@ abbrev pub begun_anew : ℕ → TapState → TapState
 begun_anew number s =
     if (number == 1) && not (s.subtest.ran == 0) then restarted s else s
 
--- the number 1 begins anew, and numbers in between are missing
+-- counts this number; the numbers skipped before it are missing
 abbrev pub given_from : ℕ → TapState → TapState
 given_from number s = one_counted number (missed (one_more s.subtest.last) number s)
 
@@ -288,7 +288,7 @@ number_taken None s = one_counted (one_more s.subtest.last) s
 abbrev pub directive_in : List ℕ → Directive
 directive_in rest = directive_of (tail_of (described rest))
 
--- a description without its note; a `#` that is no note belongs to the description
+-- a description without its note; a `#` that isn't a note belongs to the description
 abbrev pub name_as : Directive → List ℕ → List ℕ
 name_as Absent text = text
 name_as Skip text = label_part text
@@ -323,7 +323,7 @@ abbrev pub leaf_label : List ℕ → ℕ → List ℕ
 leaf_label description number =
     if is_empty description then decimal number else description
 
--- what is shown behind the verdict: nothing for a subtest of this name
+-- what is shown after the verdict: nothing for a subtest of this name
 abbrev pub label_of : Option Id → List ℕ → List ℕ → ℕ → List ℕ
 label_of (Some span) name description number = subtest_label name description
 label_of None name description number = leaf_label description number
@@ -373,7 +373,7 @@ result_placed mark rest s =
 abbrev pub without_heading : TapState → TapState
 without_heading s = record s { heading = None }
 
--- A result belongs to the subtest in its column. It ends one that is deeper; those in that one have
+-- A result belongs to the subtest in its column. It ends a deeper subtest; those in that one have
 -- no result.
 unfoldable pub result_taken : Mark → List ℕ → TapState → TapState
 result_taken mark rest s =
@@ -521,7 +521,7 @@ part_taken SummaryLine text inner s = summary_begun s
 part_taken Line text inner s =
     kind_taken (kind_of inner) (length text - length inner) text inner s
 
--- a line that belongs to no result before it; a blank one says nothing
+-- a line that doesn't belong to the result before it; a blank one means nothing
 unfoldable pub next_taken : List ℕ → TapState → TapState
 next_taken text s =
     if is_empty (without_leading 32 text) then s
@@ -607,7 +607,7 @@ line_taken line s = taken_in s.mode (without_end (codes "\r") line) s
 abbrev pub handed_out : TapState → Step TapState
 handed_out s = record { calls = s.calls; source = record s { calls = [] } }
 
--- what a line says: each is known
+-- what a line means: each is known
 abbrev pub tap_takes : TapState → List ℕ → Option Json → Option (Step TapState)
 tap_takes s line value = Some (handed_out (line_taken line s))
 

@@ -1,4 +1,4 @@
--- Small forests of registries of one's own are well-formed.
+-- Small forests of custom registries are well-formed.
 use Rattle.std.proofs.Common.{◌≡◌, ℕ, Bool, true, false, List, [], ◌∷◌, Option, Some, None, option_map, refl, sym, ap, ◌∙◌}
 use Rattle.std.specs.List.{IsDistinct}
 use Rattle.tracing_tree_spans.specs.Registry.Ids.{id_of, same_id}
@@ -12,7 +12,7 @@ use Rattle.tracing_tree_spans.proofs.PathsUp.{forest-by_paths, id_laws}
 found : (forest : Forest) (i : Id) (s : Span) (o : Option Id) → span_at forest i ≡ Some s → s.parent ≡ o → option_map (λ span. span.parent) (span_at forest i) ≡ Some o
 found forest i s o at parent = ap (λ (o : Option Span). option_map (λ (span : Span). span.parent) o) at ∙ ap (λ (o : Option Id). Some o) parent
 
--- a root alone
+-- only a root
 pub one_root : (root : Span) (next : Option Id) → root.parent ≡ None → IsForest (record { spans = root ∷ []; next = next })
 unfolding IsDistinct
 one_root root next top = forest-by_paths forest (tt, tt) paths
@@ -56,14 +56,14 @@ child_first child root next apart below top = forest-by_paths forest ((apart, tt
         )
         first false e = second e (has_id i root) refl
 
--- the one root of a lone registry
+-- a registry with only a root
 pub lone_forest : (name target : List ℕ) (kept : Data) → IsForest (record {
   spans = record { id = id_of 1; parent = None; name = name; target = target; kept = kept; handles = 1 } ∷ [];
   next = None;
 })
 lone_forest name target kept = one_root (record { id = id_of 1; parent = None; name = name; target = target; kept = kept; handles = 1 }) None refl
 
--- the child and the root of a turned one
+-- the child and the root of a reversed forest
 pub turned_forest : (name target : List ℕ) (child root : Data) → IsForest (record {
   spans = record { id = id_of 3; parent = Some (id_of 7); name = name; target = target; kept = child; handles = 1 }
       ∷ record { id = id_of 7; parent = None; name = name; target = target; kept = root; handles = 1 } ∷ [];

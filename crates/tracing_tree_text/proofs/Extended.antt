@@ -1,4 +1,4 @@
--- A text that grew, and is cut back to what it was.
+-- A string that grew, and is truncated to its earlier length.
 use Rattle.std.proofs.Common.{◌≡◌, ℕ, ◌≤◌, zero, suc, List, [], ◌∷◌, ◌++◌, length, take, arith, refl, sym, ap, ◌∙◌, subst, lit<}
 use Rattle.std.proofs.lemmas.List.{append-nil, append_assoc, length-append, length-take}
 use Rattle.std.proofs.lemmas.Str.{IsUtf8-append, IsUtf8-past_char, IsUtf8-take, IsUtf8-string_bytes, lead_after_ascii}
@@ -10,7 +10,7 @@ use Rattle.std.specs.String.Boundary.{IsSplitPoint}
 use Rattle.tracing_tree_text.specs.Extended.{IsExtended}
 use lib.Utf8.{encode, encodes}
 
--- a text was appended, and then another
+-- a string was appended, and then another
 pub extended_twice : (old mid new : List ℕ) → IsExtended old mid → IsExtended mid new → IsExtended old new
 extended_twice old mid new h k = record {
   front = h.front ++ k.front;
@@ -24,7 +24,7 @@ extended_push (Err fault) old new text e = record { front = []; appended = e ∙
 
 -- ---- the place where it ends is between characters
 
--- what stands after characters is characters
+-- what follows characters is characters
 utf8-rest : (cs front : List ℕ) → IsUtf8 (encodes cs ++ front) → IsUtf8 front
 utf8-rest [] front h = h
 utf8-rest (c ∷ cs) front h =
@@ -58,14 +58,14 @@ extended_splits old new u v h =
     let whole : IsUtf8 (old ++ h.front) = subst IsUtf8 h.appended v in
     subst (λ text. IsSplitPoint text (length old)) (sym h.appended) (split_at_front old h.front (extended_rest old h.front u whole))
 
--- a text that grew can be cut back to its length before
+-- a string that grew can be truncated to its earlier length
 pub cuts_back : {Z : Type 0} (old new : String Z) (at : ℕ) → at ≡ string_len old → IsExtended (string_bytes old) (string_bytes new) →
     IsSplitPoint (string_bytes new) at
 cuts_back old new at here h =
     subst (IsSplitPoint (string_bytes new)) (sym old.bytes.ok.0 ∙ sym here)
     (extended_splits (string_bytes old) (string_bytes new) (IsUtf8-string_bytes old) (IsUtf8-string_bytes new) h)
 
--- a text that grew from a beginning of what it was can be cut back to that
+-- a string that grew from an earlier prefix can be truncated to that
 pub cuts_back_to : {Z : Type 0} (old new : String Z) (at : ℕ) → IsSplitPoint (string_bytes old) at →
     IsExtended (take at (string_bytes old)) (string_bytes new) → IsSplitPoint (string_bytes new) at
 cuts_back_to old new zero split h = (omega arith, λ positive. absurd (omega arith))

@@ -1,7 +1,7 @@
--- Texts that grow.
+-- Strings that grow.
 use Rattle.std.specs.Prelude.{◌≡◌, ℕ, List, ◌++◌}
 
--- some text was appended, or nothing
+-- a string was appended, or nothing
 pub record IsExtended (old new : List ℕ) : Type 0 where
   pub front : List ℕ
   pub appended : new ≡ old ++ front

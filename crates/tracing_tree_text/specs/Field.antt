@@ -5,7 +5,7 @@ use Rattle.tracing_tree_text.specs.declared.field.Field.{Field}
 use Rattle.tracing_tree_text.specs.declared.field.Kept.{Kept}
 use Rattle.tracing_tree_text.specs.declared.field.Kept.TheVariants.{One, Many}
 
--- an ASCII character as Rust's debug form of a text shows it
+-- an ASCII character as Rust's debug form of a string shows it
 abbrev pub escaped : ℕ → List ℕ
 escaped byte =
     if (byte == 34) || (byte == 92) then 92 ∷ byte ∷ []
@@ -16,7 +16,7 @@ escaped byte =
     else (if nat_lt byte 32 || (byte == 127) then codes "\\u{" ++ digits 16 false byte ++ codes "}"
     else byte ∷ [])))))
 
--- an ASCII text in Rust's debug form
+-- an ASCII string in Rust's debug form
 abbrev pub quoted : List ℕ → List ℕ
 quoted text = 34 ∷ flat_map escaped text ++ 34 ∷ []
 
@@ -24,7 +24,7 @@ abbrev pub truth_text : Bool → List ℕ
 truth_text true = codes "true"
 truth_text false = codes "false"
 
--- the values of fields: a text as it is, a whole number, a truth value, and a text in quotes
+-- the values of fields: an unchanged string, a whole number, a truth value, and a quoted string
 abbrev pub rendered_field : List ℕ → List ℕ → Field
 rendered_field name value = record { name = name; value = value }
 
@@ -37,7 +37,7 @@ truth_field name value = rendered_field name (truth_text value)
 abbrev pub text_field : List ℕ → List ℕ → Field
 text_field name value = rendered_field name (quoted value)
 
--- which fields a list has, wherever they lie
+-- which fields a list has, wherever they are stored
 abbrev pub kept_fields : Kept → List Field
 kept_fields (One field) = field ∷ []
 kept_fields (Many list) = list.items

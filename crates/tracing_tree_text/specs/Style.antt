@@ -1,4 +1,4 @@
--- The texts of styles and levels.
+-- The strings of styles and levels.
 use Rattle.std.specs.Prelude.{◌≡◌, ℕ, Bool, true, false, if◌then◌else◌, List, [], ◌∷◌, ◌++◌, Option, codes, bytes_eq, find, Result}
 use Rattle.std.specs.Result.{result_ok}
 use Rattle.tracing_tree_text.specs.declared.style.Style.{Style}
@@ -9,8 +9,8 @@ use Rattle.tracing_tree_text.specs.declared.style.Level.TheVariants.{Trace, Debu
 
 -- ---- styles
 
--- what stands for a style in its escape sequence; `styled` leaves a text in the plain style as it
--- is, so the code of `Plain` is in no text
+-- the code of a style in its escape sequence; `styled` leaves a string in the plain style
+-- unchanged, so the code of `Plain` is never written
 abbrev pub style_code : Style → List ℕ
 style_code Plain = codes "0"
 style_code Dimmed = codes "2"
@@ -20,11 +20,11 @@ style_code BoldBlue = codes "1;34"
 style_code BoldWarn = codes "1;38;2;252;234;160"
 style_code BoldRed = codes "1;31"
 
--- a text between the sequence that starts a style and the one that ends it
+-- a string between the sequence that starts a style and the one that ends it
 abbrev pub painted : Style → List ℕ → List ℕ
 painted style text = 27 ∷ 91 ∷ style_code style ++ 109 ∷ text ++ 27 ∷ codes "[0m"
 
--- a text in a style; without colours, and in the plain style, it stays as it is
+-- a string in a style; unchanged without colours, and in the plain style
 abbrev pub styled : Bool → Style → List ℕ → List ℕ
 styled false style text = text
 styled true Plain text = text
@@ -44,7 +44,7 @@ abbrev pub level_named : List ℕ → Option Level
 level_named name =
     find (λ level. bytes_eq (level_text level) name) (Trace ∷ Debug ∷ Info ∷ Warn ∷ Error ∷ [])
 
--- a text was read as the level that has this name
+-- a string was read as the level that has this name
 abbrev pub ReadsLevel : List ℕ → Result Level ParseLevelError → Type 0
 ReadsLevel name result = result_ok result ≡ level_named name
 

@@ -1,4 +1,4 @@
--- What a text holds, wherever it lies.
+-- The bytes of a string, wherever it is stored.
 use Rattle.std.specs.Prelude.{ℕ, List, string_bytes}
 use Rattle.tracing_tree_text.specs.declared.text.Kept.{Kept}
 use Rattle.tracing_tree_text.specs.declared.text.Kept.TheVariants.{Short, Long}

@@ -120,7 +120,8 @@ day_at-date : (moment : DateTime) → day_at (civil_nanos moment) ≡ epoch_day 
 unfolding civil_nanos
 day_at-date moment = omega (arith, signed_arith)
 
--- at each moment on a civil clock, what is shown is the date of its day and the time since that day's midnight
+-- at each moment on a civil clock, the date of its day and the time since that day's midnight are
+-- shown
 pub civil_at-is : (moment : DateTime) →
     IsCivilOn (epoch_day moment.date) (nanos_of_day (civil_nanos moment)) (civil_at (civil_nanos moment))
 civil_at-is moment =
@@ -128,7 +129,7 @@ civil_at-is moment =
     (civil_in (year_of_day day) day (nanos_of_day (civil_nanos moment)))) (sym (day_at-date moment))
     (civil_in-is moment.date (nanos_of_day (civil_nanos moment)))
 
--- ---- nothing else is
+-- ---- only these are
 
 abbrev date_of : (civil : Civil) → IsCivilDate civil.year civil.month civil.day → Date
 date_of civil h = record { year = civil.year; month = civil.month; day = civil.day; year_in = h.0; month_in = h.1; day_in = h.2 }

@@ -1,4 +1,4 @@
--- Where a unit is above 0, `is_nearest_count` holds of `nearest_count` and of no other count.
+-- If a unit is above 0, `is_nearest_count` holds of `nearest_count` and of no other count.
 use Rattle.std.proofs.Common.{◌≡◌, ℕ, ◌+◌, ◌*◌, ◌/◌, ◌%◌, ◌<◌, ◌≤◌, Bool, true, false, arith, refl, add-one, nat_lt, ◌==◌, ◌||◌, ◌&&◌, rules, if◌then◌else◌, subst}
 use Rattle.std.proofs.Math.Nat.{suc-mul, div-mul-le_self, mod-lt, mul-le-mul_right}
 use Rattle.std.proofs.lemmas.Nat.{div-add-mod'}
@@ -10,7 +10,7 @@ near-yes d unit e h = grind (arith, rules)
 near-no : (d unit : ℕ) (e : Bool) → (nat_lt d unit || ((d == unit) && e)) ≡ false → unit ≤ d
 near-no d unit e h = grind (arith, rules)
 
--- a tie goes to an even count
+-- a tie is rounded to an even count
 near-tie : (d unit : ℕ) (e : Bool) → (nat_lt d unit || ((d == unit) && e)) ≡ true → unit ≤ d → e ≡ true
 near-tie d unit e h far = grind (arith, rules)
 
@@ -84,7 +84,7 @@ near-not_below unit n q r positive h k below =
       | false ↦ (λ e. grind (arith, rules))
     ] refl
 
--- where the unit is above 0 there is one nearest count at most
+-- if the unit is above 0, there is at most one nearest count
 pub is_nearest_count-one : (unit n q r : ℕ) → 0 < unit → is_nearest_count unit n q ≡ true → is_nearest_count unit n r ≡ true → q ≡ r
 is_nearest_count-one unit n q r positive h k =
     elim (nat_lt q r) as (λ b. nat_lt q r ≡ b → q ≡ r) [

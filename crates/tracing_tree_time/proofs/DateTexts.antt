@@ -52,7 +52,7 @@ civil_of-is moment =
       nanosecond_in = moment.time.subsec_in;
     }
 
--- a moment shows the text of its date, a space, and the text of its time
+-- a moment is shown as its date, a space, and its time
 pub civil_text-moment : (moment : DateTime) →
     civil_text (civil_at (civil_nanos moment))
     ≡ date_text moment.date.year moment.date.month moment.date.day
@@ -61,7 +61,7 @@ civil_text-moment moment =
     ap civil_text (IsCivilOn-one (epoch_day moment.date) (nanos_of_day (civil_nanos moment)) (civil_at (civil_nanos moment))
     (civil_of moment) (civil_at-is moment) (civil_of-is moment))
 
--- a date and a time that were appended are the text that is shown
+-- a date and a time that were appended are the string that is shown
 pub date_and_time : (shown : DateTime) (date : Date) (time : Time) (dates both : List ℕ) → date ≡ shown.date → time ≡ shown.time →
     dates ≡ date_text date.year date.month date.day →
     both ≡ dates ++ 32 ∷ time_text time.hour time.minute time.second time.subsec_nanosecond →
@@ -102,6 +102,6 @@ pub fixed_timer : (o : Offset) (zone : PlainZone) (higher : Bool) → zone ≡ f
 fixed_timer o zone higher e =
     ap (λ z. local_timer higher (offset_at z)) e ∙ (λ k. local_timer higher (λ n. fixed_offset o n k))
 
--- no offset moves nothing
+-- offset zero changes nothing
 pub at_zero : (instant : ℤ) → instant +ℤ nanos_of_seconds (pos 0) ≡ instant
 at_zero instant = omega (arith, signed_arith)

@@ -18,7 +18,7 @@ filled-digit fill places n h =
     ap (filled_in fill places) (decimal_digit n h)
     ∙ ap (λ d. replicate (places - 1) fill ++ (48 + d) ∷ []) digit
 
--- a number of more digits: those before the last one stand in one place less
+-- a number of more digits: those before the last one take one place less
 pub filled-step : (fill places n : ℕ) → 10 ≤ n → n < 2 ^ 64 →
     filled_in fill places (decimal n) ≡ filled_in fill (places - 1) (decimal (n / 10)) ++ (48 + n % 10) ∷ []
 filled-step fill places n h k =
@@ -127,7 +127,7 @@ without_zero : (digits : List ℕ) → without_end_zeros (digits ++ 48 ∷ []) �
 without_zero digits =
     ap (λ back. reverse (dropped back)) (reverse-append digits (48 ∷ [])) ∙ ap reverse (dropped-zero (reverse digits))
 
--- another digit at the end keeps all
+-- another digit at the end keeps all digits
 without_none : (digits : List ℕ) (digit : ℕ) → (digit == 48) ≡ false →
     without_end_zeros (digits ++ digit ∷ []) ≡ digits ++ digit ∷ []
 without_none digits digit e =
@@ -174,7 +174,7 @@ fraction-one places n e h =
     subst (λ m. significant_digits (digits_in m n) ≡ digits_in m n) (sym e)
     (one-significant n (subst (λ m. n < 10 ^ m) e h))
 
--- digits that end in no zero are significant
+-- digits that don't end in a zero are significant
 pub fraction-whole : (places n : ℕ) → 2 ≤ places → n < 2 ^ 64 → (n % 10 == 0) ≡ false →
     significant_digits (digits_in places n) ≡ digits_in places n
 fraction-whole places n more h e =

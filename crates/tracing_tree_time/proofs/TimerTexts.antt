@@ -1,4 +1,4 @@
--- The texts of the clocks aren't empty, so that each may ask for memory.
+-- The strings of the clocks aren't empty, so each may run out of memory.
 use Rattle.std.proofs.Common.{◌≢◌, ◌/◌, ℕ, ℤ, Bool, true, false, if◌then◌else◌, nat_lt, List, [], ◌∷◌, ◌++◌, Result, Ok, Err, Some, codes, decimal, refl}
 use Rattle.tracing_tree_time.specs.Clock.{dimmed_pair, elapsed_text, hundredths_text, nearest_count, micro_unit, Civil, civil_text, local_text, uptime_text}
 use Rattle.tracing_tree_time.specs.Numbers.{right_in}
@@ -6,7 +6,7 @@ use Rattle.tracing_tree_time.specs.Timers.{AsksForText}
 use Rattle.tracing_tree_time.specs.declared.timer.TimeFault.{TimeFault}
 use Rattle.tracing_tree_time.specs.declared.timer.TimeFault.TheVariants.{Memory, Fault}
 
--- a text with a character in it
+-- a string with a character in it
 some-append : (front : List ℕ) (n : ℕ) (rest : List ℕ) → front ++ n ∷ rest ≢ []
 some-append [] n rest e = cc
 some-append (m ∷ front) n rest e = cc
@@ -32,7 +32,7 @@ some-elapsed false ansi nanos =
     (right_in 3 (decimal (nanos / 1_000_000))) (right_in 3 (decimal (nanos / 1_000_000_000))) (right_in 3 (decimal (nanos / 60_000_000_000)))
     (codes "ms") (codes "s ") (codes "m ") (λ e. cc) (λ e. cc) (λ e. cc)
 
--- what has a text may ask for memory
+-- a clock with a nonempty string may run out of memory
 asks : (text : List ℕ) (result : Result (Unit {0}) TimeFault) → text ≢ [] → AsksForText (Some text) result
 asks text (Ok done) some = tt
 asks text (Err Memory) some = some

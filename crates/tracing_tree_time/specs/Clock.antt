@@ -19,7 +19,7 @@ use Rattle.tracing_tree_time.specs.declared.clocks.Clock.{Clock}
 use Rattle.tracing_tree_time.specs.declared.clocks.Clock.TheVariants as Which
 
 -- a timer: what it writes at a moment, and after an elapsed time with colours or without; `None`
--- says that it faults
+-- means a fault
 pub record Timer : Type 0 where
   pub moment_text : Moment → Option (List ℕ)
   pub elapsed_text : Bool → ℕ → Option (List ℕ)
@@ -30,7 +30,7 @@ pub record Timer : Type 0 where
 abbrev pub elapsed : ℕ → ℕ → ℕ
 elapsed start now = now - start
 
--- how far two numbers lie apart
+-- the distance between two numbers
 abbrev pub distance : ℕ → ℕ → ℕ
 distance m n = (m - n) + (n - m)
 
@@ -44,7 +44,7 @@ is_nearest_count unit n count =
     || ((2 * distance n (count * unit) == unit) && is_even count)
 
 -- the count of a unit that is nearest to n: what fits into n, or one more. `CountLaws` proves that
--- `is_nearest_count` holds of it, and of no other count, where the unit is above 0.
+-- `is_nearest_count` holds of it, and of no other count, if the unit is above 0.
 abbrev pub nearest_count : ℕ → ℕ → ℕ
 nearest_count unit n = if is_nearest_count unit n (n / unit) then n / unit else n / unit + 1
 
@@ -112,8 +112,8 @@ pub record IsCivilOn (day : ℤ) (nanos : ℕ) (civil : Civil) : Type 0 where
   pub second_in : civil.second < 60
   pub nanosecond_in : civil.nanosecond < 1_000_000_000
 
--- the month, from 1, of a day of the year, which is counted from 0: how many months have begun by
--- then
+-- the month, from 1, of a day of the year, which is counted from 0: the count of months that have
+-- begun by then
 abbrev pub month_on : ℤ → ℕ → ℕ
 month_on year day =
     count_by (λ months. nat_le (days_of_months year months) day) (range_with_len 0 12)
@@ -135,8 +135,8 @@ civil_in year day nanos = record {
   nanosecond = nanos % 1_000_000_000;
 }
 
--- The number of the day at a count of nanoseconds after the start of 1970. `nanos_of_day` is how
--- many of them lie after that day's midnight.
+-- The number of the day at a count of nanoseconds after the start of 1970. `nanos_of_day` is the
+-- count of those after that day's midnight.
 abbrev pub day_at : ℤ → ℤ
 day_at nanos = int_div_euclid nanos (pos 86_400_000_000_000)
 
@@ -152,7 +152,7 @@ abbrev pub without_end_zeros : List ℕ → List ℕ
 without_end_zeros digits =
     reverse (drop (prefix_len (λ digit. digit == 48) (reverse digits)) (reverse digits))
 
--- digits without the zeros at their end, but with the first digit
+-- digits without the zeros at their end, but at least the first digit
 abbrev pub significant_digits : List ℕ → List ℕ
 significant_digits [] = []
 significant_digits (first ∷ rest) = first ∷ without_end_zeros rest
@@ -194,7 +194,7 @@ abbrev pub local_text : ℤ → ℤ → List ℕ
 local_text nanos offset =
     civil_text (civil_at (nanos +ℤ nanos_of_seconds offset)) ++ 32 ∷ offset_text offset
 
--- ---- the timers. Each instant has a civil date and time at each offset, so none of these faults.
+-- ---- the timers. Each instant has a civil date and time at each offset, so these never fail.
 
 -- the timer that writes nothing
 abbrev pub no_timer : Timer
@@ -210,7 +210,7 @@ timer_with higher text = record {
 abbrev pub utc_timer : Bool → Timer
 utc_timer higher = timer_with higher (λ moment. civil_text (civil_at moment.wall.nanosecond))
 
--- a timer of local date and time; the function gives the offset in seconds at an instant
+-- a timer of local date and time; the function returns the offset in seconds at an instant
 abbrev pub local_timer : Bool → (ℤ → ℤ) → Timer
 local_timer higher offset =
     timer_with higher (λ moment. local_text moment.wall.nanosecond (offset moment.wall.nanosecond))
@@ -236,7 +236,7 @@ uptime_from epoch = record { higher_precision = false; epoch = epoch }
 abbrev pub uptime_clock_timer : Uptime → Timer
 uptime_clock_timer clock = uptime_timer clock.higher_precision clock.epoch
 
--- a clock that was chosen when the program ran writes what the chosen one writes
+-- the timer of a clock that is chosen at run time
 abbrev pub clock_timer : Clock → Timer
 clock_timer Which.None = no_timer
 clock_timer (Which.Utc clock) = utc_clock_timer clock

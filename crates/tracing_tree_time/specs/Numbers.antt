@@ -1,7 +1,7 @@
 -- Numbers in columns.
 use Rattle.std.specs.Prelude.{ℕ, ◌-◌, List, ◌++◌, length, replicate, decimal}
 
--- a text at the right end of `places` places
+-- a string right-aligned in `places` places
 abbrev pub right_in : ℕ → List ℕ → List ℕ
 right_in places text = replicate (places - length text) 32 ++ text
 

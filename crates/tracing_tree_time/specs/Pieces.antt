@@ -1,4 +1,4 @@
--- Texts that are put together from pieces.
+-- Strings that are built from pieces.
 use Rattle.std.specs.Prelude.{◌≡◌, ℕ, ◌-◌, List, ◌++◌, length, flat_map, replicate, decimal, Bool}
 use Rattle.std.specs.Borrow.{Bor}
 use Rattle.tracing_tree_time.specs.Numbers.{right_in, digits_in}
@@ -6,7 +6,7 @@ use Rattle.tracing_tree_time.specs.Clock.{lower_elapsed_text, higher_elapsed_tex
 use Rattle.tracing_tree_time.specs.declared.pieces.Piece.{Piece}
 use Rattle.tracing_tree_time.specs.declared.pieces.Piece.TheVariants.{Text, Digits, Right}
 
--- a text at the right end of `places` places, with this character before it
+-- a string right-aligned in `places` places, filled with this character
 abbrev pub filled_in : ℕ → ℕ → List ℕ → List ℕ
 filled_in fill places text = replicate (places - length text) fill ++ text
 

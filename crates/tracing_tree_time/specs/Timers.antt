@@ -1,17 +1,17 @@
--- What timers do with text.
+-- What timers do with strings.
 use Rattle.std.specs.Prelude.{◌≡◌, ◌≢◌, ℕ, List, [], ◌++◌, Option, None, Result, Ok, Err, IsSomeAnd, ⊤}
 use Rattle.tracing_tree_context.specs.declared.context.Refusal.{Refusal}
 use Rattle.tracing_tree_context.specs.declared.context.Refusal.TheVariants as Refused
 use Rattle.tracing_tree_time.specs.declared.timer.TimeFault.{TimeFault}
 use Rattle.tracing_tree_time.specs.declared.timer.TimeFault.TheVariants.{Memory, Fault}
 
--- a timer appended what it states, or left the text: at a fault of its value, or for want of memory
+-- a timer appended what it states, or changed nothing: its value is invalid, or memory ran out
 abbrev pub AppendsStated : Option (List ℕ) → List ℕ → List ℕ → Result (Unit {0}) TimeFault → Type 0
 AppendsStated stated old new (Ok done) = IsSomeAnd stated (λ text. new ≡ old ++ text)
 AppendsStated stated old new (Err Memory) = new ≡ old
 AppendsStated stated old new (Err Fault) = (stated ≡ None) × (new ≡ old)
 
--- a timer is refused memory only where it has a text, and one that isn't empty
+-- a timer runs out of memory only if it has a nonempty string
 abbrev pub AsksForText : Option (List ℕ) → Result (Unit {0}) TimeFault → Type 0
 AsksForText stated (Ok done) = ⊤
 AsksForText stated (Err Memory) = IsSomeAnd stated (λ text. text ≢ [])

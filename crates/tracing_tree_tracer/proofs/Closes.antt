@@ -10,12 +10,12 @@ use Rattle.tracing_tree_layer.specs.declared.call.Reply.{Reply}
 use Rattle.tracing_tree_tracer.specs.declared.tracer.TraceFault.{TraceFault}
 use Rattle.tracing_tree_tracer.specs.Tracers.{TracerView, AreClosed, AreClosedTo, IsClosed, IsClosedAs, current_of, outer_of}
 
--- how many spans are around the current one
+-- the count of the current span's ancestors
 pub length-outer : (spans : List Id) → length (outer_of spans) ≡ length spans - 1
 length-outer spans = grind (arith, common_steps)
 
 module _ {C N : Type 0} (answers : Call → Result Reply Refusal → C → C → Type 0) (tells : N → Option Moment → Type 0) where
-  -- an accepted close leaves the spans around the current one
+  -- an accepted close leaves the ancestors of the current span
   pub spans-closed : (found : Option Id) (went : Bool) (old new : TracerView C N)
       → IsClosedAs answers tells found (Ok went) old new → new.spans ≡ outer_of old.spans
   spans-closed None went old new (never, same) = cc

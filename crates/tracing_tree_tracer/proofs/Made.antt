@@ -11,7 +11,7 @@ use Rattle.tracing_tree_tracer.specs.declared.tracer.TraceFault.TheVariants.{Ref
 use Rattle.tracing_tree_tracer.specs.Tracers.{TracerView, IsClosedAs, Leaves, Made, MadeAt, reply_as}
 
 module _ {C : Type 0} (answers : Call → Result Reply Refusal → C → C → Type 0) where
-  -- the call that was made is this one, its answer this one, and it was made on this
+  -- the call that was made is this one, with this answer, and on this value
   pub made_as : (given call : Call) → given ≡ call → (result answer : Result Reply Refusal) → result ≡ answer
       → (inside old new : C) → inside ≡ old → answers given result inside new
       → Made answers call old new answer
@@ -21,7 +21,7 @@ module _ {C : Type 0} (answers : Call → Result Reply Refusal → C → C → T
       let ByOld : C → Type 0 = λ one. Made answers call one new answer in
       subst ByOld is_old (subst ByAnswer is_answer (subst ByCall is_call made))
 
-  -- the same at a moment that was told
+  -- the same at a moment that was reported
   pub made_at : (tells : Option Moment → Type 0) (call : Moment → Call) (moment : Moment) → tells (Some moment)
       → (given : Call) → given ≡ call moment → (result answer : Result Reply Refusal) → result ≡ answer
       → (inside old new : C) → inside ≡ old → answers given result inside new
@@ -29,7 +29,7 @@ module _ {C : Type 0} (answers : Call → Result Reply Refusal → C → C → T
   made_at tells call moment told given is_call result answer is_answer inside old new is_old made =
       (moment, told, made_as given (call moment) is_call result answer is_answer inside old new is_old made)
 
--- a call that was refused is all that a method makes
+-- a method whose call was refused makes no other call
 pub leaves_refused : {C N A : Type 0}
     (MadeFrom : C → C → Result Reply Refusal → Type 0) (Silent : Type 0)
     (after : Result A TraceFault → List Id) (reply : A → Reply) (old new : TracerView C N) (refusal : Refusal)

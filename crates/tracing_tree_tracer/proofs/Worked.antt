@@ -52,7 +52,7 @@ pub calls_of_a_connection : written lined (
 unfolding encode_utf8
 calls_of_a_connection = refl
 
--- what is recorded is shown where the span is first drawn
+-- what is recorded is shown when the span is first drawn
 pub a_record_of_a_deferred_span : written (record lined { deferred_spans = true }) (
     open_call web [] (codes "conn") [] start
     ∷ record_call (rendered_field (codes "peer") (codes "82.9.9.9") ∷ []) (id_of 1)
@@ -62,7 +62,7 @@ pub a_record_of_a_deferred_span : written (record lined { deferred_spans = true 
 unfolding encode_utf8
 a_record_of_a_deferred_span = refl
 
--- ---- texts between quotes
+-- ---- strings between quotes
 
 pub a_quote_is_escaped : escaped_char 34 ≡ codes "\\\""
 a_quote_is_escaped = refl

@@ -15,13 +15,13 @@ use Rattle.tracing_tree_tracer.specs.declared.tracer.TraceFault.{TraceFault}
 use Rattle.tracing_tree_tracer.specs.declared.tracer.TraceFault.TheVariants.{NoSpan, NoMoment, Memory, Refused}
 use Rattle.tracing_tree_tracer.specs.Values.{message_field}
 
--- who tells: the target of all that is told, and the thread
+-- the origin of all that a tracer reports: the target and the thread
 pub record Teller : Type 0 where
   pub target : List ℕ
   pub thread_id : ℕ
   pub thread_name : Option (List ℕ)
 
--- a tracer: what takes its calls, its clock, who tells, and the spans that are open, outermost
+-- a tracer: its receiver of calls, its clock, its origin, and the spans that are open, outermost
 -- first
 pub record TracerView (C N : Type 0) : Type 0 where
   pub layered : C
@@ -29,17 +29,17 @@ pub record TracerView (C N : Type 0) : Type 0 where
   pub teller : Teller
   pub spans : List Id
 
--- the current span: of those that are open the last
+-- the current span: the last of those that are open
 abbrev pub current_of : List Id → Option Id
 current_of spans = slice_get spans (length spans - 1)
 
--- the spans around the current one
+-- the ancestors of the current span
 abbrev pub outer_of : List Id → List Id
 outer_of spans = take (length spans - 1) spans
 
 -- ---- the calls
 
--- what is handed in with a call in this current span
+-- the context of a call in this current span
 abbrev pub context_in : Teller → Option Id → Moment → Context
 context_in teller current moment = record {
   current = current;
@@ -70,7 +70,7 @@ close_call teller spans id moment =
 abbrev pub record_call : List Field → Id → Call
 record_call fields id = Record id (record { fields = fields })
 
--- ---- what came of a call
+-- ---- the outcome of a call
 
 -- the open spans after a span was opened, if it was
 abbrev pub after_open : List Id → Result Id TraceFault → List Id
@@ -82,7 +82,7 @@ abbrev pub after_close : List Id → Result Bool TraceFault → List Id
 after_close spans (Ok went) = outer_of spans
 after_close spans (Err fault) = spans
 
--- the answer of a method, with the reply that its value stands for
+-- the answer of a method, as the reply for its value
 abbrev pub reply_as : {A : Type 0} → (A → Reply) → Result A TraceFault → Result Reply TraceFault
 reply_as reply (Ok value) = Ok (reply value)
 reply_as reply (Err fault) = Err fault
@@ -90,8 +90,8 @@ reply_as reply (Err fault) = Err fault
 abbrev pub done : Unit {0} → Reply
 done nothing = Done
 
--- a call was made and answered so, or none was made: for want of a moment, only where none may
--- have been told, or of memory
+-- a call was made and answered this way, or no call was made: the clock had no moment, possible
+-- only if it may report no moment, or memory ran out
 abbrev pub CameOf : (Result Reply Refusal → Type 0) → Type 0 → Type 0 → Result Reply TraceFault
     → Type 0
 CameOf MadeWith Silent Unmade (Ok reply) = MadeWith (Ok reply)
@@ -100,22 +100,21 @@ CameOf MadeWith Silent Unmade (Err NoSpan) = ⊥
 CameOf MadeWith Silent Unmade (Err NoMoment) = Silent × Unmade
 CameOf MadeWith Silent Unmade (Err Memory) = Unmade
 
--- In what follows `answers` says what a call may be answered by what takes it, and what that
--- leaves.
+-- In what follows, `answers` says what the receiver may answer to a call, and what that leaves.
 module _ {C : Type 0} (answers : Call → Result Reply Refusal → C → C → Type 0) where
-  -- this call was made and answered so
+  -- this call was made and answered this way
   abbrev pub Made : Call → C → C → Result Reply Refusal → Type 0
   Made call old new answer = answers call answer old new
 
-  -- the call of a moment that may be told was made and answered so
+  -- the call at a moment that the clock may report was made and answered this way
   abbrev pub MadeAt : (Option Moment → Type 0) → (Moment → Call) → C → C → Result Reply Refusal
       → Type 0
   MadeAt tells call old new answer =
       (moment : Moment) × tells (Some moment) × Made (call moment) old new answer
 
 module _ {C N : Type 0} where
-  -- what a method leaves that makes one call: these open spans, and nothing else changed if it
-  -- made none
+  -- what a method that makes one call leaves: these open spans, and nothing else changed if it made
+  -- no call
   pub record Leaves (MadeFrom : C → C → Result Reply Refusal → Type 0) (Silent : Type 0)
       (spans : List Id) (answer : Result Reply TraceFault) (old new : TracerView C N) : Type 0 where
     pub made : CameOf (MadeFrom old.layered new.layered) Silent (new.layered ≡ old.layered) answer
@@ -130,7 +129,7 @@ module _ {C N : Type 0} (answers : Call → Result Reply Refusal → C → C →
       Leaves (MadeAt answers (tells old.clock) (open_call old.teller old.spans name fields))
       (tells old.clock None) (after_open old.spans answer) (reply_as Span answer) old new
 
-  -- an event was told
+  -- an event was reported
   abbrev pub IsTold : Level → List ℕ → List Field → Result (Unit {0}) TraceFault
       → TracerView C N → TracerView C N → Type 0
   IsTold level message fields answer old new =
@@ -163,13 +162,13 @@ module _ {C N : Type 0} (answers : Call → Result Reply Refusal → C → C →
       (first : Result Bool TraceFault) × (between : TracerView C N)
       × IsClosed first old between × ThenCloses (AreClosed n) first answer between new
 
-  -- all open spans but this count were closed
+  -- open spans were closed until this count was left
   abbrev pub AreClosedTo : ℕ → Result (Unit {0}) TraceFault → TracerView C N → TracerView C N
       → Type 0
   AreClosedTo depth answer old new = AreClosed (length old.spans - depth) answer old new
 
 module _ {C N : Type 0} (answers : Call → Result Reply Refusal → C → C → Type 0) where
-  -- fields were put at the end of those of this span, which is the current one, if there is one
+  -- fields were appended to those of the current span, if there is one
   abbrev pub IsRecordedAs : List Field → Option Id → Result (Unit {0}) TraceFault → TracerView C N
       → TracerView C N → Type 0
   IsRecordedAs fields None answer old new = (answer ≡ Err NoSpan) × (new ≡ old)

@@ -13,7 +13,7 @@ use Rattle.tracing_tree_tracer.specs.declared.value.Value.TheVariants.{Quoted, P
 abbrev pub escaped_code : ℕ → List ℕ
 escaped_code c = codes "\\u{" ++ digits 16 false c ++ codes "}"
 
--- a control character, which is shown by its code unless it has a name of its own
+-- a control character, which is shown by its code unless it has a short escape
 abbrev pub is_control : ℕ → Bool
 is_control c = nat_lt c 32 || (nat_le 127 c && nat_le c 159)
 

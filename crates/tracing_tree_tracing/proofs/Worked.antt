@@ -44,7 +44,7 @@ module _ (moment : Moment) where
   abbrev pub opened_order : TracingState
   opened_order = (reached 1 [] (order ∷ []) None (nothing_open 1 moment)).state
 
-  -- the span is open, and its calls were passed on
+  -- the span is open, and its calls were returned
   abbrev pub in_order : TracingState
   in_order = record opened_order { at = Some (id_of 1); calls = [] }
 

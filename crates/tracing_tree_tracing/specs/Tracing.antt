@@ -1,4 +1,4 @@
--- Lines of Rust's tracing: what each line of tracing-subscriber's JSON format tells.
+-- Lines of Rust's tracing: what each line of tracing-subscriber's JSON format means.
 use Rattle.std.specs.Prelude.{ℕ, ◌-◌, ◌&&◌, ◌||◌, nat_lt, Bool, true, false, not, if◌then◌else◌, List, [], ◌∷◌, ◌++◌, length, map, reverse, find, position, remove, Option, Some, None, is_some, option_map, bytes_eq, codes}
 use Rattle.std.specs.List.{list_any}
 use Rattle.json.specs.Find.{as_object}
@@ -26,8 +26,8 @@ use Rattle.tracing_tree_tracing.specs.declared.tracing.line.Kind.{Kind}
 use Rattle.tracing_tree_tracing.specs.declared.tracing.line.Kind.TheVariants.{Event, New, Enter, Exit, Close}
 
 -- What is known of the live spans: the id of the next span, the moment of the last line and how its
--- thread is shown, the live spans with the oldest first, the last span of the last line, and the calls
--- that weren't passed on yet.
+-- thread is shown, the live spans with the oldest first, the last span of the last line, and the
+-- calls that weren't returned yet.
 pub record TracingState : Type 0 where
   pub next : ℕ
   pub moment : Moment
@@ -60,18 +60,18 @@ same_above (Some one) (Some other) = same_id one other
 same_above None None = true
 same_above _ _ = false
 
--- a live span stands in the one above, and an entry may be it
+-- a live span is nested in the one above, and an entry may be it
 abbrev pub is_child : Option Id → Listed → Live → Bool
 is_child above listed one = same_above one.above above && may_be listed one.first
 
--- a live span stands in the one above, and opened on this thread
+-- a live span is nested in the one above, and opened on this thread
 abbrev pub is_child_of_thread : Option Id → List ℕ → Live → Bool
 is_child_of_thread above thread one = same_above one.above above && bytes_eq one.thread thread
 
 abbrev pub id_in : Live → Id
 id_in one = one.id
 
--- the newest span that is so
+-- the newest of the spans that pass
 abbrev pub newest : (Live → Bool) → List Live → Option Id
 newest is live = option_map id_in (find is (reverse live))
 
@@ -158,16 +158,16 @@ abbrev pub is_in : Option Id → List Id → Bool
 is_in (Some above) gone = list_any (same_id above) gone
 is_in None gone = false
 
--- a span is one of these or stands in one
+-- a span is one of these or is nested in one
 abbrev pub goes_with : Live → List Id → Bool
 goes_with one gone = list_any (same_id one.id) gone || is_in one.above gone
 
--- the spans that went, and what is known then
+-- the spans that closed, and what is known then
 pub record Parting : Type 0 where
   pub gone : List Id
   pub state : TracingState
 
--- a span that goes with these closes, and any other is kept
+-- a span that closes with these is closed, and any other is kept
 abbrev pub parted_one : Live → List Id → TracingState → Parting
 parted_one one gone s =
     if goes_with one gone
@@ -180,13 +180,13 @@ parted (one ∷ others) gone s =
     let next = parted_one one gone s in
     parted others next.gone next.state
 
--- a span closes with all that live in it
+-- a span closes with all live spans in it
 abbrev pub closed : Id → TracingState → TracingState
 closed id s = parted s.live (id ∷ []) (record s { live = [] })
 
--- ---- the way to a span
+-- ---- the path to a span
 
--- a span, none above the root, and what is known then
+-- a span, `None` above the root, and what is known then
 pub record Place : Type 0 where
   pub at : Option Id
   pub state : TracingState
@@ -227,8 +227,8 @@ abbrev pub without : Option ℕ → List Live → List Live
 without (Some place) live = if nat_lt place (length live) then remove live place else live
 without None live = live
 
--- The oldest span that no `new` reported is forgotten if 64 such spans are known beside the `depth` of
--- a line. Nothing is drawn: it opens again with the next line that lists it.
+-- The oldest span that no `new` reported is forgotten if 64 such spans are known in addition to the
+-- `depth` of a line. Nothing is drawn: it opens again with the next line that lists it.
 abbrev pub spared : ℕ → TracingState → TracingState
 spared depth s =
     if nat_lt (untold_from 0 s.live - 64) depth then s
@@ -255,7 +255,7 @@ reached depth thread (listed ∷ others) above s =
     let next = stepped depth thread listed above s in
     reached depth thread others next.at next.state
 
--- the newest span that an entry may be; a root opens if there is none
+-- the newest span that an entry may be; a root opens if there is no such span
 abbrev pub parent_found : List ℕ → Listed → TracingState → Place
 parent_found thread listed s =
     let id = anywhere s.live listed in
@@ -285,8 +285,8 @@ abbrev pub at_or_opened : Option Id → List ℕ → Listed → Option Id → Tr
 at_or_opened (Some id) thread listed above s = record { at = Some id; state = s }
 at_or_opened None thread listed above s = opened false thread listed above s
 
--- The span of an entry, whose close is reported: the one in the span above, otherwise one elsewhere. It
--- opens if there is none.
+-- The span of an entry, whose close is reported: the one in the span above, otherwise one
+-- elsewhere. It opens if there is no such span.
 abbrev pub closing : List ℕ → Listed → Option Id → TracingState → Place
 closing thread listed above s =
     let id = found s.live above listed in
@@ -353,7 +353,7 @@ takes_value value s = option_map (λ level. handed_out (acted level value (place
 abbrev pub plain_told : List ℕ → TracingState → TracingState
 plain_told line s = told (plain_event s.moment line (if_live s.at s.live)) s
 
--- what a line says
+-- what a line means
 abbrev pub tracing_takes : TracingState → List ℕ → Option Json → Option (Step TracingState)
 tracing_takes s line None = Some (handed_out (plain_told line s))
 tracing_takes s line (Some value) =

@@ -1,4 +1,4 @@
--- What one line of tracing's JSON says.
+-- What one line of tracing's JSON means.
 use Rattle.std.specs.Prelude.{ℕ, ◌-◌, ◌==◌, ◌&&◌, ◌||◌, Bool, true, false, not, if◌then◌else◌, List, [], ◌∷◌, ◌++◌, length, take, slice_get, Option, Some, None, is_none, is_some, unwrap_or, option_map, codes, bytes_eq}
 use Rattle.std.specs.List.{ends_with, list_any}
 use Rattle.json.specs.Json.{Json, Items, no_items, item}
@@ -15,7 +15,7 @@ use Rattle.tracing_tree_tracing.specs.declared.tracing.line.Kind.TheVariants.{Ev
 
 -- ---- values and fields
 
--- a line has these keys beside its event's fields
+-- the keys of a line other than its event's fields
 abbrev pub line_keys : List (List ℕ)
 line_keys =
     codes "timestamp" ∷ codes "level" ∷ codes "target" ∷ codes "filename" ∷ codes "line_number"
@@ -27,27 +27,27 @@ object_at key value = if_object (get key value) where
   if_object None = None
   if_object (Some found) = if is_some (as_object found) then Some found else None
 
--- the fields of a line's event: those at `fields`, else all but the line's own keys
+-- the fields of a line's event: those at `fields`, otherwise all but the line's own keys
 abbrev pub line_fields : Json → List Field
 line_fields value = at_fields (object_at (codes "fields") value) where
   at_fields : Option Json → List Field
   at_fields (Some fields) = event_fields fields
   at_fields None = fields_besides line_keys value
 
--- the thread of a line, empty where the line doesn't tell it
+-- the thread of a line, or an empty string if the line doesn't name it
 abbrev pub thread_in : Json → List ℕ
 thread_in value =
     unwrap_or (text_at (codes "threadId") value)
     (unwrap_or (text_at (codes "threadName") value) [])
 
--- a thread's number, without the words that Rust writes around it
+-- a thread's number, without the words that Rust writes with it
 abbrev pub bare_thread : List ℕ → List ℕ
 bare_thread text = inside (after_mark (codes "ThreadId(") text) where
   inside : Option (List ℕ) → List ℕ
   inside (Some rest) = if ends_with (λ a b. a == b) rest (codes ")") then take (length rest - 1) rest else text
   inside None = text
 
--- how a thread is shown: its number and its name, as far as they are told
+-- how a thread is shown: its number and its name, as far as the line has them
 abbrev pub thread_label : Option (List ℕ) → Option (List ℕ) → Option (List ℕ)
 thread_label (Some id) (Some name) = Some (shown (bare_thread id ++ codes ":" ++ name))
 thread_label (Some id) None = Some (shown (bare_thread id))
@@ -87,7 +87,7 @@ fields_within [] fields = true
 fields_within (field ∷ others) fields =
     list_any (λ f. field_eq f field) fields && fields_within others fields
 
--- an entry may be the span that was first listed as the other: a field may have come, and none has gone
+-- an entry may be the span first listed as the other: a field may be new, and no field was removed
 abbrev pub may_be : Listed → Listed → Bool
 may_be entry first =
     bytes_eq entry.name first.name && fields_within first.fields entry.fields
@@ -113,7 +113,7 @@ names_span value =
 abbrev pub is_message : Field → List ℕ → Bool
 is_message field text = bytes_eq field.name (codes "message") && bytes_eq field.value text
 
--- the fields with which a span's close is told
+-- the fields with which a span's close is reported
 abbrev pub is_timed_close : List Field → Bool
 is_timed_close (message ∷ busy ∷ idle ∷ []) =
     is_message message (codes "close") && bytes_eq busy.name (codes "time.busy")
@@ -133,15 +133,15 @@ abbrev pub kind_of : List Field → Bool → Kind
 kind_of (message ∷ []) current = kind_of_message message current
 kind_of _ current = AnEvent
 
--- What a line tells, of which these are the event's fields. Where the current span is the last that is
--- listed, the span that opens, closes or is left isn't named, so the line is an event of the current one.
+-- What a line means, by its event's fields. If the current span is the last one listed, the span
+-- that opens, closes or is left isn't named, so the line is an event of the current span.
 abbrev pub kind_in : List Field → Json → Kind
 kind_in fields value =
     if not (names_span value) then AnEvent
     else if is_timed_close fields then Close
     else kind_of fields (is_current value)
 
--- the spans that a line stands in, the root first: those that are listed, else the current one
+-- the spans that a line is in, the root first: those that are listed, otherwise the current one
 abbrev pub path_in : Kind → Json → List Listed
 path_in kind value = listed_or_current (spans_in value) where
   current : Kind → Option Listed → List Listed

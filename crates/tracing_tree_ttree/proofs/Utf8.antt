@@ -1,4 +1,4 @@
--- Bytes that are a text, and bytes that are none.
+-- Bytes that are UTF-8, and bytes that aren't.
 use Rattle.std.proofs.Common.{◌≡◌, ℕ, List, true, false, refl}
 use Rattle.std.specs.Prelude.{IsUtf8}
 use Rattle.std.specs.Str.{is_utf8}

@@ -1,11 +1,11 @@
--- The text of a trace by its bytes.
+-- The string of a trace by its bytes.
 use Rattle.std.specs.Prelude.{ℕ, ◌-◌, ◌==◌, if◌then◌else◌, List, [], ◌∷◌, length, take, drop, Option, Some, None, is_none}
 use Rattle.std.specs.List.{ends_with}
 use Rattle.std.specs.Str.{is_utf8}
 use Rattle.std.specs.Str.Lossy.{utf8_valid_len, utf8_error_len}
 
--- The text of these bytes, without a character of which they have only the beginning at their end. None
--- where they aren't UTF-8 otherwise.
+-- The string of these bytes, without a truncated character at their end. `None` if they otherwise
+-- aren't UTF-8.
 abbrev pub whole_text : List ℕ → Option (List ℕ)
 whole_text bytes =
     if is_utf8 bytes then Some bytes

@@ -1,4 +1,4 @@
--- A document may be cut where a piece ends, and after blanks.
+-- A document may be cut at the end of a piece, and after blanks.
 use Rattle.std.proofs.Common.{◌≡◌, ℕ, zero, suc, ◌+◌, ◌<◌, ◌≤◌, true, false, List, length, get_or, refl, sym, ap, ◌∙◌, subst, arith}
 use Rattle.std.specs.Prelude.{not, IsUtf8, IsCharBoundary}
 use Rattle.std.specs.List.{position_or_len}

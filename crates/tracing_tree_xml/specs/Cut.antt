@@ -23,26 +23,26 @@ ends_at Verbatim byte = byte == 13
 ends_at Content byte = (byte == 38) || (byte == 13)
 ends_at Value byte = (byte == 38) || (byte == 13) || (byte == 10) || (byte == 9)
 
--- a text up to where its first piece of this kind ends, and what comes after it
+-- a string up to where its first piece of this kind ends, and what comes after it
 abbrev pub piece : Until → List ℕ → List ℕ
 piece until text = take (position_or_len (ends_at until) text) text
 
 abbrev pub after_piece : Until → List ℕ → List ℕ
 after_piece until text = drop (position_or_len (ends_at until) text) text
 
--- what comes after the blanks at the front
+-- the count of blanks at the front, and what comes after them
 abbrev pub blank_count : List ℕ → ℕ
 blank_count text = position_or_len (λ byte. not (is_blank byte)) text
 
 abbrev pub after_blanks : List ℕ → List ℕ
 after_blanks text = drop (blank_count text) text
 
--- what comes after this mark at the front of a text
+-- what comes after this mark at the front of a string
 abbrev pub after_mark : List ℕ → List ℕ → Option (List ℕ)
 after_mark mark text =
     if starts_with (λ a b. a == b) text mark then Some (drop (length mark) text) else None
 
--- a text without this mark at its end
+-- a string without this mark at its end
 abbrev pub without_end : List ℕ → List ℕ → Option (List ℕ)
 without_end mark text =
     if ends_with (λ a b. a == b) text mark then Some (take (length text - length mark) text) else None

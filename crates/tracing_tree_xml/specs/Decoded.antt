@@ -1,11 +1,11 @@
--- What strings of a document stand for.
+-- What strings of a document mean.
 use Rattle.std.specs.Prelude.{ℕ, zero, suc, ◌+◌, ◌-◌, ◌*◌, ◌==◌, ◌&&◌, ◌||◌, nat_lt, nat_le, Bool, if◌then◌else◌, List, [], ◌∷◌, ◌++◌, length, Option, Some, None, option_and_then, codes, bytes_eq}
 use Rattle.std.specs.Char.{encode_utf8}
 use Rattle.tracing_tree_xml.specs.Cut.{after_mark, after_piece, piece}
 use Rattle.tracing_tree_xml.specs.declared.cut.Until.{Until}
 use Rattle.tracing_tree_xml.specs.declared.cut.Until.TheVariants.{Reference, Verbatim, Content, Value}
 
--- what a digit counts; 16 if it is none
+-- the value of a digit; 16 if it isn't a digit
 abbrev pub digit_of : ℕ → ℕ
 digit_of byte =
     if nat_le 48 byte && nat_le byte 57 then byte - 48
@@ -42,7 +42,7 @@ hexadecimal_or_decimal name None = decimal_of (after_mark (codes "#") name)
 abbrev pub numbered : List ℕ → Option ℕ
 numbered name = hexadecimal_or_decimal name (after_mark (codes "#x") name)
 
--- the character that a reference of this name stands for
+-- the character that a reference of this name means
 abbrev pub entity : List ℕ → Option ℕ
 entity name =
     if bytes_eq name (codes "lt") then Some 60
@@ -60,7 +60,7 @@ abbrev pub ended_or_written : List ℕ → List ℕ → Option (List ℕ) → Li
 ended_or_written text name (Some rest) = known_or_written text rest (entity name)
 ended_or_written text name None = (codes "&", text)
 
--- what a reference stands for, whose `&` comes before this text, and what comes after it
+-- what a reference means, whose `&` comes before this string, and what comes after it
 abbrev pub reference : List ℕ → List ℕ × List ℕ
 reference text =
     ended_or_written text (piece Reference text) (after_mark (codes ";") (after_piece Reference text))
@@ -90,11 +90,11 @@ abbrev pub at_reference : Until → List ℕ → Option (List ℕ) → List ℕ 
 at_reference until text (Some rest) = reference rest
 at_reference until text None = at_return_and_line_end until text (after_mark (codes "\r\n") text)
 
--- what the mark at the front stands for, and what comes after it
+-- what the mark at the front means, and what comes after it
 abbrev pub special : Until → List ℕ → List ℕ × List ℕ
 special until text = at_reference until text (after_mark (codes "&") text)
 
--- a piece as it is written, then what its mark stands for, then what comes after that
+-- a piece as it is written, then what its mark means, then what comes after that
 abbrev pub decoded_then : Until → List ℕ → (List ℕ → List ℕ) → List ℕ
 decoded_then until text others =
     piece until text ++ (special until (after_piece until text)).0
@@ -105,11 +105,11 @@ decoded_within zero until text = []
 decoded_within (suc turns) until text =
     if length text == 0 then [] else decoded_then until text (λ rest. decoded_within turns until rest)
 
--- What a string stands for. Each turn reads a byte or more.
+-- What a string means. Each turn reads a byte or more.
 abbrev pub decoded : Until → List ℕ → List ℕ
 decoded until text = decoded_within (length text) until text
 
--- a run of text, the value of an attribute, and a part of a CDATA section
+-- a run of characters, the value of an attribute, and a part of a CDATA section
 abbrev pub text_decoded : List ℕ → List ℕ
 text_decoded run = decoded Content run
 

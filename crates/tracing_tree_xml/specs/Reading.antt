@@ -1,4 +1,4 @@
--- The rest of a document, and what it begins in.
+-- The rest of a document, and where its first byte is.
 use Rattle.std.specs.Prelude.{ℕ, List}
 use Rattle.tracing_tree_xml.specs.declared.reader.Place.{Place}
 

@@ -4,7 +4,7 @@ use Rattle.tracing_tree_xml.specs.Reading.{Reading}
 use Rattle.tracing_tree_xml.specs.declared.reader.Token.{Token}
 use Rattle.tracing_tree_xml.specs.declared.reader.Token.TheVariants.{StartTag, Attribute, TagEnd, EmptyTagEnd, EndTag, Text, Cdata, Skipped}
 
--- A token with its strings as they are written. A start tag is its name, its attributes and its end.
+-- A token with its strings unchanged. A start tag is its name, its attributes and its end.
 pub data XmlToken : Type 0 where
   start_tag : List ℕ → XmlToken
   attribute : List ℕ → List ℕ → XmlToken

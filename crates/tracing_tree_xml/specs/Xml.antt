@@ -70,14 +70,14 @@ abbrev pub end_or_attribute : List ℕ → Option (List ℕ) → Result ReadStep
 end_or_attribute rest (Some after) = Ok (step tag_end Content after)
 end_or_attribute rest None = empty_end_or_attribute rest (after_mark (codes "/>") rest)
 
--- what comes in a tag, from its first byte on that is no blank
+-- what comes in a tag, from its first byte on that isn't a blank
 abbrev pub tag_step : List ℕ → Result ReadStep Unfinished
 tag_step rest =
     if length rest == 0 then Err In.Tag else end_or_attribute rest (after_mark (codes ">") rest)
 
 -- ---- what is skipped
 
--- a thing goes on inside unless the part ended with its mark
+-- a construct continues inside unless the part ended with its mark
 abbrev pub part_step : Place → Place → Unfinished → Bool → Option (List ℕ) → Result ReadStep Unfinished
 part_step inside outside unfinished ends after =
     step_after skipped (if ends then outside else inside) unfinished after
@@ -198,7 +198,7 @@ abbrev pub markup_or_text : List ℕ → Option (List ℕ) → ReadStep
 markup_or_text rest (Some markup) = markup_step markup
 markup_or_text rest None = text_step rest
 
--- text goes on up to the next `<`
+-- characters continue up to the next `<`
 abbrev pub content_step : List ℕ → ReadStep
 content_step rest = markup_or_text rest (after_mark (codes "<") rest)
 
@@ -228,7 +228,7 @@ abbrev pub some_step : Result ReadStep Unfinished → Result (Option ReadStep) U
 some_step (Ok step) = Ok (Some step)
 some_step (Err unfinished) = Err unfinished
 
--- the next token and what comes after it; none at the end
+-- the next token and what comes after it; `None` at the end
 abbrev pub next_step : Reading → Result (Option ReadStep) Unfinished
 next_step r = if is_at_end r then Ok None else some_step (step_in r.place r.rest)
 

@@ -178,7 +178,7 @@ place_at-other (first ∷ places) zero place (suc k) ne = refl
 place_at-other (first ∷ places) (suc level) place zero ne = refl
 place_at-other (first ∷ places) (suc level) place (suc k) ne = place_at-other places level place k (λ e. ne (ap suc e))
 
--- the places of the first levels: those that are kept, and none for the others
+-- the places of the first levels: those that are kept, and `None` for the others
 take-none : (level : ℕ) → take {A = Option ℕ} level [] ≡ []
 take-none zero = refl
 take-none (suc level) = refl

@@ -22,7 +22,7 @@ pub event-some : (amount spaces : ℕ) (text rest : List ℕ) → spaces % amoun
     read_event amount spaces text ≡ Some (one_line_row Event (spaces / amount + 1) rest)
 event-some amount spaces text rest e k = rw (e, k) refl
 
--- whether a beginning was taken off
+-- whether a prefix was removed
 pub taken-tells : (front text : List ℕ) (r : Option (Bor (List ℕ))) → MatchOption r (after_front front text ≡ None) (λ x. after_front front text ≡ Some x.now) →
     is_some (after_front front text) ≡ is_some r
 taken-tells front text None h = ap is_some h

@@ -1,4 +1,4 @@
--- Beginnings of texts, and the spaces at their start.
+-- Prefixes of strings, and the spaces at their start.
 use Rattle.std.proofs.Common.{◌≡◌, ◌≢◌, ℕ, zero, suc, ◌+◌, ◌==◌, Bool, true, false, List, [], ◌∷◌, ◌++◌, drop, Some, None, is_some, if◌then◌else◌, refl, sym, ap, ◌∙◌, subst, arith, append_assoc, eq-eqb, eqb-true}
 use Rattle.std.specs.Char.{encode_utf8}
 use Rattle.std.specs.List.{repeat, starts_with}
@@ -7,16 +7,16 @@ use Rattle.tracing_tree_drawing.proofs.Characters.{space, horizontal}
 use Rattle.tracing_tree_drawing.specs.Rows.RowText.{without_start_spaces}
 use Rattle.tracing_tree_drawing.specs.Rows.Line.{after_front, after_run, start_spaces}
 
--- three parts before a text, one by one
+-- three parts before a string, one by one
 pub three-parts : (first second third text : List ℕ) → first ++ second ++ third ++ text ≡ first ++ (second ++ (third ++ text))
 three-parts first second third text = simp append_assoc
 
 pub same : (x : ℕ) → (x == x) ≡ true
 same x = eq-eqb x x refl
 
--- ---- beginnings
+-- ---- prefixes
 
--- a beginning with more behind it
+-- a prefix with more after it
 pub after_front-more : (front more text : List ℕ) → after_front (front ++ more) (front ++ text) ≡ after_front more text
 after_front-more [] more text = refl
 after_front-more (byte ∷ front) more text = rw (same byte) (after_front-more front more text)
@@ -42,7 +42,7 @@ after_front-is (byte ∷ front) (first ∷ text) rest e = by (after_front-is fro
         λ i. sym (eqb-true byte first k) i ∷ ih h i
     by ih false k = some_of_none (subst (λ b. (if b then after_front front text else None) ≡ Some rest) k e)
 
--- the same as the test of a beginning
+-- the same as the test of a prefix
 pub begins-after : (front text : List ℕ) → starts_with (λ x y. x == y) text front ≡ is_some (after_front front text)
 begins-after [] text = refl
 begins-after (byte ∷ front) [] = refl
@@ -55,7 +55,7 @@ begins-after (byte ∷ front) (first ∷ text) = by (begins-after front text) (b
 
 -- ---- runs
 
--- a run of another length before the same character is none
+-- a run of another length before the same character doesn't match
 pub after_run-other : (character : ℕ) → ((text : List ℕ) → after_front (encode_utf8 character) (encode_utf8 horizontal ++ text) ≡ None) →
     ((more text : List ℕ) → after_front (encode_utf8 horizontal ++ more) (encode_utf8 character ++ text) ≡ None) →
     (count other : ℕ) (text : List ℕ) → count ≢ other → after_run count character (columns other horizontal ++ (encode_utf8 character ++ text)) ≡ None

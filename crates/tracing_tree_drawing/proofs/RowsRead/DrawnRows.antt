@@ -39,7 +39,7 @@ row-pushed amount rows row text whole e h w p = (
   list_all-append is_text_row rows (row ∷ []) ∙ and_from (list_all is_text_row rows) (is_text_row row && true) h (and_from (is_text_row row) true p refl),
 )
 
--- no row is too wide where not one of them is
+-- a row of these isn't too wide if no row is
 pub narrow-at : (amount : ℕ) (rows : List TextRow) (i : ℕ) (row : TextRow) → list_any (is_row_too_wide amount) rows ≡ false → i < length rows → row ≡ get_or rows i row →
     is_row_too_wide amount row ≡ false
 narrow-at amount rows i row none lt at = by (is_row_too_wide amount row) refl

@@ -33,7 +33,7 @@ far-later amount shape level line far = by (after_front (encode_utf8 vertical) (
     by None = refl
     by (Some text) = rw (ap (λ b. not (used == 0) && b) other ∙ none (not (used == 0))) refl
 
--- as the checks of the code tell it
+-- by the checks of the code
 pub far-by : (amount : ℕ) (shape : Shape) (level : ℕ) (line : List ℕ) (rest shift used below : ℕ) → length line < 18_446_744_073_709_551_616 → length line ≡ start_spaces line + rest →
     shift ≡ shift_of (mode_of shape) → used ≡ level + shift → below ≡ used - 1 → (below * amount < 18_446_744_073_709_551_616 → ⊥) → read_later amount shape level line ≡ None
 far-by amount shape level line rest shift used below fits count s u b wide =

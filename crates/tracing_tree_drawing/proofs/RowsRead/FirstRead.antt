@@ -29,7 +29,7 @@ columns-before used k amount e =
     let n : used ≡ suc k = omega arith in
     let m : used * amount ≡ k * amount + amount = ap (λ u. u * amount) n ∙ suc-mul k amount in omega arith
 
--- an amount of 2 or more leaves room for the corners of a verbose row
+-- an amount of 2 or more leaves space for the corners of a verbose row
 pub verbose-corners : (left right amount before : ℕ) → 2 ≤ amount → span_corners left right true amount before ≡ corners left right (before + amount / 2) (before + amount)
 verbose-corners left right amount before two = rw (le-leb 2 amount two) refl
 
@@ -127,7 +127,7 @@ pub branch-line : (from amount : ℕ) (text : List ℕ) →
     ≡ columns from space ++ (encode_utf8 branch ++ (columns (amount - 1) horizontal ++ text))
 branch-line from amount text = three-parts (columns from space) (encode_utf8 branch) (columns (amount - 1) horizontal) text
 
--- ---- bare texts
+-- ---- bare strings
 
 not-true : (x : Bool) → not x ≡ true → x ≡ false
 not-true true e = cc
@@ -137,7 +137,7 @@ none-is : (o : Option (List ℕ)) → is_some o ≡ false → o ≡ None
 none-is None e = refl
 none-is (Some x) e = cc
 
--- what is bare begins with none of the marks
+-- a bare string doesn't begin with a mark
 pub record IsUnmarked (text : List ℕ) : Type 0 where
   pub down_left : after_front (encode_utf8 corner_down_left) text ≡ None
   pub up_left : after_front (encode_utf8 corner_up_left) text ≡ None

@@ -19,7 +19,7 @@ not-true : (b : Bool) → not b ≡ true → b ≡ false
 not-true true e = absurd (cc)
 not-true false e = refl
 
--- what follows a frame has no line end if the line has none
+-- what follows a frame has no line end if the line has no line end
 unbroken-end : (front text : List ℕ) → is_unbroken (front ++ text) ≡ true → is_unbroken text ≡ true
 unbroken-end front text e =
     let none : (has_line_end front || has_line_end text) ≡ false =
@@ -62,7 +62,7 @@ later-some (Some t) p text e = ap (λ o. option_and_then text_of o) e
 
 -- ---- rows
 
--- rows that may be, with this text
+-- valid rows with this text
 pub record AreRowsOf (amount : ℕ) (rows : List TextRow) (text : List ℕ) : Type 0 where
   pub proper : list_all is_text_row rows ≡ true
   pub drawn : rows_text amount rows ≡ text

@@ -14,7 +14,7 @@ use Rattle.tracing_tree_drawing.proofs.RowsRead.FirstRead.{IsFirstRead, first-dr
 use Rattle.tracing_tree_drawing.proofs.RowsRead.LaterRead.{later-drawn}
 use Rattle.tracing_tree_drawing.proofs.RowsRead.RowLines.{first_line, later_line, framed_lines, all_lines, fits-first, fits-later, proper-parts}
 
--- no row goes on with a line that isn't barred
+-- a line that isn't barred doesn't continue a row
 below-none : (amount : ℕ) (last : Option TextRow) (line : List ℕ) → after_front (encode_utf8 vertical) (without_start_spaces line) ≡ None → read_below amount last line ≡ None
 below-none amount None line e = refl
 below-none amount (Some row) line e = ap (option_and_then (read_later_at amount row.shape (row.level + shift_of (mode_of row.shape)) (start_spaces line))) e

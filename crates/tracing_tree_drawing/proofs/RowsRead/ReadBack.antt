@@ -1,4 +1,4 @@
--- What the reader answers on the drawing of readable rows: these rows, or want of memory.
+-- The reader's answer on the drawing of readable rows: these rows, or memory ran out.
 use Rattle.std.proofs.Common.{◌≡◌, ℕ, zero, suc, ◌+◌, ◌<◌, ◌≤◌, true, false, List, [], ◌∷◌, ◌++◌, length, take, drop, Option, Some, None, Result, Ok, Err, IfErr, option_and_then, nat_lt, if◌then◌else◌, ◌⊎◌, inl, inr, refl, sym, ap, ◌∙◌, subst, arith, take-append-drop, length-append}
 use Rattle.std.specs.List.{list_all}
 use Rattle.std.proofs.lemmas.Bool.{cases_lt, and_parts}
@@ -18,7 +18,7 @@ use Rattle.tracing_tree_drawing.proofs.RowsRead.LinesDrawn.{AreRowsOf, lines-dra
 use Rattle.tracing_tree_drawing.proofs.RowsRead.TextsRead.{parts-ended, first_lines-ended}
 use Rattle.tracing_tree_drawing.proofs.RowsRead.ReadableDrawn.{readable-read}
 
--- where lines are read, so are the first of them
+-- if lines are read, so are the first of them
 front-read : (amount : ℕ) (front back : List (List ℕ)) (rows out : List TextRow) (last : Option TextRow) → read_from amount rows last (front ++ back) ≡ Some out →
     (some : List TextRow) × (read_from amount rows last front ≡ Some some)
 front-read amount [] back rows out last e = (_, refl)
@@ -37,7 +37,7 @@ take-length zero lines le = refl
 take-length (suc n) [] le = absurd (omega arith)
 take-length (suc n) (line ∷ lines) le = ap suc (take-length n lines (omega arith))
 
--- a text that has a reading has no bad line
+-- a string that has a reading has no bad line
 pub read-no_bad : (amount : ℕ) → 2 ≤ amount → (text : List ℕ) (rows : List TextRow) (n : ℕ) → IsReading amount text rows → IsFirstBadLine amount text n → ⊥
 read-no_bad amount two text rows n r bad = by (cases_lt (length lines) n)
   where

@@ -1,4 +1,4 @@
--- How far a text has been read.
+-- How far a string has been read.
 use Rattle.std.proofs.Common.{◌≡◌, ◌≢◌, ℕ, suc, ◌+◌, ◌<◌, ◌≤◌, ◌==◌, ◌||◌, ◌&&◌, Bool, true, false, not, List, [], ◌∷◌, ◌++◌, length, get_or, Some, None, refl, sym, ap, ◌∙◌, subst, arith, append_assoc, length-append, eqb-true, ne_eqb}
 use Rattle.std.specs.List.{list_all}
 use Rattle.std.proofs.lemmas.Bool.{and_parts, and_from, false≢true}
@@ -11,9 +11,9 @@ use Rattle.tracing_tree_drawing.proofs.RowsRead.RowLines.{ended-append}
 use Rattle.tracing_tree_drawing.specs.Rows.Texts.{IsReadTo, TextLeft, all_left}
 use Rattle.tracing_tree_drawing.proofs.RowsRead.ReadSteps.{read_none, read_more, read_all, read_stops, read_unended}
 
--- ---- texts by lines
+-- ---- strings by lines
 
--- each text is lines and a rest
+-- each string is lines and a rest
 pub record AreLines (text : List ℕ) : Type 0 where
   pub lines : List (List ℕ)
   pub rest : List ℕ

@@ -1,4 +1,4 @@
--- The drawing of readable rows is the text of what they are read back as.
+-- The drawing of readable rows is the text of the rows that are read back from it.
 use Rattle.std.proofs.Common.{◌≡◌, ℕ, zero, suc, ◌+◌, ◌-◌, ◌%◌, ◌<◌, ◌≤◌, ◌==◌, ◌&&◌, ◌||◌, Bool, true, false, not, List, [], ◌∷◌, ◌++◌, length, map, take, flat_map, Option, Some, None, nat_le, nat_lt, slice_index, if◌then◌else◌, refl, sym, ap, ◌∙◌, subst, arith, append_assoc, length-append, eqb-true, ne_eqb}
 use Rattle.std.specs.List.{enumerate_from, list_all, join_with_byte}
 use Rattle.std.specs.Str.Lines.{lines_of_parts, strip_carriage_return}
@@ -203,7 +203,7 @@ all-read_back settings lined (row ∷ rows) h =
       proper = and_from (is_text_row (text_row row)) (list_all is_text_row (text_rows rows)) (row-proper settings row here) rest.proper;
     }
 
--- readable rows draw the text of what they are read back as, and these are rows
+-- readable rows draw the text of the rows that are read back from it, and these are valid rows
 pub readable-read_back : (settings : Settings) (rows : List Row) → IsReadable settings rows → IsReadBack settings rows
 readable-read_back settings rows h =
     let first = and_parts (settings.indent_lines && nat_le 2 settings.indent_amount) (list_all (is_readable_row settings) rows) h in

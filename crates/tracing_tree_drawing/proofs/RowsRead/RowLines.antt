@@ -15,7 +15,7 @@ first_line amount shape level text = lined_frame (mode_of shape) amount level 0 
 abbrev pub later_line : ℕ → Shape → ℕ → List ℕ → List ℕ
 later_line amount shape level text = lined_frame (mode_of shape) amount level 1 ++ text
 
--- the lines of a row of these texts
+-- the lines of a row of these strings
 abbrev pub framed_lines : ℕ → Shape → ℕ → List (List ℕ) → List (List ℕ)
 framed_lines amount shape level [] = []
 framed_lines amount shape level (text ∷ texts) = first_line amount shape level text ∷ map (later_line amount shape level) texts

@@ -1,4 +1,4 @@
--- What a line does to a reader, and to a text that is being read.
+-- What a line does to a reader, and to a string that is being read.
 use Rattle.std.proofs.Common.{◌≡◌, ◌≢◌, ℕ, ◌+◌, ◌<◌, ◌≤◌, ◌==◌, List, ◌∷◌, ◌++◌, length, get_or, Option, Some, Ok, option_map, true, false, refl, sym, ap, subst, arith}
 use Rattle.std.specs.Option.{option_map_or}
 use Rattle.tracing_tree_drawing.specs.Rows.RowText.{TextRow, is_text_row, is_unbroken}
@@ -32,7 +32,7 @@ later-row amount two row line text whole unbroken e = later-proper amount row li
 pub first-row : (amount : ℕ) → 2 ≤ amount → (line : List ℕ) (row : TextRow) → is_unbroken line ≡ true → read_first amount line ≡ Some row → is_text_row row ≡ true
 first-row amount two line row unbroken e = first-proper amount line row (first-is amount two line row e) unbroken
 
--- ---- texts
+-- ---- strings
 
 -- what is left after a line that was taken
 abbrev pub left_by : ReaderView → List ℕ → ℕ → TextLeft

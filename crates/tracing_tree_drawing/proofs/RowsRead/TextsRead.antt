@@ -1,4 +1,5 @@
--- A text is the text of one list of rows at most, which its lines are read as; where they aren't, which line is the first bad one.
+-- At most one list of rows has a given text, the rows as which its lines are read; if they aren't
+-- read, which line is the first bad one.
 use Rattle.std.proofs.Common.{◌≡◌, ℕ, ◌+◌, ◌-◌, ◌<◌, ◌≤◌, ◌&&◌, true, false, List, [], ◌∷◌, ◌++◌, length, take, Some, None, nat_lt, if◌then◌else◌, refl, sym, ap, ◌∙◌, subst, arith, append_assoc, length-append}
 use Rattle.std.specs.List.{list_all, join_with_byte}
 use Rattle.std.proofs.lemmas.Bool.{and_parts, and_from, lt-ltb}
@@ -13,7 +14,7 @@ use Rattle.tracing_tree_drawing.proofs.RowsRead.CleanFrames.{all-unbroken}
 use Rattle.tracing_tree_drawing.proofs.RowsRead.LinesRead.{lines-read}
 use Rattle.tracing_tree_drawing.proofs.RowsRead.LinesDrawn.{AreRowsOf, lines-drawn}
 
--- ---- the lines of a text
+-- ---- the lines of a string
 
 pub joined-lines : (lines : List (List ℕ)) (rest : List ℕ) → join_with_byte 10 (lines ++ rest ∷ []) ≡ ended lines ++ rest
 joined-lines [] rest = refl
@@ -30,13 +31,13 @@ parts-ended lines rest h e = sym (parts_of-only (ended lines ++ rest) (lines ++ 
   without_line_ends = list_all-append is_unbroken lines (rest ∷ []) ∙ and_from (list_all is_unbroken lines) (is_unbroken rest && true) h (and_from (is_unbroken rest) true e refl);
 }))
 
--- texts of lines, and what follows their last line end
+-- strings of lines, and what follows their last line end
 pub ended-same : (lines others : List (List ℕ)) (rest end : List ℕ) → list_all is_unbroken lines ≡ true → list_all is_unbroken others ≡ true → is_unbroken rest ≡ true → is_unbroken end ≡ true →
     ended lines ++ rest ≡ ended others ++ end → (lines ≡ others) × (rest ≡ end)
 ended-same lines others rest end h k e f same =
     same_from_push lines others rest end (sym (parts-ended lines rest h e) ∙ ap parts_of same ∙ parts-ended others end k f)
 
--- ---- rows of a text
+-- ---- rows of a string
 
 -- the lines of a reading, and that nothing follows
 reading-lines : (amount : ℕ) (lines : List (List ℕ)) (rest : List ℕ) (rows : List TextRow) → list_all is_unbroken lines ≡ true → is_unbroken rest ≡ true →
@@ -50,7 +51,7 @@ reading-read : (amount : ℕ) → 2 ≤ amount → (lines : List (List ℕ)) (re
 reading-read amount two lines rest rows h e r =
     ap (read_lines amount) (sym (reading-lines amount lines rest rows h e r).0) ∙ lines-read amount two rows r.proper
 
--- The rows that lines are read as are the only reading of their text.
+-- The rows that lines are read as are the only reading of their string.
 pub read-only : (amount : ℕ) → 2 ≤ amount → (lines : List (List ℕ)) (rows : List TextRow) → list_all is_unbroken lines ≡ true → read_lines amount lines ≡ Some rows →
     IsOnlyReading amount (ended lines) rows
 read-only amount two lines rows h e =
@@ -64,14 +65,14 @@ read-only amount two lines rows h e =
     some-same : (x y : List TextRow) → Some x ≡ Some y → x ≡ y
     some-same x y e = cc
 
--- a text whose lines aren't read has no reading
+-- a string whose lines aren't read has no reading
 pub unread-unreadable : (amount : ℕ) → 2 ≤ amount → (lines : List (List ℕ)) → list_all is_unbroken lines ≡ true → read_lines amount lines ≡ None →
     IsUnreadable amount (ended lines)
 unread-unreadable amount two lines h e rows r =
     let k : read_lines amount lines ≡ Some rows = reading-read amount two lines [] rows h refl (subst (λ t. IsReading amount t rows) (sym (append-nil (ended lines))) r) in
     let z : None ≡ Some rows = sym e ∙ k in cc
 
--- nor has one that doesn't end in a line end
+-- a string that doesn't end in a line end has no reading either
 pub unended-unreadable : (amount : ℕ) (lines : List (List ℕ)) (first : ℕ) (rest : List ℕ) → list_all is_unbroken lines ≡ true → is_unbroken (first ∷ rest) ≡ true →
     IsUnreadable amount (ended lines ++ (first ∷ rest))
 unended-unreadable amount lines first rest h e rows r =
@@ -83,7 +84,7 @@ take-front : (front back : List (List ℕ)) → take (length front) (front ++ ba
 take-front [] back = refl
 take-front (x ∷ front) back = ap (λ xs. x ∷ xs) (take-front front back)
 
--- the first lines of a text, where more follows
+-- the first lines of a string, if more follows
 pub first_lines-ended : (before after : List (List ℕ)) (rest : List ℕ) → list_all is_unbroken (before ++ after) ≡ true → is_unbroken rest ≡ true →
     first_lines (length before) (ended (before ++ after) ++ rest) ≡ ended before
 first_lines-ended before after rest h e =

@@ -1,4 +1,4 @@
--- What std's calls on beginnings of texts give.
+-- What std's calls on prefixes of strings return.
 use Rattle.std.proofs.Common.{◌≡◌, ◌≢◌, ℕ, zero, suc, ◌+◌, ◌-◌, ◌<◌, List, [], ◌∷◌, ◌++◌, length, drop, Option, Some, None, MatchOption, IfSome, refl, sym, ap, ◌∙◌, arith, append_assoc, length-append, ne_eqb, Bor}
 use Rattle.std.specs.Char.{encode_utf8}
 use Rattle.std.specs.List.{repeat}
@@ -16,7 +16,7 @@ after-none front text h = by (after_front front text) refl
     by None e = refl
     by (Some rest) e = absurd (h rest (after_front-is front text rest e))
 
--- `strip_prefix` at a text
+-- `strip_prefix` at a string
 pub stripped-after : (front text : List ℕ) (r : Option (Bor (List ℕ))) →
     MatchOption r (FindsTextPrefix front text None) (λ x. (n : ℕ) × FindsTextPrefix front text (Some n) × (x.now ≡ drop n text) × (length x.now + n ≡ length text)) →
     MatchOption r (after_front front text ≡ None) (λ x. after_front front text ≡ Some x.now)
@@ -98,7 +98,7 @@ taken-none piece whole text count taken lt h e =
     let n : count - taken ≡ suc (count - (taken + 1)) = omega arith in
     h ∙ ap (λ m. after_front (repeat m piece) text) n ∙ after-no_one piece text (count - (taken + 1)) e
 
--- ---- one beginning behind another
+-- ---- one prefix after another
 
 pub after-both : (front more text rest : List ℕ) → after_front front text ≡ Some rest → after_front (front ++ more) text ≡ after_front more rest
 after-both front more text rest e = ap (after_front (front ++ more)) (after_front-is front text rest e) ∙ after_front-more front more rest
@@ -119,7 +119,7 @@ stripped-character character text (Some x) h =
     let whole : text ≡ encode_utf8 character ++ x.now = h.1.split ∙ ap (λ t. encode_utf8 character ++ t) (sym h.2) in
     ap (after_front (encode_utf8 character)) whole ∙ after_front-gives (encode_utf8 character) x.now
 
--- behind a run
+-- after a run
 pub stripped-run : (count character : ℕ) (text rest : List ℕ) (r : Option (Bor (List ℕ))) → after_front (columns count horizontal) text ≡ Some rest →
     MatchOption r (after_front (encode_utf8 character) rest ≡ None) (λ x. after_front (encode_utf8 character) rest ≡ Some x.now) →
     MatchOption r (after_run count character text ≡ None) (λ x. after_run count character text ≡ Some x.now)

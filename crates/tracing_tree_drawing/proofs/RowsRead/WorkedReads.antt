@@ -1,4 +1,4 @@
--- Worked texts, as they are read.
+-- Worked strings, and how they are read.
 use Rattle.std.proofs.Common.{◌≡◌, ℕ, List, [], ◌∷◌, Some, None, true, false, refl}
 use Rattle.std.specs.Char.{encode_utf8}
 use Rattle.std.specs.Prelude.{encode_utf8_all}
@@ -92,7 +92,7 @@ framed : read_lines 2 (line (corner_up_right ∷ horizontal ∷ corner_down_left
 unfolding encode_utf8
 framed = refl
 
--- a later line one column off, or with one space too few behind its bar, is none
+-- a later line one column off, or with one space too few after its bar, isn't one
 off : read_lines 2 (line (branch ∷ horizontal ∷ x ∷ []) ∷ line (32 ∷ vertical ∷ 32 ∷ 32 ∷ y ∷ []) ∷ []) ≡ None
 unfolding encode_utf8
 off = refl

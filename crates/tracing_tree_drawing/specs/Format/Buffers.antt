@@ -1,4 +1,4 @@
--- The texts of a call while it is built.
+-- The buffers of a call while it is built.
 use Rattle.std.specs.Prelude.{◌≡◌, ℕ, Bool, true, false, List, Option, Result, Ok, Err}
 use Rattle.tracing_tree_context.specs.declared.context.Id.{Id}
 use Rattle.tracing_tree_context.specs.declared.context.Refusal.{Refusal}
@@ -10,7 +10,7 @@ pub record BuffersView : Type 0 where
   pub indent_buf : List ℕ
   pub current_span : Option Id
 
--- The block becomes this text. A row that is too wide is refused for that; a refusal changes
+-- The block becomes this string. A row that is too wide is refused for that; a refusal changes
 -- nothing.
 abbrev pub IndentsRow : Bool → List ℕ → Result (Unit {0}) Refusal → BuffersView → BuffersView
     → Type 0

@@ -1,4 +1,4 @@
--- What the code's frames append, which row a drawing draws, and what it makes of a text.
+-- What the code's frames append, which row a drawing draws, and how it changes a string.
 use Rattle.std.specs.Prelude.{◌≡◌, ℕ, ◌+◌, ◌-◌, ◌*◌, ◌/◌, ◌<◌, nat_le, Bool, true, false, if◌then◌else◌, List, [], take, drop, ◌++◌, encode_utf8, ◌^◌}
 use Rattle.std.specs.List.{repeat}
 use Rattle.std.specs.String.Boundary.{IsSplitPoint}
@@ -31,7 +31,7 @@ abbrev pub corner_pieces : List ℕ → List ℕ → ℕ → ℕ → List ℕ
 corner_pieces left right from to =
     frame_pieces from left line_piece (to - from - 1) right
 
--- the corners of a span's row, as `span_corners` says of characters
+-- the corners of a span's row, as strings; `span_corners` has them as characters
 abbrev pub span_pieces : List ℕ → List ℕ → Bool → ℕ → ℕ → List ℕ
 span_pieces left right false amount before = corner_pieces left right before (before + amount)
 span_pieces left right true amount before =
@@ -50,7 +50,7 @@ HasRoom drawing =
     level_used drawing.config.now drawing.mode
     drawing.level * drawing.config.now.indent_amount < 2 ^ 64
 
--- A row was begun at this place of a text: what stands before its block is there, and the block after
+-- A row was begun at this place of a string: what precedes its block is there, and the block after
 -- it.
 pub record IsBegun (drawing : RowDrawing) (place : RowPlace) (text : List ℕ) : Type 0 where
   pub fits : is_too_wide drawing.config.now (row_of drawing []) ≡ false
@@ -59,7 +59,7 @@ pub record IsBegun (drawing : RowDrawing) (place : RowPlace) (text : List ℕ) :
   pub begun : take place.block text
       ≡ take place.start text ++ row_start drawing.config.now (row_of drawing [])
 
--- the text with the picture of that row
+-- the string with the picture of that row
 abbrev pub with_row : RowDrawing → RowPlace → List ℕ → List ℕ
 with_row drawing place text =
     take place.start text

@@ -27,20 +27,20 @@ unnamed_row mode level block prefix =
 abbrev pub has_line_end : List ℕ → Bool
 has_line_end text = list_any (λ byte. byte == 10) text
 
--- the texts between line ends; `PartsLaws` proves that this is the one list that satisfies
+-- the strings between line ends; `PartsLaws` proves that this is the one list that satisfies
 -- `AreParts`
 abbrev pub parts_of : List ℕ → List (List ℕ)
 parts_of block = slice_split (λ byte. byte == 10) block
 
--- a list that is not empty, of texts without line ends, whose joining by line ends is the block
+-- a nonempty list of strings without line ends, whose joining by line ends is the block
 pub record AreParts (block : List ℕ) (parts : List (List ℕ)) : Type 0 where
   pub joined : join_with_byte 10 parts ≡ block
   pub some : 0 < length parts
   pub without_line_ends : IsTrue (list_all (λ part. not (has_line_end part)) parts)
 
--- The lines of a row: those of its block, which gets a line end first where rows are drawn with
--- lines. `lines` splits the text at its line ends, drops one carriage return from the end of each
--- part but the last, and leaves out the last part if it is empty.
+-- The lines of a row: those of its block, which gets a line end first if rows are drawn with lines.
+-- `lines` splits the block at its line ends, drops one carriage return from the end of each part
+-- but the last, and leaves out the last part if it is empty.
 abbrev pub row_lines : Bool → List ℕ → List (List ℕ)
 row_lines indent_lines block = lines (if indent_lines then block ++ 10 ∷ [] else block)
 
@@ -56,15 +56,15 @@ corners left right from to =
     columns from (code " ") ++ encode_utf8 left ++ columns (to - from - 1) (code "─")
     ++ encode_utf8 right
 
--- the corners of a span's row; in a verbose row the first stands half an amount further right, and
--- an amount of 1 leaves no room for them, so that spaces stand there
+-- The corners of a span's row. In a verbose row the first is half an amount further right; an
+-- amount of 1 has no space for them, so spaces are drawn.
 abbrev pub span_corners : ℕ → ℕ → Bool → ℕ → ℕ → List ℕ
 span_corners left right false amount from = corners left right from (from + amount)
 span_corners left right true amount from =
     if nat_le 2 amount then corners left right (from + amount / 2) (from + amount)
     else columns (from + amount + 1) (code " ")
 
--- A frame stands between the prefix and the text of a line. This is that of each line of a row at
+-- A frame is drawn between the prefix and the text of a line. This is that of each line of a row at
 -- the left edge.
 abbrev pub edge_frame : SpanMode → List ℕ
 edge_frame (Open verbose) = encode_utf8 (code "┐")
@@ -72,7 +72,7 @@ edge_frame (Retrace verbose) = encode_utf8 (code "┐")
 edge_frame (Close verbose) = encode_utf8 (code "┘")
 edge_frame mode = []
 
--- the first line of a row, further right: the branch of a plain row stands in the column `from`
+-- the first line of a row, further right: the branch of a plain row is in the column `from`
 abbrev pub first_frame : SpanMode → ℕ → ℕ → List ℕ
 first_frame PreOpen amount from = corners (code "└") (code "┐") from (from + max (amount / 2) 1)
 first_frame (Open verbose) amount from = span_corners (code "└") (code "┐") verbose amount from
@@ -82,7 +82,7 @@ first_frame PostClose amount from = corners (code "┌") (code "┘") from (from
 first_frame Event amount from =
     columns from (code " ") ++ encode_utf8 (code "├") ++ columns (amount - 1) (code "─")
 
--- how far `│` stands right of a plain row's branch
+-- how far `│` is to the right of a plain row's branch
 abbrev pub continuation_shift : SpanMode → ℕ
 continuation_shift (Open verbose) = 2
 continuation_shift (Retrace verbose) = 2
@@ -95,7 +95,7 @@ later_frame mode amount from =
     columns (from + continuation_shift mode) (code " ") ++ encode_utf8 (code "│")
     ++ columns amount (code " ")
 
--- where rows are drawn with lines, those of a parent round its child stand one level further right
+-- if rows are drawn with lines, a parent's rows around its child are one level further right
 abbrev pub shift_of : SpanMode → ℕ
 shift_of PreOpen = 1
 shift_of PostClose = 1
@@ -119,7 +119,7 @@ mark_before_corner (Close verbose) = Some (code "┐")
 mark_before_corner PostClose = Some (code "┐")
 mark_before_corner mode = None
 
--- a row that opens has its mark after it; one that is retraced has none, nor has an event
+-- a row that opens has its mark after it; a retraced row and an event have no mark
 abbrev pub mark_after_corner : SpanMode → Option ℕ
 mark_after_corner PreOpen = Some (code "┘")
 mark_after_corner (Open verbose) = Some (code "┘")
@@ -151,16 +151,16 @@ module _ (settings : Settings) where
   is_last_before_wrap level =
       settings.indent_lines && nat_lt 0 level && ((level + 1) % settings.wraparound == 0)
 
-  -- the wrap mark of a row that has a corner for it: where the levels wrap round after the row's
-  -- own, a line of `─` up to the wrapped level, and the corner
+  -- the wrap mark of a row that has a corner for it: if the levels wrap round after the row's own,
+  -- a line of `─` up to the wrapped level, and the corner
   abbrev pub mark_line : Row → Option ℕ → List ℕ
   mark_line row None = []
   mark_line row (Some corner) =
       let line = columns (wrapped_level row.level * settings.indent_amount) (code "─") in
       if is_last_before_wrap row.level then drawn_line row.prefix line (encode_utf8 corner) else []
 
-  -- what stands before the block of a row of one line: its mark, if it has one there, its prefix and
-  -- its frame
+  -- what precedes the block of a row of one line: its mark, if it has one there, its prefix and its
+  -- frame
   abbrev pub row_start : Row → List ℕ
   row_start row =
       mark_line row (mark_before_corner row.mode) ++ row.prefix ++ row_frame row.mode row.level 0
@@ -180,6 +180,6 @@ module _ (settings : Settings) where
   abbrev pub level_used : SpanMode → ℕ → ℕ
   level_used mode level = wrapped_level level + (if settings.indent_lines then shift_of mode else 0)
 
-  -- the width passes the greatest `usize`, 2^64 - 1
+  -- the width is above the largest `usize`, 2^64 - 1
   abbrev pub is_too_wide : Row → Bool
   is_too_wide row = nat_le (2 ^ 64) (level_used row.mode row.level * settings.indent_amount)

@@ -17,7 +17,7 @@ pub record Settings : Type 0 where
   pub span_modes : Bool
   pub close_retrace : Bool
 
--- the settings that nobody has changed
+-- the default settings
 abbrev pub default_settings : Settings
 default_settings = record {
   ansi = true;

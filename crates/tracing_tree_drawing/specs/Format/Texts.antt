@@ -1,4 +1,4 @@
--- The texts of labels, fields and prefixes.
+-- The strings of labels, fields and prefixes.
 use Rattle.std.specs.Prelude.{ℕ, ◌||◌, nat_eq, Bool, true, false, not, if◌then◌else◌, List, [], ◌∷◌, ◌++◌, map, filter, Option, Some, None, decimal, codes, bytes_eq}
 use Rattle.std.specs.List.{join_by, starts_with}
 use Rattle.tracing_tree_context.specs.declared.context.Context.{Context}
@@ -29,11 +29,11 @@ named_value field = field.name ++ 61 ∷ field.value
 abbrev pub is_message : Field → Bool
 is_message field = bytes_eq field.name (codes "message")
 
--- a message shows its value alone
+-- a message shows only its value
 abbrev pub shown_field : Field → List ℕ
 shown_field field = if is_message field then field.value else named_value field
 
--- the fields of a span: only in the first place is a message shown alone
+-- the fields of a span: a message shows only its value, but only in the first place
 abbrev pub span_fields : List Field → List ℕ
 span_fields [] = []
 span_fields (first ∷ others) =
@@ -43,16 +43,16 @@ span_fields (first ∷ others) =
 abbrev pub is_log_field : Field → Bool
 is_log_field field = starts_with nat_eq field.name (codes "log.")
 
--- one field of an event, with a comma if another field stands before it
+-- one field of an event, with a comma if another field precedes it
 abbrev pub event_field : Bool → Field → List ℕ
 event_field comma field =
     if is_log_field field then [] else (if comma then codes "," else []) ++ 32 ∷ shown_field field
 
--- whether a comma stands before the field after this one
+-- whether a comma precedes the field after this one
 abbrev pub comma_after : Bool → Field → Bool
 comma_after comma field = comma || not (is_log_field field)
 
--- a space and the fields, or nothing if there is none
+-- a space and the fields, or nothing if there are no fields
 abbrev pub spaced_fields : List Field → List ℕ
 spaced_fields [] = []
 spaced_fields (first ∷ others) =
@@ -64,7 +64,7 @@ event_fields fields = spaced_fields (filter (λ field. not (is_log_field field))
 
 -- ---- prefixes
 
--- the thread's name, after a colon if its number stands before it
+-- the thread's name, after a colon if its number precedes it
 abbrev pub thread_name_text : Bool → Option (List ℕ) → List ℕ
 thread_name_text numbered None = []
 thread_name_text numbered (Some name) = (if numbered then codes ":" else []) ++ name

@@ -1,4 +1,4 @@
--- What drawing rows answers.
+-- The results of drawing rows.
 use Rattle.std.specs.Prelude.{◌≡◌, ℕ, true, false, List, Bool, Result, Ok, Err, String, string_bytes}
 use Rattle.std.specs.Global.{Global}
 use Rattle.std.specs.List.{list_any}

@@ -1,4 +1,4 @@
--- A drawing as it is read back, line by line.
+-- A drawing that is read back, line by line.
 use Rattle.std.specs.Prelude.{true, false, ℕ, ◌+◌, ◌-◌, ◌*◌, ◌/◌, ◌%◌, ◌==◌, true, false, not, ◌&&◌, if◌then◌else◌, List, [], ◌∷◌, ◌++◌, Option, Some, None, option_map, option_and_then, encode_utf8}
 use Rattle.std.specs.Option.{option_map_or}
 use Rattle.std.specs.List.{prefix_len}
@@ -10,7 +10,7 @@ use Rattle.tracing_tree_drawing.specs.declared.rows.row.Shape.TheVariants.{PreOp
 
 -- ---- parts of a line
 
--- what follows this beginning, if the text has it
+-- what follows this prefix, if the string has it
 abbrev pub after_front : List ℕ → List ℕ → Option (List ℕ)
 after_front [] text = Some text
 after_front (byte ∷ front) [] = None
@@ -34,8 +34,8 @@ one_line_row shape level text = record { shape = shape; level = level; lines = t
 abbrev pub read_root : Shape → ℕ → List ℕ → Option TextRow
 read_root shape spaces text = if spaces == 0 then Some (one_line_row shape 0 text) else None
 
--- After the first of two corners: the count of `─` up to the second tells a row of a span from one
--- of a parent, and half an amount more of spaces tells a verbose one.
+-- After the first of two corners: the count of `─` up to the second distinguishes a row of a span
+-- from one of a parent, and half an amount more of spaces marks a verbose one.
 abbrev pub read_corners : ℕ → Shape → Shape → Shape → ℕ → ℕ → List ℕ → Option TextRow
 read_corners corner plain parent verbose amount spaces text =
     if spaces % amount == 0
@@ -89,7 +89,7 @@ read_later amount shape level line =
 
 -- ---- one line
 
--- what a line is, where it follows this row
+-- what a line is after this row
 pub data LineRead : Type 0 where
   FirstLine : TextRow → LineRead
   LaterLine : List ℕ → LineRead
@@ -103,12 +103,12 @@ read_line amount before line =
     option_map_or (λ text. Some (LaterLine text)) (read_below amount before line)
     (option_map FirstLine (read_first amount line))
 
--- ---- texts
+-- ---- text
 
 abbrev pub with_line : TextRow → List ℕ → TextRow
 with_line row text = record row { lines = row.lines ++ text ∷ [] }
 
--- what the rows before the last are after this line, and what the last is
+-- the rows, and then the last one if there is one
 abbrev pub with_last : List TextRow → Option TextRow → List TextRow
 with_last rows None = rows
 with_last rows (Some row) = rows ++ row ∷ []

@@ -1,4 +1,4 @@
--- Where the ancestors of the events of a text stand in it.
+-- Where a drawing shows the ancestors of its events.
 use Rattle.std.specs.Prelude.{◌≡◌, ℕ, ◌++◌, ◌∷◌, List, [], length, slice_get, Option, option_and_then, Result, Ok, Err}
 use Rattle.std.specs.declared.alloc.AllocError.{AllocError}
 use Rattle.tracing_tree_drawing.specs.Rows.RowText.{TextRow, IsOnlyReading, above, event_path_at, event_paths}
@@ -8,11 +8,11 @@ use Rattle.tracing_tree_drawing.specs.declared.rows.paths.EventPath.{EventPath}
 abbrev pub place_at : List (Option ℕ) → ℕ → Option ℕ
 place_at places level = option_and_then (λ place. place) (slice_get places level)
 
--- for each level the place of the last of these rows that opens a span of that very level
+-- for each level, the place of the last of these rows that opens a span of exactly that level
 abbrev pub AreLastPlaces : List TextRow → List (Option ℕ) → Type 0
 AreLastPlaces rows places = (level : ℕ) → place_at places level ≡ above rows (length rows) level
 
--- what the row after these does: its path is answered if it is an event's
+-- what the row after these does: its path is returned if it is an event's
 pub record FollowsRows (rows : List TextRow) (row : TextRow) (path : Option EventPath)
     (new : List (Option ℕ)) : Type 0 where
   pub last : AreLastPlaces (rows ++ row ∷ []) new
@@ -34,7 +34,7 @@ pub record ArePathsOf (rows : List TextRow) (places : List (Option ℕ)) (count 
   pub counted : count ≡ length rows
   pub found : paths ≡ event_paths rows
 
--- the paths of the events of a text that is read
+-- the paths of the events of a string that is read
 pub record AreEventPaths (amount : ℕ) (text : List ℕ) (paths : List EventPath) : Type 0 where
   pub rows : List TextRow
   pub reading : IsOnlyReading amount text rows

@@ -9,8 +9,8 @@ use Rattle.tracing_tree_drawing.specs.declared.rows.read.ReadFault.{ReadFault}
 use Rattle.tracing_tree_drawing.specs.declared.rows.read.ReadFault.TheVariants.{Memory}
 use Rattle.tracing_tree_drawing.specs.Rows.RowText.{TextRow, shape_of, is_bare_text, is_one_line}
 
--- at level 0 a drawing shows neither where an open, close or event row of several lines ends, nor
--- that a text is an event's
+-- at level 0 a drawing doesn't show where an open, close or event row of several lines ends, or
+-- that a string is an event's
 abbrev pub is_plain_at_edge : SpanMode → List (List ℕ) → Bool
 is_plain_at_edge PreOpen lines = true
 is_plain_at_edge (Open verbose) lines = is_one_line lines
@@ -19,8 +19,8 @@ is_plain_at_edge (Retrace verbose) lines = is_one_line lines
 is_plain_at_edge PostClose lines = true
 is_plain_at_edge Event lines = is_one_line lines && list_all is_bare_text lines
 
--- no prefix, a level below the last before the wrap, where a wrap mark may stand, and what is drawn
--- at the left edge is plain
+-- no prefix, a level below the last before the wrap, where a wrap mark may be drawn, and what is
+-- drawn at the left edge is plain
 abbrev pub is_readable_row : Settings → Row → Bool
 is_readable_row settings row =
     (length row.prefix == 0) && nat_lt (row.level + 1) settings.wraparound

@@ -9,8 +9,8 @@ use Rattle.tracing_tree_drawing.specs.declared.rows.paths.EventPath.{EventPath}
 use Rattle.tracing_tree_drawing.specs.declared.rows.row.Shape.{Shape}
 use Rattle.tracing_tree_drawing.specs.declared.rows.row.Shape.TheVariants.{PreOpen, OpenRoot, Open, CloseRoot, Close, PostClose, Event}
 
--- A row as it is read back: its shape, its level and its lines. Contracts see the `Row` of the code's
--- rows so. A parent's row has the level of the parent, one less than where it is drawn.
+-- A row as it is read back: its shape, its level and its lines. Contracts see the code's `Row` this
+-- way. A parent's row has the level of the parent, one less than where it is drawn.
 pub record TextRow : Type 0 where
   pub shape : Shape
   pub level : ℕ
@@ -18,7 +18,7 @@ pub record TextRow : Type 0 where
 
 -- ---- shapes
 
--- the mode of a row that has this shape; an open row stands for one that is retraced too
+-- the mode of a row that has this shape; an open row also represents a retraced one
 abbrev pub mode_of : Shape → SpanMode
 mode_of PreOpen = Mode.PreOpen
 mode_of OpenRoot = Mode.Open false
@@ -69,17 +69,18 @@ abbrev pub drawing_marks : List ℕ
 drawing_marks =
     code "┐" ∷ code "┘" ∷ code "└" ∷ code "┌" ∷ code "├" ∷ code "│" ∷ []
 
--- the text without the spaces at its start
+-- the string without the spaces at its start
 abbrev pub without_start_spaces : List ℕ → List ℕ
 without_start_spaces text = drop (prefix_len (λ byte. byte == 32) text) text
 
--- the text begins with one of these characters
+-- the string begins with one of these characters
 abbrev pub begins_with_any : List ℕ → List ℕ → Bool
 begins_with_any characters text =
     list_any (λ character. starts_with (λ x y. x == y) text (encode_utf8_all (character ∷ [])))
     characters
 
--- a text not of spaces alone, whose first character past its spaces is none of these marks
+-- a string that isn't only spaces, and whose first character after its spaces isn't one of these
+-- marks
 abbrev pub is_bare_text : List ℕ → Bool
 is_bare_text text =
     not (length (without_start_spaces text) == 0)
@@ -88,7 +89,7 @@ is_bare_text text =
 abbrev pub is_one_line : List (List ℕ) → Bool
 is_one_line lines = length lines == 1
 
--- what an event at level 0 has: one line, which is a bare text
+-- what an event at level 0 has: one line, which is a bare string
 abbrev pub is_bare_line : List (List ℕ) → Bool
 is_bare_line lines = is_one_line lines && list_all is_bare_text lines
 
@@ -105,8 +106,8 @@ fits_shape Event level lines = nat_le 1 level || is_bare_line lines
 abbrev pub is_unbroken : List ℕ → Bool
 is_unbroken text = not (has_line_end text)
 
--- what each `Row` of the code is: at least one line, no line end in a line, and a shape that may have
--- this level and these lines
+-- what each `Row` of the code is: at least one line, no line end in a line, and a shape that may
+-- have this level and these lines
 abbrev pub is_text_row : TextRow → Bool
 is_text_row row =
     nat_le 1 (length row.lines) && list_all is_unbroken row.lines
@@ -119,9 +120,9 @@ made_row row = if is_text_row row then Some row else None
 abbrev pub AreTextRows : List TextRow → Type 0
 AreTextRows rows = IsTrue (list_all is_text_row rows)
 
--- ---- texts
+-- ---- text
 
--- the lines of a row after their frames; no level wraps, and nothing stands before the frames
+-- the lines of a row after their frames; no level wraps, and nothing precedes the frames
 abbrev pub row_text : ℕ → TextRow → List ℕ
 row_text amount row =
     flat_map
@@ -132,7 +133,7 @@ row_text amount row =
 abbrev pub rows_text : ℕ → List TextRow → List ℕ
 rows_text amount rows = flat_map (row_text amount) rows
 
--- a row's width, or the level that counts for it, passes the greatest number
+-- a row's width, or the level that counts for it, is above the largest number
 abbrev pub is_row_too_wide : ℕ → TextRow → Bool
 is_row_too_wide amount row =
     nat_le (2 ^ 64) (row.level + shift_of (mode_of row.shape))
@@ -150,7 +151,7 @@ pub record IsOnlyReading (amount : ℕ) (text : List ℕ) (rows : List TextRow) 
   pub reading : IsReading amount text rows
   pub only : (others : List TextRow) → IsReading amount text others → others ≡ rows
 
--- the text is that of no rows
+-- no rows have this text
 abbrev pub IsUnreadable : ℕ → List ℕ → Type 0
 IsUnreadable amount text = (rows : List TextRow) → ¬ (IsReading amount text rows)
 
@@ -164,7 +165,7 @@ abbrev pub first_lines : ℕ → List ℕ → List ℕ
 first_lines n text =
     if nat_lt n (length (parts_of text)) then ended (take n (parts_of text)) else text
 
--- the line of this number, from 1, is the first that is no line of a row
+-- the line of this number, from 1, is the first that isn't a line of a row
 abbrev pub IsFirstBadLine : ℕ → List ℕ → ℕ → Type 0
 IsFirstBadLine amount text n =
     (1 ≤ n) × ((rows : List TextRow) × IsReading amount (first_lines (n - 1) text) rows)
@@ -176,7 +177,7 @@ IsFirstBadLine amount text n =
 abbrev pub opens_level : ℕ → TextRow → Bool
 opens_level level row = is_opening row.shape && (row.level == level)
 
--- the greatest place at which the test passes, if there is one
+-- the last place at which the test passes, if there is one
 abbrev pub last_place : {X : Type 0} → (X → Bool) → List X → Option ℕ
 last_place test xs =
     option_map (λ entry. entry.0)

@@ -1,4 +1,4 @@
--- Texts as they are read back, a line at a time.
+-- Input that is read back, a line at a time.
 use Rattle.std.specs.Prelude.{◌≡◌, ℕ, ◌<◌, ◌++◌, List, [], length, Option, Some, None, Result, Ok, Err, ⊤, IsTrue, Bool, true, false}
 use Rattle.std.specs.declared.alloc.AllocError.{AllocError}
 use Rattle.std.specs.List.{list_all}
@@ -9,7 +9,7 @@ use Rattle.tracing_tree_drawing.specs.declared.rows.read.ReadFault.TheVariants.{
 use Rattle.tracing_tree_drawing.specs.declared.rows.read.Taken.{Taken}
 use Rattle.tracing_tree_drawing.specs.declared.rows.read.Taken.TheVariants.{First, Later, Neither}
 
--- what a reader keeps: the amount, and the last row, which may go on
+-- what a reader keeps: the amount, and the last row, which may continue
 pub record ReaderView : Type 0 where
   pub amount : ℕ
   pub last : Option TextRow
@@ -22,13 +22,13 @@ pub record TakesFirst (old : ReaderView) (line : List ℕ) (done : Option TextRo
   pub complete : done ≡ old.last
   pub after : new ≡ record old { last = Some row }
 
--- the line is one more of the last row
+-- the line is the next line of the last row
 pub record TakesLater (old : ReaderView) (line : List ℕ) (new : ReaderView) : Type 0 where
   pub text : List ℕ
   pub read : read_line old.amount old.last line ≡ Some (LaterLine text)
   pub after : new ≡ record old { last = last_after old.last (LaterLine text) }
 
--- the line is one more of the last row, or it is none
+-- the line continues the last row, or it doesn't
 abbrev pub TriesLater : ReaderView → List ℕ → Result Bool AllocError → ReaderView → Type 0
 TriesLater old line (Ok true) new = TakesLater old line new
 TriesLater old line (Ok false) new = (read_below old.amount old.last line ≡ None) × (new ≡ old)
@@ -41,15 +41,15 @@ TakesTextLine old line (Ok Later) new = TakesLater old line new
 TakesTextLine old line (Ok Neither) new = (read_line old.amount old.last line ≡ None) × (new ≡ old)
 TakesTextLine old line (Err error) new = new ≡ old
 
--- ---- texts
+-- ---- inputs
 
--- what is left of a text: the reader of its lines, the rest, and how many lines were read
+-- what is left of an input: the reader of its lines, the rest, and how many lines were read
 pub record TextLeft : Type 0 where
   pub reader : ReaderView
   pub rest : List ℕ
   pub lines : ℕ
 
--- all of a text
+-- a whole input
 abbrev pub all_left : ℕ → List ℕ → TextLeft
 all_left amount text = record {
   reader = record { amount = amount; last = None };
@@ -63,7 +63,7 @@ pub record IsReadUpTo (amount : ℕ) (before : List (List ℕ)) (rows : List Tex
   pub rest_is : (rest : List (List ℕ)) →
       read_lines amount (before ++ rest) ≡ read_from amount rows last rest
 
--- of the text its first lines were read, as these rows and the last
+-- the first lines of the input were read, as these rows and the last
 pub record IsReadTo (text : List ℕ) (rows : List TextRow) (left : TextLeft) : Type 0 where
   pub before : List (List ℕ)
   pub upto : IsReadUpTo left.reader.amount before rows left.reader.last
@@ -71,12 +71,12 @@ pub record IsReadTo (text : List ℕ) (rows : List TextRow) (left : TextLeft) : 
   pub unbroken : IsTrue (list_all is_unbroken before)
   pub counted : left.lines ≡ length before
 
--- what a fault of the reader says of the text
+-- what a fault of the reader says of the input
 abbrev pub TellsFault : ℕ → List ℕ → ReadFault → Type 0
 TellsFault amount text (Line number) = IsFirstBadLine amount text number
 TellsFault amount text Memory = ⊤
 
--- what the next line of a text does: it is read, or it is the first bad one; or there is none
+-- what the next line of an input does: it is read, or it is the first bad one; or no line is left
 abbrev pub TakesNext : List ℕ → List TextRow → TextLeft → Result (Option Taken) ReadFault →
     TextLeft → Type 0
 TakesNext text rows old (Ok None) new = (new.rest ≡ []) × IsReadTo text rows new
@@ -85,7 +85,7 @@ TakesNext text rows old (Ok (Some Later)) new = IsReadTo text rows new
 TakesNext text rows old (Ok (Some Neither)) new = ⊥
 TakesNext text rows old (Err fault) new = TellsFault old.reader.amount text fault
 
--- the amount stays, and less is left where a line was taken
+-- the amount stays, and less is left if a line was taken
 abbrev pub LeavesLess : TextLeft → Result (Option Taken) ReadFault → TextLeft → Type 0
 LeavesLess old (Ok None) new = new.reader.amount ≡ old.reader.amount
 LeavesLess old (Ok (Some taken)) new =

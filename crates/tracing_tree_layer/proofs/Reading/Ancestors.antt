@@ -19,7 +19,7 @@ use Rattle.tracing_tree_drawing.specs.declared.rows.row.Shape.TheVariants as Sha
 use Rattle.tracing_tree_layer.proofs.Reading.Seen.{seen, latest-seen}
 use Rattle.tracing_tree_layer.proofs.Reading.Laws.{reading-law, opened-before}
 
--- a shape opens where its mode does
+-- a shape opens if its mode does
 opening-shape : (mode : SpanMode) (level : ℕ) → is_opening (shape_of mode level) ≡ is_opening_mode mode
 opening-shape Kind.PreOpen level = refl
 opening-shape (Kind.Open verbose) level = elim (level == 0) as (λ b. is_opening (if b then Shape.OpenRoot else Shape.Open verbose) ≡ true) [ true ↦ refl | false ↦ refl ]
@@ -31,7 +31,8 @@ opening-shape Kind.Event level = refl
 opens-shape : (level : ℕ) (row : Row) → opens_level level (text_row row) ≡ opens_at level row
 opens-shape level row = ap (λ b. b && (row.level == level)) (opening-shape row.mode row.level)
 
--- the entry is the place of a row of this span that opens the level; where there is none there is no span
+-- the entry is the place of a row of this span that opens the level; without an entry there is no
+-- span
 abbrev Matches : List Row → ℕ → Option (ℕ × TextRow) → Option Id → Type 0
 Matches whole level None o = o ≡ None
 Matches whole level (Some entry) o = IsSomeAnd (slice_get whole entry.0) (λ row. IsTrue (opens_at level row) × (row.span ≡ o))
@@ -68,7 +69,7 @@ at-take [] (suc n) k lt = absurd (omega arith)
 at-take (row ∷ rows) (suc n) zero lt = refl
 at-take (row ∷ rows) (suc n) (suc k) lt = at-take rows n k (omega arith)
 
--- where the latest row of a level is of a span, the drawing shows its place
+-- if the latest row of a level is of a span, the drawing shows its place
 shown-above : (rows : List Row) (place level : ℕ) (o : Option Id) → latest rows place level ≡ o → (o ≡ None → ⊥) →
     IsSomeAnd (above (text_rows rows) place level) (λ at. IsSomeAnd (slice_get rows at) (λ row. IsTrue (opens_at level row) × (row.span ≡ o)))
 shown-above rows place level o h some =

@@ -1,4 +1,4 @@
--- What changes of a forest leave of its paths.
+-- What changes of a forest keep of its paths.
 use Rattle.std.proofs.Common.{◌≡◌, ℕ, nat_lt, Bool, true, false, ◌&&◌, List, [], ◌∷◌, ◌++◌, map, reverse, Option, Some, None, arith, refl, sym, ap, ◌∙◌, subst}
 use Rattle.std.specs.Option.{option_map_or}
 use Rattle.std.specs.List.{list_all, last_or}
@@ -51,7 +51,7 @@ path-front forest formed i j front back e =
       ends = last-front None front j;
     }))
 
--- ---- changes that leave ids and parents
+-- ---- changes that keep ids and parents
 
 -- the forest with each span changed
 abbrev pub changed_all : (Span → Span) → Forest → Forest

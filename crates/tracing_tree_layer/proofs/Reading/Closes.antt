@@ -23,7 +23,7 @@ use Rattle.tracing_tree_layer.proofs.Reading.Turns.{IsKeptUp, IsLatestAfter, kep
 
 -- ---- forests whose spans have changed
 
--- the one is the other with its spans changed, but for ids and parents
+-- the one is the other with its spans changed, except for ids and parents
 pub record IsChanged (old new : Forest) : Type 0 where
   pub change : Span → Span
   pub same : IsSame change
@@ -54,7 +54,7 @@ changed-trans a b c h k = record {
   made = k.made ∙ ap (changed_all k.change) h.made ∙ ap (λ xs. record a { spans = xs }) (map-twice h.change k.change a.spans);
 }
 
--- children go along with their changed parents
+-- children close together with their changed parents
 along-map : (ids : List Id) (u : Span → Span) → IsSame u → (xs : List Span) → Each (GoesAlong ids) xs → Each (GoesAlong ids) (map u xs)
 along-map ids u same [] h = tt
 along-map ids u same (x ∷ xs) h = (
@@ -62,7 +62,7 @@ along-map ids u same (x ∷ xs) h = (
   along-map ids u same xs h.1,
 )
 
--- and they do where only the spans before the change are known
+-- and they do if only the spans before the change are known
 along-back : (ids : List Id) (u : Span → Span) → IsSame u → (xs : List Span) → Each (GoesAlong ids) (map u xs) → Each (GoesAlong ids) xs
 along-back ids u same [] h = tt
 along-back ids u same (x ∷ xs) h = (
@@ -70,7 +70,7 @@ along-back ids u same (x ∷ xs) h = (
   along-back ids u same xs h.1,
 )
 
--- what a close takes with it, in the forest that its turn leaves
+-- what closes, in the forest that its turn leaves
 pub along-closes : (forest new : Forest) (i : Id) → IsChanged forest new → Each (GoesAlong (closing_of forest i)) (take_handle i new).spans
 along-closes forest new i h =
     let ids : List Id = closing_of forest i in
@@ -136,11 +136,11 @@ changed-close settings context i forest last = by (settings.deferred_spans && no
         let fresh : List Id = fresh_ids forest last i in
         record { change = marked fresh; same = marked-same fresh; made = refl }
 
--- the parent is on the last path, or a close off it retraces first
+-- the parent is on the current branch, or a close off it retraces first
 abbrev pub IsOnOrRetraced : Settings → Bool → Type 0
 IsOnOrRetraced settings on = (settings.close_retrace ≡ true) ⊎ (on ≡ true)
 
--- a drawn close that does not retrace has its parent on the last path
+-- a drawn close that doesn't retrace has its parent on the current branch
 parent-on : (settings : Settings) (forest : Forest) (last : Option Id) (i : Id) → IsAllShown settings forest → retraces settings ≡ true →
     (settings.deferred_spans && not (is_printed forest i)) ≡ false → retraces_before_close settings forest last i ≡ false →
     IsOnOrRetraced settings (close_is_on_path settings forest last i) → IsParentOn forest last i
@@ -223,7 +223,7 @@ latest-closes settings context (i ∷ others) forest last rows f all on premise 
 
 -- ---- a close as a call: then the spans leave the forest
 
--- a change of one span that leaves its id, parent and mark
+-- a change of one span that keeps its id, parent and mark
 pub quiet-one : (change : Span → Span) → IsQuiet change → (i : Id) → IsQuiet (changed change i)
 quiet-one change quiet i = record {
   same = changed-same change i quiet.same;

@@ -24,8 +24,8 @@ use Rattle.tracing_tree_layer.proofs.Reading.Seen.{Opens, seen, seen-append, fre
 
 -- ---- the invariant
 
--- Of the forest, the last span and the rows so far: the forest is well-formed, the last span was given out, and the rows have
--- an opening row for each span on the path of a printed span and on that of the last.
+-- The forest is well-formed, the id of the last span was used, and the rows so far have an opening
+-- row for each span on the path of a printed span and on that of the last span.
 pub record IsFollowed (forest : Forest) (last : Option Id) (rows : List Row) : Type 0 where
   pub formed : IsGrownForest forest
   pub given : option_map_or (is_given forest) last true ≡ true
@@ -35,11 +35,11 @@ pub record IsFollowed (forest : Forest) (last : Option Id) (rows : List Row) : T
 pub well-formed : {forest : Forest} {last : Option Id} {rows : List Row} → IsFollowed forest last rows → IsForest forest
 well-formed {forest} f = as_forest forest f.formed
 
--- where spans are not deferred all are printed
+-- if spans aren't deferred, all are printed
 abbrev pub IsAllShown : Settings → Forest → Type 0
 IsAllShown settings forest = settings.deferred_spans ≡ false → (i : Id) → is_live forest i ≡ true → is_printed forest i ≡ true
 
--- the last opening rows of the levels of the last path are those of its spans
+-- the last opening rows of the levels of the current branch are those of its spans
 abbrev pub IsLatest : Forest → Option Id → List Row → Type 0
 IsLatest forest last rows =
     (level : ℕ) → level < length (path_of_any forest last) → seen None level rows ≡ slice_get (path_of_any forest last) level
@@ -70,7 +70,7 @@ followed-last forest last rows i f live opens = record {
   reached = opens;
 }
 
--- a span on the last path
+-- a span on the current branch
 pub latest-last : (forest : Forest) → IsForest forest → (last : Option Id) (rows : List Row) (i : Id) → is_gone (path_of_any forest last) i ≡ true →
     IsLatest forest last rows → IsLatest forest (Some i) rows
 latest-last forest formed None rows i here h = no_both (sym here)
@@ -78,7 +78,7 @@ latest-last forest formed (Some l) rows i here h = λ level lt.
     let places = path-places forest formed l i here level lt in
     h level places.0 ∙ places.1
 
--- ---- changes that are not seen
+-- ---- changes that aren't seen
 
 pub live-same : (u : Span → Span) → IsSame u → (forest : Forest) (i : Id) → is_live (changed_all u forest) i ≡ is_live forest i
 live-same u same forest i = ap (λ (o : Option Span). is_some o) (find-same u same i forest.spans) ∙ by (span_at forest i)
@@ -87,7 +87,7 @@ live-same u same forest i = ap (λ (o : Option Span). is_some o) (find-same u sa
     by None = refl
     by (Some s) = refl
 
--- neither id, parent nor mark changes
+-- id, parent and mark are unchanged
 pub record IsQuiet (u : Span → Span) : Type 0 where
   pub same : IsSame u
   pub written : (s : Span) → (u s).kept.written ≡ s.kept.written
@@ -100,7 +100,7 @@ printed-quiet u quiet forest i =
     by None = refl
     by (Some s) = quiet.written s
 
--- what opens the path before opens it after
+-- what opens the path before the change opens it after
 pub opens-same : (rows : List Row) (before after : List Id) → after ≡ before → Opens rows before → Opens rows after
 opens-same rows before after e h j k = h j (subst (λ path. is_gone path j ≡ true) e k)
 
@@ -187,7 +187,7 @@ mark_printed-all i forest = ap (λ xs. record forest { spans = xs }) (mark-one i
 
 -- ---- a retrace
 
--- what is shared with the last path and what is fresh
+-- what is shared with the current branch and what is fresh
 abbrev shared : Forest → Option Id → Id → ℕ
 shared forest last i = common_prefix_len same_id (path_of_any forest last) (path_of forest i)
 
@@ -262,7 +262,7 @@ latest-retrace settings context forest formed last rows i h =
 
 -- ---- a new span
 
--- what was given out is not the new span
+-- an id that was used isn't the new span's
 given-not : (forest : Forest) (s : Span) (i : Id) → forest.next ≡ Some s.id → is_given forest i ≡ true → has_id i s ≡ false
 given-not forest s i next h = given-other forest i s.id next h
 
@@ -271,7 +271,7 @@ pub path_of_any-new : (forest : Forest) (s : Span) → IsGrownForest (add_span s
 path_of_any-new forest s new None next h = refl
 path_of_any-new forest s new (Some l) next h = path_of-other s forest new l (given-not forest s l next h)
 
--- a span that is printed after was printed before, and has the path that it had
+-- a span that is printed after was printed before, and its path is unchanged
 printed-new : (forest : Forest) → IsGrownForest forest → (s : Span) → IsGrownForest (add_span s forest) → (i : Id) → forest.next ≡ Some s.id → s.kept.written ≡ false → is_printed (add_span s forest) i ≡ true →
     (is_printed forest i ≡ true) × (path_of (add_span s forest) i ≡ path_of forest i)
 printed-new forest formed s new i next plain h =
@@ -323,7 +323,7 @@ live-new forest s next =
     by None = rw (same-refl s.id) refl
     by (Some t) = refl
 
--- with its mark all are printed that were
+-- with its mark, all spans that were printed are printed
 pub all_shown-new : (settings : Settings) (forest : Forest) (s : Span) → IsAllShown settings forest → IsAllShown settings (mark_all (s.id ∷ []) (add_span s forest))
 all_shown-new settings forest s h eager i live =
     printed-marked (s.id ∷ []) (add_span s forest) i
@@ -366,7 +366,7 @@ printed-live forest i = by (span_at forest i)
     by None e = no_both (sym e)
     by (Some t) e = refl
 
--- the last path is as before, or empty
+-- the current branch is unchanged, or empty
 path_of_any-left : {P : Type 0} (ids : List Id) (forest : Forest) → IsGrownForest forest → Each (GoesAlong ids) forest.spans → (last : Option Id) →
     (path_of_any (without_spans ids forest) last ≡ path_of_any forest last → P) → (path_of_any (without_spans ids forest) last ≡ [] → P) → P
 path_of_any-left ids forest formed along None same none = same refl

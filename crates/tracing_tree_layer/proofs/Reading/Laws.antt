@@ -93,7 +93,8 @@ module _ {settings : Settings} {timer : Timer} {first : Option Id} {calls : List
       latest-run settings timer e.before (opening_state first) [] (kept-opening settings first) on
       (on_path-front settings timer (opening_state first) e.before (A.Event e.event e.context ∷ e.after) part) (latest-opening first)
 
-  -- where the current span is live and spans are retraced, the rows before the event's are those of its retrace
+  -- if the current span is live and spans are retraced, the rows before the event's are those of
+  -- its retrace
   retraced-rows : (e : EventInRun settings timer first calls) (i : Id) → current_of (forest_at e) e.context ≡ Some i → retraces settings ≡ true →
       rows_before e ≡ (run_before e).rows ++ fresh_rows settings e.context (forest_at e) (fresh_ids (forest_at e) (run_before e).state.last i)
   retraced-rows e i at on =
@@ -101,7 +102,8 @@ module _ {settings : Settings} {timer : Timer} {first : Option Id} {calls : List
       ∙ ap (λ b. (run_before e).rows
       ++ (if b then retrace_to settings e.context (forest_at e) (run_before e).state.last i else quiet_turn (forest_at e) (run_before e).state.last).rows) on
 
--- before an event in its current span each level up to that span's was opened last by the span of its path
+-- before an event in its current span, each level up to that span's was last opened by the span
+-- that the path has there
 pub reading-law : (settings : Settings) (timer : Timer) (first : Option Id) (calls : List Call) → retraces settings ≡ true →
     (settings.close_retrace || run_is_on_path settings timer (opening_state first) calls) ≡ true → ReadingLaw settings timer first calls
 reading-law settings timer first calls on premise e i within level lt =

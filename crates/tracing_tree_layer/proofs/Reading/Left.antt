@@ -1,4 +1,4 @@
--- What the removal of spans that close leaves of the paths.
+-- What removing the spans that close keeps of the paths.
 use Rattle.std.proofs.Common.{◌≡◌, nat_lt, Bool, true, false, ◌||◌, not, List, [], ◌∷◌, ◌++◌, reverse, find, filter, Option, Some, None, is_some, if◌then◌else◌, arith, refl, sym, ap, ◌∙◌, subst}
 use Rattle.std.specs.Option.{option_map_or}
 use Rattle.std.specs.List.{list_all, list_any}
@@ -46,7 +46,7 @@ each-filter p q (x ∷ xs) h = by (λ k. each-filter p q xs k) (p x) refl
       ih (subst (λ b. list_all q (if b then x ∷ filter p xs else filter p xs) ≡ true) e h),
     )
 
--- ---- what closes takes the children with it
+-- ---- the children of what closes also close
 
 -- whether the id is one of these
 abbrev pub is_gone : List Id → Id → Bool
@@ -100,13 +100,13 @@ going-follows forest before (i ∷ more) =
         (each-filter (is_child_of i) (λ x. option_map_or (same_id x.id) before false) forest.spans parts.1) ih
     by ih false e = none forest.spans
 
--- what closes takes the children with it
+-- the children of what closes also close
 pub closing-along : (forest : Forest) (i : Id) → Each (GoesAlong (closing_of forest i)) (take_handle i forest).spans
 closing-along forest i = going-follows (take_handle i forest) None (reverse (path_of (take_handle i forest) i))
 
 -- ---- what is left
 
--- the spans that are none of these
+-- the spans that aren't among these
 abbrev pub left : List Id → List Span → List Span
 left ids spans = filter (λ span. not (is_gone ids span.id)) spans
 
@@ -157,7 +157,7 @@ all-filter p q (x ∷ spans) h =
     let rest = all-filter p q spans parts.1 in
     elim (q x) as (λ b. list_all p (if b then x ∷ filter q spans else filter q spans) ≡ true) [ true ↦ rw parts.0 rest | false ↦ rest ]
 
--- the parent of what stays stays
+-- a span that stays has a parent that stays
 parent-stays : (ids : List Id) (x : Span) → GoesAlong ids x → is_gone ids x.id ≡ false → (above : Id) → x.parent ≡ Some above → is_gone ids above ≡ false
 parent-stays ids x along here above up = by (is_gone ids above) refl
   where

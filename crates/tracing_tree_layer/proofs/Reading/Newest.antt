@@ -1,4 +1,4 @@
--- What a new span leaves of the paths, and its own path.
+-- What a new span keeps of the paths, and its own path.
 use Rattle.std.proofs.Common.{◌≡◌, ℕ, nat_lt, ◌<◌, ◌+◌, ◌==◌, Bool, true, false, List, [], ◌∷◌, ◌++◌, reverse, find, Option, option_map, Some, None, is_some, if◌then◌else◌, arith, refl, sym, ap, ◌∙◌, subst}
 use Rattle.std.specs.Option.{option_map_or, option_or}
 use Rattle.std.specs.List.{list_all, list_any}
@@ -21,22 +21,22 @@ use Rattle.tracing_tree_spans.proofs.RegistryLaws.{any-reverse, fresh-below, bel
 turned : (s : Span) (forest : Forest) → IsGrownForest (add_span s forest) → IsGrown (s ∷ reverse forest.spans)
 turned s forest new = subst IsGrown (reverse-append forest.spans (s ∷ [])) new.grown
 
--- another span has the path that it had
+-- the path of any other span is unchanged
 pub path_of-other : (s : Span) (forest : Forest) → IsGrownForest (add_span s forest) → (j : Id) → has_id j s ≡ false → path_of (add_span s forest) j ≡ path_of forest j
 path_of-other s forest new j e = path_of-more forest.spans s (turned s forest new) j e
 
--- the new span comes below its parent
+-- the new span is below its parent
 pub path_of-new : (s : Span) (forest : Forest) → IsGrownForest (add_span s forest) → (i : Id) → has_id i s ≡ true →
     path_of (add_span s forest) i ≡ path_of_any forest s.parent ++ i ∷ []
 path_of-new s forest new i e = tied.path_of-new forest.spans s (turned s forest new) i e
 
--- a span is found as before, or is the new one
+-- a span is found unchanged, or is the new one
 pub find-new : (s : Span) (forest : Forest) (j : Id) → span_at (add_span s forest) j ≡ option_or (span_at forest j) (if has_id j s then Some s else None)
 find-new s forest j = find-append (has_id j) forest.spans (s ∷ [])
 
--- ---- ids that were given out
+-- ---- ids that were used
 
--- the id was given out: it is below the next one
+-- the id was used: it is below the next one
 abbrev pub is_given : Forest → Id → Bool
 is_given forest i = option_map_or (λ next. nat_lt i.0 next.0) forest.next true
 
@@ -52,7 +52,7 @@ below-found n (x ∷ spans) i h live =
     by ih first true e = grind (arith, nat_tests)
     by ih first false e = ih (subst (λ b. is_some (if b then Some x else find (has_id i) spans) ≡ true) e live)
 
--- a live span's id was given out
+-- a live span's id was used
 pub live-given : (forest : Forest) → IsGrownForest forest → (i : Id) → is_live forest i ≡ true → is_given forest i ≡ true
 live-given forest formed i live = by forest.next formed.below_next
   where
@@ -61,13 +61,13 @@ live-given forest formed i live = by forest.next formed.below_next
     by None h = refl
     by (Some next) h = below-found next.0 forest.spans i h live
 
--- what was given out is not the next id
+-- an id that was used isn't the next id
 pub given-other : (forest : Forest) (i next : Id) → forest.next ≡ Some next → is_given forest i ≡ true → same_id next i ≡ false
 given-other forest i next here h =
     let lower : nat_lt i.0 next.0 ≡ true = subst (λ o. option_map_or (λ (n : Id). nat_lt i.0 n.0) o true ≡ true) here h in
     grind (arith, nat_tests)
 
--- what was given out stays so, and the new id with it
+-- a used id stays used, and the new id is used too
 pub given-after : (i j : Id) → nat_lt j.0 (i.0 + 1) ≡ true → option_map_or (λ (next : Id). nat_lt j.0 next.0) (id_after i) true ≡ true
 given-after i j h = elim (i.0 == 18_446_744_073_709_551_615) as (λ b.
     option_map_or (λ (next : Id). nat_lt j.0 next.0) (if b then None else Some (id_of (i.0 + 1))) true ≡ true) [ true ↦ refl | false ↦ h ]

@@ -14,7 +14,7 @@ use Rattle.tracing_tree_layer.proofs.Reading.Left.{is_gone}
 
 -- ---- ids in lists
 
--- an id in a list parts it
+-- an id in a list splits it
 pub record Parts (ids : List Id) (i : Id) : Type 0 where
   pub front : List Id
   pub back : List Id
@@ -30,7 +30,7 @@ parts_at (x ∷ ids) i h = by (λ k. parts_at ids i k) (same_id i x) refl
         let rest : Parts ids i = ih (subst (λ b. (b || is_gone ids i) ≡ true) e h) in
         record { front = x ∷ rest.front; back = rest.back; whole = ap (λ js. x ∷ js) rest.whole }
 
--- what is in a beginning is in the list
+-- what is in a prefix is in the list
 pub in_left : (xs ys : List Id) (i : Id) → is_gone xs i ≡ true → is_gone (xs ++ ys) i ≡ true
 in_left xs ys i h = list_any-append (same_id i) xs ys ∙ rw h refl
 
@@ -65,7 +65,7 @@ at_left [] ys k lt = absurd (omega arith)
 at_left (x ∷ xs) ys zero lt = refl
 at_left (x ∷ xs) ys (suc k) lt = at_left xs ys k (omega arith)
 
--- ---- common beginnings
+-- ---- common prefixes
 
 pub common-left : (xs ys : List Id) → common_prefix_len same_id xs ys ≤ length xs
 common-left [] ys = omega arith
@@ -105,7 +105,7 @@ common-same (x ∷ xs) (y ∷ ys) = by (common-same xs ys) (same_id x y) refl
 
 -- ---- paths in paths
 
--- the path of a span on a path lies in it
+-- the path of a span on a path is within it
 pub path-within : (forest : Forest) → IsForest forest → (i j k : Id) → is_gone (path_of forest i) j ≡ true → is_gone (path_of forest j) k ≡ true →
     is_gone (path_of forest i) k ≡ true
 path-within forest formed i j k here there =

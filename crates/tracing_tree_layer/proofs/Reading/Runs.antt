@@ -38,7 +38,7 @@ pub record IsKeptState (settings : Settings) (state : State) (rows : List Row) :
 
 -- ---- calls that are accepted
 
--- an accepted call isn't refused for an id or for want of ids
+-- an accepted call isn't refused for an id or because no id is left
 no-cause : (failed : Bool) (held : Option Id) (many wide faults : Bool) →
     first_cause (record { failed = failed; not_held = held; too_many = many; too_wide = wide; timer_faults = faults }) ≡ None → (held ≡ None) × (many ≡ false)
 no-cause true held many wide faults e = absurd cc
@@ -123,7 +123,7 @@ latest-call settings timer state rows (A.Close i context) k h on premise l =
 
 -- ---- calls that are refused
 
--- a refusal leaves forest and last span
+-- a refusal keeps forest and last span
 record IsLeft (state new : State) : Type 0 where
   forest : new.forest ≡ state.forest
   last : new.last ≡ state.last
@@ -192,7 +192,7 @@ latest-run settings timer (call ∷ calls) state rows k on premise l =
     (append_assoc rows one.rows (run settings timer one.state calls).rows)
     (latest-run settings timer calls one.state (rows ++ one.rows) (kept-one settings timer state rows call k) on parts.1 (latest-one settings timer state rows call k on parts.0 l))
 
--- a part of a run that is on its path is so
+-- the first part of a run whose closes are retraced, or on the current branch, is such a run too
 pub on_path-front : (settings : Settings) (timer : Timer) (state : State) (first second : List Call) → IsOnOrRetraced settings (run_is_on_path settings timer state (first ++ second)) →
     IsOnOrRetraced settings (run_is_on_path settings timer state first)
 on_path-front settings timer state [] second h = inr refl
@@ -207,7 +207,7 @@ on_path-front settings timer state (call ∷ calls) second (inr h) =
     both a b e (inl h) = inl h
     both a b e (inr h) = inr (rw e h)
 
--- ---- the beginning
+-- ---- the start
 
 -- no span is at or above the first id
 below-opening : (first : Option Id) → option_map_or (λ (x : Id). true) first true ≡ true

@@ -20,7 +20,7 @@ use Rattle.tracing_tree_layer.proofs.Reading.Parts.{at_seam}
 
 -- ---- the last opening row of a level
 
--- its span, or what stood before these rows
+-- its span, or the span before these rows
 abbrev pub seen : Option Id → ℕ → List Row → Option Id
 seen o level [] = o
 seen o level (row ∷ rows) = seen (if opens_at level row then row.span else o) level rows
@@ -77,7 +77,7 @@ level-on forest formed i j front back e =
 moved : (front back : List Id) (j : Id) (path : List Id) → path ≡ front ++ j ∷ back → path ≡ (front ++ j ∷ []) ++ back
 moved front back j path e = e ∙ sym (append_assoc front (j ∷ []) back)
 
--- they leave the levels above them
+-- they keep the levels above them
 plain-low : (settings : Settings) (context : Context) (forest : Forest) → IsForest forest → (i : Id) (front ids : List Id) → path_of forest i ≡ front ++ ids →
     (o : Option Id) (level : ℕ) → level < length front → seen o level (map (fresh_row settings context forest false) ids) ≡ o
 plain-low settings context forest formed i front [] e o level lt = refl

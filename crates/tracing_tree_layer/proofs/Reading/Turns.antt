@@ -26,7 +26,7 @@ use Rattle.tracing_tree_layer.proofs.Reading.Parts.{in_left, in_either, own-path
 use Rattle.tracing_tree_layer.proofs.Reading.Seen.{Opens, seen, seen-parent_rows, opened-left, opened-right}
 use Rattle.tracing_tree_layer.proofs.Reading.Kept.{IsFollowed, well-formed, IsAllShown, IsLatest, followed-more, latest-more, followed-last, latest-last, opens-same, latest-same, marked, marked-same, followed-marks, all_shown-marks, mark_printed-all, fresh-whole, fresh-marks, followed-retrace, latest-retrace, followed-new, latest-new, live-new, all_shown-new}
 
--- what a run keeps, after a turn that comes behind these rows
+-- what a run keeps, after a turn that follows these rows
 pub record IsKeptUp (settings : Settings) (rows : List Row) (turn : Turn) : Type 0 where
   pub followed : IsFollowed turn.forest turn.last (rows ++ turn.rows)
   pub all_shown : IsAllShown settings turn.forest
@@ -234,7 +234,7 @@ latest-event settings timer context forest last rows event formed h =
 
 -- ---- closes
 
--- the span whose parent is asked
+-- the span whose parent is read
 pub parent-found : (forest : Forest) (i above : Id) → parent_of forest i ≡ Some above → (s : Span) × (span_at forest i ≡ Some s) × (s.parent ≡ Some above)
 parent-found forest i above h = by (span_at forest i) refl h
   where
@@ -255,7 +255,7 @@ parent-on_path forest formed i above h =
     own None e k = no_both (sym k)
     own (Some t) e k = own-path forest formed above t e
 
--- where the span is live, it is printed
+-- if the span is live, it is printed
 abbrev pub IsShown : Forest → Id → Type 0
 IsShown forest i = is_live forest i ≡ true → is_printed forest i ≡ true
 
@@ -274,7 +274,7 @@ kept-close_turn settings context i forest last rows f all shown = record { follo
         (λ j k. f.shown i printed j (subst (λ ids. is_gone ids j ≡ true) (sym path) (in_left (path_of forest above) (i ∷ []) j k))) in
         followed-more forest (Some above) rows (close_turn settings context i forest last).rows (followed-last forest last rows above f live opens)
 
--- the parent, if there is one, is on the last path
+-- the parent, if there is one, is on the current branch
 abbrev pub IsParentOn : Forest → Option Id → Id → Type 0
 IsParentOn forest last i = option_map_or (λ above. list_any (same_id above) (path_of_any forest last)) (parent_of forest i) true ≡ true
 

@@ -11,7 +11,7 @@ use Rattle.tracing_tree_layer.specs.Layered.State.{State}
 use Rattle.tracing_tree_layer.specs.Layer.Bare.{BareCall, on_new_span, on_record, on_close, bare_text, bare_state_after, bare_cause_of}
 use Rattle.tracing_tree_layer.proofs.WorkedCalls.{lined, outside}
 
--- the root `a` in a registry, about which the layer has not been told
+-- the root `a` in a registry, unknown to the layer
 abbrev pub untold : State
 untold = record {
   forest = add_span (new_span (id_of 1) (record { name = codes "a"; target = []; parent = Root; fields = [] }) None 0) (empty_forest (id_of 1));
@@ -28,7 +28,7 @@ pub told_of_root : bare_texts untold (on_new_span (id_of 1) outside ∷ []) ≡ 
 unfolding encode_utf8
 told_of_root = refl
 
--- a bare close leaves the span
+-- a bare close keeps the span
 pub closed_twice : bare_texts untold (on_close (id_of 1) outside ∷ on_close (id_of 1) outside ∷ []) ≡ encode_utf8_all (codes "┘\n┘\n")
 unfolding encode_utf8
 closed_twice = refl

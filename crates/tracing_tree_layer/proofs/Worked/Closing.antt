@@ -19,7 +19,7 @@ pub cloned_parent : answers_of lined no_timer (left_by lined root_and_child) (Cl
     ≡ Ok (Cloned (id_of 1)) ∷ Ok (Closed false) ∷ Ok (Closed true) ∷ Ok (Closed true) ∷ []
 cloned_parent = refl
 
--- and both are drawn when they go
+-- and both are drawn when they close
 pub cloned_parent_text : written_after lined root_and_child (Clone (id_of 1) ∷ closed 1 ∷ closed 2 ∷ closed 1 ∷ [])
     ≡ encode_utf8_all (codes "┌─┘\n┘\n")
 unfolding encode_utf8
@@ -76,12 +76,12 @@ pub nothing_held : answers_of lined no_timer (opening_state (Some (id_of 1)))
     ≡ Err (NotHeld (id_of 7)) ∷ Err (NotHeld (id_of 7)) ∷ Ok Done ∷ Ok Done ∷ []
 nothing_held = refl
 
--- a root that went
+-- a root that closed
 pub gone_root : answers_of lined no_timer (left_by lined two_roots) (closed 1 ∷ closed 1 ∷ Clone (id_of 1) ∷ made (codes "c") (inside 1) ∷ Record (id_of 1) (record { fields = [] }) ∷ informed (codes "x") (inside 1) ∷ [])
     ≡ Ok (Closed true) ∷ Err (NotHeld (id_of 1)) ∷ Err (NotHeld (id_of 1)) ∷ Err (NotHeld (id_of 1)) ∷ Ok Done ∷ Ok Done ∷ []
 gone_root = refl
 
--- the greatest number of handles
+-- the largest count of handles
 abbrev pub full_state : State
 full_state = record {
   forest = record {

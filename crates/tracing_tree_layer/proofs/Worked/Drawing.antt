@@ -41,7 +41,7 @@ pub skipped_field : written plain (told Warn Current (rendered_field (codes "k")
 unfolding encode_utf8
 skipped_field = refl
 
--- only in the first place is a span's message shown alone
+-- a span's message shows only its value, but only in the first place
 pub second_message : written plain (made_with (message (codes "m") ∷ rendered_field (codes "k") (codes "1") ∷ message (codes "n") ∷ []) (codes "a") outside ∷ [])
     ≡ encode_utf8_all (codes " a m, k=1, message=n\n")
 unfolding encode_utf8
@@ -113,7 +113,7 @@ pub carriage_return_inside : written_after_root lined (informed (codes "x\r\ny")
 unfolding encode_utf8
 carriage_return_inside = refl
 
--- rows that pass the width of a number
+-- rows whose width overflows a number
 pub wide_event : is_too_wide (record plain { indent_amount = 9_223_372_036_854_775_808 })
     (record { mode = EventMode; span = None; level = 2; block = []; prefix = [] }) ≡ true
 wide_event = refl

@@ -14,7 +14,7 @@ use Rattle.tracing_tree_layer.specs.declared.call.Call.TheVariants.{New, Event, 
 use Rattle.tracing_tree_layer.specs.Difference.Items.{differing}
 use Rattle.tracing_tree_layer.proofs.WorkedCalls.{lined, outside, inside, made, message, informed, closed, written, written_after}
 
--- a root after another has gone
+-- a root after another has closed
 pub root_after_close : written (record lined { span_retrace = true }) (made (codes "a") outside ∷ closed 1 ∷ made (codes "b") outside ∷ informed (codes "x") (inside 2) ∷ [])
     ≡ encode_utf8_all (codes "┐a \n┘\n┐b \n├─ INFO x\n")
 unfolding encode_utf8
@@ -26,13 +26,13 @@ pub deferred_and_closed : written (record lined { deferred_spans = true }) (made
 unfolding encode_utf8
 deferred_and_closed = refl
 
--- a close off the last path retraces
+-- a close off the current branch retraces
 pub close_retraces : written (record lined { span_retrace = true; close_retrace = true }) (made (codes "a") outside ∷ made (codes "b") (inside 1) ∷ made (codes "c") outside ∷ closed 2 ∷ informed (codes "x") (inside 1) ∷ [])
     ≡ encode_utf8_all (codes "┐a \n└─┐b \n┐c \n┐a \n└─┐b \n┌─┘\n├─ INFO x\n")
 unfolding encode_utf8
 close_retraces = refl
 
--- a parent on the last path needs no retrace
+-- a parent on the current branch needs no retrace
 pub close_on_the_path : written_after (record lined { span_retrace = true; close_retrace = true; indent_amount = 4 }) (made (codes "a") outside ∷ made (codes "b") (inside 1) ∷ made (codes "c") (inside 1) ∷ []) (closed 2 ∷ [])
     ≡ encode_utf8_all (codes "┌───┘\n")
 unfolding encode_utf8
@@ -86,7 +86,7 @@ differing_from_nothing = refl
 abbrev pub ids : List ℕ → List Id
 ids numbers = map id_of numbers
 
--- how long the common beginning is, and how many pairs were compared
+-- the length of the common prefix, and the count of pairs that were compared
 abbrev pub common_of : List ℕ → List ℕ → ℕ × ℕ
 common_of old new =
     let shared = common_prefix_len same_id (ids old) (ids new) in

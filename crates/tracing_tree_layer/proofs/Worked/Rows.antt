@@ -1,4 +1,5 @@
--- The definitions give the texts of the worked examples: each is computed from its settings and its list of calls.
+-- The definitions result in the text of the worked examples: each is computed from its settings and
+-- its list of calls.
 use Rattle.std.specs.Prelude.{◌≡◌, true, false, [], ◌∷◌, Some, Ok, Err, refl, codes, pos, encode_utf8_all}
 use Rattle.std.specs.Char.{encode_utf8}
 use Rattle.std.specs.Fmt.{digits}
@@ -32,7 +33,7 @@ pub event_without_lines : written plain (made (codes "a") outside ∷ informed (
 unfolding encode_utf8
 event_without_lines = refl
 
--- the parent is shown again when its child is made, of which the two last lines count here
+-- the parent is shown again when its child is made; only the two last lines count here
 pub verbose_entry : written_after_root (record lined { indent_amount = 4; verbose_entry = true }) (made (codes "b") (inside 1) ∷ [])
     ≡ encode_utf8_all (codes "└─┐a \n  └─┐b \n")
 unfolding encode_utf8
@@ -80,7 +81,7 @@ pub retraced_roots : written (record lined { span_retrace = true }) (made (codes
 unfolding encode_utf8
 retraced_roots = refl
 
--- a parent whose handle is gone stays until its child goes
+-- a parent without handles stays until its child closes
 pub closes_in_turn : answers_of lined no_timer (left_by lined root_and_child) (closed 1 ∷ closed 1 ∷ closed 2 ∷ [])
     ≡ Ok (Closed false) ∷ Err (NotHeld (id_of 1)) ∷ Ok (Closed true) ∷ []
 closes_in_turn = refl
@@ -97,7 +98,7 @@ pub verbose_exit : written_after (record lined { indent_amount = 4; verbose_exit
 unfolding encode_utf8
 verbose_exit = refl
 
--- a close off the last path
+-- a close off the current branch
 pub close_off_the_path : written (record lined { span_retrace = true }) (made (codes "a") outside ∷ made (codes "b") (inside 1) ∷ made (codes "c") outside ∷ closed 2 ∷ informed (codes "x") (inside 1) ∷ [])
     ≡ encode_utf8_all (codes "┐a \n└─┐b \n┐c \n┌─┘\n├─ INFO x\n")
 unfolding encode_utf8
@@ -142,7 +143,7 @@ pub almost_a_millisecond : higher_elapsed_text false 999999 ≡ encode_utf8_all 
 unfolding encode_utf8 digits
 almost_a_millisecond = refl
 
--- a tie goes to the even count
+-- a tie is rounded to the even count
 pub five_nanoseconds : higher_elapsed_text false 5 ≡ encode_utf8_all (codes " 0.00μs")
 unfolding encode_utf8 digits
 five_nanoseconds = refl
@@ -152,7 +153,7 @@ pub fifteen_nanoseconds : higher_elapsed_text false 15 ≡ encode_utf8_all (code
 unfolding encode_utf8 digits
 fifteen_nanoseconds = refl
 
--- an eager span that retraces is labelled so
+-- an eager span that retraces has the label of a retrace
 pub labelled_retrace : written (record lined { span_modes = true; span_retrace = true }) (made (codes "a") outside ∷ [])
     ≡ encode_utf8_all (codes "┐retrace: a \n")
 unfolding encode_utf8
@@ -177,7 +178,7 @@ pub early_uptime : uptime_text 5 3 ≡ codes "   0.000000s"
 unfolding digits
 early_uptime = refl
 
--- both texts of a timer
+-- both strings of a timer
 pub timed_event : text_of lined (uptime_timer false 0) (opening_state (Some (id_of 1)))
     (made (codes "a") (at_mono 1_000_000_000 outside) ∷ informed (codes "x") (at_mono 3_000_042_000 (inside 1)) ∷ [])
     ≡ encode_utf8_all (codes "┐a \n├─   3.000042s   2s  INFO x\n")
@@ -207,7 +208,7 @@ pub coloured : written (record lined { ansi = true }) (made (codes "a") outside 
 unfolding encode_utf8
 coloured = refl
 
--- deferred spans, where the parent is shown again
+-- deferred spans, with the parent shown again
 pub deferred_verbose : written (record lined { indent_amount = 4; deferred_spans = true; verbose_entry = true }) (made (codes "a") outside ∷ made (codes "b") (inside 1) ∷ informed (codes "x") (inside 1) ∷ informed (codes "y") (inside 2) ∷ [])
     ≡ encode_utf8_all (codes "┐a \n├─── INFO x\n└─┐a \n  └─┐b \n    ├─── INFO y\n")
 unfolding encode_utf8
@@ -219,7 +220,7 @@ pub event_of_two_lines : written lined (made (codes "a") outside ∷ informed (c
 unfolding encode_utf8
 event_of_two_lines = refl
 
--- an event outside every span
+-- an event at the root
 pub event_outside : written lined (informed (codes "x") outside ∷ [])
     ≡ encode_utf8_all (codes "INFO x\n")
 unfolding encode_utf8
@@ -245,7 +246,7 @@ pub odd_lines : written lined (made (encode_utf8_all (codes "a\n┐b")) outside 
 unfolding encode_utf8
 odd_lines = refl
 
--- a text in quotes
+-- a quoted string
 pub quoted_field : (text_field (codes "k") (codes "a\"\\\t\n\r\0\u{1b}\u{7f}z")).value ≡ codes "\"a\\\"\\\\\\t\\n\\r\\0\\u{1b}\\u{7f}z\""
 unfolding digits
 quoted_field = refl

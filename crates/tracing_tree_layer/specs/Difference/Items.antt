@@ -1,4 +1,4 @@
--- What two lists share from the front on, and where they differ.
+-- What two lists share from the front on, and the position at which they differ.
 use Rattle.std.specs.Prelude.{◌≡◌, ℕ, Bool, false, if◌then◌else◌, List, slice_get, Option, Some, None, filter_map}
 use Rattle.std.specs.Option.{option_map_or}
 use Rattle.std.specs.List.{enumerate_from}
@@ -17,8 +17,8 @@ differing equal left right =
     filter_map (λ entry. if has_equal_at equal left entry.0 entry.1 then None else Some entry.1)
     (enumerate_from 0 right)
 
--- what differs between two paths of a forest, of which the first is of a span that may be missing, is
--- what is fresh; `PathPairs` proves it of each well-formed forest
+-- The items of a span's path that differ from the path of another span, which may be missing, are
+-- the fresh ones. `PathPairs` proves it of each well-formed forest.
 abbrev pub PathsDifferFreshly : Forest → Type 0
 PathsDifferFreshly forest =
     (last : Option Id) (i : Id) → differing same_id (path_of_any forest last) (path_of forest i)

@@ -1,4 +1,4 @@
--- The steps of a `DifferenceIter`, and what it gives.
+-- The steps of a `DifferenceIter`, and what it yields.
 use Rattle.std.specs.Prelude.{◌≡◌, ◌+◌, ◌≤◌, Bool, true, false, if◌then◌else◌, MatchBool, List, [], ◌++◌, Option, Some, None, MatchOption, IsSomeAnd, IfSome, All, ⊤}
 use Rattle.std.specs.Borrow.{Bor}
 use Rattle.std.specs.Fn.{Shared, FnReturnsAt}
@@ -52,22 +52,22 @@ module _ {C A U : Type 0} (calls : Shared C (Bor A × ⊤) U) (eq : U → U → 
   abbrev pub Matches : Option A → A → Type 0
   Matches left right = IsSomeAnd left (λ x. KeysCompare x right true)
 
-  -- there is no left item, or it is unequal to the right one under `compare`
+  -- there is no left item, or it differs from the right one under `compare`
   abbrev pub Differs : Option A → A → Type 0
   Differs left right = IfSome left (λ x. KeysCompare x right false)
 
-  -- each left item is there, and equal to the right one beside it
+  -- each left item exists, and is equal to the right one of its pair
   abbrev pub AllMatch : List (Option A × A) → Type 0
   AllMatch pairs = All (λ p. Matches p.0 p.1) pairs
 
-  -- r is the right item of o, which differs, or `None` where there are no more pairs
+  -- r is the right item of o, which differs, or `None` if there are no more pairs
   abbrev pub GivesDiffering : Option (Option A × A) → Option A → Type 0
   GivesDiffering o r = MatchOption o (r ≡ None) (λ p. (r ≡ Some p.1) × Differs p.0 p.1)
 
 module _ {L R C A : Type 0} (lefts : L → Option A → L → Type 0)
     (rights : R → Option A → R → Type 0) where
-  -- The left one steps, unless it has ended, and then the right one. o has what they gave, or is
-  -- `None` where the right one has ended.
+  -- The left one steps, unless it has ended, and then the right one. o has what they returned, or
+  -- is `None` if the right one has ended.
   abbrev pub both_steps : DifferenceIter L R C → Option (Option A × A) → DifferenceIter L R C
       → Type 0
   both_steps s o t = (difference_compare t ≡ difference_compare s)
@@ -75,8 +75,7 @@ module _ {L R C A : Type 0} (lefts : L → Option A → L → Type 0)
       × MatchOption o (rights (difference_right s) None (difference_right t))
       (λ p. (p.0 ≡ left) × rights (difference_right s) (Some p.1) (difference_right t)))
 
-  -- the right items that are equal to the left ones are passed over, and the first that differs
-  -- comes
+  -- the right items that are equal to the left ones are skipped, and the first that differs comes
   abbrev pub difference_steps : {U : Type 0} → Shared C (Bor A × ⊤) U → (U → U → Bool)
       → DifferenceIter L R C → Option A → DifferenceIter L R C → Type 0
   difference_steps calls eq s r t = (passed : List (Option A × A)) × (o : Option (Option A × A))
@@ -84,7 +83,7 @@ module _ {L R C A : Type 0} (lefts : L → Option A → L → Type 0)
       × AllMatch calls eq (difference_compare s) passed
       × GivesDiffering calls eq (difference_compare s) o r
 
--- ---- all that it gives
+-- ---- all that it yields
 
 -- each call of f at a `&` to x returns `key x`
 abbrev pub ReturnsKey : {C A U : Type 0} → Shared C (Bor A × ⊤) U → C → (A → U) → Type 0
@@ -93,10 +92,10 @@ ReturnsKey {A = A} {U = U} calls f key = (x : A) (k : U) → FnReturnsAt calls f
 module _ {L R C A U : Type 0} {lefts : L → Option A → L → Type 0}
     {rights : R → Option A → R → Type 0} (calls : Shared C (Bor A × ⊤) U) (eq : U → U → Bool)
     (compare : C) where
-  -- Behind a run p of a `DifferenceIter` stand a run a of its left side and a run b of its right
-  -- one. Both step together: a left side that goes on gave an item at each call of the right one.
-  -- Where `compare` returns what `key` does, the items of p are those of b that differ from a and
-  -- from `rest`, whatever else the left side goes on to give.
+  -- A run p of a `DifferenceIter` has a run a of its left side and a run b of its right one. Both
+  -- step together: a left side that continues returned an item at each call of the right one. If
+  -- `compare` returns what `key` does, the items of p are those of b that differ from a and from
+  -- `rest`, whatever else the left side returns later.
   abbrev pub IsDifferenceRun : Run (difference_steps lefts rights calls eq) → Run lefts
       → Run rights → Type 0
   IsDifferenceRun p a b = (b.whole ≡ p.whole)
@@ -108,14 +107,14 @@ module _ {L R C A U : Type 0} {lefts : L → Option A → L → Type 0}
 module _ {L R C A U : Type 0} (lefts : L → Option A → L → Type 0)
     (rights : R → Option A → R → Type 0) (calls : Shared C (Bor A × ⊤) U) (eq : U → U → Bool)
     (left : L) (right : R) (compare : C) (s : DifferenceIter L R C) where
-  -- behind each run of s stand such runs of its two sides
+  -- each run of s has such runs of its two sides
   abbrev pub DifferenceRuns : Type 0
   DifferenceRuns = EachRunFrom (difference_steps lefts rights calls eq) s
       (λ p. SomeRun lefts left (λ a. SomeRun rights right (IsDifferenceRun calls eq compare p a)))
 
-  -- Where the left side always gives xs and the right one ys, and `compare` returns what `key`
-  -- does, s always gives the items of ys that differ from xs. It is a record, so that antt infers
-  -- its arguments.
+  -- If the left side always yields xs and the right one ys, and `compare` returns what `key` does,
+  -- s always yields the items of ys that differ from xs. It is a record, so that antt infers its
+  -- arguments.
   pub record YieldsDiffering : Type 0 where
     pub runs : (key : A → U) (xs ys : List A) → ReturnsKey calls compare key
         → AlwaysYields lefts (λ x. x) left xs → AlwaysYields rights (λ x. x) right ys

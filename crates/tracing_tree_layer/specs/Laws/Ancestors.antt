@@ -1,4 +1,4 @@
--- What the drawing of a run shows of the spans that an event lies in.
+-- What the drawing of a run shows of the spans that an event is in.
 use Rattle.std.specs.Prelude.{◌≡◌, ℕ, ◌<◌, List, length, slice_get, Option, IsSomeAnd, IsTrue}
 use Rattle.tracing_tree_drawing.specs.Format.Settings.{Settings}
 use Rattle.tracing_tree_drawing.specs.Rows.RowText.{above}

@@ -1,4 +1,4 @@
--- What the rows of a run tell about the spans that an event lies in.
+-- What the rows of a run show of the spans that an event is in.
 use Rattle.std.specs.Prelude.{◌≡◌, ℕ, ◌-◌, ◌<◌, ◌==◌, ◌&&◌, ◌||◌, Bool, true, false, not, IsTrue, List, [], ◌∷◌, ◌++◌, length, take, filter, slice_get, Option, Some, None, is_some, option_and_then, Contains}
 use Rattle.std.specs.Option.{option_map_or}
 use Rattle.std.specs.List.{list_any, last_or}
@@ -39,9 +39,9 @@ latest rows place level =
 abbrev pub opens_span : Id → Row → Bool
 opens_span i row = is_opening_mode row.mode && option_map_or (same_id i) row.span false
 
--- ---- closes on the last path
+-- ---- closes on the current branch
 
--- a close that draws a row found the span's parent, if it has one, on the last path
+-- a close that draws a row found the span's parent, if it has one, on the current branch
 abbrev pub close_is_on_path : Settings → Forest → Option Id → Id → Bool
 close_is_on_path settings forest last i =
     (settings.deferred_spans && not (is_printed forest i))

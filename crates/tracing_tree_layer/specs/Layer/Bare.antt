@@ -19,7 +19,7 @@ use Rattle.tracing_tree_layer.specs.Layer.Drawn.{draws_too_wide}
 use Rattle.tracing_tree_layer.specs.Layered.Run.{IsRefusedFor, after_refusal}
 use Rattle.tracing_tree_layer.specs.Layered.Answered.{Writes}
 
--- a call on a layer alone: the spans are there already, and stay
+-- a call on a layer by itself: the spans exist already, and stay
 pub data BareCall : Type 0 where
   on_new_span : Id → Context → BareCall
   on_record : Id → Record → BareCall
@@ -37,7 +37,7 @@ bare_turn_of settings timer forest last (on_event event context) =
 bare_turn_of settings timer forest last (on_close i context) =
     turn_of_close settings context forest last i
 
--- what else an accepted call changes in the forest: a record of an id that isn't live changes
+-- what an accepted call also changes in the forest: a record of an id that isn't live changes
 -- nothing
 abbrev pub bare_changed_forest : BareCall → Forest → Forest
 bare_changed_forest (on_record i record') forest = add_fields record'.fields i forest
@@ -66,13 +66,13 @@ bare_not_held forest (on_new_span i context) = unless_live forest i
 bare_not_held forest (on_close i context) = unless_live forest i
 bare_not_held forest call = None
 
--- the timer has no text for an event
+-- the timer has no string for an event
 abbrev pub bare_timer_faults : Settings → Timer → Forest → BareCall → Bool
 bare_timer_faults settings timer forest (on_event event context) =
     timer_faults_at settings timer forest context
 bare_timer_faults settings timer forest call = false
 
--- why a call is refused, want of memory and faults of the writer aside; no id and no handle is
+-- why a call is refused, except for `Memory` and faults of the writer; ids and handles aren't
 -- counted here
 abbrev pub bare_cause_of : Settings → Timer → State → BareCall → Option Refusal
 bare_cause_of settings timer state call = first_of_all (
@@ -85,8 +85,8 @@ bare_cause_of settings timer state call = first_of_all (
 
 -- ---- answers
 
--- A call that is never refused for want of memory: each call on a layer that has failed, one for
--- which a span is missing, and a record of a span that is not live.
+-- A call that never runs out of memory: each call on a layer that has failed, one for which a span
+-- is missing, and a record of a span that isn't live.
 abbrev pub bare_takes_no_memory : State → BareCall → Bool
 bare_takes_no_memory state (on_new_span i context) = state.failed || not (is_live state.forest i)
 bare_takes_no_memory state (on_record i record') = state.failed || not (is_live state.forest i)
@@ -107,7 +107,7 @@ bare_state_after_answer settings timer state call (Ok done) =
     bare_state_after settings timer state call
 bare_state_after_answer settings timer state call (Err refusal) = after_refusal state refusal
 
--- whether a call goes on: the layer has not failed, and nothing is missing
+-- whether a call continues: the layer hasn't failed, and nothing is missing
 abbrev pub IsChecked : Bool → Option Id → Result (Unit {0}) Refusal → Type 0
 IsChecked failed missing (Ok done) = (failed ≡ false) × (missing ≡ None)
 IsChecked failed missing (Err Failed) = failed ≡ true

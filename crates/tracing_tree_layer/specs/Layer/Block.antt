@@ -1,4 +1,4 @@
--- The blocks of text of rows.
+-- The blocks of rows: their text.
 use Rattle.std.specs.Prelude.{ℕ, false, if◌then◌else◌, List, [], ◌∷◌, ◌++◌, Option, Some, None, unwrap_or, codes}
 use Rattle.tracing_tree_drawing.specs.Format.Settings.{Settings}
 use Rattle.tracing_tree_text.specs.Style.{styled, shown_level}
@@ -11,7 +11,7 @@ use Rattle.tracing_tree_spans.specs.declared.registry.Event.{Event}
 use Rattle.tracing_tree_text.specs.declared.field.Field.{Field}
 use Rattle.tracing_tree_context.specs.declared.context.Moment.{Moment}
 
--- a text and a space, or nothing if it is empty
+-- a string and a space, or nothing if it is empty
 abbrev pub spaced : List ℕ → List ℕ
 spaced [] = []
 spaced (first ∷ rest) = (first ∷ rest) ++ codes " "
@@ -23,7 +23,7 @@ module _ (settings : Settings) where
   abbrev pub shown_label : SpanMode → List ℕ
   shown_label mode = if settings.span_modes then label mode else []
 
-  -- a brace round the fields, or what stands in its place without braces
+  -- a brace round the fields, or its replacement without braces
   abbrev pub shown_brace : List ℕ → List ℕ → List ℕ
   shown_brace brace plain =
       if settings.bracketed_fields then styled settings.ansi BoldGreen brace else plain
@@ -35,7 +35,7 @@ module _ (settings : Settings) where
       ++ styled settings.ansi BoldGreen name
       ++ shown_brace (codes "{") (codes " ") ++ span_fields fields ++ shown_brace (codes "}") []
 
-  -- a label, and target, name and fields of a span; a plain close has its label alone
+  -- a label, and target, name and fields of a span; a plain close has only its label
   abbrev pub span_block : SpanMode → List ℕ → List ℕ → List Field → List ℕ
   span_block (Close false) target name fields = shown_label (Close false)
   span_block mode target name fields = shown_label mode ++ span_text target name fields
@@ -49,14 +49,14 @@ module _ (settings : Settings) where
       ++ (if settings.targets then 32 ∷ styled settings.ansi Dimmed event.target else [])
       ++ event_fields event.fields
 
-  -- the timer's text of an elapsed time and a space, also where that text is empty; nothing where
-  -- there is no such time
+  -- the timer's string for an elapsed time and a space, even if that string is empty; nothing if
+  -- there is no elapsed time
   abbrev pub elapsed_part : Timer → Option ℕ → List ℕ
   elapsed_part timer None = []
   elapsed_part timer (Some nanos) = unwrap_or (timer.elapsed_text settings.ansi nanos) [] ++ 32 ∷ []
 
-  -- The timer's texts of the moment and of the time since a start, and then the event. An event at
-  -- which the timer faults is refused, so nothing depends on its text here.
+  -- The timer's strings for the moment and for the time since a start, and then the event. An event
+  -- at which the timer faults is refused, so nothing depends on its string here.
   abbrev pub event_block : Timer → Moment → Option ℕ → Event → List ℕ
   event_block timer at since event =
       spaced (unwrap_or (timer.moment_text at) []) ++ elapsed_part timer since ++ event_tail event

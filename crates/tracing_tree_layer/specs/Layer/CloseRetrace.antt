@@ -1,4 +1,4 @@
--- Where `close_retrace` is on, a span whose parent is off the last path is retraced before it closes.
+-- With `close_retrace`, a span whose parent is off the current branch is retraced before it closes.
 use Rattle.std.specs.Prelude.{Bool, false, not, ◌&&◌, Option}
 use Rattle.std.specs.Option.{option_map_or}
 use Rattle.std.specs.List.{list_any}
@@ -7,7 +7,7 @@ use Rattle.tracing_tree_spans.specs.Registry.Ids.{same_id}
 use Rattle.tracing_tree_spans.specs.Registry.Forest.{Forest, is_printed, parent_of, path_of_any}
 use Rattle.tracing_tree_context.specs.declared.context.Id.{Id}
 
--- a printed span with a parent that is not on the last path is retraced before it closes
+-- a printed span with a parent that isn't on the current branch is retraced before it closes
 abbrev pub retraces_before_close : Settings → Forest → Option Id → Id → Bool
 retraces_before_close settings forest last i =
     settings.close_retrace && retraces settings && is_printed forest i

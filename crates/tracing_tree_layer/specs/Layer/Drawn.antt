@@ -32,12 +32,12 @@ abbrev pub is_event_too_wide : Settings → Clock → Forest → Event → Conte
 is_event_too_wide settings timer forest event context =
     is_too_wide settings (event_row settings timer forest event context)
 
--- the timer has no text for this elapsed time, if there is one
+-- the timer has no string for this elapsed time, if there is one
 abbrev pub lacks_elapsed : Settings → Clock → Option ℕ → Bool
 lacks_elapsed settings timer since =
     option_map_or (λ nanos. is_none (timer.elapsed_text settings.ansi nanos)) since false
 
--- why rows are not drawn: one is too wide, or the timer has no text
+-- why rows aren't drawn: one is too wide, or the timer has no string
 abbrev pub rows_cause : Settings → List Row → Bool → Option Refusal
 rows_cause settings rows faults =
     option_or (then_some (draws_too_wide settings rows) TooWide) (then_some faults Timer)
@@ -50,7 +50,7 @@ abbrev pub has_no_id : List Id → Bool
 has_no_id [] = true
 has_no_id (i ∷ others) = false
 
--- rows are refused for their cause, or for want of memory, unless they take none
+-- rows are refused for their cause, or because memory ran out, unless they take no memory
 abbrev pub IsUndrawn : Option Refusal → Bool → Refusal → Type 0
 IsUndrawn cause quiet refusal = (cause ≡ Some refusal) ⊎ ((refusal ≡ Memory) × (quiet ≡ false))
 
@@ -72,7 +72,7 @@ Drafts settings forest turn faults quiet (Ok done) old new plan =
 Drafts settings forest turn faults quiet (Err refusal) old new plan =
     IsUndrawn (rows_cause settings turn.rows faults) quiet refusal
 
--- a refusal while a text of the timer is appended: for want of memory, or since it has none
+-- a refusal while a string of the timer is appended: memory ran out, or the timer has no string
 abbrev pub IsUntimed : Bool → Refusal → Type 0
 IsUntimed lacking refusal = ((refusal ≡ Timer) × (lacking ≡ true)) ⊎ (refusal ≡ Memory)
 
@@ -85,13 +85,13 @@ failed_by (Err Timer) = true
 failed_by (Err Writer) = true
 failed_by (Err refusal) = false
 
--- this after an accepted call, and else that
+-- the first value after an accepted call, otherwise the second
 abbrev pub when_ok : {A B : Type 0} → Result A Refusal → B → B → B
 when_ok (Ok answer) new old = new
 when_ok (Err refusal) new old = old
 
--- What was drawn is written once, whole, or given up. Only what was drawn whole is written, and
--- only a fault of the writer leaves a text on the page.
+-- What was drawn is written once, whole, or discarded. Only what was drawn whole is written, and
+-- only a fault of the writer leaves text in the buffer.
 abbrev pub Sends : Result (Unit {0}) Refusal → Result (Unit {0}) Refusal → List ℕ → List ℕ
     → SeenWriter → SeenWriter → Type 0
 Sends (Ok done) (Ok sent) old new before after =
@@ -101,8 +101,8 @@ Sends (Ok done) (Err refusal) old new before after = ⊥
 Sends (Err cause) result old new before after =
     (result ≡ Err cause) × (after ≡ before) × (new ≡ [])
 
--- an answer that rows may get: they are refused for their cause, or for want of memory, unless they
--- take none
+-- an answer that rows may get: they are refused for their cause, or because memory ran out, unless
+-- they take no memory
 abbrev pub IsAllowed : Option Refusal → Bool → List ℕ → Result (Unit {0}) Refusal → Type 0
 IsAllowed cause quiet text (Ok done) = cause ≡ None
 IsAllowed cause quiet text (Err refusal) = IsRefusedFor cause text quiet refusal

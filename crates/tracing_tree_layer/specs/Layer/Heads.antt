@@ -1,4 +1,4 @@
--- What stands before the fields of a span, in parts. No public contract names these.
+-- What precedes the fields of a span, in parts. No public contract names these.
 use Rattle.std.specs.Prelude.{ℕ, if◌then◌else◌, List, [], ◌++◌, codes}
 use Rattle.tracing_tree_drawing.specs.Format.Settings.{Settings}
 use Rattle.tracing_tree_text.specs.Style.{styled}
@@ -11,7 +11,7 @@ module _ (settings : Settings) where
   shown_target target =
       if settings.targets then styled settings.ansi Dimmed target ++ codes "::" else []
 
-  -- target, name and a brace, or a space in its place
+  -- target, name and a brace, or a space instead of the brace
   abbrev pub span_head : List ℕ → List ℕ → List ℕ
   span_head target name =
       shown_target target ++ styled settings.ansi BoldGreen name

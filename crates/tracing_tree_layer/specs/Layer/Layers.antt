@@ -23,8 +23,8 @@ pub record LayerView (W FT : Type 0) : Type 0 where
 abbrev pub is_fresh : {W FT : Type 0} → LayerView W FT → Bool
 is_fresh layer = not layer.failed && is_none layer.last
 
--- a layer's writer passed on what it held back, or has refused to; its known bytes, its count of
--- faults and all else stay
+-- a layer's writer flushed, or failed to; its known bytes, its count of faults and everything else
+-- are unchanged
 pub record IsFlushed {W FT : Type 0} (output : Output W) (old new : LayerView W FT) : Type 0 where
   pub kept : Keeps (output.contents old.writer) (output.contents new.writer)
   pub calm : output.fault_count new.writer ≡ output.fault_count old.writer
@@ -37,7 +37,7 @@ pub record LayeredView (W FT : Type 0) : Type 0 where
   pub layer : LayerView W FT
 
 module _ {W FT : Type 0} where
-  -- what `FormatTime` and `Output` tell of it
+  -- what `FormatTime` and `Output` say of it
   abbrev pub seen : FormatTime FT → Output W → LayeredView W FT → Seen
   seen time output layered =
       let layer = layered.layer in
@@ -48,7 +48,7 @@ module _ {W FT : Type 0} where
         writer = seen_writer output layer.writer;
       }
 
-  -- What is changed: settings and timer stay, and this holds of what was seen and what is seen.
+  -- What is changed: settings and timer stay, and this holds of what was seen before and after.
   pub record Changes (see : LayeredView W FT → Seen) (Holds : Seen → Seen → Type 0)
       (old new : LayeredView W FT) : Type 0 where
     pub changed : Holds (see old) (see new)
@@ -60,8 +60,8 @@ module _ {W FT : Type 0} where
           unwritten = new.layer.unwritten;
         }
 
--- what is seen of it where its writer passed on what it held back: its known bytes, its count of
--- faults and all else stay.
+-- what is seen of it after its writer flushed: its known bytes, its count of faults and everything
+-- else are unchanged
 pub record Flushes (old new : Seen) : Type 0 where
   pub kept : Keeps old.writer.bytes new.writer.bytes
   pub same : new ≡ record old { writer = record old.writer { bytes = new.writer.bytes } }

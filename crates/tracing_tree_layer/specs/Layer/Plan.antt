@@ -1,4 +1,4 @@
--- What a call is going to do, before any of it is done. No public contract names it.
+-- What a call will do, before any of it is done. No public contract names it.
 use Rattle.std.specs.Prelude.{Bool, false, not, ◌&&◌, if◌then◌else◌, List, [], ◌∷◌, ◌++◌, map, Option, Some, None, is_some}
 use Rattle.std.specs.Option.{option_map_or, option_or}
 use Rattle.tracing_tree_drawing.specs.Format.Settings.{Settings, retraces}
@@ -27,13 +27,13 @@ pub record PlanView : Type 0 where
   pub fresh : List Id
   pub last : Option Id
 
--- nothing is to be done, and the last span stays
+-- nothing to do, and the last span stays
 abbrev pub empty_plan : Option Id → PlanView
 empty_plan last = record { rows = []; fresh = []; last = last }
 
--- ---- what a plan comes to
+-- ---- what a plan does
 
--- a planned row as it is drawn
+-- the row that a planned row draws
 abbrev pub row_of_planned : Settings → Context → Forest → PlannedRow → Row
 row_of_planned settings context forest planned = record {
   mode = planned.mode;
@@ -47,7 +47,7 @@ abbrev pub rows_of_planned : Settings → Context → Forest → List PlannedRow
 rows_of_planned settings context forest planned =
     map (row_of_planned settings context forest) planned
 
--- the turn that a plan comes to
+-- the turn of a plan
 abbrev pub turn_of_plan : Settings → Context → Forest → PlanView → Turn
 turn_of_plan settings context forest plan = record {
   rows = rows_of_planned settings context forest plan.rows;
@@ -65,7 +65,7 @@ marked_by plan forest = mark_all plan.fresh forest
 abbrev pub planned_row : Forest → SpanMode → Id → PlannedRow
 planned_row forest mode i = record { mode = mode; id = i; level = level_of forest i }
 
--- a row about the parent of a span, if it is to be shown and there is a parent
+-- a row about the parent of a span, if it is shown and there is a parent
 abbrev pub planned_parent : Bool → Forest → SpanMode → Id → List PlannedRow
 planned_parent shown forest mode i =
     if shown then option_map_or (λ above. planned_row forest mode above ∷ []) (parent_of forest i)
@@ -78,7 +78,7 @@ with_rows rows plan = record plan { rows = plan.rows ++ rows }
 
 -- ---- retracing
 
--- a span that was printed before is retraced, and another opens
+-- a span that was printed before is retraced, and any other opens
 abbrev pub fresh_mode : Forest → Id → Bool → SpanMode
 fresh_mode forest i verbose = if is_printed forest i then Retrace verbose else Open verbose
 

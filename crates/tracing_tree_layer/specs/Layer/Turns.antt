@@ -32,11 +32,11 @@ current_of forest context = if_live forest context.current
 abbrev pub event_parent : Forest → Event → Context → Option Id
 event_parent forest event context = if_live forest (named_parent event.parent context.current)
 
--- how many spans an event stands in
+-- the count of spans that an event is in
 abbrev pub event_depth : Forest → Event → Context → ℕ
 event_depth forest event context = length (path_of_any forest (event_parent forest event context))
 
--- an event stands one level below its parent, but without lines at the same level
+-- an event is one level below its parent, but without lines at the same level
 abbrev pub event_level : Settings → List Id → ℕ
 event_level settings scope = if settings.indent_lines then length scope else length scope - 1
 
@@ -55,13 +55,13 @@ event_row settings timer forest event context = record {
   prefix = prefix_text settings context;
 }
 
--- one turn and then another, which begins where the first ends
+-- one turn and then another, which begins with the state after the first
 abbrev pub then_turn : Turn → (Forest → Option Id → Turn) → Turn
 then_turn first next =
     let rest = next first.forest first.last in
     record rest { rows = first.rows ++ rest.rows }
 
--- an event's row alone
+-- only an event's row
 abbrev pub turn_of_row : Row → Forest → Option Id → Turn
 turn_of_row row forest last = record { rows = row ∷ []; forest = forest; last = last }
 
@@ -95,8 +95,8 @@ module _ (settings : Settings) (context : Context) (forest : Forest) where
       ++ fresh_row (settings.verbose_entry && is_some (parent_of forest first)) first
       ∷ map (fresh_row false) others
 
-  -- the way to a span is shown: the rows of the fresh spans, which are printed from now on, and the
-  -- span is the last
+  -- the path to a span is shown: the rows of the fresh spans, which are printed from now on, and
+  -- the span is the last
   abbrev pub retrace_to : Option Id → Id → Turn
   retrace_to last i =
       let fresh = fresh_ids forest last i in
@@ -111,8 +111,8 @@ module _ (settings : Settings) (context : Context) (forest : Forest) where
 
 -- ---- calls
 
--- a new span, which the forest has already; where it is retraced to, it counts as printed before, so
--- that its own row is a retrace row, as tracing-tree has it
+-- A new span, which is already in the forest. If it is retraced to, it counts as printed before, so
+-- its own row is a retrace row, as in tracing-tree.
 abbrev pub turn_of_new : Settings → Context → Forest → Option Id → Id → Turn
 turn_of_new settings context forest last i =
     let above = parent_rows settings context forest settings.verbose_entry PreOpen i in
@@ -127,7 +127,7 @@ turn_of_event settings timer context forest last event =
     (turn_of_row (event_row settings timer forest event context))
 
 -- a span that closes, and its parent, which is the last span from then on; after a root the last
--- span stays, even if it is gone
+-- span stays, even if it is no longer live
 abbrev pub close_turn : Settings → Context → Id → Forest → Option Id → Turn
 close_turn settings context i forest last =
     let row = span_row settings context forest (Close settings.verbose_exit) i in

@@ -1,4 +1,4 @@
--- What one call on a layer leaves, by its answer.
+-- The effect of one call on a layer, by its answer.
 use Rattle.std.specs.Prelude.{◌≡◌, ℕ, List, Result, Ok, Err}
 use Rattle.std.specs.Io.KnownBytes.{Appends, Keeps}
 use Rattle.tracing_tree_output.specs.Writers.{LeavesCut, SeenWriter}
@@ -9,8 +9,7 @@ use Rattle.tracing_tree_layer.specs.Layered.Run.{call_text, MayAnswer, state_aft
 use Rattle.tracing_tree_layer.specs.declared.call.Call.{Call}
 use Rattle.tracing_tree_layer.specs.declared.call.Reply.{Reply}
 
--- what the writer has after an answer: the whole text, nothing, or after a fault of its own a
--- beginning
+-- what the writer has after an answer: the whole text, nothing, or after its own fault a prefix
 abbrev pub Writes : {A : Type 0} → List ℕ → Result A Refusal → SeenWriter → SeenWriter → Type 0
 Writes text (Ok answer) old new = Appends old.bytes new.bytes text × (new.faults ≡ old.faults)
 Writes text (Err Writer) old new = LeavesCut text old new

@@ -40,8 +40,8 @@ module _ {W FT : Type 0} (see : LayeredView W FT → Seen) where
       × AreAnswered calls answers between new
   AreAnswered calls answers old new = ⊥
 
--- Where these calls are made in the state to which a run comes that began empty, the reading laws
--- hold of the joined calls: the rows above an event open its ancestors.
+-- If these calls are made in the state after a run that began empty, the reading laws hold of the
+-- joined calls: the rows above an event open its ancestors.
 abbrev pub Reads : Seen → List Call → Type 0
 Reads old calls =
     (first : Option Id) (earlier : List Call) →
@@ -63,8 +63,8 @@ abbrev pub rows_drawn : Seen → Call → List Row
 rows_drawn old call =
     (turn_of old.settings old.timer old.state.forest old.state.last call).rows
 
--- An accepted call makes longer any run that led to the state before it: with the call the run leads
--- to the state after it, with its rows and its reply, and the text grows by the drawing of its rows.
+-- An accepted call extends any run that led to the state before it: with the call the run leads to
+-- the state after it, with its rows and its reply, and the text grows by the drawing of its rows.
 pub record Continues (call : Call) (reply : Reply) (old new : Seen) : Type 0 where
   pub joined : (begun : State) (earlier : List Call) →
       let before = run old.settings old.timer begun earlier in

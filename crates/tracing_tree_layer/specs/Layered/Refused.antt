@@ -38,19 +38,19 @@ first_of_all [] = None
 first_of_all (o ∷ others) = option_or o (first_of_all others)
 
 module _ (settings : Settings) (timer : Timer) where
-  -- the timer has no text for the moment of an event, or for the time in its current span
+  -- the timer has no string for the moment of an event, or for the time in its current span
   abbrev pub timer_faults_at : Forest → Context → Bool
   timer_faults_at forest context =
       is_none (timer.moment_text context.moment)
       || option_map_or (λ nanos. is_none (timer.elapsed_text settings.ansi nanos))
       (time_in_current forest context) false
 
-  -- the timer has no text for an event
+  -- the timer has no string for an event
   abbrev pub timer_faults : Forest → Call → Bool
   timer_faults forest (Event event context) = timer_faults_at forest context
   timer_faults forest call = false
 
-  -- why a call is refused, want of memory and faults of the writer aside
+  -- why a call is refused, except for `Memory` and faults of the writer
   abbrev pub cause_of : State → Call → Option Refusal
   cause_of state call =
       let rows = (turn_of settings timer state.forest state.last call).rows in
@@ -62,9 +62,9 @@ module _ (settings : Settings) (timer : Timer) where
       ∷ then_some (timer_faults state.forest call) TimerFault
       ∷ [])
 
-  -- A call that is never refused for want of memory: it grows nothing, or is refused before. It is a
-  -- new span whose parent is not held or for which no id is left, a clone, a record of a span that
-  -- is not live, an event whose own row is too wide, or a close with which no span goes.
+  -- A call that never runs out of memory: it grows nothing, or is refused before. It is a new span
+  -- whose parent isn't held or without a next id, a clone, a record of a span that isn't live, an
+  -- event whose own row is too wide, or a close that removes no span.
   abbrev pub takes_no_memory : Forest → Call → Bool
   takes_no_memory forest (New attributes context) =
       is_some (id_not_held forest (New attributes context)) || is_none forest.next

@@ -11,7 +11,7 @@ use Rattle.tracing_tree_layer.specs.Layered.Refused.{cause_of, takes_no_memory}
 use Rattle.tracing_tree_layer.specs.declared.call.Call.{Call}
 use Rattle.tracing_tree_layer.specs.declared.call.Reply.{Reply}
 
--- what a run of calls leaves, draws and answers
+-- what a run of calls leaves and draws, and its replies
 pub record Run : Type 0 where
   pub state : State
   pub rows : List Row
@@ -20,14 +20,14 @@ pub record Run : Type 0 where
 abbrev pub no_call : State → Run
 no_call state = record { state = state; rows = []; replies = [] }
 
--- the state after a refusal: only a fault of the timer or of the writer changes it, and the layer
--- has failed then
+-- The state after a refusal: only a fault of the timer or of the writer changes it, and then the
+-- layer has failed.
 abbrev pub after_refusal : State → Refusal → State
 after_refusal state TimerFault = record state { failed = true }
 after_refusal state Writer = record state { failed = true }
 after_refusal state refusal = state
 
--- one run and then another, which begins where the first ends
+-- one run and then another, which begins with the state after the first
 abbrev pub then_run : Run → (State → Run) → Run
 then_run first next =
     let rest = next first.state in
@@ -45,13 +45,13 @@ replies_among [] = []
 replies_among (Ok reply ∷ answers) = reply ∷ replies_among answers
 replies_among (Err refusal ∷ answers) = replies_among answers
 
--- what a call is answered where memory suffices and the writer doesn't fault
+-- the answer to a call if memory suffices and the writer doesn't fail
 abbrev pub answer_by_cause : State → Call → Option Refusal → Result Reply Refusal
 answer_by_cause state call None = Ok (reply_of state.forest call)
 answer_by_cause state call (Some refusal) = Err refusal
 
--- a refusal is for the first cause, or for want of memory where the call takes some; that for the
--- writer comes only where there is no cause and a text to be written
+-- A refusal has the first cause, or memory ran out, if the call takes memory. `Writer` comes only
+-- if there is no cause and there is text to write.
 abbrev pub IsRefusedFor : Option Refusal → List ℕ → Bool → Refusal → Type 0
 IsRefusedFor cause text without_memory Memory = without_memory ≡ false
 IsRefusedFor cause text without_memory Writer = (cause ≡ None) × (text ≢ [])
@@ -73,7 +73,7 @@ module _ (settings : Settings) (timer : Timer) where
   run_by_cause state call None = accepted state call
   run_by_cause state call (Some refusal) = no_call (after_refusal state refusal)
 
-  -- one call; one that is refused draws nothing
+  -- one call; a refused call draws nothing
   abbrev pub run_one : State → Call → Run
   run_one state call = run_by_cause state call (cause_of settings timer state call)
 
@@ -82,7 +82,7 @@ module _ (settings : Settings) (timer : Timer) where
   run state [] = no_call state
   run state (call ∷ calls) = then_run (run_one state call) (λ next. run next calls)
 
-  -- what the rows of a run look like
+  -- the drawing of a run's rows
   abbrev pub text_of : State → List Call → List ℕ
   text_of state calls = draw settings (run state calls).rows
 

@@ -11,8 +11,8 @@ pub record Seen : Type 0 where
   pub state : State
   pub writer : SeenWriter
 
--- What is seen later, in this state and with this writer: settings and timer stay, and whether
--- texts are taken whole.
+-- What is seen later, in this state and with this writer: settings, timer and whether strings are
+-- taken whole are unchanged.
 abbrev pub seen_later : Seen → State → SeenWriter → Seen
 seen_later old state writer =
     record old { state = state; writer = record writer { whole = old.writer.whole } }

@@ -4,15 +4,15 @@ use Rattle.tracing_tree_spans.specs.Registry.Forest.{Forest}
 use Rattle.tracing_tree_drawing.specs.Format.Picture.{Row}
 use Rattle.tracing_tree_context.specs.declared.context.Id.{Id}
 
--- the live spans with their printed marks, the last span, and whether the layer has failed; the
--- last span is the one that a call reached last: a span that opened, one that an event or a close
--- was retraced to, or the parent of one that closed
+-- The live spans with their printed marks, the last span, and whether the layer has failed. The
+-- last span is the last one shown: a span that opened, one that an event or a close was retraced
+-- to, or the parent of one that closed.
 pub record State : Type 0 where
   pub forest : Forest
   pub last : Option Id
   pub failed : Bool
 
--- no span is live, there is no last span, and nothing has failed; the first id, if any is left
+-- no span is live, there is no last span, and nothing has failed; the first id, if an id is left
 abbrev pub opening_state : Option Id → State
 opening_state first =
     record { forest = record { spans = []; next = first }; last = None; failed = false }

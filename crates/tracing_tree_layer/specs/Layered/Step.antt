@@ -1,4 +1,4 @@
--- An accepted call: what it answers, the rows that it draws, and the state after it.
+-- An accepted call: its reply, the rows that it draws, and the state after it.
 use Rattle.std.specs.Prelude.{◌==◌, not, length, Option, unwrap_or}
 use Rattle.tracing_tree_drawing.specs.Format.Settings.{Settings}
 use Rattle.tracing_tree_spans.specs.Registry.Ids.{id_of}
@@ -12,12 +12,11 @@ use Rattle.tracing_tree_layer.specs.declared.call.Call.TheVariants.{New, Clone, 
 use Rattle.tracing_tree_layer.specs.declared.call.Reply.{Reply}
 use Rattle.tracing_tree_layer.specs.declared.call.Reply.TheVariants.{Span, Cloned, Done, Closed}
 
--- the id that a new span gets (where there is none, the call is refused, and nothing depends on
--- this)
+-- the id that a new span gets (if no id is left, the call is refused, and nothing depends on this)
 abbrev pub new_id : Forest → Id
 new_id forest = unwrap_or forest.next (id_of 0)
 
--- what an accepted call answers
+-- the reply to an accepted call
 abbrev pub reply_of : Forest → Call → Reply
 reply_of forest (New attributes context) = Span (new_id forest)
 reply_of forest (Clone i) = Cloned i
@@ -34,7 +33,7 @@ module _ (settings : Settings) (timer : Timer) (forest : Forest) where
   turn_of last (Close i context) = turn_of_closes settings context (closing_of forest i) forest last
   turn_of last call = quiet_turn forest last
 
--- what else an accepted call changes in the forest, once its marks are made (a new span is there
+-- what an accepted call also changes in the forest, once its marks are made (a new span is there
 -- already); the first forest is the one before the call
 abbrev pub changed_forest : Forest → Call → Forest → Forest
 changed_forest old (Clone i) forest = add_handle i forest

@@ -26,14 +26,14 @@ use Rattle.tracing_tree_drawing.proofs.RowsRead.Taken.{left_by, taken-next}
 no-end : (line : List ℕ) → HasNoLineEnd line → (i : ℕ) → i < length line → get_or line i 0 ≢ 10
 no-end line clean i lt e = false≢true (sym (clean i 0 lt) ∙ eq-eqb (get_or line i 0) 10 e)
 
--- what a line does, as a reader of its text tells
+-- what a line does, by what a reader of its string returns
 pub taken-as : (old new : ReaderView) (text line : List ℕ) (taken wanted : Taken) → text ≡ line → taken ≡ wanted → HasNoLineEnd line →
     (is_unbroken text ≡ true → TakesTextLine old text (Ok taken) new) → TakesTextLine old line (Ok wanted) new
 taken-as old new text line taken wanted same is clean told =
     subst (λ t. TakesTextLine old line (Ok t) new) is
     (subst (λ bytes. TakesTextLine old bytes (Ok taken) new) same (told (ap is_unbroken same ∙ unbroken-from line (no-end line clean))))
 
--- a line that is no text is no line of a row
+-- a line that isn't UTF-8 isn't a line of a row
 bad-text : (amount : ℕ) (input : List ℕ) (before : List (List ℕ)) (line after : List ℕ) (number : ℕ) → input ≡ ended before ++ (line ++ (10 ∷ after)) →
     list_all is_unbroken before ≡ true → is_unbroken line ≡ true → number ≡ length before + 1 → ¬ (IsUtf8 line) → IsNotARow amount input number
 bad-text amount input before line after number whole unbroken clean n bad =
@@ -68,7 +68,7 @@ before-rest known left rest line is taken = by left (subst (λ k. TakesEnded k l
     by None taken = absurd taken.taken
     by (Some after) taken = record { after = after; known = refl; split = taken.taken ∙ append_assoc line (10 ∷ []) after; clean = taken.within }
 
--- the same of the line as it is lent
+-- the same of the line that is lent
 pub before-lent : (known left : Option (List ℕ)) (rest line lent : List ℕ) → known ≡ Some rest → lent ≡ line → TakesEnded known left line → IsBefore left rest lent
 before-lent known left rest line lent is same taken = before-rest known left rest lent is (subst (TakesEnded known left) (sym same) taken)
 
@@ -84,7 +84,7 @@ module _ {amount : ℕ} {input : List ℕ} {start : Option (List ℕ)} {count : 
   no-text line after so clean bad =
       bad-text amount input so.upto.before line after (count + 1) so.upto.whole so.upto.unbroken (unbroken-from line (no-end line clean)) (ap (λ n. n + 1) so.upto.counted) bad
 
-  -- the line is no line of a row
+  -- the line isn't a line of a row
   pub no-row : (line after : List ℕ) (reader : ReaderView) → SoFar amount input start count (line ++ (10 ∷ after)) read now → HasNoLineEnd line →
       TakesTextLine read.reader line (Ok Neither) reader → IsNotARow amount input (count + 1)
   no-row line after reader so clean taken =
@@ -115,7 +115,7 @@ module _ {amount : ℕ} {input : List ℕ} {start : Option (List ℕ)} {count : 
       none None e = refl
       none (Some row) e = absurd (cc)
 
-  -- the line begins a row, and there was none before it
+  -- the line begins a row, and there was no row before it
   pub first-line : (line after : List ℕ) (reader : ReaderView) → SoFar amount input start count (line ++ (10 ∷ after)) read now → HasNoLineEnd line →
       TakesTextLine read.reader line (Ok (First None)) reader → SoFar amount input start (count + 1) after (record read { reader = reader }) now
   first-line line after reader so clean taken = record {

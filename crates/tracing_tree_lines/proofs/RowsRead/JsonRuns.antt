@@ -50,7 +50,7 @@ lines-from rows row n (x ∷ xs) e =
 pub json_lines-push : (rows : List TextRow) (row : TextRow) → json_lines (rows ++ row ∷ []) ≡ json_lines rows ++ json_line rows (length rows) row
 json_lines-push rows row = lines-from rows row 0 rows (let e : 0 + length rows ≡ length rows = omega arith in e)
 
--- what writing the text of the next row leaves
+-- what writing the line of the next row leaves
 pub next-written : (start : Option (List ℕ)) (rows : List TextRow) (row : TextRow) (old new : JsonRows) (path : Option EventPath) (now after : Option (List ℕ)) (text : List ℕ)
     (result : Result (Unit {0}) RowCause) → HasWritten start rows old now → FollowsRows rows row path new.ancestry → new.place ≡ length rows + 1 →
     text ≡ row_json row path ++ 10 ∷ [] → WritesText text result now after → WritesNext start rows row result new after
@@ -123,7 +123,7 @@ so-far-none amount two input start read reader ancestry place = record {
   written = record { last = subst (λ places. AreLastPlaces [] places) (sym ancestry) last_none; counted = place; appended = Appends-nil start };
 }
 
--- want of memory before the first line
+-- memory runs out before the first line
 pub refused-first : (amount : ℕ) → 2 ≤ amount → (input : List ℕ) (start : Option (List ℕ)) → EndsAtLine amount input (record { line = 1; cause = Memory }) start start
 refused-first amount two input start = record {
   rows = [];
@@ -133,7 +133,7 @@ refused-first amount two input start = record {
   written = Appends-nil start;
 }
 
--- where it is known
+-- if it is known
 pub where-known : (known : Option (List ℕ)) (P : List ℕ → Type 0) → ((input : List ℕ) → known ≡ Some input → P input) → IfSome known P
 where-known None P h = tt
 where-known (Some input) P h = h input refl
@@ -170,12 +170,12 @@ module _ {amount : ℕ} {input : List ℕ} {start : Option (List ℕ)} {count : 
           let n : length (rows ++ row ∷ []) - 1 ≡ length rows = let m = length-append rows (row ∷ []) in omega arith in
           ap (λ k. take k (rows ++ row ∷ [])) n ∙ take-append_seam rows (row ∷ [])
 
-  -- for want of memory: the last row isn't written
+  -- because memory ran out: the last row isn't written
   pub refused : (so : SoFar amount input start count rest read now) (after : Option (List ℕ)) → Appends start after (json_lines so.rows) →
       EndsAtLine amount input (record { line = count + 1; cause = Memory }) start after
   refused so after h = ends-at so (count + 1) Memory after refl tt (subst (λ rows. Appends start after (json_lines rows)) (sym (but-last so)) h)
 
-  -- for a fault of the writer: a beginning of the last row is written
+  -- because the writer failed: a first part of the last row is written
   pub cut-short : (so : SoFar amount input start count rest read now) (row : TextRow) (after : Option (List ℕ)) → read.reader.last ≡ Some row →
       (n : ℕ) → Appends start after (json_lines so.rows ++ take n (json_line so.rows (length so.rows) row)) →
       EndsAtLine amount input (record { line = count + 1; cause = Writer }) start after

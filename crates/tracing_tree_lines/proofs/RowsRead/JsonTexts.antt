@@ -1,4 +1,4 @@
--- The text of a row as it is put together, and a text that is written piece by piece.
+-- The JSON of a row as it is built, and a string that is written piece by piece.
 use Rattle.std.proofs.Common.{◌≡◌, ℕ, ◌+◌, true, false, List, [], ◌∷◌, ◌++◌, length, take, Option, Some, None, Result, Ok, Err, OnOk, is_ok, if◌then◌else◌, codes, decimal, refl, sym, ap, ◌∙◌, subst, append_assoc, append-nil}
 use Rattle.std.proofs.Math.Seq.{take-append-add}
 use Rattle.std.specs.Io.KnownBytes.{Appends, Keeps}
@@ -13,7 +13,7 @@ use Rattle.tracing_tree_drawing.specs.declared.rows.paths.EventPath.{EventPath}
 use Rattle.tracing_tree_drawing.specs.declared.rows.row.Shape.{Shape}
 use Rattle.tracing_tree_drawing.specs.declared.rows.row.Shape.TheVariants.{PreOpen, OpenRoot, Open, CloseRoot, Close, PostClose, Event}
 
--- what is so where all went well
+-- what holds if all went well
 pub on_ok : {E : Type 0} (result : Result (Unit {0}) E) (x a b : List ℕ) → x ≡ (if is_ok result then a else b) → OnOk result (x ≡ a)
 on_ok (Ok done) x a b e = e
 on_ok (Err error) x a b e = tt
@@ -71,9 +71,9 @@ row-pushed row path start a b c d e h k l m n =
     ∙ append_assoc start shape (level ++ (texts ++ (places ++ codes "}\n")))
     ∙ ap (λ t. start ++ t) (sym (row-text row path))
 
--- ---- a text
+-- ---- a string
 
--- a beginning of what is left, after what was written
+-- a prefix of what is left, after what was written
 pub writes-no-more : (a b c : Option (List ℕ)) (text done rest : List ℕ) → text ≡ done ++ rest → Appends a b done → Keeps b c →
     (count : ℕ) × Appends a c (take count text)
 writes-no-more a b c text done rest whole first kept = (

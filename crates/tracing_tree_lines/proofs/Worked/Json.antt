@@ -41,7 +41,7 @@ pub lone_lines : json_lines (row PreOpen 0 (codes "a" ∷ []) ∷ row (Close tru
 unfolding digits serde_json_on_literals
 lone_lines = refl
 
--- an event that stands in no span has an empty array
+-- an event at the root has an empty array
 pub rootless : json_lines (row Event 0 (codes "x" ∷ []) ∷ []) ≡ codes "{\"shape\":\"Event\",\"level\":0,\"lines\":[\"x\"],\"ancestors\":[]}\n"
 unfolding digits serde_json_on_literals
 rootless = refl

@@ -1,4 +1,5 @@
--- The reading laws on worked runs: what they say where their premises hold, and that they fail without the premise on closes.
+-- The reading laws on worked runs: what they say if their premises hold, and that they fail without
+-- the premise on closes.
 use Rattle.std.proofs.Common.{◌≡◌, true, List, [], ◌∷◌, Option, Some, unwrap_or, refl, sym, ap, ◌∙◌, arith}
 use Rattle.std.specs.Prelude.{codes}
 use Rattle.tracing_tree_drawing.specs.Format.Settings.{Settings}
@@ -17,7 +18,7 @@ use Rattle.tracing_tree_layer.proofs.Reading.Laws.{reading-law}
 abbrev pub retraced : Settings
 retraced = record lined { span_retrace = true }
 
--- the event behind a close off the last path
+-- the event after a close off the current branch
 abbrev pub event_off_path : EventInRun retraced no_timer (Some (id_of 1)) close_off_path
 event_off_path = record {
   before = made (codes "a") outside ∷ made (codes "b") (inside 1) ∷ made (codes "c") outside ∷ closed 2 ∷ [];
@@ -28,7 +29,7 @@ event_off_path = record {
   no_cause = refl;
 }
 
--- its root is not the last one opened, so the law fails
+-- its root isn't the last one opened, so the law fails
 pub fails_off_path : ReadingLaw retraced no_timer (Some (id_of 1)) close_off_path → ⊥
 fails_off_path law =
     let root : latest (rows_of retraced no_timer (Some (id_of 1)) close_off_path) 4 0 ≡ Some (id_of 1) = law event_off_path (id_of 1) (refl, refl) 0 (omega arith) in

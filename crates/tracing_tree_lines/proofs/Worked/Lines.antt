@@ -21,16 +21,16 @@ use Rattle.tracing_tree_lines.specs.declared.lines.LineCause.TheVariants.{Settin
 use Rattle.tracing_tree_lines.specs.Lines.Spelled.{Asked, object_settings, object_call, SpellsCall, SpellsNothing, input_lines, is_skipped, ◌>>=◌}
 use Rattle.tracing_tree_layer.proofs.WorkedCalls.{plain, lined, start_of_1970, outside, inside, made, warned, closed}
 
--- what a first line asks for
+-- what a first line sets
 abbrev settings_of : List ℕ → Option Asked
 settings_of line = read line >>= object_settings
 
--- lines alone
+-- only lines
 pub lines_on : settings_of (codes "{\"indent_lines\":true}") ≡ Some (record lined { ansi = false }, no_timer)
 unfolding serde_json_on_literals
 lines_on = refl
 
--- all settings as they are
+-- all settings unchanged
 pub no_settings : settings_of (codes "{}") ≡ Some (plain, no_timer)
 unfolding serde_json_on_literals
 no_settings = refl
@@ -50,12 +50,12 @@ pub unknown_setting : settings_of (codes "{\"colour\":true}") ≡ None
 unfolding serde_json_on_literals
 unknown_setting = refl
 
--- no object
+-- not an object
 pub array_settings : settings_of (codes "[]") ≡ None
 unfolding serde_json_on_literals
 array_settings = refl
 
--- no text
+-- an empty string
 pub nothing_at_all : settings_of (codes "") ≡ None
 unfolding serde_json_on_literals
 nothing_at_all = refl
@@ -70,16 +70,16 @@ pub late_epoch : settings_of (codes "{\"timer\":{\"kind\":\"uptime\",\"epoch\":5
 unfolding serde_json_on_literals
 late_epoch = refl
 
--- a key that doesn't go with the timer
+-- a key that doesn't belong to the timer
 pub needless_precision : settings_of (codes "{\"timer\":{\"kind\":\"none\",\"higher_precision\":true}}") ≡ None
 unfolding serde_json_on_literals
 needless_precision = refl
 
--- the moment that no line names
+-- the default moment
 abbrev pub no_moment : Moment
 no_moment = record { mono = 0; wall = start_of_1970 }
 
--- what a line spells at that moment
+-- what a line encodes at that moment
 abbrev pub spelled_at_start : List ℕ → Option Call
 spelled_at_start line = read line >>= (λ value. object_call value no_moment)
 
@@ -103,7 +103,7 @@ pub close_two : spelled_at_start (codes "{\"call\":\"close\",\"id\":2}") ≡ Som
 unfolding serde_json_on_literals
 close_two = refl
 
--- a line that ends early
+-- a truncated line
 pub cut_short : spelled_at_start (codes "{\"call\":") ≡ None
 unfolding serde_json_on_literals
 cut_short = refl
@@ -118,7 +118,7 @@ pub float_id : spelled_at_start (codes "{\"call\":\"close\",\"id\":1.0}") ≡ No
 unfolding serde_json_on_literals
 float_id = refl
 
--- an id below zero
+-- a negative id
 pub negative_id : spelled_at_start (codes "{\"call\":\"new\",\"name\":\"a\",\"current\":-1}") ≡ None
 unfolding serde_json_on_literals
 negative_id = refl
@@ -128,12 +128,12 @@ pub unused_key : spelled_at_start (codes "{\"call\":\"new\",\"name\":\"a\",\"id\
 unfolding serde_json_on_literals
 unused_key = refl
 
--- a float under any key spells no call
+-- a line with a float under any key encodes no call
 pub float_anywhere : option_map has_float (read (codes "{\"call\":\"new\",\"name\":\"a\",\"x\":1.5}")) ≡ Some true
 unfolding serde_json_on_literals
 float_anywhere = refl
 
--- the first line of calls spells the first call
+-- the first line of calls encodes the first call
 pub first_line : SpellsCall (codes "{\"call\":\"new\",\"name\":\"a\"}") (made (codes "a") outside)
 unfolding serde_json_on_literals encode_utf8
 first_line = record {
@@ -163,7 +163,7 @@ in_memory = record {
   stuck = λ bytes. false;
 }
 
--- no line at all is the settings fault
+-- an input without lines has the fault of the settings
 no_first_line : {A : Type 0} {x : A} {xs : List A} → [] ≡ x ∷ xs → ⊥
 no_first_line e = cc
 
@@ -172,7 +172,7 @@ empty_input = inl (NoSettings, (λ settings timer others begins. no_first_line b
 
 -- ---- whole inputs
 
--- settings alone
+-- only settings
 pub settings_alone : LeavesRun in_memory (codes "{}") 0 None [] []
 unfolding serde_json_on_literals encode_utf8
 settings_alone = inr (
@@ -208,7 +208,7 @@ not_some e = cc
 not_none : {A B : Type 0} {x : A} → None ≡ Some x → B
 not_none e = cc
 
--- a line that ends early spells nothing
+-- a truncated line encodes nothing
 pub cut_short_spells_nothing : SpellsNothing (codes "{\"call\":")
 unfolding serde_json_on_literals
 cut_short_spells_nothing = (refl, λ call spelled. not_none spelled.reads)

@@ -66,7 +66,7 @@ pub bare_event : rows_text 2 (row Event 0 (codes " x" ∷ []) ∷ [])
 unfolding encode_utf8
 bare_event = refl
 
--- no row begins with a drawing character and nothing else
+-- a row doesn't consist of only a drawing character
 pub no_bare_corner : is_text_row (record { shape = Event; level = 0; lines = encode_utf8_all (codes "┐") ∷ [] }) ≡ false
 unfolding encode_utf8
 no_bare_corner = refl
@@ -74,7 +74,7 @@ no_bare_corner = refl
 pub no_bare_spaces : is_text_row (record { shape = Event; level = 0; lines = codes "   " ∷ [] }) ≡ false
 no_bare_spaces = refl
 
--- a row is made of what may be one
+-- a row is made of valid parts
 pub makes_no_open_at_the_edge : made_row (row (Open false) 0 (codes "a" ∷ [])) ≡ None
 makes_no_open_at_the_edge = refl
 
@@ -94,7 +94,7 @@ wide_parent_row = refl
 pub one_of_them_wide : are_too_wide 2 (row OpenRoot 0 [] ∷ row PreOpen 9_223_372_036_854_775_807 [] ∷ []) ≡ true
 one_of_them_wide = refl
 
--- the first lines of a text
+-- the first lines of a string
 pub first_two_lines : first_lines 2 (codes "a\nb\nc") ≡ codes "a\nb\n"
 first_two_lines = refl
 
@@ -109,7 +109,7 @@ ancestors_of_five = refl
 pub ancestors_after_retrace : event_paths (row OpenRoot 0 (codes "a " ∷ []) ∷ row (Open false) 1 (codes "b " ∷ []) ∷ row OpenRoot 0 (codes "c " ∷ []) ∷ row OpenRoot 0 (codes "a " ∷ []) ∷ row (Open false) 1 (codes "b " ∷ []) ∷ row (Close false) 1 ([] ∷ []) ∷ row Event 1 (codes " INFO x" ∷ []) ∷ []) ≡ record { event = 6; ancestors = Some 3 ∷ [] } ∷ []
 ancestors_after_retrace = refl
 
--- a close that did not: the event seems to lie in another root
+-- a close that didn't retrace: the event seems to be in another root
 pub stranger : event_paths (row OpenRoot 0 (codes "a " ∷ []) ∷ row (Open false) 1 (codes "b " ∷ []) ∷ row OpenRoot 0 (codes "c " ∷ []) ∷ row (Close false) 1 ([] ∷ []) ∷ row Event 1 (codes " INFO x" ∷ []) ∷ []) ≡ record { event = 4; ancestors = Some 2 ∷ [] } ∷ []
 stranger = refl
 
@@ -121,11 +121,11 @@ no_ancestors = refl
 pub no_entries : event_paths (row Event 0 (codes "INFO x" ∷ []) ∷ []) ≡ record { event = 0; ancestors = [] } ∷ []
 no_entries = refl
 
--- a nearer row of another level is no ancestor
+-- a nearer row of another level isn't an ancestor
 pub none_nearer : event_paths (row OpenRoot 0 (codes "a" ∷ []) ∷ row Event 2 (codes "x" ∷ []) ∷ []) ≡ record { event = 1; ancestors = Some 0 ∷ None ∷ [] } ∷ []
 none_nearer = refl
 
--- nor is a parent that is shown again
+-- a parent that is shown again isn't an ancestor either
 pub none_shown_again : event_paths (row PreOpen 0 (codes "a " ∷ []) ∷ row Event 1 (codes "x" ∷ []) ∷ []) ≡ record { event = 1; ancestors = None ∷ [] } ∷ []
 none_shown_again = refl
 
@@ -139,7 +139,7 @@ no_kept_place = refl
 pub place_past_all : place_at (Some 3 ∷ None ∷ []) 2 ≡ None
 place_past_all = refl
 
--- the premise on closes fails where a close leaves the last path
+-- the premise on closes fails if a close leaves the current branch
 pub leaves_the_path : run_is_on_path (record lined { span_retrace = true }) no_timer (opening_state (Some (id_of 1)))
     (made (codes "a") outside ∷ made (codes "b") (inside 1) ∷ made (codes "c") outside ∷ closed 2 ∷ []) ≡ false
 leaves_the_path = refl
@@ -148,7 +148,8 @@ pub stays_on_the_path : run_is_on_path (record lined { span_retrace = true }) no
     (made (codes "a") outside ∷ made (codes "b") (inside 1) ∷ informed (codes "x") (inside 2) ∷ closed 2 ∷ closed 1 ∷ []) ≡ true
 stays_on_the_path = refl
 
--- an event behind a close off the last path: its root is the last one opened only where closes retrace
+-- an event after a close off the current branch: its root is the last one opened only if closes
+-- retrace
 abbrev pub close_off_path : List Call
 close_off_path = made (codes "a") outside ∷ made (codes "b") (inside 1) ∷ made (codes "c") outside ∷ closed 2 ∷ informed (codes "x") (inside 1) ∷ []
 

@@ -12,8 +12,8 @@ use Rattle.tracing_tree_layer.specs.declared.call.Call.{Call}
 use Rattle.tracing_tree_drawing.specs.declared.rows.paths.EventPath.{EventPath}
 
 module _ {settings : Settings} {timer : Timer} {first : Option Id} {calls : List Call} where
-  -- Among the paths is the event's, with an entry for each span on the way to the span that it lies
-  -- in: the place of a row that opens that very span.
+  -- Among the paths is the event's, with an entry for each span on the path to the span that it is
+  -- in: the place of a row that opens exactly that span.
   pub record FindsAncestors (e : EventInRun settings timer first calls) (i : Id)
       (paths : List EventPath) : Type 0 where
     pub path : EventPath
@@ -27,8 +27,8 @@ module _ {settings : Settings} {timer : Timer} {first : Option Id} {calls : List
         × (row.span ≡ slice_get (path_of (forest_at e) i) level)))
 
 -- The text is the readable drawing of a run that began empty, with `span_retrace` or
--- `deferred_spans`, and with `close_retrace` or no close off the last path: the ancestors of each
--- event in its current span are found.
+-- `deferred_spans`, and with `close_retrace` or no close off the current branch: the ancestors of
+-- each event in its current span are found.
 abbrev pub FindsInRuns : ℕ → List ℕ → List EventPath → Type 0
 FindsInRuns amount text paths =
     (settings : Settings) (timer : Timer) (first : Option Id) (calls : List Call) →

@@ -1,4 +1,4 @@
--- The data that a JSON value stands for.
+-- The data of a JSON value.
 use Rattle.std.specs.Prelude.{◌≡◌, ℕ, ◌&&◌, Bool, true, false, not, List, Option, Some, None, Result, Ok, Err}
 use Rattle.json.specs.Json as json
 use Rattle.serde_json.specs.Data.{Num, Data, null, boolean, number, string, array, object, Items, no_items, item, Members, no_members, put}
@@ -13,19 +13,19 @@ use Rattle.tracing_tree_lines.specs.declared.lines.LineCause.TheVariants.{NotACa
 
 -- ---- numbers
 
--- a number out of range stands for a value that no part of a call is read from
+-- a number out of range becomes a value that no part of a call is read from
 abbrev pub number_data : Option Num → Data
 number_data None = boolean false
 number_data (Some n) = number n
 
--- a number in range that is no float
+-- a number in range that isn't a float
 abbrev pub is_whole_number : Option Num → Bool
 is_whole_number None = false
 is_whole_number (Some n) = not (is_float n)
 
 -- ---- values
 
--- the data of a value, of which the last member of a key counts
+-- the data of a value; of members with one key, the last counts
 abbrev mutual
   pub data_of : json.Json → Data
   data_of json.null = null
@@ -63,7 +63,7 @@ abbrev mutual
 
 -- ---- lines
 
--- a line has a value without floats, or spells no call
+-- a line has a value without floats, or encodes no call
 pub record HasNoFloat (line : List ℕ) : Type 0 where
   pub value : Data
   pub reads : read line ≡ Some value

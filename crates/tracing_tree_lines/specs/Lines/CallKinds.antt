@@ -15,7 +15,7 @@ word_of Record = codes "record"
 word_of Event = codes "event"
 word_of Close = codes "close"
 
--- the kind that a value names; where it names none, no call has its word
+-- the kind that a value names; if it names no kind, it isn't the word of a call
 abbrev pub IsKindIn : Data → Option Kind → Type 0
 IsKindIn value (Some kind) = read_or None as_str (codes "call") value ≡ Some (word_of kind)
 IsKindIn value None =

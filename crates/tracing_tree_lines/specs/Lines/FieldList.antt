@@ -3,7 +3,7 @@ use Rattle.std.specs.Prelude.{List, [], ◌∷◌}
 use Rattle.tracing_tree_text.specs.declared.field.Field.{Field}
 use Rattle.tracing_tree_lines.specs.declared.lines.field_list.Kept.{Kept}
 
--- which fields a list has, wherever they lie
+-- which fields a list has, wherever they are stored
 abbrev pub kept_fields : Kept → List Field
 kept_fields Kept.None = []
 kept_fields (Kept.One field) = field ∷ []

@@ -1,4 +1,4 @@
--- What a line's object has at the keys of a call, as far as a call is read from it.
+-- The values of a line's object at the keys of a call, as far as a call is read from it.
 use Rattle.std.specs.Prelude.{◌≡◌, ℕ, true, false, List, [], ◌∷◌, Option, Some, None, Result, Ok, Err, IsUtf8, codes, bytes_eq, if◌then◌else◌}
 use Rattle.std.specs.Option.{option_map_or}
 use Rattle.json.specs.Json as json
@@ -35,8 +35,8 @@ abbrev pub fields_data : List Field → Items
 fields_data [] = no_items
 fields_data (field ∷ others) = item (field_data field) (fields_data others)
 
--- A call is read from nulls, texts, whole numbers and, at the key `fields`, arrays of pairs of
--- texts. Each other value counts as `false`.
+-- A call is read from nulls, strings, whole numbers and, at the key `fields`, arrays of pairs of
+-- strings. Each other value counts as `false`.
 abbrev pub readable_number : Num → Data
 readable_number (unsigned n) = number (unsigned n)
 readable_number (negative z) = number (negative z)
@@ -77,7 +77,7 @@ part_data (Whole n) = number (unsigned n)
 part_data (Negative z) = number (negative z)
 part_data Other = boolean false
 
--- a number with this text is whole, and the part holds it; or it is another, of which nothing is
+-- the number with these digits is whole, and the part holds it; or it isn't whole, and nothing is
 -- read
 abbrev pub IsNumberPart : List ℕ → Option Part → Type 0
 IsNumberPart text (Some part) =
@@ -92,7 +92,7 @@ listed_data Listed.Absent = null
 listed_data (Listed.Fields fields) = array (fields_data fields)
 listed_data Listed.Other = boolean false
 
--- ---- what stands at the keys of calls
+-- ---- the values at the keys of calls
 
 -- an object with these values at the keys of calls
 abbrev pub keyed : (call i name level target parent fields current thread thread_name mono wall : Data) → Members
@@ -116,7 +116,7 @@ parts_data p = object (parts_members p)
 abbrev pub no_parts : Members
 no_parts = keyed null null null null null null null null null null null null
 
--- the value at `key` becomes `value`, where the object has the key
+-- the value at `key` becomes `value`, if the object has the key
 abbrev pub with_key : List ℕ → Data → Members → Members
 with_key key value no_members = no_members
 with_key key value (member other old ms) =
@@ -143,14 +143,14 @@ pub record ArePartsOf (members : json.Members) (parts : Parts) : Type 0 where
 
 -- ---- lines
 
--- a line is a text, and an object with these parts
+-- a line is UTF-8, and an object with these parts
 pub record IsObjectLine (line : List ℕ) (parts : Parts) : Type 0 where
   pub text : IsUtf8 line
   pub members : json.Members
   pub reads : read line ≡ of_json (json.object members)
   pub kept : ArePartsOf members parts
 
--- a line that is no text or no object spells no call
+-- a line that isn't UTF-8 or not an object encodes no call
 abbrev pub ReadsObject : {A : Type 0} → List ℕ → Parts → Result A LineCause → Type 0
 ReadsObject line parts (Ok done) = IsObjectLine line parts
 ReadsObject line parts (Err cause) =
@@ -169,7 +169,7 @@ ReadsParts line parts (Ok done) = HasParts line parts
 ReadsParts line parts (Err cause) =
     IsUnlessMemory NotACall ((call : Call) → ¬ SpellsCall line call) cause
 
--- the cause that an error of the reader is
+-- the cause of an error of the reader
 abbrev pub cause_of : Error → LineCause
 cause_of Invalid = NotACall
 cause_of OutOfMemory = Memory

@@ -1,4 +1,4 @@
--- What readers of lines take of the bytes that a reader has left, where those are known.
+-- What readers of lines take of the bytes that a reader has left, if those are known.
 use Rattle.std.specs.Prelude.{◌≡◌, ℕ, ◌==◌, ◌++◌, Bool, true, false, List, [], ◌∷◌, Option, Some, None, Result, Ok, Err, ⊤, All}
 use Rattle.std.specs.Io.KnownBytes.{Consumes, Keeps, IsAtEnd}
 use Rattle.tracing_tree_drawing.specs.Format.Settings.{Settings}
@@ -14,7 +14,7 @@ use Rattle.tracing_tree_lines.specs.declared.lines.read.Part.TheVariants.{Line, 
 abbrev pub HasNoLineEnd : List ℕ → Type 0
 HasNoLineEnd bytes = All (λ byte. (byte == 10) ≡ false) bytes
 
--- a part of a line, and then this end of it, were taken, and the part was put at the end of what
+-- a part of a line, and then this end of the part, were taken, and the part was appended to what
 -- was read before
 pub record TakesPart (end : List ℕ) (known left : Option (List ℕ)) (old new : List ℕ) : Type 0 where
   pub part : List ℕ
@@ -54,13 +54,13 @@ TakesLine None left line = ⊤
 TakesLine (Some input) None line = ⊥
 TakesLine (Some input) (Some rest) line = input_lines input ≡ line ∷ input_lines rest
 
--- there is no line
+-- no line is left
 abbrev pub HasNoLine : Option (List ℕ) → Type 0
 HasNoLine None = ⊤
 HasNoLine (Some input) = input_lines input ≡ []
 
--- what reading a line took: the first line, or nothing where there is none; it fails for a cause
--- from outside alone
+-- what reading a line took: the first line, or nothing if no line is left; it fails only for a
+-- cause from outside
 abbrev pub ReadsNext : Option (List ℕ) → Option (List ℕ) → List ℕ → Result Bool LineCause → Type 0
 ReadsNext known left line (Ok true) = TakesLine known left line
 ReadsNext known left line (Ok false) = HasNoLine known
@@ -77,24 +77,24 @@ pub record TakesEnded (known left : Option (List ℕ)) (line : List ℕ) : Type 
   pub within : HasNoLineEnd line
   pub taken : Consumes known left (line ++ 10 ∷ [])
 
--- what is left of the input was taken, and no line end stands in it
+-- what is left of the input was taken, and it has no line end
 abbrev pub TakesRest : Option (List ℕ) → Option (List ℕ) → List ℕ → Type 0
 TakesRest None left line = ⊤
 TakesRest (Some input) left line = HasNoLineEnd line × (input ≡ line) × (left ≡ Some [])
 
 -- what reading up to a line end took: a line with its line end, or without one what is left; it
--- fails for a cause from outside alone
+-- fails only for a cause from outside
 abbrev pub ReadsEnded : Option (List ℕ) → Option (List ℕ) → List ℕ → Result Bool LineCause → Type 0
 ReadsEnded known left line (Ok true) = TakesEnded known left line
 ReadsEnded known left line (Ok false) = TakesRest known left line
 ReadsEnded known left line (Err cause) = is_from_outside cause ≡ true
 
--- a cause that is there before any call is made
+-- a cause that occurs before any call is made
 abbrev pub IsBeforeCalls : LineCause → Type 0
 IsBeforeCalls (Refused refusal) = ⊥
 IsBeforeCalls cause = ⊤
 
--- the first line spells these settings and this timer
+-- the first line encodes these settings and this timer
 pub record OpensWith (known left : Option (List ℕ)) (setup : Settings × AskedTimer) : Type 0 where
   pub line : List ℕ
   pub first : TakesLine known left line

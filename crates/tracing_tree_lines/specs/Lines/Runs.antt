@@ -23,13 +23,13 @@ use Rattle.tracing_tree_lines.specs.declared.lines.LineCause.{LineCause}
 use Rattle.tracing_tree_lines.specs.declared.lines.LineCause.TheVariants.{Settings as NoSettings, NotACall, Read, Memory, Refused}
 use Rattle.tracing_tree_lines.specs.declared.lines.LineFault.{LineFault}
 
--- the input has a first line, which spells these settings, and then these others
+-- the input has a first line, which encodes these settings, and then these others
 abbrev pub BeginsWith : List ℕ → Settings → Timer → List (List ℕ) → Type 0
 BeginsWith input settings timer others =
     (line : List ℕ) × (input_lines input ≡ line ∷ others) × SpellsSettings line settings timer
 
--- Line 1 may end the run for this cause: for the settings only where none begin the input. No call
--- stands there, so none is to blame.
+-- Line 1 may end the run for this cause: `NoSettings` only if the input doesn't begin with
+-- settings. Line 1 has no call, so a call is never to blame.
 abbrev pub EndsAtFirst : List ℕ → LineCause → Type 0
 EndsAtFirst input NoSettings =
     (s : Settings) (timer : Timer) (others : List (List ℕ)) → ¬ BeginsWith input s timer others
@@ -37,8 +37,8 @@ EndsAtFirst input Read = ⊤
 EndsAtFirst input Memory = ⊤
 EndsAtFirst input cause = ⊥
 
--- Lines are counted up to this number. The line that has it isn't judged: a run that comes so far
--- ends there by `Read`, or without a fault.
+-- Lines are counted up to this number. The line that has it isn't judged: a run that gets there
+-- ends by `Read`, or without a fault.
 abbrev pub last_number : ℕ
 last_number = 2 ^ 64 - 1
 
@@ -53,9 +53,9 @@ module _ (settings : Settings) (timer : Timer) (state : State) where
       (call : Call) × SpellsCall line call × MayAnswer settings timer state call (Err refusal))
   EndsRun line cause = ⊤
 
-  -- What is written after the text of the accepted calls: nothing, or, where the writer refused, a
-  -- beginning of the text of the call that this line spells, which isn't the whole, and is empty
-  -- where writes are whole.
+  -- What is written after the text of the accepted calls: nothing, except after a fault of the
+  -- writer. Then it is a proper prefix of the text of the call that this line encodes, which is
+  -- empty if writes are whole.
   abbrev pub IsLeft : Bool → Option LineCause → Option (List ℕ) → List ℕ → Type 0
   IsLeft whole (Some (Refused Writer)) (Some line) front =
       (call : Call) × SpellsCall line call × IsCutShort (call_text settings timer state call) front
@@ -77,8 +77,8 @@ module _ {W FT : Type 0} (see : LayeredView W FT → Seen) where
   abbrev pub AreAccepted : List Call → LayeredView W FT → LayeredView W FT → Type 0
   AreAccepted calls old new = (replies : List Reply) × AreMade calls (map Ok replies) old new
 
-  -- The same, and then, if the cause is a refusal, the call that this line spells is made and gets
-  -- that refusal.
+  -- Like `AreAccepted`; and then, if the cause is a refusal, the call that this line encodes is
+  -- made and gets that refusal.
   abbrev pub MakesCalls : LayeredView W FT → LayeredView W FT → Option LineCause
       → Option (List ℕ) → List Call → Type 0
   MakesCalls old new (Some (Refused refusal)) (Some line) calls =
@@ -87,8 +87,8 @@ module _ {W FT : Type 0} (see : LayeredView W FT → Seen) where
   MakesCalls old new cause line calls = AreAccepted calls old new
 
 -- A run over the lines after the first. The first `judged` of them were judged: those that aren't
--- skipped spell these calls, and each was accepted. A cause blames the line after them, which is
--- `judged + 2` since line 1 has the settings; where the input has no such line, it is the one that
+-- skipped encode these calls, and each was accepted. A cause blames the line after them, which is
+-- `judged + 2` since line 1 has the settings; if the input has no such line, it is the line that
 -- was awaited. The drawing of the calls is written, and then what the fault leaves. They are made
 -- in this way.
 pub record RunsOver (lines : List (List ℕ)) (accepted : ℕ) (fault : Option LineFault)
@@ -134,8 +134,8 @@ opened_with settings timer writer = record {
 }
 
 -- What a run over lines leaves in its writer: it ended at line 1, accepted no call and wrote
--- nothing, or the first line spells settings, and the run goes over the others. Its calls are made
--- on a layered that opens over the old writer and ends with the new one.
+-- nothing, or the first line encodes settings, and the run covers the others. Its calls are made on
+-- a layered that opens over the old writer and ends with the new one.
 abbrev pub LeavesRun : {W : Type 0} → Output W → List ℕ → ℕ → Option LineFault → W → W → Type 0
 LeavesRun {W = W} output input accepted fault old new =
     ((cause : LineCause) × EndsAtFirst input cause
@@ -148,8 +148,8 @@ LeavesRun {W = W} output input accepted fault old new =
     let opened = opened_with settings timer old in
     RunsOver others accepted fault (see opened) (see ended).writer (MakesCalls see opened ended)))
 
--- the count of the writer's faults, by the cause that ended the run: it rose by one where the
--- writer is to blame, and stayed elsewhere
+-- the count of the writer's faults, by the cause that ended the run: one more if the writer is to
+-- blame, otherwise unchanged
 abbrev pub CountsEnd : Option LineCause → ℕ → ℕ → Type 0
 CountsEnd (Some (Refused Writer)) old_faults new_faults = new_faults ≡ old_faults + 1
 CountsEnd cause old_faults new_faults = new_faults ≡ old_faults
@@ -158,7 +158,7 @@ abbrev pub cause_status : LineCause → ℕ
 cause_status NoSettings = 2
 cause_status cause = 1
 
--- the status of the program, by the fault and by whether the last text went out
+-- the program's exit status, by the fault and by whether the last text was flushed
 abbrev pub status_of : Option LineFault → Bool → ℕ
 status_of None flushed = if flushed then 0 else 1
 status_of (Some fault) flushed = cause_status fault.cause

@@ -15,7 +15,7 @@ use Rattle.tracing_tree_lines.specs.declared.lines.LineCause.{LineCause}
 use Rattle.tracing_tree_lines.specs.declared.lines.Progress.{Progress}
 
 module _ (first : Seen) (Made : List Call → Type 0) where
-  -- what these lines have left when only the others are to be judged
+  -- what these lines have left when only the others are still to be judged
   pub record IsSoFar (lines others : List (List ℕ)) (accepted number : ℕ) (now : Seen)
       : Type 0 where
     pub done : List (List ℕ)
@@ -30,7 +30,7 @@ module _ (first : Seen) (Made : List Call → Type 0) where
         (draw first.settings (run_from first calls).rows)
     pub made : Made calls
 
-  -- the same of the lines of an input, where it is known
+  -- the same of the lines of an input, if it is known
   abbrev pub IsKnownSoFar : Option (List ℕ) → Option (List ℕ) → ℕ → ℕ → Seen → Type 0
   IsKnownSoFar None left accepted number now = ⊤
   IsKnownSoFar (Some input) None accepted number now = ⊥
@@ -45,24 +45,23 @@ pub record GoesOver {W FT : Type 0} (see : LayeredView W FT → Seen)
       accepted number (see now)
   pub calm : (see now).writer.faults ≡ (see first).writer.faults
 
--- one judged line more is counted
+-- one more judged line is counted
 abbrev pub counted : Judged → Progress → Progress
 counted Accepted run = record { number = run.number + 1; accepted = run.accepted + 1 }
 counted judged run = record run { number = run.number + 1 }
 
--- a line's text, which it has where it is one
+-- a line as a string, if it is UTF-8
 abbrev pub IsTextOf : List ℕ → Option (List ℕ) → Type 0
 IsTextOf line text = MatchOption text (¬ (IsUtf8 line)) (λ text. text ≡ line)
 
 module _ {W FT : Type 0} (see : LayeredView W FT → Seen) where
-  -- the run that came so far ended by this cause, and the next line is to blame
+  -- the run so far ended by this cause, and the next line is to blame
   abbrev pub EndsNext : Option (List ℕ) → Progress → LineCause → LayeredView W FT
       → LayeredView W FT → Type 0
   EndsNext known run cause =
       EndsLines see known run.accepted (Some (record { line = run.number; cause = cause }))
 
-  -- so many of the held bytes were judged, whatever stands after them, or a line of them ended the
-  -- run
+  -- this many of the held bytes were judged, whatever follows them, or a line of them ended the run
   abbrev pub RunsHeld : List ℕ → Progress → Progress → Result ℕ LineCause → LayeredView W FT
       → LayeredView W FT → Type 0
   RunsHeld held before after (Ok judged) old new =
@@ -75,7 +74,7 @@ module _ {W FT : Type 0} (see : LayeredView W FT → Seen) where
       → GoesOver see known (prepend_known held inner) before.accepted before.number first old
       → EndsNext known after cause first new
 
-  -- lines at the front of the input were judged, or there was none, or one of them ended the run
+  -- lines at the front of the input were judged, or no line was left, or one of them ended the run
   abbrev pub RunsSome : Option (List ℕ) → Option (List ℕ) → Progress → Progress
       → Result Bool LineCause → LayeredView W FT → LayeredView W FT → Type 0
   RunsSome middle left before after (Ok true) old new =

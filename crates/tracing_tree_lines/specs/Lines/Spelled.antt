@@ -1,4 +1,4 @@
--- Which settings and which calls the program's lines spell.
+-- Which settings and which calls the program's lines encode.
 use Rattle.std.specs.Prelude.{◌≡◌, ℕ, ◌==◌, ◌&&◌, ◌||◌, Bool, false, not, IsTrue, if◌then◌else◌, ℤ, pos, neg_ℤ, int_le, List, [], ◌∷◌, length, Option, Some, None, is_some, option_map, option_and_then, codes, bytes_eq, filter, IsUtf8}
 use Rattle.std.specs.Option.{option_map_or, option_flatten}
 use Rattle.std.specs.Bool.{then_some}
@@ -22,15 +22,15 @@ use Rattle.tracing_tree_layer.specs.declared.call.Call.TheVariants.{New, Clone, 
 use Rattle.tracing_tree_spans.specs.declared.registry.Attributes.{Attributes}
 use Rattle.tracing_tree_spans.specs.declared.registry.Event.{Event as MadeEvent}
 
--- what comes of a value, if there is one
+-- the next step's result for a value, if there is one
 infixl 20 ◌>>=◌
 abbrev pub ◌>>=◌ : {A B : Type 0} → Option A → (A → Option B) → Option B
 o >>= next = option_and_then next o
 
 -- ---- lines
 
--- a text is the lines that line ends end, and what stands after the last line end, unless that is
--- empty
+-- the lines of an input: those that line ends end, and what follows the last line end, unless that
+-- is empty
 abbrev pub without_empty_last : List (List ℕ) → List (List ℕ)
 without_empty_last [] = []
 without_empty_last (line ∷ []) = if length line == 0 then [] else line ∷ []
@@ -39,7 +39,7 @@ without_empty_last (line ∷ next ∷ more) = line ∷ without_empty_last (next 
 abbrev pub input_lines : List ℕ → List (List ℕ)
 input_lines text = without_empty_last (slice_split (λ byte. byte == 10) text)
 
--- a line of spaces, tabs and carriage returns alone
+-- a line of only spaces, tabs and carriage returns
 abbrev pub is_skipped : List ℕ → Bool
 is_skipped line = list_all (λ byte. (byte == 32) || (byte == 9) || (byte == 13)) line
 
@@ -50,18 +50,18 @@ abbrev pub unless_null : Data → Option Data
 unless_null null = None
 unless_null value = Some value
 
--- the value of a key as it is read, or else `absent` where the key is absent; `None` is a value
--- that can't be read, or a key that is lacking
+-- the value of a key as it is read, or `absent` if the key is absent; `None` if the value can't be
+-- read, or if a key without a default is missing
 abbrev pub read_or : {A : Type 0} → Option A → (Data → Option A) → List ℕ → Data → Option A
 read_or absent reader key value = option_map_or reader (get key value >>= unless_null) absent
 
--- the keys of an object whose value isn't null
+-- the keys of the members whose value isn't null
 abbrev pub present_keys : Members → List (List ℕ)
 present_keys no_members = []
 present_keys (member key value others) =
     if is_some (unless_null value) then key ∷ present_keys others else present_keys others
 
--- an object has these keys alone
+-- an object has only these keys
 abbrev pub has_only_keys : List (List ℕ) → Data → Bool
 has_only_keys keys value =
     option_map_or (λ members. list_all (λ key. list_any (bytes_eq key) keys) (present_keys members))
@@ -79,18 +79,18 @@ signed_value value = option_and_then as_i64 (as_number value)
 abbrev pub id_value : Data → Option Id
 id_value value = option_map id_of (whole_value value)
 
--- what the first of these choices stands for that has this text
+-- the value of the first of these choices that has this name
 abbrev pub chosen : {A : Type 0} → List (List ℕ × A) → List ℕ → Option A
 chosen [] text = None
 chosen (choice ∷ others) text = if bytes_eq choice.0 text then Some choice.1 else chosen others text
 
 -- ---- settings
 
--- what a settings line asks for
+-- what a settings line sets
 abbrev pub Asked : Type 0
 Asked = Settings × Timer
 
--- a whole number that is not 0
+-- a whole number other than 0
 abbrev pub positive_value : Data → Option ℕ
 positive_value value = option_and_then (λ n. then_some (not (n == 0)) n) (whole_value value)
 
@@ -100,11 +100,11 @@ offset_value value =
     option_and_then (λ z. then_some (int_le (neg_ℤ (pos 93_599)) z && int_le z (pos 93_599)) z)
     (signed_value value)
 
--- a timer, where the object has no other key than `kind` and these
+-- a timer, if the object has no other keys than `kind` and these
 abbrev pub under_keys : List (List ℕ) → Data → Option Timer → Option Timer
 under_keys keys value timer = if has_only_keys (codes "kind" ∷ keys) value then timer else None
 
--- the timers by their kinds, as an object spells them
+-- the timers by their kinds, as an object encodes them
 abbrev pub timers_in : Data → List (List ℕ × Option Timer)
 timers_in value =
     let higher = read_or (Some false) as_bool (codes "higher_precision") value in
@@ -123,7 +123,7 @@ timer_value value = do
   kind ← read_or None as_str (codes "kind") value
   option_flatten (chosen (timers_in value) kind)
 
--- what a value that is read so changes in the settings
+-- what a value that is read by `reader` changes in the settings
 abbrev pub sets : {A : Type 0} → (Data → Option A) → (A → Settings → Settings) → Data → Asked
     → Option Asked
 sets reader change value asked = option_map (λ read. (change read asked.0, asked.1)) (reader value)
@@ -148,8 +148,8 @@ all_settings =
     ∷ (codes "bracketed_fields", sets as_bool (λ on s. record s { bracketed_fields = on }))
     ∷ []
 
--- what a key with a value makes of the settings; `None` where no setting has the key, or where the
--- value can't be read
+-- what a key with a value makes of the settings; `None` if no setting has the key, or if the value
+-- can't be read
 abbrev pub with_setting : List ℕ → Data → Asked → Option Asked
 with_setting key value asked = chosen all_settings key >>= (λ setting. setting value asked)
 
@@ -163,16 +163,16 @@ abbrev pub with_members : Members → Asked → Option Asked
 with_members no_members asked = Some asked
 with_members (member key value others) asked = with_member key value asked >>= with_members others
 
--- the settings of a line that names none: those of a layer, but without colours, and no timer
+-- the settings of a line that sets nothing: those of a layer, but without colours, and no timer
 abbrev pub unnamed_settings : Asked
 unnamed_settings = (record default_settings { ansi = false }, no_timer)
 
--- what a settings object spells: each key that is there is that of a setting and can be read, and
--- one that is absent stands for its default; `read` keeps the last of members with one key
+-- what a settings object encodes: each key that is present is a setting's and can be read, and an
+-- absent key means its default; `read` keeps the last of members with one key
 abbrev pub object_settings : Data → Option Asked
 object_settings value = as_object value >>= (λ members. with_members members unnamed_settings)
 
--- the first line is a text, and spells these settings and this timer
+-- the first line is UTF-8, and encodes these settings and this timer
 abbrev pub SpellsSettings : List ℕ → Settings → Timer → Type 0
 SpellsSettings line settings timer =
     IsUtf8 line × ((read line >>= object_settings) ≡ Some (settings, timer))
@@ -185,17 +185,17 @@ parent_value (string text) = chosen ((codes "root", Root) ∷ (codes "current", 
 parent_value (number n) = option_map (λ i. Of (id_of i)) (as_u64 n)
 parent_value value = None
 
--- a name and its text
+-- a name and its value
 abbrev pub pair_field : Items → Option Field
 pair_field (item (string name) (item (string text) no_items)) =
     Some (record { name = name; value = text })
 pair_field items = None
 
--- an array of two texts
+-- an array of two strings
 abbrev pub field_value : Data → Option Field
 field_value value = option_and_then pair_field (as_array value)
 
--- the fields that the items spell; `None` if one of them spells none
+-- the fields that the items encode; `None` if an item isn't a field
 abbrev pub item_fields : Items → Option (List Field)
 item_fields no_items = Some []
 item_fields (item first others) = do
@@ -206,13 +206,13 @@ item_fields (item first others) = do
 abbrev pub fields_value : Data → Option (List Field)
 fields_value value = option_and_then item_fields (as_array value)
 
--- the moment has the parts that the object spells
+-- the moment has the parts that the object encodes
 pub record IsMomentIn (value : Data) (moment : Moment) : Type 0 where
   pub mono : read_or (Some 0) whole_value (codes "mono") value ≡ Some moment.mono
   pub wall : read_or (Some (pos 0)) signed_value (codes "wall") value ≡ Some moment.wall.nanosecond
 
--- The context that goes with each call, at the moment spelled. A current span and a name may be
--- absent; the outer `None` is a value that can't be read.
+-- The context of each call, at the moment encoded. A current span and a name may be absent; the
+-- outer `None` is a value that can't be read.
 abbrev pub context_in : Data → Moment → Option Context
 context_in value moment = do
   current ← read_or (Some None) (λ v. option_map Some (id_value v)) (codes "current") value
@@ -255,15 +255,15 @@ call_named name value context =
     else (if bytes_eq name (codes "close") then option_map (λ i. Close i context) (id_in value)
     else None))))
 
--- What an object without floats spells, at the moment spelled. The context must be readable also
--- where the call takes none. Keys that the call doesn't have are ignored.
+-- The call that an object without floats encodes, at the moment encoded. The context must be
+-- readable even if the call takes no context. Keys that the call doesn't have are ignored.
 abbrev pub object_call : Data → Moment → Option Call
 object_call value moment = do
   context ← context_in value moment
   name ← read_or None as_str (codes "call") value
   call_named name value context
 
--- the line is a text, and spells this call
+-- the line is UTF-8, and encodes this call
 pub record SpellsCall (line : List ℕ) (call : Call) : Type 0 where
   pub text : IsUtf8 line
   pub value : Data
@@ -273,10 +273,10 @@ pub record SpellsCall (line : List ℕ) (call : Call) : Type 0 where
   pub timed : IsMomentIn value moment
   pub spelled : object_call value moment ≡ Some call
 
--- these lines spell these calls, in order, and each other line is skipped
+-- these lines encode these calls, in order, and each other line is skipped
 abbrev pub SpellCalls : List (List ℕ) → List Call → Type 0
 SpellCalls lines calls = AllZip SpellsCall (filter (λ line. not (is_skipped line)) lines) calls
 
--- a line that spells no call, and isn't skipped
+-- a line that encodes no call, and isn't skipped
 abbrev pub SpellsNothing : List ℕ → Type 0
 SpellsNothing line = IsTrue (not (is_skipped line)) × ((call : Call) → ¬ (SpellsCall line call))

@@ -17,15 +17,14 @@ use Rattle.tracing_tree_lines.specs.declared.lines.LineCause.{LineCause}
 use Rattle.tracing_tree_lines.specs.declared.lines.LineCause.TheVariants.{Settings as NoSettings, NotACall, Read, Memory, Refused}
 use Rattle.tracing_tree_lines.specs.declared.lines.LineFault.{LineFault}
 
--- a call that is spelled so got this answer
+-- an encoded call got this answer
 pub record Answers (Spells : Call → Type 0) (answer : Result Reply Refusal) (old new : Seen)
     : Type 0 where
   pub call : Call
   pub spelled : Spells call
   pub answered : IsAnswered call answer old new
 
--- the call that is spelled so was made; where none is, or memory was refused before, nothing has
--- changed
+-- the encoded call was made; if no call is encoded, or memory ran out before, nothing has changed
 abbrev pub MakesSpelled : (Call → Type 0) → Result Reply LineCause → Seen → Seen → Type 0
 MakesSpelled Spells (Ok reply) old new = Answers Spells (Ok reply) old new
 MakesSpelled Spells (Err NoSettings) old new = ⊥
@@ -38,7 +37,7 @@ MakesSpelled Spells (Err (Refused refusal)) old new = Answers Spells (Err refusa
 abbrev pub MakesNamed : List ℕ → Data → Context → Result Reply LineCause → Seen → Seen → Type 0
 MakesNamed word value context = MakesSpelled (λ call. call_named word value context ≡ Some call)
 
--- the first line of the input spells a call, and the call got this answer
+-- the first line of the input encodes a call, and the call got this answer
 pub record MakesCall (known left : Option (List ℕ)) (answer : Result Reply Refusal)
     (old new : Seen) : Type 0 where
   pub line : List ℕ
@@ -52,13 +51,13 @@ pub record SkipsLine (known left : Option (List ℕ)) : Type 0 where
   pub first : TakesLine known left line
   pub blank : is_skipped line ≡ true
 
--- the first line of the input spells nothing
+-- the first line of the input encodes nothing
 pub record FailsLine (known left : Option (List ℕ)) : Type 0 where
   pub line : List ℕ
   pub first : TakesLine known left line
   pub nothing : SpellsNothing line
 
--- what became of the first line of the input; where no call was made nothing has changed
+-- the outcome of the first line of the input; if no call was made, nothing has changed
 abbrev pub JudgesLine : Option (List ℕ) → Option (List ℕ) → Result Judged LineCause → Seen → Seen
     → Type 0
 JudgesLine known left (Ok End) old new = HasNoLine known × (new ≡ old)
@@ -71,7 +70,7 @@ JudgesLine known left (Err Read) old new = new ≡ old
 JudgesLine known left (Err Memory) old new = new ≡ old
 JudgesLine known left (Err (Refused refusal)) old new = MakesCall known left (Err refusal) old new
 
--- the writer may have passed on what it held back, before the first line of the input was judged
+-- the writer may have flushed before the first line of the input was judged
 pub record ShowsAndJudges {W FT : Type 0} (see : LayeredView W FT → Seen)
     (known left : Option (List ℕ)) (result : Result Judged LineCause)
     (old new : LayeredView W FT) : Type 0 where
@@ -79,7 +78,7 @@ pub record ShowsAndJudges {W FT : Type 0} (see : LayeredView W FT → Seen)
   pub flushed : Changes see Flushes old shown
   pub judged : Changes see (JudgesLine known left result) shown new
 
--- a run over what is left of the input, where that is known, and the count of the writer's faults
+-- a run over what is left of the input, if that is known, and the count of the writer's faults
 pub record EndsLines {W FT : Type 0} (see : LayeredView W FT → Seen) (known : Option (List ℕ))
     (accepted : ℕ) (fault : Option LineFault) (old new : LayeredView W FT) : Type 0 where
   pub ran : IfSome known (λ input.

@@ -1,5 +1,5 @@
--- What reading a line takes of its tokens. Two truth values stand beside the tokens: whether each number that was read before
--- is whole, and whether each one is that was read by then.
+-- What reading a line takes of its tokens, and two truth values: whether each number that was read
+-- before is whole, and whether each number that was read by then is.
 use Rattle.std.specs.Prelude.{◌≡◌, ℕ, ◌&&◌, Bool, true, false, List, length, Option, Some, None, Result, Ok, Err}
 use Rattle.json.specs.Token.{Token}
 use Rattle.json.specs.Json as json
@@ -22,7 +22,7 @@ use Rattle.tracing_tree_lines.specs.declared.lines.pair.Texts.TheVariants.{None 
 
 -- ---- any value
 
--- the tokens of a value were taken, in which arrays and objects nest no deeper than the number
+-- the tokens of a value were taken, in which arrays and objects nest no deeper than `depth`
 pub record IsValueTaken (depth : ℕ) (old new : List Token) (before after : Bool) : Type 0 where
   pub value : json.Json
   pub taken : json.value depth old ≡ Some (value, new)
@@ -48,14 +48,14 @@ pub record IsItemTaken (old new : List Token) (before after : Bool) (field : Opt
     pub passed : IsValueTaken 125 old new before after
     pub is : field ≡ field_value (data_of passed.value)
 
--- the field of an array of these texts and then these items, if it is a pair
+-- the field of an array of these strings and then these items, if it is a pair
 abbrev pub pair_with : Texts → Items → Option Field
 pair_with NoText rest = pair_field rest
 pair_with (One name) rest = pair_field (item (string name.now) rest)
 pair_with (Two name text) rest = pair_field (item (string name.now) (item (string text.now) rest))
 pair_with OtherItems rest = None
 
--- the tokens of a value in a pair were taken, and this is its text, if it is one
+-- the tokens of a value in a pair were taken, and this is its string, if it is one
 pub record IsTextTaken (old new : List Token) (before after : Bool) (text : Option (List ℕ))
     : Type 0 where
   pub passed : IsValueTaken 124 old new before after

@@ -27,7 +27,7 @@ shape_name (Close verbose) = codes "Close"
 shape_name PostClose = codes "PostClose"
 shape_name Event = codes "Event"
 
--- whether a row is verbose, where its shape says it
+-- whether a row is verbose, if its shape says it
 abbrev pub verbose_of : Shape → Option Bool
 verbose_of PreOpen = None
 verbose_of OpenRoot = None
@@ -75,7 +75,7 @@ row_json row path = compact_text (row_object row path)
 
 -- ---- rows
 
--- the line of the row that stands at this place of the rows
+-- the line of the row at this place of the rows
 abbrev pub json_line : List TextRow → ℕ → TextRow → List ℕ
 json_line rows place row = row_json row (event_path_at rows place row) ++ 10 ∷ []
 
@@ -99,12 +99,12 @@ pub record BeginsWithRows (amount : ℕ) (input : List ℕ) (count : ℕ)
 abbrev pub IsNoText : List ℕ → ℕ → Type 0
 IsNoText input line = IsSomeAnd (slice_get (parts_of input) (line - 1)) (λ bytes. ¬ (IsUtf8 bytes))
 
--- the line of this number, from 1, is the first that is no line of a row, or it isn't UTF-8
+-- the line of this number, from 1, is the first that isn't a line of a row, or it isn't UTF-8
 abbrev pub IsNotARow : ℕ → List ℕ → ℕ → Type 0
 IsNotARow amount input line = IsFirstBadLine amount input line ⊎ IsNoText input line
 
--- a beginning of the rows' JSON was written, with the lines of all rows but the last, and maybe
--- some of the last's
+-- a first part of the rows' JSON was written, with the lines of all rows but the last, and maybe a
+-- part of the last row's line
 pub record WritesBeginning (rows : List TextRow) (old new : Option (List ℕ)) : Type 0 where
   pub some : 0 < length rows
   pub count : ℕ
@@ -112,14 +112,14 @@ pub record WritesBeginning (rows : List TextRow) (old new : Option (List ℕ)) :
   pub appends : Appends old new (take count (json_lines rows))
 
 -- What was written for the rows of the lines before the one at which the reading ended: all lines
--- of JSON, all but the last row's for want of memory, and a beginning where a write failed.
+-- of JSON, all but the last row's if memory ran out, and a first part if a write failed.
 abbrev pub LeavesWritten : RowCause → List TextRow → Option (List ℕ) → Option (List ℕ) → Type 0
 LeavesWritten NotARow rows old new = Appends old new (json_lines rows)
 LeavesWritten Read rows old new = Appends old new (json_lines rows)
 LeavesWritten Memory rows old new = Appends old new (json_lines (all_but_last rows))
 LeavesWritten Writer rows old new = WritesBeginning rows old new
 
--- what a cause tells of the line at which the reading ended; nothing, of causes that come from
+-- what a cause says of the line at which the reading ended; nothing, if the cause comes from
 -- outside
 abbrev pub TellsLine : ℕ → List ℕ → ℕ → RowCause → Type 0
 TellsLine amount input line NotARow = IsNotARow amount input line
@@ -127,7 +127,7 @@ TellsLine amount input line Read = ⊤
 TellsLine amount input line Memory = ⊤
 TellsLine amount input line Writer = ⊤
 
--- the reading ended at a line: those before it are the drawing of rows, of which so much was
+-- the reading ended at a line: those before it are the drawing of rows, of which this much was
 -- written
 pub record EndsAtLine (amount : ℕ) (input : List ℕ) (fault : RowFault)
     (old new : Option (List ℕ)) : Type 0 where
@@ -150,7 +150,7 @@ WritesRows amount input (Ok done) old new = WritesAll amount input old new
 WritesRows amount input (Err fault) old new = EndsAtLine amount input fault old new
 
 -- the same of the drawing of readable rows: what is written are the lines of these rows, and each
--- line of it that is UTF-8 is one of a row
+-- UTF-8 line of it is a row's line
 abbrev pub WritesDrawing : ℕ → List ℕ → Result (Unit {0}) RowFault → Option (List ℕ)
     → Option (List ℕ) → Type 0
 WritesDrawing amount input (Ok done) old new =

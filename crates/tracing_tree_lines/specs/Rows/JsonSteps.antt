@@ -16,7 +16,7 @@ use Rattle.tracing_tree_lines.specs.declared.rows.json_text.RowsRead.{RowsRead}
 use Rattle.tracing_tree_drawing.specs.declared.rows.paths.EventPath.{EventPath}
 use Rattle.tracing_tree_drawing.specs.declared.rows.row.Shape.{Shape}
 
--- all of a text is written, or a beginning
+-- a whole string is written, or a prefix of it
 abbrev pub WritesText : List ℕ → Result (Unit {0}) RowCause → Option (List ℕ) → Option (List ℕ)
     → Type 0
 WritesText text (Ok done) old new = Appends old new text
@@ -53,7 +53,7 @@ pub record SoFar (amount : ℕ) (input : List ℕ) (start : Option (List ℕ)) (
   pub fresh : read.reader.last ≡ None → rows ≡ []
   pub written : HasWritten start rows read.json now
 
--- The reading ended after this count of lines: at the input's end, or for a cause, at the next line.
+-- The reading ended after this count of lines: at the input's end, or at the next line for a cause.
 abbrev pub HasEnded : ℕ → List ℕ → Option (List ℕ) → ℕ → Option RowCause → RowsRead
     → Option (List ℕ) → Type 0
 HasEnded amount input start count None read now = SoFar amount input start count [] read now
@@ -67,7 +67,7 @@ HasEnded amount input start count (Some Memory) read now =
 HasEnded amount input start count (Some Writer) read now =
     EndsAtLine amount input (record { line = count + 1; cause = Writer }) start now
 
--- what taking the next line leaves, where this follows its line end
+-- what taking the next line leaves, if this follows its line end
 abbrev pub TakesRowLine : ℕ → List ℕ → Option (List ℕ) → ℕ → List ℕ
     → Result (Unit {0}) RowCause → RowsRead → Option (List ℕ) → Type 0
 TakesRowLine amount input start count after (Ok done) read now =
@@ -92,7 +92,7 @@ pub record ReadsRowLines (amount : ℕ) (input : List ℕ) (start : Option (List
   pub numbered : ended.line ≡ count + 1
   pub left : HasEnded amount input start count ended.cause read now
 
--- after want of memory or a fault of the writer the last row isn't written
+-- if memory ran out or the writer failed, the last row isn't written
 abbrev pub drops_last : Option RowCause → Bool
 drops_last None = false
 drops_last (Some NotARow) = false
@@ -105,7 +105,7 @@ abbrev pub fault_at : ℕ → Option RowCause → Result (Unit {0}) RowFault
 fault_at line None = Ok tt
 fault_at line (Some cause) = Err (record { line = line; cause = cause })
 
--- ---- the text of a row's members
+-- ---- the JSON of a row's members
 
 abbrev pub verbose_text : Option Bool → List ℕ
 verbose_text None = []
@@ -115,7 +115,7 @@ abbrev pub shape_text : Shape → List ℕ
 shape_text shape =
     codes "{\"shape\":\"" ++ (shape_name shape ++ (codes "\"" ++ verbose_text (verbose_of shape)))
 
--- the level, and the beginning of the lines
+-- the level, and the start of the lines
 abbrev pub level_json : ℕ → List ℕ
 level_json level = codes ",\"level\":" ++ (decimal level ++ codes ",\"lines\":[")
 

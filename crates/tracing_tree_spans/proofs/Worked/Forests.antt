@@ -66,7 +66,7 @@ paths i live = first (same_id (id_of 7) i) refl
 formed : IsForest turned
 formed = forest-by_paths turned distinct paths
 
--- but has not grown in this order
+-- but hasn't grown in this order
 ungrown : IsGrownForest turned → ⊥
 ungrown h = let none : false ≡ true = h.grown.2.1 in cc
 
@@ -74,18 +74,18 @@ ungrown h = let none : false ≡ true = h.grown.2.1 in cc
 abbrev looped : Forest
 looped = record { spans = span 1 (Some (id_of 2)) ∷ span 2 (Some (id_of 1)) ∷ []; next = None }
 
--- are no forest
+-- aren't a forest
 loops : IsForest looped → ⊥
 loops h = h.loopless (id_of 1) (id_of 2 ∷ id_of 1 ∷ [], (refl, (refl, tt)), refl)
 
--- nor is a span without its parent
+-- a span without its parent isn't a forest either
 abbrev lost : Forest
 lost = record { spans = span 1 (Some (id_of 2)) ∷ []; next = None }
 
 orphaned : IsForest lost → ⊥
 orphaned h = let none : false ≡ true = h.parents (id_of 1) (id_of 2) refl in cc
 
--- nor are two spans of one id
+-- and two spans of one id aren't
 abbrev twice : Forest
 twice = record { spans = span 1 None ∷ span 1 None ∷ []; next = None }
 

@@ -25,7 +25,7 @@ strangers = refl
 strangers-looks : looks_back (id_of 1 ∷ id_of 2 ∷ []) (id_of 3 ∷ id_of 4 ∷ []) 0 ≡ 2
 strangers-looks = refl
 
--- no path and another
+-- an empty path and another
 nothing : common_prefix_len same_id [] (id_of 1 ∷ []) ≡ 0
 nothing = refl
 

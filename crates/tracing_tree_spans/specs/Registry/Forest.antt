@@ -11,8 +11,8 @@ use Rattle.tracing_tree_spans.specs.declared.registry.Parent.{Parent}
 use Rattle.tracing_tree_spans.specs.declared.registry.Parent.TheVariants.{Root, Current, Of}
 use Rattle.tracing_tree_spans.specs.declared.registry.Attributes.{Attributes}
 
--- the live spans, which a `Registry` lists the oldest first, and the next id, which is none once
--- the greatest was given out
+-- the live spans, which a `Registry` lists oldest first, and the next id, which is `None` once the
+-- greatest was used
 pub record Forest : Type 0 where
   pub spans : List Span
   pub next : Option Id
@@ -20,7 +20,7 @@ pub record Forest : Type 0 where
 abbrev pub empty_forest : Id → Forest
 empty_forest first = record { spans = []; next = Some first }
 
--- ---- looking at spans
+-- ---- reading spans
 
 abbrev pub has_id : Id → Span → Bool
 has_id i span = same_id span.id i
@@ -35,7 +35,7 @@ is_live forest i = is_some (span_at forest i)
 abbrev pub parent_of : Forest → Id → Option Id
 parent_of forest i = option_and_then (λ span. span.parent) (span_at forest i)
 
--- a span that isn't live has none
+-- 0 for a span that isn't live
 abbrev pub handles_of : Forest → Id → ℕ
 handles_of forest i = option_map_or (λ span. span.handles) (span_at forest i) 0
 
@@ -73,8 +73,8 @@ children_of forest i = filter (is_child_of i) forest.spans
 
 -- ---- paths
 
--- The ids that are met in at most this many steps up from a span, the topmost first: the span's,
--- before it its parent's, and so on to its root.
+-- The ids of at most this many steps up from a span, the topmost first: the span's, before it its
+-- parent's, and so on to its root.
 abbrev pub path_up : ℕ → List Span → Id → List Id
 path_up zero spans i = []
 path_up (suc steps) spans i =
@@ -82,7 +82,7 @@ path_up (suc steps) spans i =
     ++ i ∷ []) (find (has_id i) spans) []
 
 -- From the root down to the span; empty if it isn't live. As many steps as there are spans are
--- enough, since no id comes twice on the way.
+-- enough, since no id is twice on the path.
 abbrev pub path_of : Forest → Id → List Id
 path_of forest i = path_up (length forest.spans) forest.spans i
 
@@ -113,7 +113,7 @@ pub record IsPathIfLive (forest : Forest) (i : Id) (path : List Id) : Type 0 whe
 
 -- ---- well-formed forests
 
--- among these spans, the newest first, each has an id of its own, and its parent is an older one
+-- among these spans, newest first, each has a distinct id, and its parent is older
 abbrev pub IsGrown : List Span → Type 0
 IsGrown [] = ⊤
 IsGrown (span ∷ older) =
@@ -127,19 +127,19 @@ IsBelowNext forest =
     IsTrue (option_map_or (λ next. list_all (λ span. nat_lt span.id.0 next.0) forest.spans)
     forest.next true)
 
--- the first is above the second: a way down from a child of the first leads to the second
+-- the first is above the second: a path down from a child of the first leads to the second
 abbrev pub IsAncestor : Forest → Id → Id → Type 0
 IsAncestor forest above i =
     (way : List Id) × Descends forest (Some above) way × (last_or None way ≡ Some i)
 
--- Each span has an id of its own, each parent is live, and nobody is their own ancestor. Nothing is
--- asked of the order of the list, nor of the next id.
+-- Each span has a distinct id, each parent is live, and no span is its own ancestor. The order of
+-- the list and the next id are arbitrary.
 pub record IsForest (forest : Forest) : Type 0 where
   pub distinct : IsDistinct same_id (map (λ span. span.id) forest.spans)
   pub parents : (i above : Id) → parent_of forest i ≡ Some above → IsTrue (is_live forest above)
   pub loopless : (i : Id) → IsAncestor forest i i → ⊥
 
--- a forest whose spans stand in the order in which they were made: each after its parent, and all
+-- a forest whose spans are in the order in which they were made: each after its parent, and all
 -- below the next id
 pub record IsGrownForest (forest : Forest) : Type 0 where
   pub grown : IsGrown (reverse forest.spans)
@@ -158,7 +158,7 @@ add_handle = update_span (λ span. record span { handles = span.handles + 1 })
 abbrev pub take_handle : Id → Forest → Forest
 take_handle = update_span (λ span. record span { handles = span.handles - 1 })
 
--- the fields go to the end of the span's
+-- the fields are appended to the span's
 abbrev pub add_fields : List Field → Id → Forest → Forest
 add_fields fields =
     update_span (λ it. record it { kept = record it.kept { fields = it.kept.fields ++ fields } })
@@ -213,54 +213,53 @@ take_back i forest =
 
 -- ---- closing
 
--- no handle is left, and no child but the one that closes before it
+-- no handle is left, and no child except the one that closes before it
 abbrev pub goes_after : Forest → Option Id → Id → Bool
 goes_after forest before i =
     (handles_of forest i == 0)
     && list_all (λ child. option_map_or (same_id child.id) before false) (children_of forest i)
 
--- a list with, beside each element, the one before it
+-- a list in which each element is paired with the one before it
 abbrev pub with_previous : List Id → List (Option Id × Id)
 with_previous ids = zip (None ∷ map (λ i. Some i) ids) ids
 
--- the first of these ids, if there is one, does not go after the one before it
+-- the first of these ids, if there is one, doesn't close after the one before it
 abbrev pub FirstStays : Forest → Option Id → List Id → Type 0
 FirstStays forest before [] = ⊤
 FirstStays forest before (i ∷ more) = goes_after forest before i ≡ false
 
--- a beginning of a list of ids in which each goes after the one before it, and no longer beginning
--- is so
+-- the longest prefix of a list of ids in which each span closes after the one before it
 pub record IsLongestGoing (forest : Forest) (ids going : List Id) : Type 0 where
   pub rest : List Id
   pub whole : ids ≡ going ++ rest
   pub each : IsTrue (list_all (λ step. goes_after forest step.0 step.1) (with_previous going))
   pub longest : FirstStays forest (last_or None going) rest
 
--- the span, its parent and so on upward, as far as each goes after the one before it
+-- the span, its parent and so on upward, as far as each closes after the one before it
 abbrev pub going_up : Forest → Id → List Id
 going_up forest i =
     let steps = with_previous (reverse (path_of forest i)) in
     map (λ step. step.1) (take_while (λ step. goes_after forest step.0 step.1) steps)
 
--- what leaves the forest when one handle of a span is taken away: the span first, then its parent,
--- and so on upward
+-- what leaves the forest when one handle of a span is dropped: the span first, then its parent, and
+-- so on upward
 abbrev pub closing_of : Forest → Id → List Id
 closing_of forest i = going_up (take_handle i forest) i
 
--- what leaves the forest when one handle of a span is taken away: of the way from the span up to
--- its root, the longest beginning that goes
+-- what leaves the forest when one handle of a span is dropped: the longest closing prefix of the
+-- path from the span up to its root
 unfoldable pub IsClosing : Forest → Id → List Id → Type 0
 IsClosing forest i ids =
     (path : List Id) × IsPath forest i path
     × IsLongestGoing (take_handle i forest) (reverse path) ids
 
--- the forest after one handle of a span was taken away
+-- the forest after one handle of a span was dropped
 abbrev pub after_close : Id → Forest → Forest
 after_close i forest = without_spans (closing_of forest i) (take_handle i forest)
 
 -- ---- what two paths share
 
--- the path of a span without its longest common beginning with the path of the last span
+-- the path of a span without its longest common prefix with the path of the last span
 abbrev pub fresh_ids : Forest → Option Id → Id → List Id
 fresh_ids forest last i =
     drop (common_prefix_len same_id (path_of_any forest last) (path_of forest i)) (path_of forest i)

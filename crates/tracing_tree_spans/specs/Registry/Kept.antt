@@ -15,7 +15,7 @@ keeps_id i node = has_id i node.span
 abbrev pub kept_at : List KeptSpan → Id → Option KeptSpan
 kept_at nodes i = find (keeps_id i) nodes
 
--- the spans alone
+-- only the spans
 abbrev pub spans_of : List KeptSpan → List Span
 spans_of nodes = map (λ node. node.span) nodes
 
@@ -27,11 +27,11 @@ change_kept change i nodes = map (λ node. if keeps_id i node then change node e
 abbrev pub leave_out : Id → List KeptSpan → List KeptSpan
 leave_out i nodes = filter (λ node. not (keeps_id i node)) nodes
 
--- the path that is kept with a span; empty where the span is missing
+-- the path that is kept with a span; empty if the span is missing
 abbrev pub kept_path : List KeptSpan → Option Id → List Id
 kept_path nodes o = option_map_or (λ node. node.path) (option_and_then (kept_at nodes) o) []
 
--- the list with one child more counted where this is the parent
+-- the list with one child more counted at this parent
 abbrev pub with_child : Option Id → List KeptSpan → List KeptSpan
 with_child None nodes = nodes
 with_child (Some above) nodes = change_kept child_more above nodes

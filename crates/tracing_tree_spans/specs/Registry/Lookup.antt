@@ -1,4 +1,4 @@
--- What a look at spans shows.
+-- What a look-up of spans shows.
 use Rattle.std.specs.Prelude.{Option, option_map}
 use Rattle.tracing_tree_spans.specs.Registry.Forest.{Forest, span_at}
 use Rattle.tracing_tree_context.specs.declared.context.Id.{Id}

@@ -9,12 +9,12 @@ abbrev pub agree_at : List Id → List Id → ℕ → Bool
 agree_at old new k =
     option_map_or (λ i. option_map_or (same_id i) (slice_get new k) false) (slice_get old k) false
 
--- where two places agree, all places before them agree
+-- if two places agree, all places before them agree
 abbrev pub PartOnce : List Id → List Id → Type 0
 PartOnce old new =
     (k : ℕ) → IsTrue (agree_at old new k) → (j : ℕ) → j ≤ k → IsTrue (agree_at old new j)
 
--- the places that both lists have past the common beginning of this length, and its last place, if
--- it has one
+-- the places of both lists after the common prefix of this length, and its last place, if it has
+-- one
 abbrev pub looks_back : List Id → List Id → ℕ → ℕ
 looks_back old new shared = min (length old) (length new) - shared + (if shared == 0 then 0 else 1)

@@ -1,4 +1,4 @@
--- What the calls of the registry leave and answer.
+-- The answers of the registry's calls, and what they leave.
 use Rattle.std.specs.Prelude.{◌≡◌, ◌≢◌, ◌==◌, nat_lt, Bool, true, false, not, ◌&&◌, List, [], ◌∷◌, length, map, zip, take_while, Option, Some, None, Result, Ok, Err, IsTrue, ⊤, Vec, ◌^◌}
 use Rattle.std.specs.declared.alloc.Global.{Global}
 use Rattle.std.specs.List.{list_all}
@@ -18,11 +18,11 @@ IsRising [] = ⊤
 IsRising (span ∷ newer) =
     IsTrue (list_all (λ other. nat_lt span.id.0 other.id.0) newer) × IsRising newer
 
--- each span's id is one that can be given out
+-- each span's id is below 2^64
 abbrev pub IsInRange : List Span → Type 0
 IsInRange spans = IsTrue (list_all (λ span. nat_lt span.id.0 (2 ^ 64)) spans)
 
--- the forest of these spans, of which no next id is asked
+-- the forest of these spans, with an arbitrary next id
 abbrev pub alone : List Span → Forest
 alone spans = record { spans = spans; next = None }
 
@@ -41,8 +41,8 @@ abbrev pub lacks_others : List Span → Option Id → Id → Bool
 lacks_others spans before i =
     list_all (λ child. option_map_or (same_id child.id) before false) (children_of (alone spans) i)
 
--- of these ids the longest beginning in which each goes after the one before it, and the first
--- after this one
+-- the longest prefix of these ids in which each closes after the one before it, and the first after
+-- this one
 abbrev pub going_after : Forest → Option Id → List Id → List Id
 going_after forest before ids =
     map (λ step. step.1)
@@ -54,8 +54,9 @@ abbrev pub missing_parent : Forest → Attributes → Context → Option Id
 missing_parent forest attributes context =
     any_unless_live forest (named_parent attributes.parent context.current)
 
--- A new span has the next id. Without its parent it is refused for that, and else where no id is
--- left; only a span that has both can be refused for want of memory. A refusal changes nothing.
+-- A new span has the next id. A missing parent is its first cause of refusal, and then a missing
+-- next id. Only a span that has both can be refused because memory ran out. A refusal changes
+-- nothing.
 abbrev pub IsNewSpan : Attributes → Context → Result Id Refusal → Forest → Forest → Type 0
 IsNewSpan attributes context (Ok i) old new =
     (missing_parent old attributes context ≡ None) × (old.next ≡ Some i)
@@ -68,8 +69,8 @@ IsNewSpan attributes context (Err Memory) old new =
     (missing_parent old attributes context ≡ None) × (old.next ≢ None) × (new ≡ old)
 IsNewSpan attributes context (Err refusal) old new = ⊥
 
--- a clone adds one handle; a span that isn't live and a count that is full are refused, and change
--- nothing then
+-- a clone adds one handle; a span that isn't live and a full count are refused, and then nothing
+-- changes
 abbrev pub IsCloned : Id → Result Id Refusal → Forest → Forest → Type 0
 IsCloned i (Ok j) old new =
     (unless_live old i ≡ None) × (has_all_handles old i ≡ false) × (j ≡ i)
@@ -79,8 +80,8 @@ IsCloned i (Err TooMany) old new =
     (unless_live old i ≡ None) × (has_all_handles old i ≡ true) × (new ≡ old)
 IsCloned i (Err refusal) old new = ⊥
 
--- a close takes one handle and what closes with it; it is refused exactly where no handle is left,
--- and changes nothing then
+-- a close drops one handle and removes what closes with it; it is refused exactly if no handle is
+-- left, and then changes nothing
 abbrev pub IsClosed : Id → Result Bool Refusal → Forest → Forest → Type 0
 IsClosed i (Ok went) old new =
     (unless_handle old i ≡ None) × (went ≡ not (length (closing_of old i) == 0))
@@ -88,7 +89,7 @@ IsClosed i (Ok went) old new =
 IsClosed i (Err (NotHeld j)) old new = (unless_handle old i ≡ Some j) × (new ≡ old)
 IsClosed i (Err refusal) old new = ⊥
 
--- the list of what closes with a handle; want of memory comes only where that list isn't empty
+-- the list of what closes with a handle; memory can run out only if that list isn't empty
 abbrev pub ListsClosing : Id → Result (Vec Id Global) Refusal → Forest → Type 0
 ListsClosing i (Ok ids) forest = (unless_handle forest i ≡ None) × (ids.items ≡ closing_of forest i)
 ListsClosing i (Err (NotHeld j)) forest = unless_handle forest i ≡ Some j
@@ -100,13 +101,13 @@ abbrev pub listed : Vec Id Global → Result (Unit {0}) Refusal → Result (Vec 
 listed ids (Ok done) = Ok ids
 listed ids (Err refusal) = Err refusal
 
--- a list that isn't empty, and want of memory, come only with the last handle
+-- a nonempty list, and running out of memory, occur only at the last handle
 abbrev pub AsksLastHandle : Id → Result (Vec Id Global) Refusal → Forest → Type 0
 AsksLastHandle i (Ok ids) forest = ids.items ≢ [] → handles_of forest i ≡ 1
 AsksLastHandle i (Err Memory) forest = handles_of forest i ≡ 1
 AsksLastHandle i (Err refusal) forest = ⊤
 
--- the newest span given out, live, with one handle and no child
+-- the newest span, live, with one handle and no child
 pub record IsNewest (i : Id) (forest : Forest) : Type 0 where
   pub live : IsTrue (is_live forest i)
   pub newest : forest.next ≡ id_after i

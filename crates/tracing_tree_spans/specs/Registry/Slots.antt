@@ -7,12 +7,12 @@ use Rattle.tracing_tree_context.specs.declared.context.Id.{Id}
 use Rattle.tracing_tree_spans.specs.declared.registry.slot.Slot.{Slot}
 use Rattle.tracing_tree_spans.specs.declared.registry.slot.Slot.TheVariants.{Live, Gone}
 
--- the id of the span that lies or lay here
+-- the id of the span that is or was stored here
 abbrev pub slot_id : Slot → Id
 slot_id (Live node) = node.span.id
 slot_id (Gone i) = i
 
--- the span that lies here, if it is live
+-- the span that is stored here, if it is live
 abbrev pub slot_node : Slot → Option KeptSpan
 slot_node (Live node) = Some node
 slot_node (Gone i) = None
@@ -24,7 +24,7 @@ is_gone (Gone i) = true
 abbrev pub slot_has : Id → Slot → Bool
 slot_has i slot = same_id (slot_id slot) i
 
--- the spans that lie here, without the gaps
+-- the spans that are stored here, without the gaps
 abbrev pub present : List Slot → List KeptSpan
 present [] = []
 present (Live node ∷ slots) = node ∷ present slots
@@ -44,7 +44,7 @@ ends_in_gap [] = false
 ends_in_gap (slot ∷ []) = is_gone slot
 ends_in_gap (slot ∷ next ∷ slots) = ends_in_gap (next ∷ slots)
 
--- the ids rise, the last place is no gap, and this many places are none
+-- the ids rise, the last place isn't a gap, and this many places aren't gaps
 pub record IsLaidOut (slots : List Slot) (live : ℕ) : Type 0 where
   pub rising : AreRising (slot_ids slots)
   pub ends : ends_in_gap slots ≡ false

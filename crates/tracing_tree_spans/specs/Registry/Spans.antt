@@ -1,4 +1,4 @@
--- A live span, and what a look at it shows.
+-- A live span, and what a look-up of it shows.
 use Rattle.std.specs.Prelude.{ℕ, ◌+◌, ◌-◌, List, ◌++◌, Option, true}
 use Rattle.tracing_tree_context.specs.declared.context.Id.{Id}
 use Rattle.tracing_tree_text.specs.declared.field.Field.{Field}
@@ -15,7 +15,7 @@ pub record Span : Type 0 where
   pub kept : Data
   pub handles : ℕ
 
--- what a look at a span shows: all but its handles
+-- what a look-up of a span shows: all but its handles
 pub record ShownSpan : Type 0 where
   pub id : Id
   pub parent : Option Id
@@ -36,7 +36,7 @@ shown_span span = record {
 abbrev pub printed_span : Span → Span
 printed_span span = record span { kept = record span.kept { written = true } }
 
--- ---- spans as a registry keeps them
+-- ---- spans in the form that a registry keeps
 
 -- the path of a span, wherever it is kept
 abbrev pub path_ids : SpanPath → List Id

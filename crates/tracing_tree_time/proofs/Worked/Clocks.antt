@@ -28,7 +28,7 @@ leap_day_number : epoch_day leap_day ≡ pos 11016
 unfolding days_from_civil day_count days_of_years days_of_months
 leap_day_number = refl
 
--- the year of that day number: it can't be computed, since that counts 20,000 years, but the date has it
+-- the year of that day number, which the date has: to compute it would take 20,000 years of steps
 leap_year : year_of_day (pos 11016) ≡ pos 2000
 leap_year = ap year_of_day (sym leap_day_number) ∙ year_of_day-date leap_day
 

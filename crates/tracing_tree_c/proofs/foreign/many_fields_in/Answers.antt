@@ -15,7 +15,7 @@ returns-in-Err c =
     (λ all. head_of given c.loop-field.field-index none c.loop-field-test.true (c.loop-field.invariant.2 all))
     (λ none_given. absurd (not_empty given c.loop-field.field-index c.loop-field-test.true none_given)) c.in-Err.ensures
 
--- where all can be read for sure, so can the one at hand
+-- if all can be read for sure, so can the current one
 pub field_in-requires : goal.field_in-requires
 field_in-requires c =
     let given : List FieldRef = c.args.given.now in

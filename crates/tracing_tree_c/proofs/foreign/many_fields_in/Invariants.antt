@@ -3,8 +3,8 @@ use Rattle.std.specs.Prelude.{vec_capacity}
 use Rattle.tracing_tree_c.specs.Foreign.{IsUtf8Fields, fields_of}
 use Rattle.tracing_tree_c.proofs.foreign.many_fields_in.Given as goal
 
--- what is read so far and the rest are all, all can be read exactly where the rest can, and there is
--- room for the rest
+-- what is read so far and the rest are all, all can be read exactly if the rest can, and there is
+-- space for the rest
 abbrev pub invariant-loop-field : goal.invariant-loop-field
 invariant-loop-field l =
     let rest = drop l.field-index l.given in

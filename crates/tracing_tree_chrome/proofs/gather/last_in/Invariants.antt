@@ -2,7 +2,7 @@ use Rattle.std.proofs.Common.{◌≡◌, ◌≤◌, length, take}
 use Rattle.tracing_tree_chrome.specs.Gather.{last_in}
 use Rattle.tracing_tree_chrome.proofs.gather.last_in.Given as goal
 
--- none of those from this place on is in the lane
+-- no item from this place on is in the lane
 abbrev pub invariant-loop-at : goal.invariant-loop-at
 invariant-loop-at l = record {
   place : l.at ≤ length l.fn.begun;

@@ -2,7 +2,7 @@ use Rattle.std.proofs.Common.{◌≡◌, ◌+◌, length}
 use Rattle.tracing_tree_chrome.specs.Text.{level_of, nothing_read, scan_from}
 use Rattle.tracing_tree_chrome.proofs.text.scan_of.Given as goal
 
--- the scan goes on with the rest
+-- the scan continues with the rest
 abbrev pub invariant-loop-rest : goal.invariant-loop-rest
 invariant-loop-rest l = record {
   place : l.at + length l.rest ≡ length l.fn.text;

@@ -4,7 +4,7 @@ use Rattle.std.specs.Vec.Iter.{into_iter_items, into_iter_len}
 use Rattle.tracing_tree_go_test.specs.Failed.{released_each}
 use Rattle.tracing_tree_go_test.proofs.failed.release.Given as goal
 
--- the others are left to be told
+-- the others are still to be shown
 abbrev pub invariant-loop-one : goal.invariant-loop-one
 invariant-loop-one l = record {
   same : released_each l.fn.path (contains_text l.over) l.fn.lines l.fn.shown

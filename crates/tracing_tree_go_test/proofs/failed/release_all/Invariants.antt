@@ -2,7 +2,7 @@ use Rattle.std.proofs.Common.{◌≡◌, length}
 use Rattle.tracing_tree_go_test.specs.Failed.{all_released}
 use Rattle.tracing_tree_go_test.proofs.failed.release_all.Given as goal
 
--- the later packages are left to be told
+-- the later packages are still to be shown
 abbrev pub invariant-loop-path : goal.invariant-loop-path
 invariant-loop-path l = all_released l.fn.packages l.fn.shown ≡ all_released l.packages l.shown
 

@@ -2,7 +2,7 @@ use Rattle.std.proofs.Common.{◌≡◌, length}
 use Rattle.tracing_tree_go_test.specs.Failed.{tests_released}
 use Rattle.tracing_tree_go_test.proofs.failed.release_tests.Given as goal
 
--- the later tests are left to be told
+-- the later tests are still to be shown
 abbrev pub invariant-loop-lines : goal.invariant-loop-lines
 invariant-loop-lines l = tests_released l.fn.path l.fn.tests l.fn.shown ≡ tests_released l.fn.path l.tests l.shown
 

@@ -2,7 +2,7 @@ use Rattle.std.proofs.Common.{◌≡◌, length}
 use Rattle.tracing_tree_junit.specs.Seconds.{whole_from}
 use Rattle.tracing_tree_junit.proofs.seconds.whole_of.Given as goal
 
--- the rest of the digits goes on with what is read
+-- the rest of the digits continues what is read
 abbrev pub invariant-loop-rest : goal.invariant-loop-rest
 invariant-loop-rest l = whole_from 0 l.fn.digits ≡ whole_from l.number l.rest
 

@@ -4,7 +4,8 @@ use Rattle.tracing_tree_lines.specs.Lines.Runs.{last_number}
 use Rattle.tracing_tree_lines.specs.Lines.SoFar.{GoesOver}
 use Rattle.tracing_tree_lines.proofs.lines.draw_lines.Given as goal
 
--- each line before the next, from the second on, holds at most one accepted call, and the run so far is that of these lines
+-- each line before the next, from the second on, has at most one accepted call, and the run so far
+-- is that of these lines
 abbrev pub invariant-loop-run : goal.invariant-loop-run
 invariant-loop-run g l = record {
   room : (l.run.accepted + 2 ≤ l.run.number) × (l.run.number ≤ last_number);

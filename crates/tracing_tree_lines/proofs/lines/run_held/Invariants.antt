@@ -6,7 +6,7 @@ use Rattle.tracing_tree_lines.specs.Lines.Runs.{last_number}
 use Rattle.tracing_tree_lines.specs.Lines.SoFar.{RunsHeld}
 use Rattle.tracing_tree_lines.proofs.lines.run_held.Given as goal
 
--- the lines before this place were judged, and the text can be cut there
+-- the lines before this place were judged, and the string can be cut there
 abbrev pub invariant-loop-length : goal.invariant-loop-length
 invariant-loop-length g l = record {
   room : (l.run.accepted + 2 ≤ l.run.number) × (l.run.number ≤ last_number);

@@ -3,7 +3,7 @@ use Rattle.std.specs.Vec.Iter.{into_iter_items, into_iter_len}
 use Rattle.tracing_tree_otlp.specs.Gather.{resolved}
 use Rattle.tracing_tree_otlp.proofs.gather.resolved_all.Given as goal
 
--- what is nested so far and the others as they will be are all
+-- what is nested so far and the others as they will be are everything
 abbrev pub invariant-loop-item : goal.invariant-loop-item
 invariant-loop-item l = record {
   same : l.rows.items ++ map (resolved l.known) (into_iter_items l.item-iterator) ≡ map (resolved l.known) l.fn.items.items;

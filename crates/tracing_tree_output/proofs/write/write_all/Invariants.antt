@@ -2,7 +2,7 @@ use Rattle.std.proofs.Common.{◌≡◌, ℕ, ◌<◌, List, [], ◌++◌, IsTru
 use Rattle.std.specs.Io.KnownBytes.{Appends}
 use Rattle.tracing_tree_output.proofs.write.write_all.Given as goal
 
--- what is gone from `rest` was appended
+-- what was removed from `rest` was appended
 abbrev pub invariant-loop-rest : goal.invariant-loop-rest
 invariant-loop-rest g l =
     (done : List ℕ) × (l.bytes ≡ done ++ l.rest)

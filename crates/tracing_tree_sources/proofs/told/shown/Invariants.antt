@@ -2,7 +2,7 @@ use Rattle.std.proofs.Common.{◌≡◌, ◌++◌, IsUtf8, string_bytes}
 use Rattle.tracing_tree_sources.specs.Told.{shown}
 use Rattle.tracing_tree_sources.proofs.told.shown.Given as goal
 
--- what is made so far and the rest as it is shown are the text as it is shown
+-- what is made so far and the drawn form of the rest are the string's drawn form
 abbrev pub invariant-loop-c : goal.invariant-loop-c
 invariant-loop-c l =
     IsUtf8 l.c-iterator.rest.now

@@ -2,7 +2,7 @@ use Rattle.std.proofs.Common.{◌≡◌, ◌+◌, length}
 use Rattle.tracing_tree_tap.specs.Line.{space_note_place}
 use Rattle.tracing_tree_tap.proofs.line.space_note_place.Given as goal
 
--- the place in the rest, behind what is passed
+-- the place in the rest, after what was passed
 abbrev pub invariant-loop-rest : goal.invariant-loop-rest
 invariant-loop-rest l =
     (space_note_place l.fn.text ≡ l.place + space_note_place l.rest) × (l.place + length l.rest ≡ length l.fn.text)

@@ -2,7 +2,7 @@ use Rattle.std.proofs.Common.{◌≡◌, length}
 use Rattle.tracing_tree_xml.specs.Decoded.{number_from}
 use Rattle.tracing_tree_xml.proofs.decode.number_of.Given as goal
 
--- the rest of the digits goes on with what is read
+-- the rest of the digits continues what is read
 abbrev pub invariant-loop-rest : goal.invariant-loop-rest
 invariant-loop-rest l = number_from l.radix 0 l.fn.digits ≡ number_from l.radix l.number l.rest
 

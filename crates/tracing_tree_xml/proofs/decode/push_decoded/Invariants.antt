@@ -4,7 +4,7 @@ use denote.Shadow.{shadow}
 use Rattle.tracing_tree_xml.specs.Decoded.{decoded, decoded_within}
 use Rattle.tracing_tree_xml.proofs.decode.push_decoded.Given as goal
 
--- what is written, and then what the rest stands for, are all
+-- what is written, and then what the rest means, is everything
 abbrev pub invariant-loop-turn : goal.invariant-loop-turn
 invariant-loop-turn l =
     shadow (Utf8 l.rest)

@@ -3,7 +3,7 @@ use Rattle.tracing_tree_layer.proofs.FieldTexts.{added_fields}
 use Rattle.tracing_tree_c.specs.Foreign.{IsUtf8Fields, fields_of}
 use Rattle.tracing_tree_c.proofs.foreign.EventTextsToldEvent.push_fields.Given as goal
 
--- what is appended, and what the other fields add, which are texts
+-- what is appended, and what the other fields add, which are UTF-8
 abbrev pub invariant-loop-field : goal.invariant-loop-field
 invariant-loop-field l =
     let rest = drop l.field-index l.field-items in

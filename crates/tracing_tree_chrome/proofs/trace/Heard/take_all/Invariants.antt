@@ -4,7 +4,7 @@ use Rattle.tracing_tree_chrome.specs.Trace.{heard_all}
 use Rattle.tracing_tree_chrome.specs.Notes.{IsNoted, element_notes}
 use Rattle.tracing_tree_chrome.proofs.trace.Heard.take_all.Given as goal
 
--- the others are left to be heard
+-- the others are still to be read
 abbrev pub invariant-loop-element : goal.invariant-loop-element
 invariant-loop-element g l = record {
   heard : heard_all (items_view l.element-items) l.fn.self

@@ -5,7 +5,8 @@ use Rattle.tracing_tree_text.specs.declared.field.Field.{Field}
 use Rattle.tracing_tree_drawing.specs.Format.Texts.{event_field}
 use Rattle.tracing_tree_drawing.proofs.format.event.push_event_texts.Goals as goal
 
--- shown for a field of which only name and value are known, since the search unfolds one that is written out
+-- shown for a field with a known name and value, since the search unfolds a field that is written
+-- out
 pub returns-clause-text : goal.returns-clause-text
 returns-clause-text c =
     let shown : (field : Field) → field.name ≡ c.args.name.now → field.value ≡ c.args.value.now

@@ -2,7 +2,7 @@ use Rattle.std.proofs.Common.{◌≡◌, ◌≤◌, length}
 use Rattle.tracing_tree_go_test.specs.GoTest.{outer_within}
 use Rattle.tracing_tree_go_test.proofs.go_test.running.outer_in.Given as goal
 
--- no longer beginning runs and has a span
+-- no longer prefix runs and has a span
 abbrev pub invariant-loop-length : goal.invariant-loop-length
 invariant-loop-length l = record {
   within : l.length ≤ length l.fn.test;

@@ -2,7 +2,7 @@ use Rattle.std.proofs.Common.{◌≡◌, ◌≤◌, length}
 use Rattle.tracing_tree_go_test.specs.GoTest.{owner, owner_within}
 use Rattle.tracing_tree_go_test.proofs.go_test.running.owner.Given as goal
 
--- no longer beginning runs
+-- no longer prefix runs
 abbrev pub invariant-loop-length : goal.invariant-loop-length
 invariant-loop-length l = record {
   within : l.length ≤ length l.fn.test;

@@ -8,7 +8,7 @@ use Rattle.tracing_tree_layer.specs.Layer.Layers.{seen}
 use Rattle.tracing_tree_layer.proofs.Causes.{first_cause}
 use Rattle.tracing_tree_layer.proofs.layer.HierarchicalLayer.on_record.Goals as goal
 
--- what shows nothing isn't live
+-- a span without shown data isn't live
 unshown : (o : Option Span) → is_some (option_map shown_span o) ≡ false → o ≡ None
 unshown None e = refl
 unshown (Some s) e = absurd cc

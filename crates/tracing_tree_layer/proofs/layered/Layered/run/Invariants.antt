@@ -5,7 +5,8 @@ use Rattle.tracing_tree_layer.specs.Layer.Layers.{seen}
 use Rattle.tracing_tree_layer.specs.declared.call.Call.{Call}
 use Rattle.tracing_tree_layer.proofs.layered.Layered.run.Given as goal
 
--- the calls so far are answered, and what is left of them isn't looked at again; there is room for the answers to the rest
+-- the calls so far are answered, and what is left of them isn't looked at again; there is space for
+-- the answers to the rest
 abbrev pub invariant-loop-call : goal.invariant-loop-call
 invariant-loop-call g l =
     (done taken rest : List Call) × (l.initial.call-items ≡ done ++ rest) × (l.call-items ≡ taken ++ rest)

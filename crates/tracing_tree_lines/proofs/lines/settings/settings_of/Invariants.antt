@@ -4,7 +4,7 @@ use Rattle.tracing_tree_lines.specs.Lines.Spelled.{object_settings, with_members
 use Rattle.tracing_tree_lines.specs.Lines.Values.{asked_of}
 use Rattle.tracing_tree_lines.proofs.lines.settings.settings_of.Given as goal
 
--- what the rest makes of the settings so far is what the object asks for
+-- what the rest makes of the settings so far is what the object sets
 abbrev pub invariant-loop-key : goal.invariant-loop-key
 invariant-loop-key l =
     object_settings (view l.value)

@@ -2,7 +2,7 @@ use Rattle.std.proofs.Common.{◌-◌, ◌≤◌, length}
 use Rattle.tracing_tree_spans.proofs.SlotLists.{IsLeft}
 use Rattle.tracing_tree_spans.proofs.registry.nodes.search.Given as goal
 
--- the id lies nowhere but in what is left
+-- only what is left can hold the id
 abbrev pub invariant-loop-from : goal.invariant-loop-from
 invariant-loop-from l = record {
   within : l.to ≤ length l.slots;

@@ -3,7 +3,7 @@ use Rattle.tracing_tree_spans.specs.Registry.Kept.{spans_of, IsTied}
 use Rattle.tracing_tree_spans.proofs.ClosingParts.{HasRemoved}
 use Rattle.tracing_tree_spans.proofs.registry.spans.remove_upward.Given as goal
 
--- what is left to remove leaves what was to be left
+-- what is left to remove leaves the expected rest
 abbrev pub invariant-loop : goal.invariant-loop
 invariant-loop l = record {
   removed : HasRemoved (spans_of l.initial.nodes) (spans_of l.nodes) (Some l.fn.id) l.above (l.count - l.counter);

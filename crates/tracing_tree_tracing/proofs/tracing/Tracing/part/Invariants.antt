@@ -3,7 +3,7 @@ use Rattle.std.specs.Vec.Iter.{into_iter_items, into_iter_len}
 use Rattle.tracing_tree_tracing.specs.Tracing.{parted}
 use Rattle.tracing_tree_tracing.proofs.tracing.Tracing.part.Given as goal
 
--- the others are left to be gone through
+-- the others are still left
 abbrev pub invariant-loop-one : goal.invariant-loop-one
 invariant-loop-one l = record {
   same : parted l.fn.live.items (l.fn.id ∷ []) l.fn.self ≡ parted (into_iter_items l.one-iterator) l.gone.items l.self;

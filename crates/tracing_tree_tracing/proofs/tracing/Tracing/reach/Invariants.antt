@@ -3,7 +3,7 @@ use Rattle.std.specs.Vec.Iter.{into_iter_items, into_iter_len}
 use Rattle.tracing_tree_tracing.specs.Tracing.{reached}
 use Rattle.tracing_tree_tracing.proofs.tracing.Tracing.reach.Given as goal
 
--- the others are left to be come to
+-- the others are still to be reached
 abbrev pub invariant-loop-listed : goal.invariant-loop-listed
 invariant-loop-listed l = record {
   depth : l.depth ≡ length l.fn.path.items;

@@ -5,7 +5,7 @@ use Rattle.tracing_tree_spans.proofs.Ties.{KeepsTies}
 use Rattle.tracing_tree_spans.proofs.Registers.{kept-attempt, tied-attempt, forest-attempt, live-error}
 use Rattle.tracing_tree_spans.proofs.registry.spans.RegistryLookupSpan.record.Goals as goal
 
--- the span with these fields at the end of its own
+-- the span with these fields after its own fields
 abbrev longer : List Field → Span → Span
 longer fields span = record span { kept = record span.kept { fields = span.kept.fields ++ fields } }
 
