@@ -132,7 +132,7 @@ check_programs() {
     for program in tracing_tree tracing_tree_read ttree; do
         fault=$(fault_of $program)
         if [ -n "$fault" ]; then
-            say "$fault: run 'make build' (25 minutes on four cores)"
+            say "$fault: run 'make build' (35 minutes on four cores)"
             status=2
         fi
     done

@@ -378,7 +378,7 @@ def check_refused(copy, name, lines, prefix=PREFIX):
 
 def check_without_programs(copy):
     def said(name, fault):
-        return f"install: bin/{name} {fault}: run 'make build' (25 minutes on four cores)"
+        return f"install: bin/{name} {fault}: run 'make build' (35 minutes on four cores)"
 
     copy.age("bin/ttree", -10)
     check_refused(copy, "an old ttree", [said("ttree", "is older than its sources")])
@@ -410,7 +410,7 @@ def check_library(copy, prefix):
 def check_archive(copy):
     """Installs all or nothing, and a pkg-config file that names its folder by its own place."""
     library = "run 'make bindings' (20 minutes on four cores)"
-    program = "run 'make build' (25 minutes on four cores)"
+    program = "run 'make build' (35 minutes on four cores)"
     words = (f"{copy.top}/scripts/install.sh", "archive", copy.stage, PREFIX)
     for file, fault, age, remedy in (
         ("libtracing_tree.so.1", "is older than its sources", -10, library),
