@@ -491,8 +491,15 @@ heading_by true rest line s e =
     subst P (sym (heading_is_calm line e)) (goes_of s at (record { failed = λ w. refl; named_too = λ w. w }))
 heading_by false rest line s e = failure_by (begins (codes "FAIL\t") line) (drop (length (codes "FAIL\t")) line) line s
 
+-- a blank line is passed over
+unless_blank : (b f : Bool) (s t : GoState) → Goes f s t → Goes (if b then false else f) s (if b then s else t)
+unless_blank true f s t h = goes_of s s (same s)
+unless_blank false f s t h = h
+
 text_goes : (line : List ℕ) (s : GoState) → Goes (is_failure line None) s (takes_text line s)
-text_goes line s = heading_by (begins (codes "# ") line) (drop (length (codes "# ")) line) line s refl
+text_goes line s =
+    unless_blank (is_skipped line) (begins (codes "FAIL\t") line) s (takes_heading (after_mark (codes "# ") line) line s)
+    (heading_by (begins (codes "# ") line) (drop (length (codes "# ")) line) line s refl)
 
 -- a line of JSON, if it is known
 abbrev GoesIf : Bool → GoState → Option GoState → Type 0
@@ -585,8 +592,7 @@ heard_if false f g s h k i j = j
 
 line_goes : (line : List ℕ) (s : GoState) → Goes (tells_failure line) s (hear_line go_takes s line).source
 line_goes line s =
-    heard_if (is_skipped line) false (if is_utf8 line then is_failure line (document line) else false) s (nothing_heard s) _ (goes_of s s (same s))
-    (heard_if (is_utf8 line) (is_failure line (document line)) false s (heard_step s (go_takes s line (document line))) (heard_step s None) (step_goes line (document line) s) (goes_of s s (same s)))
+    heard_if (is_utf8 line) (is_failure line (document line)) false s (heard_step s (go_takes s line (document line))) (heard_step s None) (step_goes line (document line) s) (goes_of s s (same s))
 
 lines_go : (lines : List (List ℕ)) (s : GoState) → Goes (list_any tells_failure lines) s (hear go_takes s lines).source
 lines_go [] s = goes_of s s (same s)

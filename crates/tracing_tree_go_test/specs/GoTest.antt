@@ -561,7 +561,8 @@ takes_heading None line s = takes_failure (after_mark (codes "FAIL\t") line) lin
 
 -- a line that isn't JSON: a failing build's, or any other output
 abbrev pub takes_text : List ℕ → GoState → GoState
-takes_text line s = takes_heading (after_mark (codes "# ") line) line s
+takes_text line s =
+    if is_skipped line then s else takes_heading (after_mark (codes "# ") line) line s
 
 -- the test of a line; empty on a package's line
 abbrev pub test_of : Json → List ℕ

@@ -24,6 +24,7 @@ use telling::elapsed_fields;
 use text::{is_package_frame, own_name, up_to_space};
 use tracing_tree_context::Id;
 use tracing_tree_layer::call::Call;
+use tracing_tree_lines::lines::is_skipped;
 use tracing_tree_sources::marks::after_mark;
 use tracing_tree_sources::moments::moment_after;
 use tracing_tree_sources::notes::Lack;
@@ -146,6 +147,9 @@ impl GoTest {
     pub(crate) fn take_text(&mut self, line: &str) -> Result<(), AllocError>
         ensures { OnOk result (self.new ≡ takes_text line.now self.old) }
     {
+        if is_skipped(line.as_bytes()) {
+            return Ok(());
+        }
         if let Some(rest) = after_mark(line, "# ") {
             return self.set_building(up_to_space(rest));
         }

@@ -7,6 +7,7 @@ use Rattle.tracing_tree_context.specs.declared.context.Id.{Id}
 use Rattle.tracing_tree_context.specs.declared.context.Moment.{Moment}
 use Rattle.tracing_tree_text.specs.declared.field.Field.{Field}
 use Rattle.tracing_tree_layer.specs.declared.call.Call.{Call}
+use Rattle.tracing_tree_lines.specs.Lines.Spelled.{is_skipped}
 use Rattle.tracing_tree_sources.specs.Source.{Step}
 use Rattle.tracing_tree_sources.specs.declared.notes.Lack.{Lack}
 use Rattle.tracing_tree_sources.specs.declared.notes.Lack.TheVariants.{Object}
@@ -88,7 +89,7 @@ object_told value s =
 
 -- a line that isn't an object is an event where the last object was
 abbrev pub plain_told : List ℕ → LogsState → LogsState
-plain_told line s = told (plain_event s.moment line s.at) s
+plain_told line s = if is_skipped line then s else told (plain_event s.moment line s.at) s
 
 abbrev pub line_told : List ℕ → Option Json → LogsState → LogsState
 line_told line None s = plain_told line s

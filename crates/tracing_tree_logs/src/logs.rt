@@ -21,6 +21,7 @@ use std::marker::Model;
 use std::mem;
 use tracing_tree_context::Id;
 use tracing_tree_layer::call::Call;
+use tracing_tree_lines::lines::is_skipped;
 use tracing_tree_sources::notes::Lack;
 use tracing_tree_sources::source::Source;
 use tracing_tree_sources::told::{close_call, event_call, shown, span_call};
@@ -182,10 +183,13 @@ impl Logs {
         Ok(self.calls.push(call)?)
     }
 
-    // Takes a line that isn't an object.
+    // Takes a line that isn't an object. A blank one means nothing.
     fn take_plain(&mut self, line: &str) -> Result<(), AllocError>
         ensures { OnOk result (self.new ≡ plain_told line.now self.old) }
     {
+        if is_skipped(line.as_bytes()) {
+            return Ok(());
+        }
         let call = plain_event(self.alloc, self.moment, line, self.at)?;
         Ok(self.calls.push(call)?)
     }

@@ -7,7 +7,7 @@ use Rattle.json.specs.Json.{Json, document}
 use Rattle.tracing_tree_context.specs.declared.context.Refusal.{Refusal}
 use Rattle.tracing_tree_layer.specs.declared.call.Call.{Call}
 use Rattle.tracing_tree_layer.specs.declared.call.Reply.{Reply}
-use Rattle.tracing_tree_lines.specs.Lines.Spelled.{input_lines, is_skipped}
+use Rattle.tracing_tree_lines.specs.Lines.Spelled.{input_lines}
 use Rattle.tracing_tree_lines.specs.Lines.Reads.{ReadsNext, TakesLine}
 use Rattle.tracing_tree_lines.specs.Lines.Reads.{is_from_outside}
 use Rattle.tracing_tree_lines.specs.declared.lines.LineCause.{LineCause}
@@ -99,9 +99,9 @@ module _ {C : Type 0} (answers : Call → Result Reply Refusal → C → C → T
     heard_as heard after (Err cause) old new = StopsIn Made answers heard.calls cause old new
 
     -- a line that isn't UTF-8
-    pub hears_no_text : (line : List ℕ) (source : S) (s : C) → is_skipped line ≡ false → ¬ (IsUtf8 line) → HearsLine Made answers takes line source source (Ok false) s s
-    hears_no_text line source s judged bad =
-        rw (judged, no_text line bad) (accepts_none answers flushes s, refl, refl)
+    pub hears_no_text : (line : List ℕ) (source : S) (s : C) → ¬ (IsUtf8 line) → HearsLine Made answers takes line source source (Ok false) s s
+    hears_no_text line source s bad =
+        rw (no_text line bad) (accepts_none answers flushes s, refl, refl)
 
     tells_calls : (told : Option (Step S)) (before after : S) (calls : List Call) (result : Result ⊤ LineCause) (old new : C) →
         Tells told before after (Some calls) → MakesAll Made answers calls result old new →
@@ -114,15 +114,15 @@ module _ {C : Type 0} (answers : Call → Result Reply Refusal → C → C → T
         let P : List Call → Type 0 = λ c. StopsIn Made answers c cause old new in
         subst P h.0 k
 
-    pub hears_calls : (line : List ℕ) (before after : S) (calls : List Call) (old new : C) → is_skipped line ≡ false → IsUtf8 line →
+    pub hears_calls : (line : List ℕ) (before after : S) (calls : List Call) (old new : C) → IsUtf8 line →
         Tells (takes before line (document line)) before after (Some calls) → Made calls old new → HearsLine Made answers takes line before after (Ok true) old new
-    hears_calls line before after calls old new judged text h k =
-        rw (judged, is_utf8-from_IsUtf8 line text) (tells_calls (takes before line (document line)) before after calls (Ok tt) old new h k)
+    hears_calls line before after calls old new text h k =
+        rw (is_utf8-from_IsUtf8 line text) (tells_calls (takes before line (document line)) before after calls (Ok tt) old new h k)
 
-    pub hears_stop : (line : List ℕ) (before after : S) (calls : List Call) (cause : LineCause) (old new : C) → is_skipped line ≡ false → IsUtf8 line →
+    pub hears_stop : (line : List ℕ) (before after : S) (calls : List Call) (cause : LineCause) (old new : C) → IsUtf8 line →
         Tells (takes before line (document line)) before after (Some calls) → StopsIn Made answers calls cause old new → HearsLine Made answers takes line before after (Err cause) old new
-    hears_stop line before after calls cause old new judged text h k =
-        rw (judged, is_utf8-from_IsUtf8 line text) (tells_calls (takes before line (document line)) before after calls (Err cause) old new h k)
+    hears_stop line before after calls cause old new text h k =
+        rw (is_utf8-from_IsUtf8 line text) (tells_calls (takes before line (document line)) before after calls (Err cause) old new h k)
 
     -- ---- the next line, or the end
 

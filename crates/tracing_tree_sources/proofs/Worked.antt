@@ -3,7 +3,7 @@ use Rattle.std.proofs.Common.{◌≡◌, true, false, None, Some, [], ◌∷◌,
 use Rattle.std.specs.Prelude.{negsuc}
 use Rattle.json.specs.Json.{array, boolean, string, object, no_items, member, no_members}
 use Rattle.tracing_tree_sources.specs.First.{begins_list, begins_object, detected, format_by, format_of, format_of_line, holding, without_mark}
-use Rattle.tracing_tree_sources.specs.Markers.{format_marked}
+use Rattle.tracing_tree_sources.specs.Markers.{begins_call_key, begins_level_key, begins_message_key, begins_time_key, format_marked}
 use Rattle.tracing_tree_sources.specs.Marks.{after_mark}
 use Rattle.tracing_tree_sources.specs.declared.first.Detection.TheVariants.{Full, Held}
 use Rattle.tracing_tree_sources.specs.declared.first.Format.TheVariants.{Chrome, GoTest, Junit, Lines, Logs, Otlp, Tap, Tracing}
@@ -130,7 +130,12 @@ pub a_list_that_goes_on_is_of_chrome : format_of_line (codes "\t[") ≡ Some Chr
 a_list_that_goes_on_is_of_chrome = refl
 
 pub an_object_that_goes_on_is_of_chrome : format_by (begins_object (codes "{\"traceEvents\": [")) None ≡ Some Chrome
+unfolding begins_level_key begins_time_key begins_message_key begins_call_key
 an_object_that_goes_on_is_of_chrome = refl
+
+pub a_log_that_goes_on_is_no_trace : format_by (begins_object (codes "{\"level\":\"info\",\"msg\":\"star")) None ≡ None
+unfolding begins_level_key
+a_log_that_goes_on_is_no_trace = refl
 
 pub words_in_braces_are_no_object : begins_object (codes "{ x }") ≡ false
 words_in_braces_are_no_object = refl
@@ -160,6 +165,18 @@ a_list_of_objects_begins = refl
 
 pub a_plan_is_of_tap : format_marked (codes "1..5") ≡ Some Tap
 a_plan_is_of_tap = refl
+
+pub a_plan_may_skip_all : format_marked (codes "1..0 # SKIP no network") ≡ Some Tap
+a_plan_may_skip_all = refl
+
+pub words_after_a_range_are_no_plan : format_marked (codes "1..10 files") ≡ None
+words_after_a_range_are_no_plan = refl
+
+pub a_count_of_files_is_no_result : format_marked (codes "ok 3 files copied") ≡ None
+a_count_of_files_is_no_result = refl
+
+pub the_first_result_needs_no_dash : format_marked (codes "ok 1 loads") ≡ Some Tap
+the_first_result_needs_no_dash = refl
 
 pub a_result_is_of_tap : format_marked (codes "not ok 2 - adds") ≡ Some Tap
 a_result_is_of_tap = refl

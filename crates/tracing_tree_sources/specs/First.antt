@@ -1,5 +1,5 @@
 -- What a line determines about the format of its input.
-use Rattle.std.specs.Prelude.{ℕ, ◌+◌, ◌-◌, ◌^◌, ◌&&◌, ◌||◌, ◌==◌, nat_lt, Bool, true, false, if◌then◌else◌, List, [], ◌∷◌, length, min, Option, Some, None, is_some, is_none, bytes_eq, codes}
+use Rattle.std.specs.Prelude.{ℕ, ◌+◌, ◌-◌, ◌^◌, ◌&&◌, ◌||◌, ◌==◌, nat_lt, Bool, true, false, not, if◌then◌else◌, List, [], ◌∷◌, length, min, Option, Some, None, is_some, is_none, bytes_eq, codes}
 use Rattle.std.specs.List.{list_any}
 use Rattle.std.specs.Str.{is_utf8}
 use Rattle.json.specs.Json.{Json, Members, no_members, member, document}
@@ -7,7 +7,7 @@ use Rattle.json.specs.Find.{as_object, get}
 use Rattle.tracing_tree_sources.specs.Blanks.{after_blanks, first_byte}
 use Rattle.tracing_tree_sources.specs.Counts.{one_more}
 use Rattle.tracing_tree_sources.specs.Levels.{level_in}
-use Rattle.tracing_tree_sources.specs.Markers.{format_marked}
+use Rattle.tracing_tree_sources.specs.Markers.{begins_line_key, format_marked}
 use Rattle.tracing_tree_sources.specs.Marks.{after_mark}
 use Rattle.tracing_tree_sources.specs.Values.{array_at, text_at}
 use Rattle.tracing_tree_sources.specs.declared.first.Detector.{Detector}
@@ -130,9 +130,11 @@ may_be_key (Some byte) = byte == 34
 
 abbrev pub object_begins : List ℕ → Bool
 object_begins [] = false
-object_begins (byte ∷ rest) = if byte == 123 then may_be_key (first_byte rest) else false
+object_begins (byte ∷ rest) =
+    if byte == 123 then may_be_key (first_byte rest) && not (begins_line_key (after_blanks rest))
+    else false
 
--- an object begins, and then a key or nothing follows: 123 begins an object
+-- An object (123) begins, and then a key or nothing follows. The key may be one of a trace.
 abbrev pub begins_object : List ℕ → Bool
 begins_object line = object_begins (after_blanks line)
 

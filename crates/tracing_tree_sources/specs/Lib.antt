@@ -15,3 +15,4 @@ pub mod Tallies
 pub mod LeveledCalls
 pub mod Traces
 pub mod Plain
+pub mod Columns

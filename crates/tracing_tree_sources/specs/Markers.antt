@@ -1,5 +1,6 @@
 -- Lines that only one format has: of TAP, of JUnit XML, and of OTLP.
-use Rattle.std.specs.Prelude.{ℕ, ◌==◌, ◌&&◌, ◌||◌, Bool, true, false, if◌then◌else◌, List, [], ◌∷◌, Option, Some, None, codes}
+use Rattle.std.specs.Prelude.{ℕ, ◌&&◌, ◌||◌, Bool, false, if◌then◌else◌, List, [], ◌∷◌, Option, Some, None, codes}
+use Rattle.tracing_tree_lines.specs.Lines.Spelled.{is_skipped}
 use Rattle.tracing_tree_sources.specs.Blanks.{after_blanks}
 use Rattle.tracing_tree_sources.specs.Marks.{after_mark, begins}
 use Rattle.tracing_tree_sources.specs.Traces.{after_digits, is_digit}
@@ -17,23 +18,29 @@ abbrev pub begins_digit : List ℕ → Bool
 begins_digit [] = false
 begins_digit (byte ∷ rest) = is_digit byte
 
--- a number ends at a space, at a carriage return, or with the line
-abbrev pub ends_number : List ℕ → Bool
-ends_number [] = true
-ends_number (byte ∷ rest) = (byte == 32) || (byte == 13)
+-- a line ends here, or a directive begins
+abbrev pub ends_line : List ℕ → Bool
+ends_line text = is_skipped text || begins (codes " #") text
 
-abbrev pub begins_number : List ℕ → Bool
-begins_number text = begins_digit text && ends_number (after_digits text)
+-- a description begins with a dash, or the line ends without one
+abbrev pub describes : List ℕ → Bool
+describes text = begins (codes " - ") text || ends_line text
 
--- the number of a result, or its description
+-- The number of a result and its description, or only the description. After the number of the
+-- first result, which is 1, a description needs no dash.
 abbrev pub is_numbered : List ℕ → Bool
-is_numbered text = begins_number text || begins (codes "- ") text
+is_numbered text =
+    begins (codes "- ") text || begins (codes "1 ") text
+    || (begins_digit text && describes (after_digits text))
 
 abbrev pub is_version : List ℕ → List ℕ → Bool
 is_version mark line = follows begins_digit (after_mark mark line)
 
+abbrev pub counts : List ℕ → Bool
+counts text = begins_digit text && ends_line (after_digits text)
+
 abbrev pub is_plan : List ℕ → Bool
-is_plan line = follows begins_number (after_mark (codes "1..") line)
+is_plan line = follows counts (after_mark (codes "1..") line)
 
 abbrev pub is_result : List ℕ → List ℕ → Bool
 is_result mark line = follows is_numbered (after_mark mark line)
@@ -44,6 +51,34 @@ is_tap line =
     is_version (codes "TAP version ") line || is_version (codes "KTAP version ") line || is_plan line
     || is_result (codes "ok ") line || is_result (codes "not ok ") line
     || begins (codes "# Subtest: ") line
+
+-- ---- JSON lines
+
+unfoldable pub begins_level_key : List ℕ → Bool
+begins_level_key text =
+    begins (codes "\"level\"") text || begins (codes "\"severity\"") text
+    || begins (codes "\"lvl\"") text || begins (codes "\"log.level\"") text
+    || begins (codes "\"PRIORITY\"") text
+
+unfoldable pub begins_time_key : List ℕ → Bool
+begins_time_key text =
+    begins (codes "\"time\"") text || begins (codes "\"ts\"") text
+    || begins (codes "\"timestamp\"") text || begins (codes "\"@timestamp\"") text
+    || begins (codes "\"Time\"") text
+
+unfoldable pub begins_message_key : List ℕ → Bool
+begins_message_key text =
+    begins (codes "\"msg\"") text || begins (codes "\"message\"") text
+    || begins (codes "\"event\"") text || begins (codes "\"MESSAGE\"") text
+
+unfoldable pub begins_call_key : List ℕ → Bool
+begins_call_key text = begins (codes "\"Action\"") text || begins (codes "\"call\"") text
+
+-- a key with which a line of logs, of Go's tests or of calls begins, and no trace does
+abbrev pub begins_line_key : List ℕ → Bool
+begins_line_key text =
+    begins_level_key text || begins_time_key text || begins_message_key text
+    || begins_call_key text
 
 -- ---- JUnit XML
 

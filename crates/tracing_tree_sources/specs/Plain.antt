@@ -1,17 +1,18 @@
 -- Lines of no format.
-use Rattle.std.specs.Prelude.{ℕ, List, [], ◌∷◌, Option, Some, None}
+use Rattle.std.specs.Prelude.{ℕ, List, [], ◌∷◌, Option, Some, None, if◌then◌else◌}
 use Rattle.json.specs.Json.{Json}
 use Rattle.tracing_tree_context.specs.declared.context.Moment.{Moment}
 use Rattle.tracing_tree_layer.specs.declared.call.Call.{Call}
+use Rattle.tracing_tree_lines.specs.Lines.Spelled.{is_skipped}
 use Rattle.tracing_tree_sources.specs.Source.{Step}
 use Rattle.tracing_tree_sources.specs.Traces.{plain_event}
 use Rattle.tracing_tree_sources.specs.declared.notes.Lack.{Lack}
 use Rattle.tracing_tree_sources.specs.declared.notes.Lack.TheVariants.{Object}
 
--- each line is an event at the root
+-- each line is an event at the root, except for a blank one
 abbrev pub plain_takes : Moment → List ℕ → Option Json → Option (Step Moment)
 plain_takes moment line value = Some (record {
-  calls = plain_event moment line None ∷ [];
+  calls = if is_skipped line then [] else plain_event moment line None ∷ [];
   source = moment;
 })
 

@@ -11,7 +11,7 @@ use Rattle.tracing_tree_layer.specs.Layered.Seen.{Seen, seen_later}
 use Rattle.tracing_tree_layer.specs.Layered.Headline.{run_from}
 use Rattle.tracing_tree_layer.specs.declared.call.Call.{Call}
 use Rattle.tracing_tree_layer.specs.declared.call.Reply.{Reply}
-use Rattle.tracing_tree_lines.specs.Lines.Spelled.{input_lines, is_skipped}
+use Rattle.tracing_tree_lines.specs.Lines.Spelled.{input_lines}
 use Rattle.tracing_tree_lines.specs.Lines.Reads.{TakesLine}
 use Rattle.tracing_tree_lines.specs.declared.lines.LineCause.{LineCause}
 use Rattle.tracing_tree_lines.specs.declared.lines.LineCause.TheVariants.{Settings as NoSettings, NotACall, Read, Memory, Refused}
@@ -54,11 +54,10 @@ module _ {S : Type 0} where
   }
 
   module _ (takes : S → List ℕ → Option Json → Option (Step S)) where
-    -- what a line means: a blank one nothing, and one that isn't UTF-8 is unknown
+    -- what a line means: one that isn't UTF-8 is unknown
     abbrev pub hear_line : S → List ℕ → Heard S
     hear_line source line =
-        if is_skipped line then nothing_heard source
-        else if is_utf8 line then heard_step source (takes source line (document line))
+        if is_utf8 line then heard_step source (takes source line (document line))
         else heard_step source None
 
     -- what lines mean, one after another

@@ -3,12 +3,12 @@
 ghost use Rattle.std.specs.Prelude.{◌≡◌, IfOk, option_map};
 ghost use Rattle.json.specs.Json.{document};
 ghost use Rattle.json.specs.Value.{members_view, value_view};
-ghost use Rattle.tracing_tree_sources.specs.First.{are_settings, begins_list, begins_object, detects, ends_object, format_by, format_of, format_of_json, format_of_line, format_of_value, has_key_of_level, has_key_of_message, has_settings, holding, is_empty_object, is_full, is_log, is_of_otlp, is_of_tracing, is_setting, spells_call, spells_settings, without_mark};
+ghost use Rattle.tracing_tree_sources.specs.First.{are_settings, begins_list, begins_object, detects, ends_object, format_by, format_of, format_of_json, format_of_line, format_of_value, has_key_of_level, has_key_of_message, has_settings, holding, is_empty_object, is_full, is_log, is_of_otlp, is_of_tracing, is_setting, may_be_key, spells_call, spells_settings, without_mark};
 
 use crate::blanks::{after_blanks, first_byte};
 use crate::fields::is_among;
 use crate::level::level_in;
-use crate::markers::format_marked;
+use crate::markers::{begins_line_key, format_marked};
 use crate::values::{array_at, text_at, value_of};
 use json::{Scratch, Value};
 use simdutf8::basic::from_utf8;
@@ -145,7 +145,7 @@ pub fn without_mark(line: &[u8]) -> &[u8]
 /// - A line that starts with `[` after its blanks is Chrome's if nothing, `{` or `]` follows.
 /// - A line that only OTLP, JUnit XML or TAP has is theirs ([`markers`](crate::markers)).
 /// - A line that starts with `{` after its blanks, followed by `"` or nothing, and isn't a complete
-///   JSON value is Chrome's.
+///   JSON value is Chrome's, unless its first key is one of logs, Go's tests or calls.
 /// - An object with a string at `Action` is Go's.
 /// - An object with an array at `traceEvents` is Chrome's.
 /// - An object with an array at `resourceSpans`, `resourceLogs` or `resourceMetrics` is OTLP's.
@@ -214,16 +214,22 @@ fn ends_object(text: &[u8]) -> bool
     }
 }
 
-// Returns whether the line starts an object with a key, or only an object.
+// Returns whether the line starts an object with a key that a trace may have, or only an object.
 fn begins_object(line: &[u8]) -> bool
     ensures { result ≡ begins_object line.now }
 {
     match after_blanks(line) {
-        [b'{', rest @ ..] => match first_byte(rest) {
-            Some(byte) => byte == b'"',
-            None => true,
-        },
+        [b'{', rest @ ..] => may_be_key(first_byte(rest)) && !begins_line_key(after_blanks(rest)),
         _ => false,
+    }
+}
+
+fn may_be_key(first: Option<u8>) -> bool
+    ensures { result ≡ may_be_key first }
+{
+    match first {
+        Some(byte) => byte == b'"',
+        None => true,
     }
 }
 

@@ -8,6 +8,7 @@
 
 pub mod blanks;
 pub mod calls_at_least;
+pub mod columns;
 pub mod fields;
 pub mod first;
 pub mod json_text;
@@ -25,6 +26,7 @@ pub mod traces;
 pub mod values;
 
 pub use calls_at_least::CallsAtLeast;
+pub use columns::ThreadColumns;
 pub use first::{Detection, Detector, Format, format_of_line, is_empty_object, without_mark};
 pub use level::AtLeast;
 pub use markers::is_otlp;

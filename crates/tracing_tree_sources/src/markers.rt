@@ -2,11 +2,12 @@
 
 ghost use Rattle.std.specs.Prelude.{◌≡◌, option_map};
 ghost use Rattle.tracing_tree_sources.specs.Marks.{after_mark};
-ghost use Rattle.tracing_tree_sources.specs.Markers.{after_declaration, begins_digit, begins_number, begins_otlp_key, begins_suite, declares_suite, ends_number, format_marked, has_otlp_key, is_junit, is_numbered, is_otlp, is_plan, is_result, is_tap, is_version};
+ghost use Rattle.tracing_tree_sources.specs.Markers.{after_declaration, begins_call_key, begins_digit, begins_level_key, begins_line_key, begins_message_key, begins_otlp_key, begins_time_key, begins_suite, counts, declares_suite, describes, ends_line, format_marked, has_otlp_key, is_junit, is_numbered, is_otlp, is_plan, is_result, is_tap, is_version};
 
 use crate::blanks::after_blanks;
 use crate::first::Format;
 use crate::traces::{after_digits, is_digit};
+use tracing_tree_lines::lines::is_skipped;
 
 /// Returns the format that has this line, if only one format has such lines.
 ///
@@ -49,6 +50,56 @@ fn begins_otlp_key(text: &[u8]) -> bool
     text.starts_with("\"resourceSpans\"".as_bytes())
         || text.starts_with("\"resourceLogs\"".as_bytes())
         || text.starts_with("\"resourceMetrics\"".as_bytes())
+}
+
+/// Returns whether a key starts here with which a line of logs, of Go's tests or of calls starts, and
+/// no trace does.
+pub(crate) fn begins_line_key(text: &[u8]) -> bool
+    ensures { result ≡ begins_line_key text.now }
+{
+    begins_level_key(text)
+        || begins_time_key(text)
+        || begins_message_key(text)
+        || begins_call_key(text)
+}
+
+#[tactic(auto, unfolding(crate::specs::Markers::begins_call_key))]
+fn begins_call_key(text: &[u8]) -> bool
+    ensures { result ≡ begins_call_key text.now }
+{
+    text.starts_with("\"Action\"".as_bytes()) || text.starts_with("\"call\"".as_bytes())
+}
+
+#[tactic(auto, unfolding(crate::specs::Markers::begins_level_key))]
+fn begins_level_key(text: &[u8]) -> bool
+    ensures { result ≡ begins_level_key text.now }
+{
+    text.starts_with("\"level\"".as_bytes())
+        || text.starts_with("\"severity\"".as_bytes())
+        || text.starts_with("\"lvl\"".as_bytes())
+        || text.starts_with("\"log.level\"".as_bytes())
+        || text.starts_with("\"PRIORITY\"".as_bytes())
+}
+
+#[tactic(auto, unfolding(crate::specs::Markers::begins_time_key))]
+fn begins_time_key(text: &[u8]) -> bool
+    ensures { result ≡ begins_time_key text.now }
+{
+    text.starts_with("\"time\"".as_bytes())
+        || text.starts_with("\"ts\"".as_bytes())
+        || text.starts_with("\"timestamp\"".as_bytes())
+        || text.starts_with("\"@timestamp\"".as_bytes())
+        || text.starts_with("\"Time\"".as_bytes())
+}
+
+#[tactic(auto, unfolding(crate::specs::Markers::begins_message_key))]
+fn begins_message_key(text: &[u8]) -> bool
+    ensures { result ≡ begins_message_key text.now }
+{
+    text.starts_with("\"msg\"".as_bytes())
+        || text.starts_with("\"message\"".as_bytes())
+        || text.starts_with("\"event\"".as_bytes())
+        || text.starts_with("\"MESSAGE\"".as_bytes())
 }
 
 fn is_junit(line: &[u8]) -> bool
@@ -107,7 +158,7 @@ fn is_plan(line: &[u8]) -> bool
     ensures { result ≡ is_plan line.now }
 {
     match after_bytes(line, "1..".as_bytes()) {
-        Some(rest) => begins_number(rest),
+        Some(rest) => counts(rest),
         None => false,
     }
 }
@@ -121,17 +172,34 @@ fn is_result(mark: &str, line: &[u8]) -> bool
     }
 }
 
-// Returns whether a result's number or its description starts here.
+// Returns whether a number starts here that ends the line.
+fn counts(text: &[u8]) -> bool
+    ensures { result ≡ counts text.now }
+{
+    begins_digit(text) && ends_line(after_digits(text))
+}
+
+// Returns whether a result's number or its description starts here. After a number other than 1 a
+// description needs a dash, so that `ok 3 files` isn't taken for a result.
 fn is_numbered(text: &[u8]) -> bool
     ensures { result ≡ is_numbered text.now }
 {
-    begins_number(text) || text.starts_with("- ".as_bytes())
+    text.starts_with("- ".as_bytes())
+        || text.starts_with("1 ".as_bytes())
+        || begins_digit(text) && describes(after_digits(text))
 }
 
-fn begins_number(text: &[u8]) -> bool
-    ensures { result ≡ begins_number text.now }
+fn describes(text: &[u8]) -> bool
+    ensures { result ≡ describes text.now }
 {
-    begins_digit(text) && ends_number(after_digits(text))
+    text.starts_with(" - ".as_bytes()) || ends_line(text)
+}
+
+// Returns whether nothing follows but a directive.
+fn ends_line(text: &[u8]) -> bool
+    ensures { result ≡ ends_line text.now }
+{
+    is_skipped(text) || text.starts_with(" #".as_bytes())
 }
 
 fn begins_digit(text: &[u8]) -> bool
@@ -140,15 +208,6 @@ fn begins_digit(text: &[u8]) -> bool
     match text {
         [byte, ..] => is_digit(*byte),
         [] => false,
-    }
-}
-
-fn ends_number(text: &[u8]) -> bool
-    ensures { result ≡ ends_number text.now }
-{
-    match text {
-        [byte, ..] => *byte == b' ' || *byte == b'\r',
-        [] => true,
     }
 }
 

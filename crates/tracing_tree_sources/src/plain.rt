@@ -9,9 +9,10 @@ use json::Value;
 use std::alloc::{AllocError, Global};
 use std::marker::Model;
 use tracing_tree_layer::call::Call;
+use tracing_tree_lines::lines::is_skipped;
 use tracing_tree_time::Moment;
 
-/// Lines without a format. Each is an event at the root, and all are at one moment
+/// Lines without a format. Each that isn't blank is an event at the root, and all are at one moment
 /// ([`plain_event`]).
 #[derive(Drop)]
 pub struct Plain {
@@ -53,7 +54,9 @@ impl Source for Plain {
         _value: Option<&Value<'_>>,
     ) -> Result<Option<Vec<Call>>, AllocError> {
         let mut calls = Vec::new(alloc);
-        calls.push(plain_event(alloc, self.moment, line, None)?)?;
+        if !is_skipped(line.as_bytes()) {
+            calls.push(plain_event(alloc, self.moment, line, None)?)?;
+        }
         Ok(Some(calls))
     }
 

@@ -21,7 +21,7 @@ use tracing_tree_layer::call::Call;
 use tracing_tree_layer::calls::Calls;
 use tracing_tree_layer::flushed::Flushed;
 use tracing_tree_layer::layered::Layered;
-use tracing_tree_lines::lines::{LineCause, LineFault, LineInput, is_skipped, read_held};
+use tracing_tree_lines::lines::{LineCause, LineFault, LineInput, read_held};
 use tracing_tree_output::Output;
 use tracing_tree_time::FormatTime;
 
@@ -237,9 +237,6 @@ fn run_line<S: Source, C: Calls>(
         source.old source.new result receiver.old receiver.new }
     ensures cause { IfErr result (λ cause. MayEnd cause 0) }
 {
-    if is_skipped(line) {
-        return Ok(true);
-    }
     let Ok(text) = from_utf8(line) else {
         return Ok(false);
     };

@@ -27,8 +27,8 @@ pub trait Source {
     /// What is missing in an unknown line, given its JSON value if it is one.
     ghost lacks: { Option Json → Lack };
 
-    /// Takes a line and returns its calls. Returns `None` if the line is unknown. Nothing has
-    /// changed then.
+    /// Takes a line, which may be blank, and returns its calls. Returns `None` if the line is
+    /// unknown. Nothing has changed then.
     ///
     /// # Errors
     ///

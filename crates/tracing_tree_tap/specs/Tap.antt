@@ -8,6 +8,7 @@ use Rattle.tracing_tree_text.specs.declared.field.Field.{Field}
 use Rattle.tracing_tree_text.specs.declared.style.Level.{Level}
 use Rattle.tracing_tree_text.specs.declared.style.Level.TheVariants.{Trace, Debug, Error, Info, Warn}
 use Rattle.tracing_tree_layer.specs.declared.call.Call.{Call}
+use Rattle.tracing_tree_lines.specs.Lines.Spelled.{is_skipped}
 use Rattle.tracing_tree_sources.specs.Source.{Step}
 use Rattle.tracing_tree_sources.specs.declared.notes.Lack.{Lack}
 use Rattle.tracing_tree_sources.specs.declared.notes.Lack.TheVariants.{Object}
@@ -607,9 +608,9 @@ line_taken line s = taken_in s.mode (without_end (codes "\r") line) s
 abbrev pub handed_out : TapState → Step TapState
 handed_out s = record { calls = s.calls; source = record s { calls = [] } }
 
--- what a line means: each is known
+-- what a line means: each is known, and a blank one means nothing
 abbrev pub tap_takes : TapState → List ℕ → Option Json → Option (Step TapState)
-tap_takes s line value = Some (handed_out (line_taken line s))
+tap_takes s line value = Some (handed_out (if is_skipped line then s else line_taken line s))
 
 abbrev pub tap_lacks : Option Json → Lack
 tap_lacks value = Object

@@ -25,6 +25,7 @@ use std::marker::Model;
 use std::mem;
 use subtests::{Heading, Subtest};
 use tracing_tree_layer::call::Call;
+use tracing_tree_lines::lines::is_skipped;
 use tracing_tree_sources::notes::Lack;
 use tracing_tree_sources::source::Source;
 use tracing_tree_sources::told::event_call;
@@ -342,7 +343,9 @@ impl Source for Tap {
         line: &str,
         _value: Option<&Value<'_>>,
     ) -> Result<Option<Vec<Call>>, AllocError> {
-        self.take_line(line)?;
+        if !is_skipped(line.as_bytes()) {
+            self.take_line(line)?;
+        }
         Ok(Some(self.told()))
     }
 

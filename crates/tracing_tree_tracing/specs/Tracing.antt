@@ -10,6 +10,7 @@ use Rattle.tracing_tree_text.specs.declared.field.Field.{Field}
 use Rattle.tracing_tree_text.specs.Equal.{field_eq}
 use Rattle.tracing_tree_text.specs.declared.style.Level.{Level}
 use Rattle.tracing_tree_layer.specs.declared.call.Call.{Call}
+use Rattle.tracing_tree_lines.specs.Lines.Spelled.{is_skipped}
 use Rattle.tracing_tree_sources.specs.Source.{Step}
 use Rattle.tracing_tree_sources.specs.declared.notes.Lack.{Lack}
 use Rattle.tracing_tree_sources.specs.declared.notes.Lack.TheVariants.{Object, Level as NoLevel}
@@ -351,7 +352,8 @@ takes_value value s = option_map (λ level. handed_out (acted level value (place
 
 -- a line that isn't a JSON object is an event in the last span of the line before it
 abbrev pub plain_told : List ℕ → TracingState → TracingState
-plain_told line s = told (plain_event s.moment line (if_live s.at s.live)) s
+plain_told line s =
+    if is_skipped line then s else told (plain_event s.moment line (if_live s.at s.live)) s
 
 -- what a line means
 abbrev pub tracing_takes : TracingState → List ℕ → Option Json → Option (Step TracingState)

@@ -17,6 +17,7 @@ use std::marker::Model;
 use std::mem;
 use tracing_tree_context::Id;
 use tracing_tree_layer::call::Call;
+use tracing_tree_lines::lines::is_skipped;
 use tracing_tree_sources::level::level_in;
 use tracing_tree_sources::moments::moment_after;
 use tracing_tree_sources::notes::Lack;
@@ -339,10 +340,14 @@ impl Tracing {
         self.close(id)
     }
 
-    // Takes a line that isn't a JSON object, as an event in the last span of the line before it.
+    // Takes a line that isn't a JSON object, as an event in the last span of the line before it. A
+    // blank one means nothing.
     fn take_plain(&mut self, line: &str) -> Result<(), AllocError>
         ensures { OnOk result (self.new ≡ plain_told line.now self.old) }
     {
+        if is_skipped(line.as_bytes()) {
+            return Ok(());
+        }
         let at = if_live(self.at, self.live.as_slice());
         let call = plain_event(self.alloc, self.moment, line, at)?;
         Ok(self.calls.push(call)?)
