@@ -6,3 +6,4 @@ pub mod ReadStrings
 pub mod Runs
 pub mod Prefixes
 pub mod Refusals
+pub mod ReadLines

@@ -3,3 +3,4 @@ pub mod Lines
 pub mod Writing
 pub mod Strings
 pub mod Runs
+pub mod Reading

@@ -5,6 +5,7 @@ ghost use Rattle.tracing_tree_layer.specs.Layered.Answered.{Writes};
 ghost use Rattle.tracing_tree_layer.specs.Replies.{answer_as, cloned, closed, done, span};
 ghost use Rattle.tracing_tree_output.specs.Writers.{seen_writer};
 ghost use Rattle.tracing_tree_page.specs.Lines.{line_of};
+ghost use Rattle.tracing_tree_page.specs.Reading.{AreLinesReadBack, IsEachLineReadBack};
 ghost use Rattle.tracing_tree_page.specs.Runs.{EndsPage, RunsWritePrefixes};
 ghost use Rattle.tracing_tree_page.specs.Steps.{About, End, close_step};
 ghost use Rattle.tracing_tree_page.specs.Writing.{Answers, AreLinesHarmless, IsFree, WritesBytes, lines_of, seen_steps};
@@ -71,12 +72,14 @@ impl<W: Output> StepWriter<W> {
     ///
     /// `Memory` if an allocation fails, `Writer` if the output fails, `Failed` after that. After
     /// `Writer`, a prefix of these bytes may have been written.
-    #[tactic(auto, using(crate::proofs::Harmless::lines_are_harmless, crate::proofs::Prefixes::runs_write_prefixes))]
+    #[tactic(auto, using(crate::proofs::Harmless::lines_are_harmless, crate::proofs::Prefixes::runs_write_prefixes, crate::proofs::ReadLines::line_read, crate::proofs::ReadLines::lines_read))]
     pub fn begin(&mut self, head: &str, title: &str) -> Result<(), Refusal>
         ensures written { WritesBytes (head.now ++ line_of self.old.form (About title.now)) result
             (seen_steps W.Output self.old) (seen_steps W.Output self.new) }
         ensures harmless { AreLinesHarmless }
         ensures prefixes { RunsWritePrefixes }
+        ensures line_read { IsEachLineReadBack }
+        ensures lines_read { AreLinesReadBack }
     {
         if self.writer.faults() > 0 {
             return Err(Refusal::Failed);
