@@ -774,13 +774,13 @@ END_OF_TREE
     run --times "$room/timed"
     count 'with --times on tracing' want '' 0
     cat > "$room/want" << 'END_OF_TREE'
-INFO untimed
-2┐a 
-2├─ INFO one
-w\u{1b}x├─ WARN two
-2:main├─ INFO three
-9INFO four
-ThreadId(3INFO five
+                INFO untimed
+2               ┐a 
+2               ├─ INFO one
+w\u{1b}x        ├─ WARN two
+2:main          ├─ INFO three
+9               INFO four
+ThreadId(3      INFO five
 END_OF_TREE
     run --threads "$room/timed"
     count 'with --threads on tracing' want '' 0
@@ -989,6 +989,10 @@ ttree: 1 line skipped' <<< 'INFO x'
     passes_on 'many lines of another format' "$room/lines"
     { head -c 1100000 /dev/zero | tr '\0' x; printf '\n%b' "$event"; } > "$room/lines"
     passes_on 'a long line of another format' "$room/lines"
+    printf '1..10 files\nok 3 files copied\n' > "$room/lines"
+    passes_on 'lines that look like TAP' "$room/lines"
+    detects 'a log whose first line is truncated' '{"level":"info","msg":"sta\n{"level":"info","msg":"up"}\n\n{"level":"warn","msg":"x"}\n' <<< $'INFO {"level":"info","msg":"sta\nINFO up\nWARN x'
+    detects 'blank lines of services' 'web-1  | {"level":"WARN","fields":{"message":"x"},"target":"t"}\nweb-1  | \n \t\r\nweb-1  | up\n' <<< $'WARN x, prefix=web-1\nINFO up, prefix=web-1'
     { yes x | head -n 999; printf "$event"; } > "$room/lines"
     { yes 'INFO x' | head -n 1000; } > "$room/want"
     run "$room/lines"

@@ -18,8 +18,8 @@ use Rattle.tracing_tree_text.specs.declared.style.Level.{Level}
 use Rattle.tracing_tree_text.specs.declared.style.Level.TheVariants.{Warn, Error}
 use Rattle.tracing_tree_lines.specs.Lines.Spelled.{is_skipped}
 use Rattle.tracing_tree_sources.specs.Counts.{one_more}
-use Rattle.tracing_tree_sources.specs.Marks.{begins, is_empty}
-use Rattle.tracing_tree_sources.specs.Source.{Heard, hear, hear_line, heard_step, nothing_heard}
+use Rattle.tracing_tree_sources.specs.Marks.{after_mark, begins, is_empty}
+use Rattle.tracing_tree_sources.specs.Source.{Heard, hear, hear_line, heard_step}
 use Rattle.tracing_tree_sources.specs.Told.{event_call, message_field}
 use Rattle.tracing_tree_sources.specs.Values.{text_at}
 use Rattle.tracing_tree_go_test.specs.Failures.{has_begun, is_fail, is_failure, package_runs, some_failed, tells_failure}

@@ -17,7 +17,7 @@ use tracing_tree::time::Clock;
 use tracing_tree_go_test::{Failed, GoTest};
 use tracing_tree_logs::Logs;
 use tracing_tree_prefix::{Mark, Prefixed};
-use tracing_tree_sources::{AtLeast, Format, Lack, Plain, Source, is_otlp};
+use tracing_tree_sources::{AtLeast, Format, Lack, Plain, Source, ThreadColumns, is_otlp};
 use tracing_tree_tap::Tap;
 use tracing_tree_tracing::Tracing;
 
@@ -171,7 +171,8 @@ fn draw_preamble<R: AllocGlobal + Eprint + Print>(
     if head.preamble().is_empty() || options.form.is_some() {
         return Ok(Status::Success);
     }
-    let mut source = AtLeast::new(Plain::new(some_moment()), options.min_level());
+    let plain = ThreadColumns::new(Plain::new(some_moment()), options.has_threads());
+    let mut source = AtLeast::new(plain, options.min_level());
     draw_input(
         rt,
         origin,
@@ -231,7 +232,8 @@ fn draw_tracing<R: AllocGlobal + Eprint + Print, I: Read + Drop>(
     options: &Options<'_>,
 ) -> Result<Status, AllocError> {
     let tracing = Tracing::new(rt.alloc(), 1, some_moment());
-    let mut source = AtLeast::new(Prefixed::new(tracing, mark), options.min_level());
+    let columns = ThreadColumns::new(tracing, options.has_threads());
+    let mut source = AtLeast::new(Prefixed::new(columns, mark), options.min_level());
     draw_lines(rt, origin, input, &mut source, options)
 }
 

@@ -92,6 +92,11 @@ impl<'a> Options<'a> {
             .with_deferred_spans(self.min_level.is_some())
     }
 
+    // Returns whether rows begin with their threads.
+    pub fn has_threads(&self) -> bool {
+        self.style.has_threads
+    }
+
     // Events below this level aren't shown.
     pub fn min_level(&self) -> Level {
         self.min_level.unwrap_or(Level::Trace)

@@ -1,5 +1,6 @@
-use Rattle.std.proofs.Common.{◌≡◌, List, ℕ, Some, None, option_map, codes, sym, ap, ◌∙◌, subst}
+use Rattle.std.proofs.Common.{◌≡◌, List, ℕ, Some, None, option_map, codes, false, sym, ap, ◌∙◌, subst}
 use Rattle.std.specs.Prelude.{OnOk}
+use Rattle.tracing_tree_lines.specs.Lines.Spelled.{is_skipped}
 use Rattle.tracing_tree_sources.specs.Marks.{after_mark}
 use Rattle.tracing_tree_go_test.specs.GoTest.{GoState, package_ended}
 use Rattle.tracing_tree_go_test.specs.Texts.{up_to_space}
@@ -15,5 +16,6 @@ returns-in-Some-after_mark c =
     sym c.after_mark-2.ensures ∙ ap (option_map (λ s. s.now)) c.in-Some-after_mark.is in
     let named : List ℕ → Type 0 = λ path. OnOk c.end_package.result (c.end_package.new.self ≡ package_ended Failed path None c.set_building-in-Some-after_mark.new.self) in
     let done : GoState → Type 0 = λ s. OnOk c.end_package.result (c.end_package.new.self ≡ package_ended Failed (up_to_space c.in-Some-after_mark.rest.now) None s) in
-    rw (heading, failure)
+    let text : is_skipped line ≡ false = ap is_skipped (sym c.as_bytes.ensures.value) ∙ sym c.is_skipped.ensures ∙ c.if-is_skipped.false in
+    rw (text, heading, failure)
     (subst done c.in_ok-set_building.ensures (subst named c.up_to_space-in-Some-after_mark.ensures c.end_package.ensures))
