@@ -141,8 +141,8 @@ role_of TodoVerdict span = role_in span
 unfoldable pub finished : Waiting → TapState → TapState
 finished w s =
     closed_if w.span w.parent
-    (row_told (role_of w.verdict w.span) (level_of w.verdict) (end_text w.verdict w.label) (end_fields w.reason w.elapsed)
-    (span_or w.span w.parent) s)
+    (row_told (role_of w.verdict w.span) (level_of w.verdict) (end_text w.verdict w.label)
+    (end_fields w.reason w.elapsed) (span_or w.span w.parent) s)
 
 abbrev pub flushed_if : Option Waiting → TapState → TapState
 flushed_if (Some w) s = finished w s

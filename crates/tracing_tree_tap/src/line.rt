@@ -341,8 +341,8 @@ pub(crate) fn begins_inside(kind: Kind) -> bool
 
 // ---- what prove prints
 
-// Returns whether a line names a file, as `t/basic.t ... ` does; a verdict may follow, and a time of
-// day may come before.
+// Returns whether a line names a file, as `t/basic.t ... ` does; a verdict may follow, and a time
+// of day may come before.
 pub(crate) fn is_file(line: &str) -> bool
     ensures { result ≡ is_file line.now }
 {
@@ -499,8 +499,8 @@ fn is_failure(line: &str) -> bool
     }
 }
 
-// Returns whether a line counts tests without a failure, as `All 2 subtests passed`. prove says this
-// of a file that failed for another reason.
+// Returns whether a line counts tests without a failure, as `All 2 subtests passed`. prove says
+// this of a file that failed for another reason.
 fn is_success(line: &str) -> bool
     ensures { result ≡ is_success line.now }
 {

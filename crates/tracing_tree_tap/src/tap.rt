@@ -153,8 +153,8 @@ impl Tap {
     }
 
     /// Returns whether a test failed, or anything else that must not: a plan that isn't met, a
-    /// missing number, a script without a plan, a subtest without a result, `Bail out!`, a verdict or
-    /// a summary of prove, or an input without a line of TAP.
+    /// missing number, a script without a plan, a subtest without a result, `Bail out!`, a
+    /// verdict or a summary of prove, or an input without a line of TAP.
     pub fn has_failed(&self) -> bool
         ensures { result ≡ has_failed self.now.tally }
     {
