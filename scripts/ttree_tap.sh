@@ -1,5 +1,6 @@
 # The runs of ttree on TAP, for scripts/ttree.sh. The trees were written by hand from
 # docs/FORMATS.md.
+. "$top/scripts/ttree_prove.sh"
 
 # Counts the run with this name on lines of TAP, which must end with this status. Standard input has
 # the lines, a line `--` and their tree. Further arguments are passed to ttree.
@@ -19,8 +20,7 @@ tap_sample() {
     count "$1" want '' 1
 }
 
-# What node, prove and a Perl script wrote. The blank line in one of node's blocks isn't drawn:
-# ttree skips blank lines.
+# What node, prove and a Perl script wrote.
 run_tap_samples() {
     tap_sample "on node's TAP" tap-node.tap << 'END_OF_TREE'
 INFO a plain line
@@ -34,6 +34,7 @@ INFO stock is low
 ├─ INFO error: |-
 ├─ INFO   Expected values to be strictly deep-equal:
 ├─ INFO   + actual - expected
+├─ INFO   
 ├─ INFO     {
 ├─ INFO       a: 1,
 ├─ INFO       b: [
@@ -271,7 +272,31 @@ WARN skip 3
 INFO tests 3 of 3
 INFO passed=1, failed=0, skipped=1, todo=1
 END_OF_LINES
+    tap_of 'on notes of TAP' 1 << 'END_OF_LINES'
+1..9
+not ok 1 issue #6 # SKIP x
+not ok 2 - issue #6 \# todo
+ok 3 a # SKIP see # TODO b
+not ok 4 # 5 # 6 # todo: c
+not ok 5 #todo
+ok 6 - d # time=1.5ms
+ok 7 - d # time=1.5ms later
+ok 8 - e # see #7 #time=2ms
+ok 9 - f # skip-over
+--
+WARN skip issue #6, reason=x
+ERROR fail issue #6 # todo
+WARN skip a, reason=see # TODO b
+WARN todo # 5 # 6, reason=c
+WARN todo 5
+INFO pass d, time=1.500ms
+INFO pass d # time=1.5ms later
+INFO pass e # see #7, time=2.000ms
+INFO pass f # skip-over
+ERROR passed=4, failed=1, skipped=2, todo=2
+END_OF_LINES
     tap_of 'on TAP with --level warn' 0 --level warn << 'END_OF_LINES'
+1..2
 ok 1 - a
 # Subtest: b
     ok 1 - c
@@ -348,13 +373,44 @@ END_OF_LINES
 ┌─┘
 ├─ ERROR unfinished
 ┘
+ERROR no plan, ran 0
 ERROR passed=1, failed=0, skipped=0, todo=0
 END_OF_LINES
     tap_of 'on TAP that ends with the name of a test' 1 << 'END_OF_LINES'
 # Subtest: a
 --
 ERROR unfinished a
+ERROR no plan, ran 0
 ERROR passed=0, failed=0, skipped=0, todo=0
+END_OF_LINES
+    tap_of 'on TAP without a plan' 1 << 'END_OF_LINES'
+TAP version 13
+ok 1 - a
+ok 2 - b
+--
+INFO pass a
+INFO pass b
+ERROR no plan, ran 2
+ERROR passed=2, failed=0, skipped=0, todo=0
+END_OF_LINES
+    tap_of 'on scripts of TAP without plans' 1 << 'END_OF_LINES'
+ok 1 - a
+ok 1 - b
+1..1
+TAP version 13
+# Subtest: c
+    ok 1 - d
+ok 1 - c
+--
+INFO pass a
+ERROR no plan, ran 1
+INFO pass b
+┐c 
+├─ INFO pass d
+├─ INFO pass
+┘
+ERROR no plan, ran 1
+ERROR passed=4, failed=0, skipped=0, todo=0
 END_OF_LINES
     tap_of 'on TAP that skips everything' 0 << 'END_OF_LINES'
 1..0 # Skipped: no disk
@@ -362,9 +418,20 @@ END_OF_LINES
 WARN skip, reason=no disk
 INFO passed=0, failed=0, skipped=0, todo=0
 END_OF_LINES
-    printf '%s\n' 'INFO passed=0, failed=0, skipped=0, todo=0' > "$room/want"
+    printf '%s\n' 'ERROR no line of TAP' 'ERROR passed=0, failed=0, skipped=0, todo=0' > "$room/want"
     run --from tap /dev/null
-    count 'on no TAP' want '' 0
+    count 'on no TAP' want '' 1
+    tap_of 'on other lines than those of TAP' 1 << 'END_OF_LINES'
+1/3 basic OK 0.01s
+# 3 tests
+}
+--
+INFO 1/3 basic OK 0.01s
+INFO 3 tests
+INFO }
+ERROR no line of TAP
+ERROR passed=0, failed=0, skipped=0, todo=0
+END_OF_LINES
     tap_of 'on two scripts of TAP' 1 << 'END_OF_LINES'
 TAP version 13
 ok 1 - a
@@ -454,6 +521,7 @@ END_OF_LINES
 # Subtest: e
 printed
 ok 1 - e
+1..1
 --
 ┐a 
 ├─ INFO     printed
@@ -469,6 +537,103 @@ ok 1 - e
 INFO printed
 INFO pass e
 ERROR passed=4, failed=0, skipped=0, todo=0
+END_OF_LINES
+}
+
+# Subtests in braces, as node-tap prints them.
+run_tap_braces() {
+    tap_of 'on TAP in braces' 1 << 'END_OF_LINES'
+TAP version 14
+1..4
+ok 1 - a # time=5.5ms {
+    1..3
+    ok 1 - b
+    not ok 2 - c # TODO later {
+        not ok 1 - d
+        1..1
+    }
+    ok 3 - e # SKIP no disk
+}
+not ok 2 - f {
+    # Subtest: g
+        ok 1 - h
+        1..1
+    ok 1 - g
+    1..2
+}
+ok 3 - i # time=1ms {
+    1..0
+}
+ok 4 - j {
+}
+--
+┐a 
+├─ INFO pass b
+└─┐c 
+  ├─ ERROR fail d
+  ├─ WARN todo, reason=later
+┌─┘
+├─ WARN skip e, reason=no disk
+├─ INFO pass, time=5.500ms
+┘
+┐f 
+└─┐g 
+  ├─ INFO pass h
+  ├─ INFO pass
+┌─┘
+├─ ERROR planned 2, ran 1
+├─ ERROR fail
+┘
+┐i 
+├─ WARN skip
+├─ INFO pass, time=1.000ms
+┘
+INFO pass j
+ERROR passed=6, failed=2, skipped=1, todo=1
+END_OF_LINES
+    tap_of 'on braces that open no subtest' 0 << 'END_OF_LINES'
+1..4
+ok 1 - a {
+    printed
+}
+ok 2 - b {
+  ---
+  c: 1
+  ...
+ok 3 - d # SKIP e {
+ok 4 - f {
+--
+INFO pass a {
+INFO     printed
+INFO }
+┐b { 
+├─ INFO c: 1
+├─ INFO pass
+┘
+WARN skip d, reason=e {
+INFO pass f {
+INFO passed=3, failed=0, skipped=1, todo=0
+END_OF_LINES
+    tap_of 'on braces of TAP that are not closed' 1 << 'END_OF_LINES'
+1..2
+not ok 1 - a {
+    ok 1 - b
+    1..1
+  }
+ok 2 - c {
+    ok 1 - d
+--
+┐a 
+├─ INFO pass b
+├─ INFO }
+├─ ERROR unfinished
+┘
+┐c 
+├─ INFO pass d
+├─ ERROR unfinished
+┘
+ERROR planned 2, ran 0
+ERROR passed=2, failed=0, skipped=0, todo=0
 END_OF_LINES
 }
 
@@ -490,6 +655,7 @@ ok 3 - e
   ---
   f: 1
 ok 4 - g
+1..4
 --
 INFO   ---
 INFO   a: 1
@@ -507,70 +673,60 @@ INFO pass b, time=1.502s
 INFO pass g
 ERROR passed=3, failed=1, skipped=0, todo=0
 END_OF_LINES
+    tap_of 'on blank lines in blocks of TAP' 0 << 'END_OF_LINES'
+1..2
+
+ok 1 - a {
+
+    ok 1 - b
+
+    1..1
+
+}
+  ---
+
+  c: |
+    d
+
+    e
+  ...
+
+ok 2 - f
+
+  ---
+  duration_ms: 2
+  ...
+
+--
+┐a 
+├─ INFO pass b
+├─ INFO 
+├─ INFO c: |
+├─ INFO   d
+├─ INFO 
+├─ INFO   e
+├─ INFO pass
+┘
+INFO pass f, time=2.000ms
+INFO passed=3, failed=0, skipped=0, todo=0
+END_OF_LINES
     printf '1..1\r\nok 1 - a\r\n  ---\r\n  b: 1\r\n  ...\r\n' > "$room/tap"
     printf '%s\n' '┐a ' '├─ INFO b: 1' '├─ INFO pass' '┘' 'INFO passed=1, failed=0, skipped=0, todo=0' > "$room/want"
     run "$room/tap"
     count 'on TAP with carriage returns' want '' 0
 }
 
-run_tap_prove() {
-    tap_of "on more of prove's output" 1 << 'END_OF_LINES'
-t/a.t .. ok
-t/b.t ... 
-# Subtest: c
-    ok 1 - d
-Dubious, test returned 255 (wstat 65280, 0xff00)
-No subtests run 
-t/e.t .. skipped: no disk
-t/f.t ... 
-loading ... 
-ok 1
-1..2
-ok
-All tests successful.
-Files=4, Tests=2,  1 wallclock secs
-Result: PASS
-t/g.t .. 
-ok 1 - h
---
-┐t/a.t 
-├─ INFO ok
-┘
-┐t/b.t 
-└─┐c 
-  ├─ INFO pass d
-  ├─ ERROR unfinished
-┌─┘
-├─ ERROR Dubious, test returned 255 (wstat 65280, 0xff00)
-├─ ERROR No subtests run
-┘
-┐t/e.t 
-├─ WARN skipped: no disk
-┘
-┐t/f.t 
-┘
-┐loading 
-├─ INFO pass 1
-├─ INFO ok
-┘
-┐t/g.t 
-├─ INFO pass h
-┘
-ERROR passed=3, failed=0, skipped=0, todo=0
-END_OF_LINES
-}
-
 # Control characters in the input are never written.
 run_tap_hostile() {
-    printf 'ok 1 - a\033[31m\n# b\033c\nnot ok 2 - d\302\233 # TODO e\007\n  ---\n  f\033: 1\n  ...\n# Subtest: \033g\n    ok 1\nok 3 - \033g\n' > "$room/tap"
+    printf 'ok 1 - a\033[31m\n# b\033c\nnot ok 2 - d\302\233 # TODO e\007\n  ---\n  f\033: 1\n  ...\n# Subtest: \033g\n    ok 1\nok 3 - \033g\n1..3\n' > "$room/tap"
     printf '%s\n' 'INFO pass a\u{1b}[31m' 'INFO b\u{1b}c' '┐d\u{9b} ' '├─ INFO f\u{1b}: 1' '├─ WARN todo, reason=e\u{7}' '┘' '┐\u{1b}g ' '├─ INFO pass 1' '├─ INFO pass' '┘' \
         'INFO passed=3, failed=0, skipped=0, todo=1' > "$room/want"
     run "$room/tap"
     count 'on TAP with control characters' want '' 0
-    printf 'ok 1 - a\nok 2 - \377\nok 3 - c\n' > "$room/tap"
-    printf '%s\n' 'INFO pass a' 'ERROR missing 2' 'INFO pass c' 'ERROR passed=2, failed=0, skipped=0, todo=0' > "$room/want"
+    printf '1..3\nok 1 - a\nok 2 - \377\nok 3 - c\n' > "$room/tap"
+    printf '%s\n' 'INFO pass a' 'ERROR missing 2' 'INFO pass c' 'ERROR planned 3, ran 2' 'ERROR passed=2, failed=0, skipped=0, todo=0' > "$room/want"
     run "$room/tap"
-    count 'on TAP with a line that is not UTF-8' want "ttree: line 2: not UTF-8, skipped
+    count 'on TAP with a line that is not UTF-8' want "ttree: line 3: not UTF-8, skipped
 ttree: 1 line skipped" 1
     python3 -c 'print("ok 1 - " + " #" * 200000 + "\n" + " " * 400000 + "ok 2\n# " + "\\" * 200001)' > "$room/tap"
     run --width 0 "$room/tap"
@@ -583,7 +739,10 @@ run_tap() {
     run_tap_results
     run_tap_failures
     run_tap_subtests
+    run_tap_braces
     run_tap_blocks
     run_tap_prove
+    run_tap_more_of_prove
+    run_tap_failed
     run_tap_hostile
 }

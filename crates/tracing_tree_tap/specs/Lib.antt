@@ -2,4 +2,6 @@ pub mod Strings
 pub mod Length
 pub mod Line
 pub mod Tally
+pub mod Queue
+pub mod Texts
 pub mod Tap

@@ -5,6 +5,7 @@
 
 mod length;
 mod line;
+mod queue;
 mod strings;
 pub mod tally;
 pub mod tap;

@@ -1,13 +1,13 @@
 //! What a line of TAP is.
 
-ghost use Rattle.std.specs.Prelude.{◌≡◌, ◌≤◌, option_map};
+ghost use Rattle.std.specs.Prelude.{◌≡◌, ◌<◌, option_map};
 ghost use Rattle.tracing_tree_sources.specs.Marks.{after_mark, begins};
-ghost use Rattle.tracing_tree_tap.specs.Line.{after_dots, begins_note, begins_summary, comment_of, described, directive_of, elapsed_of, ends_summary, is_count, is_failure, is_file, is_fraction, is_frame, is_named, is_plan, is_result, is_reporters, is_skip, kind_of, kind_of_comment, label_part, note_place, number_of, plan_reason, planned, reason_of, space_note_place, tail_from, tail_of, tail_of_file, verdict_level, without_colon, word_in};
+ghost use Rattle.tracing_tree_tap.specs.Line.{after_dots, begins_inside, begins_note, begins_summary, bracketed, comment_of, described, directive_of, elapsed_of, elapsed_word, ends_summary, is_bad_verdict, is_braced, is_clock, is_count, is_failed_summary, is_failure, is_file, is_frame, is_good_verdict, is_named, is_named_file, is_note, is_pair, is_plan, is_result, is_reporters, is_said, is_skip, is_spaced_note, is_stamp, is_success, is_unit, kind_of, kind_of_comment, label_part, name_of_file, note_place, number_of, plan_reason, planned, reason_of, space_note_place, tail_from, tail_of, tail_of_file, timer_of, unbraced, unstamped, verdict_level, verdict_time, without_colon, word_in};
 
 use crate::length::milliseconds;
 use crate::strings::{
     after_word, before_mark, begins, dashless, first_word, is_digits, rest_after, same_word,
-    whole_of, without_leading,
+    whole_of, without_end, without_leading,
 };
 use tracing_tree_sources::marks::after_mark;
 use tracing_tree_text::style::Level;
@@ -29,6 +29,8 @@ pub(crate) enum Kind {
     Comment,
     // A version, or a pragma.
     Frame,
+    // `}`
+    Brace,
     // What a test printed.
     Output,
 }
@@ -50,6 +52,8 @@ pub(crate) fn kind_of(text: &str) -> Kind
         Kind::BailOut
     } else if is_frame(text) {
         Kind::Frame
+    } else if text == "}" {
+        Kind::Brace
     } else {
         Kind::Output
     }
@@ -171,24 +175,30 @@ pub(crate) fn described(rest: &str) -> &str
     }
 }
 
-// Returns the index of the first `#` at the start or after a space, with that space. If there isn't
-// one, returns the length.
+// Returns the index of the first `#` at the start or after a space, with that space, after which a
+// directive comes. If there isn't one, returns the length.
 fn note_place(text: &str) -> usize
     ensures value { result ≡ note_place text.now }
 {
-    if begins("#", text) {
+    if is_note(text) {
         return 0;
     }
-    space_note_place(text.as_bytes())
+    space_note_place(text)
 }
 
-fn space_note_place(text: &[u8]) -> usize
+fn is_note(text: &str) -> bool
+    ensures { result ≡ is_note text.now }
+{
+    begins("#", text) && is_said(directive_of(tail_from(text)))
+}
+
+fn space_note_place(text: &str) -> usize
     ensures value { result ≡ space_note_place text.now }
 {
-    let mut rest = text;
+    let mut rest = text.as_bytes();
     let mut place = 0;
-    while let [_, others @ ..] = rest {
-        if rest.starts_with(" #".as_bytes()) {
+    while let [byte, others @ ..] = rest {
+        if *byte == b' ' && is_spaced_note(text.split_at(place).1) {
             return place;
         }
         rest = others;
@@ -197,11 +207,31 @@ fn space_note_place(text: &[u8]) -> usize
     place
 }
 
-// Returns what comes before the note of a description.
-pub(crate) fn label_part(text: &str) -> &str
-    ensures { result.now ≡ label_part text.now }
+fn is_spaced_note(text: &str) -> bool
+    ensures { result ≡ is_spaced_note text.now }
 {
-    text.split_at(note_place(text)).0
+    begins(" #", text) && is_said(directive_of(tail_from(text)))
+}
+
+// A description in two parts.
+#[derive(Clone, Copy)]
+pub(crate) struct Description<'a> {
+    // What comes before the note, or all of it.
+    pub(crate) label: &'a str,
+    // The note without its `#`, or nothing.
+    pub(crate) tail: &'a str,
+}
+
+// Returns the parts of a description.
+pub(crate) fn parts_of(text: &str) -> Description<'_>
+    ensures label { result.label.now ≡ label_part text.now }
+    ensures tail { result.tail.now ≡ tail_of text.now }
+{
+    let (label, note) = text.split_at(note_place(text));
+    Description {
+        label,
+        tail: tail_from(note),
+    }
 }
 
 // Returns what comes after a `#` and spaces.
@@ -211,13 +241,6 @@ fn tail_from(note: &str) -> &str
     without_leading(' ', rest_after("#", without_leading(' ', note)))
 }
 
-// Returns the note of a description, without its `#`.
-pub(crate) fn tail_of(text: &str) -> &str
-    ensures { result.now ≡ tail_of text.now }
-{
-    tail_from(text.split_at(note_place(text)).1)
-}
-
 // What the note of a result says of it.
 #[derive(Clone, Copy)]
 pub(crate) enum Directive {
@@ -225,6 +248,12 @@ pub(crate) enum Directive {
     Skip,
     Todo,
     Time,
+}
+
+fn is_said(directive: Directive) -> bool
+    ensures { result ≡ is_said directive }
+{
+    !matches!(directive, Directive::Absent)
 }
 
 #[tactic(auto, unfolding(crate::specs::Line::directive_of))]
@@ -271,18 +300,111 @@ pub(crate) fn reason_of(tail: &str) -> &str
     after_word(tail)
 }
 
-// Returns the nanoseconds of `time=12ms`.
+// Returns the nanoseconds that a note gives, if it says nothing else.
 pub(crate) fn elapsed_of(tail: &str) -> Option<u64>
     ensures { result ≡ elapsed_of tail.now }
 {
-    milliseconds(before_mark("ms", after_mark(tail, "time=")?)?)
+    if after_word(tail).is_empty() {
+        elapsed_word(first_word(tail))
+    } else {
+        None
+    }
+}
+
+// Returns the nanoseconds of `time=12ms`.
+fn elapsed_word(word: &str) -> Option<u64>
+    ensures { result ≡ elapsed_word word.now }
+{
+    milliseconds(before_mark("ms", after_mark(word, "time=")?)?)
+}
+
+// Returns whether a result has a brace at its end, which may open a subtest.
+pub(crate) fn is_braced(rest: &str) -> bool
+    ensures { result ≡ is_braced rest.now }
+{
+    before_mark(" {", rest).is_some()
+}
+
+// Returns a result without the brace at its end.
+pub(crate) fn unbraced(rest: &str) -> &str
+    ensures { result.now ≡ unbraced rest.now }
+{
+    without_end(" {", rest)
+}
+
+// Returns whether a line of this kind may be the first in braces.
+pub(crate) fn begins_inside(kind: Kind) -> bool
+    ensures { result ≡ begins_inside kind }
+{
+    !matches!(kind, Kind::Brace | Kind::Output)
 }
 
 // ---- what prove prints
 
-// Returns whether a line names a file, as `t/basic.t ... ` does; a verdict may follow.
+// Returns whether a line names a file, as `t/basic.t ... ` does; a verdict may follow, and a time
+// of day may come before.
 pub(crate) fn is_file(line: &str) -> bool
     ensures { result ≡ is_file line.now }
+{
+    is_named_file(unstamped(line))
+}
+
+// Returns the name of a file.
+pub(crate) fn name_of_file(line: &str) -> &str
+    ensures { result.now ≡ name_of_file line.now }
+{
+    first_word(unstamped(line))
+}
+
+// Returns a line without the time of day before it.
+fn unstamped(line: &str) -> &str
+    ensures { result.now ≡ unstamped line.now }
+{
+    if is_stamp(first_word(line)) {
+        after_word(line)
+    } else {
+        line
+    }
+}
+
+// Returns whether a word is when prove says something, as `[12:00:01]`.
+pub(crate) fn is_stamp(word: &str) -> bool
+    ensures { result ≡ is_stamp word.now }
+{
+    match bracketed(word) {
+        Some(time) => is_clock(time),
+        None => false,
+    }
+}
+
+fn bracketed(word: &str) -> Option<&str>
+    ensures { option_map (λ s. s.now) result ≡ bracketed word.now }
+{
+    before_mark("]", after_mark(word, "[")?)
+}
+
+fn is_clock(word: &str) -> bool
+    ensures { result ≡ is_clock word.now }
+{
+    match word.split_once(':') {
+        Some((hours, rest)) => is_digits(hours) && is_pair(':', rest),
+        None => false,
+    }
+}
+
+// Returns whether a word consists of digits, a mark and digits.
+fn is_pair(mark: char, word: &str) -> bool
+    requires { mark < 128 }
+    ensures { result ≡ is_pair mark word.now }
+{
+    match word.split_once(mark) {
+        Some((first, second)) => is_digits(first) && is_digits(second),
+        None => false,
+    }
+}
+
+fn is_named_file(line: &str) -> bool
+    ensures { result ≡ is_named_file line.now }
 {
     match line.split_once(' ') {
         Some((_, rest)) => begins("..", rest) && is_named(after_dots(rest)),
@@ -310,7 +432,7 @@ fn is_named(rest: &str) -> bool
 pub(crate) fn tail_of_file(line: &str) -> &str
     ensures { result.now ≡ tail_of_file line.now }
 {
-    rest_after(" ", after_dots(after_word(line)))
+    rest_after(" ", after_dots(after_word(unstamped(line))))
 }
 
 // Returns the level of a verdict on a file.
@@ -318,18 +440,53 @@ pub(crate) fn tail_of_file(line: &str) -> &str
 pub(crate) fn verdict_level(line: &str) -> Option<Level>
     ensures { result ≡ verdict_level line.now }
 {
-    if line == "ok" {
+    if is_good_verdict(line) {
         Some(Level::Info)
     } else if begins("skipped: ", line) {
         Some(Level::Warn)
-    } else if begins("Dubious, test returned ", line)
-        || begins("No subtests run", line)
-        || is_failure(line)
-    {
+    } else if is_bad_verdict(line) {
         Some(Level::Error)
     } else {
         None
     }
+}
+
+fn is_good_verdict(line: &str) -> bool
+    ensures { result ≡ is_good_verdict line.now }
+{
+    line == "ok" || verdict_time(line).is_some()
+}
+
+// Returns how long a file took in nanoseconds, by a verdict such as `ok 12 ms`.
+pub(crate) fn verdict_time(line: &str) -> Option<u64>
+    ensures { result ≡ verdict_time line.now }
+{
+    timer_of(without_leading(' ', after_mark(line, "ok ")?))
+}
+
+fn timer_of(text: &str) -> Option<u64>
+    ensures { result ≡ timer_of text.now }
+{
+    if is_unit(after_word(text)) {
+        milliseconds(first_word(text))
+    } else {
+        None
+    }
+}
+
+fn is_unit(text: &str) -> bool
+    ensures { result ≡ is_unit text.now }
+{
+    text == "ms" || begins("ms (", text)
+}
+
+fn is_bad_verdict(line: &str) -> bool
+    ensures { result ≡ is_bad_verdict line.now }
+{
+    begins("Dubious, test returned ", line)
+        || begins("No subtests run", line)
+        || is_failure(line)
+        || is_success(line)
 }
 
 // Returns whether a line counts the tests that failed, as `Failed 2/5 subtests`.
@@ -337,16 +494,18 @@ fn is_failure(line: &str) -> bool
     ensures { result ≡ is_failure line.now }
 {
     match after_mark(line, "Failed ") {
-        Some(rest) => is_fraction(first_word(rest)),
+        Some(rest) => is_pair('/', first_word(rest)),
         None => false,
     }
 }
 
-fn is_fraction(word: &str) -> bool
-    ensures { result ≡ is_fraction word.now }
+// Returns whether a line counts tests without a failure, as `All 2 subtests passed`. prove says
+// this of a file that failed for another reason.
+fn is_success(line: &str) -> bool
+    ensures { result ≡ is_success line.now }
 {
-    match word.split_once('/') {
-        Some((failed, all)) => is_digits(failed) && is_digits(all),
+    match after_mark(line, "All ") {
+        Some(rest) => is_digits(first_word(rest)) && begins("subtests passed", after_word(rest)),
         None => false,
     }
 }
@@ -363,4 +522,11 @@ pub(crate) fn ends_summary(line: &str) -> bool
     ensures { result ≡ ends_summary line.now }
 {
     begins("Result: ", line)
+}
+
+// Returns whether prove's summary says that a file failed.
+pub(crate) fn is_failed_summary(line: &str) -> bool
+    ensures { result ≡ is_failed_summary line.now }
+{
+    begins("Result: FAIL", line)
 }

@@ -1,10 +1,12 @@
 //! Lines of TAP.
 
-ghost use Rattle.std.specs.Prelude.{◌≡◌, [], false, IfOk, OnOk, None, Some};
-ghost use Rattle.tracing_tree_tap.specs.Tap.{all_ended, begun, bailed_out, comment_taken, heading_ended, heading_taken, kind_taken, line_taken, next_taken, nothing_run, output_taken, part_of, part_taken, reporter_counts, summary_taken, tally_call, text_taken, unfinished_text};
+ghost use Rattle.std.specs.Prelude.{◌≡◌, [], false, true, IfOk, OnOk, None, Some};
+ghost use Rattle.tracing_tree_tap.specs.Tap.{all_ended, begun, begun_first, bailed_out, comment_taken, heading_ended, heading_taken, input_ended, is_in_block, is_passed_over, kind_taken, line_taken, next_taken, nothing_run, output_taken, part_of, part_taken, reporter_counts, summary_taken, tally_call, text_taken, unheld_taken};
+ghost use Rattle.tracing_tree_tap.specs.Texts.{unfinished_text};
 ghost use Rattle.tracing_tree_tap.specs.Tally.{has_failed};
 
 mod block;
+mod braces;
 mod prove;
 mod results;
 mod rows;
@@ -12,10 +14,12 @@ mod subtests;
 mod waiting;
 
 use crate::line::{Kind, comment_of, is_count, kind_of};
+use crate::queue::Queue;
 use crate::strings::{
     column_of, rest_after, unescaped, without_end, without_leading, without_margin,
 };
 use crate::tally::Tally;
+use braces::Braced;
 use json::Value;
 use prove::{Part, part_of};
 use results::Mark;
@@ -38,14 +42,18 @@ use waiting::Waiting;
 // Which lines are read.
 #[derive(Clone, Copy)]
 enum Mode {
-    // No line of TAP has come, or prove's summary is over: the next line may name a file.
+    // No line of TAP has come: the next line may name a file.
     Start,
     // The lines of a script.
     Script,
-    // The lines of a script in prove's output.
+    // The lines of a script in prove's output, before prove's verdict on it.
     File,
+    // The lines after prove's verdict: the next line may name another file.
+    Judged,
     // prove's summary, which isn't drawn.
     Summary,
+    // prove's summary is over: the next line may name a file.
+    Over,
     // `Bail out!` has ended everything.
     Bailed,
 }
@@ -69,8 +77,10 @@ pub struct Tap {
     heading: Option<Heading>,
     // The result that waits for its block.
     waiting: Option<Waiting>,
+    // The result with a brace at its end, if it was the last line.
+    braced: Option<Braced>,
     tally: Tally,
-    calls: Vec<Call>,
+    queue: Queue,
 }
 
 impl Model for Tap {
@@ -86,8 +96,9 @@ impl Model for Tap {
       outer = t.outer.items;
       heading = t.heading;
       waiting = t.waiting;
+      braced = t.braced;
       tally = t.tally;
-      calls = t.calls.items;
+      queue = t.queue;
     } };
 }
 
@@ -99,7 +110,32 @@ impl Tap {
     ///
     /// `AllocError` if an allocation fails.
     pub fn new(alloc: Global, next: u64, moment: Moment) -> Result<Tap, AllocError>
-        ensures { IfOk result (λ source. source ≡ nothing_run next moment) }
+        ensures { IfOk result (λ source. source ≡ nothing_run false next moment) }
+    {
+        Tap::starting(alloc, false, next, moment)
+    }
+
+    /// Creates a source like `new` does, that reports only what failed. Results that passed, were
+    /// skipped or are TODO are left out, with the lines before them, and so are subtests and files
+    /// in which nothing failed. Lines after a failure belong to it. The last event counts all
+    /// results.
+    ///
+    /// # Errors
+    ///
+    /// `AllocError` if an allocation fails.
+    pub fn only_failed(alloc: Global, next: u64, moment: Moment) -> Result<Tap, AllocError>
+        ensures { IfOk result (λ source. source ≡ nothing_run true next moment) }
+    {
+        Tap::starting(alloc, true, next, moment)
+    }
+
+    fn starting(
+        alloc: Global,
+        is_failed_only: bool,
+        next: u64,
+        moment: Moment,
+    ) -> Result<Tap, AllocError>
+        ensures { IfOk result (λ source. source ≡ nothing_run is_failed_only next moment) }
     {
         Ok(Tap {
             alloc,
@@ -110,13 +146,15 @@ impl Tap {
             outer: VecDeque::new(alloc),
             heading: None,
             waiting: None,
+            braced: None,
             tally: Tally::new(),
-            calls: Vec::new(alloc),
+            queue: Queue::new(alloc, is_failed_only),
         })
     }
 
     /// Returns whether a test failed, or anything else that must not: a plan that isn't met, a
-    /// missing number, a subtest without a result, `Bail out!`, or a verdict of prove.
+    /// missing number, a script without a plan, a subtest without a result, `Bail out!`, a
+    /// verdict or a summary of prove, or an input without a line of TAP.
     pub fn has_failed(&self) -> bool
         ensures { result ≡ has_failed self.now.tally }
     {
@@ -132,10 +170,26 @@ impl Tap {
 
     // Hands out the calls.
     fn told(&mut self) -> Vec<Call>
-        ensures told { result.items ≡ self.old.calls }
-        ensures rest { self.new ≡ record self.old { calls = [] } }
+        ensures told { result.items ≡ self.old.queue.ready }
+        ensures rest { self.new ≡ record self.old { queue = record self.old.queue { ready = [] } } }
     {
-        mem::replace(&mut self.calls, Vec::new(self.alloc))
+        self.queue.take()
+    }
+
+    // Returns whether a line is blank and no line of a block.
+    fn is_passed_over(&self, line: &str) -> bool
+        ensures { result ≡ is_passed_over line.now self.now }
+    {
+        is_skipped(line.as_bytes()) && !self.is_in_block()
+    }
+
+    fn is_in_block(&self) -> bool
+        ensures { result ≡ is_in_block self.now.waiting }
+    {
+        match &self.waiting {
+            Some(waiting) => !waiting.margin.as_str().is_empty(),
+            None => false,
+        }
     }
 
     #[tactic(auto, unfolding(crate::specs::Tap::line_taken))]
@@ -145,11 +199,10 @@ impl Tap {
         let text = without_end("\r", line);
         match self.mode {
             Mode::Bailed => Ok(()),
-            Mode::Summary => {
-                self.take_summary(text);
-                Ok(())
+            Mode::Summary => self.take_summary(text),
+            Mode::Start | Mode::Script | Mode::File | Mode::Judged | Mode::Over => {
+                self.take_text(text)
             }
-            Mode::Start | Mode::Script | Mode::File => self.take_text(text),
         }
     }
 
@@ -157,6 +210,17 @@ impl Tap {
     #[tactic(auto, unfolding(crate::specs::Tap::text_taken))]
     fn take_text(&mut self, text: &str) -> Result<(), AllocError>
         ensures { OnOk result (self.new ≡ text_taken text.now self.old) }
+    {
+        match mem::replace(&mut self.braced, None) {
+            Some(braced) => self.take_held(braced, text),
+            None => self.take_unheld(text),
+        }
+    }
+
+    // Takes a line that has nothing to do with a brace before it.
+    #[tactic(auto, unfolding(crate::specs::Tap::unheld_taken))]
+    fn take_unheld(&mut self, text: &str) -> Result<(), AllocError>
+        ensures { OnOk result (self.new ≡ unheld_taken text.now self.old) }
     {
         match mem::replace(&mut self.waiting, None) {
             Some(waiting) => self.take_after(waiting, text),
@@ -183,6 +247,7 @@ impl Tap {
         match part {
             Part::File => self.take_file(text),
             Part::Verdict(level) => self.take_verdict(level, text),
+            Part::Stamp => Ok(()),
             Part::Summary => self.begin_summary(),
             Part::Line => self.take_kind(kind_of(inner), column_of(text, inner), text, inner),
         }
@@ -209,6 +274,7 @@ impl Tap {
             Kind::Heading => self.take_heading(column, rest_after("# Subtest: ", inner)),
             Kind::Comment => self.take_comment(comment_of(inner)),
             Kind::Frame => Ok(()),
+            Kind::Brace => self.take_brace(column, text),
             Kind::Output => self.take_output(text),
         }
     }
@@ -218,10 +284,17 @@ impl Tap {
     fn begin(&mut self, kind: Kind)
         ensures { self.new ≡ begun kind self.old }
     {
-        match (self.mode, kind) {
-            (Mode::Start, Kind::Comment | Kind::Output) => {}
-            (Mode::Start, _) => self.mode = Mode::Script,
-            _ => {}
+        if matches!(self.mode, Mode::Start | Mode::Over) {
+            self.begin_first(kind);
+        }
+    }
+
+    fn begin_first(&mut self, kind: Kind)
+        ensures { self.new ≡ begun_first kind self.old }
+    {
+        match kind {
+            Kind::Comment | Kind::Output | Kind::Brace => {}
+            _ => self.mode = Mode::Script,
         }
     }
 
@@ -284,10 +357,24 @@ impl Tap {
     fn end_all(&mut self) -> Result<(), AllocError>
         ensures { OnOk result (self.new ≡ all_ended self.old) }
     {
+        self.end_brace()?;
         self.flush()?;
         self.end_heading()?;
         self.leave_deeper(0)?;
-        self.close_script()
+        self.close_script()?;
+        self.end_input()
+    }
+
+    // Reports that the input has no line of TAP, or that it ends in prove's summary.
+    #[tactic(auto, unfolding(crate::specs::Tap::input_ended))]
+    fn end_input(&mut self) -> Result<(), AllocError>
+        ensures { OnOk result (self.new ≡ input_ended self.old) }
+    {
+        match self.mode {
+            Mode::Start => self.push_error("no line of TAP", None),
+            Mode::Summary => self.push_error("unfinished summary", None),
+            _ => Ok(()),
+        }
     }
 
     // Ends a heading. A test whose name was the last line has no result.
@@ -343,7 +430,7 @@ impl Source for Tap {
         line: &str,
         _value: Option<&Value<'_>>,
     ) -> Result<Option<Vec<Call>>, AllocError> {
-        if !is_skipped(line.as_bytes()) {
+        if !self.is_passed_over(line) {
             self.take_line(line)?;
         }
         Ok(Some(self.told()))

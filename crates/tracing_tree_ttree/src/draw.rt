@@ -258,7 +258,11 @@ fn draw_tap<R: AllocGlobal + Eprint + Print, I: Read + Drop>(
     mark: Option<Mark>,
     options: &Options<'_>,
 ) -> Result<Status, AllocError> {
-    let tap = Tap::new(rt.alloc(), 1, some_moment())?;
+    let tap = if options.is_failed {
+        Tap::only_failed(rt.alloc(), 1, some_moment())?
+    } else {
+        Tap::new(rt.alloc(), 1, some_moment())?
+    };
     let mut source = AtLeast::new(Prefixed::new(tap, mark), options.min_level());
     let status = draw_lines(rt, origin, input, &mut source, options)?;
     Ok(with_tests(status, source.into_source().into_source().has_failed()))

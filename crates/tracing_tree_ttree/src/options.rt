@@ -23,7 +23,7 @@ pub struct Options<'a> {
     // Events below it aren't shown. Without it, each is.
     min_level: Option<Level>,
 
-    // Whether only what failed of Go's tests is shown.
+    // Whether only the tests that failed are shown.
     pub is_failed: bool,
 
     // Which spans of a trace aren't drawn.
@@ -122,7 +122,7 @@ impl<'a> Options<'a> {
 // Returns whether a format has this option.
 fn is_option_of(format: Format, option: &str) -> bool {
     match option {
-        "failed" => format == Format::GoTest,
+        "failed" => matches!(format, Format::GoTest | Format::Tap),
         "min" | "depth" => format == Format::Chrome,
         "level" => matches!(
             format,
@@ -307,7 +307,7 @@ fn failed_option<'a>(alloc: Global) -> Arg<'a> {
     flag(
         alloc,
         "failed",
-        "Leaves out the tests that passed or were skipped, and packages without a failure; go-test alone",
+        "Leaves out the tests that passed or were skipped, and packages, files and subtests without a failure; go-test and tap",
     )
 }
 

@@ -1,7 +1,8 @@
 //! The block behind a result.
 
 ghost use Rattle.std.specs.Prelude.{◌≡◌, IfOk, OnOk};
-ghost use Rattle.tracing_tree_tap.specs.Tap.{after_taken, begins_block, block_begun, block_taken, detail_taken, duration_of, inside_taken, outside_taken, spanned, timed, waits, with_span};
+ghost use Rattle.tracing_tree_tap.specs.Tap.{after_taken, block_begun, block_taken, detail_taken, inside_taken, outside_taken, spanned, timed, waits, with_span};
+ghost use Rattle.tracing_tree_tap.specs.Texts.{begins_block, duration_of};
 
 use super::Tap;
 use super::waiting::Waiting;

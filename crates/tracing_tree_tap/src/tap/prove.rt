@@ -1,13 +1,21 @@
 //! What prove prints around TAP.
 
-ghost use Rattle.std.specs.Prelude.{◌≡◌, OnOk};
-ghost use Rattle.tracing_tree_tap.specs.Tap.{file_come, file_opened, file_taken, is_in_file, part_in_file, part_of, summary_begun, summary_taken, tail_taken, verdict_taken, verdict_told};
+ghost use Rattle.std.specs.Prelude.{◌≡◌, IfOk, OnOk, None};
+ghost use Rattle.tracing_tree_tap.specs.Tap.{file_come, file_opened, file_taken, good_told, is_in_file, judged, part_after, part_before, part_in_file, part_of, summary_begun, summary_over, summary_taken, tail_taken, verdict_taken, verdict_told};
+ghost use Rattle.tracing_tree_tap.specs.Texts.{good_text, time_fields};
 
+use super::results::length_if;
 use super::subtests::Subtest;
+use super::waiting::push_field;
 use super::{Mode, Tap};
-use crate::line::{begins_summary, ends_summary, is_file, tail_of_file, verdict_level};
-use crate::strings::{first_word, without_end};
-use std::alloc::AllocError;
+use crate::line::{
+    begins_summary, ends_summary, is_failed_summary, is_file, is_stamp, name_of_file, tail_of_file,
+    verdict_level, verdict_time,
+};
+use crate::queue::Role;
+use crate::strings::without_end;
+use std::alloc::{AllocError, Global};
+use tracing_tree_text::field::Field;
 use tracing_tree_text::style::Level;
 use tracing_tree_text::text::Text;
 
@@ -18,6 +26,8 @@ pub(crate) enum Part {
     File,
     // How a file ended.
     Verdict(Level),
+    // A time of day.
+    Stamp,
     // The first line of the summary.
     Summary,
     // A line of a script.
@@ -29,20 +39,45 @@ pub(super) fn part_of(mode: Mode, text: &str) -> Part
     ensures { result ≡ part_of mode text.now }
 {
     match mode {
-        Mode::Start if is_file(text) => Part::File,
+        Mode::Start | Mode::Over => part_before(text),
         Mode::File => part_in_file(text),
-        _ => Part::Line,
+        Mode::Judged => part_after(text),
+        Mode::Script | Mode::Summary | Mode::Bailed => Part::Line,
     }
 }
 
-fn part_in_file(text: &str) -> Part
-    ensures { result ≡ part_in_file text.now }
+// Returns what a line is before the first line of TAP.
+fn part_before(text: &str) -> Part
+    ensures { result ≡ part_before text.now }
+{
+    if is_file(text) {
+        Part::File
+    } else if begins_summary(text) {
+        Part::Summary
+    } else {
+        Part::Line
+    }
+}
+
+// Returns what a line is after a verdict.
+fn part_after(text: &str) -> Part
+    ensures { result ≡ part_after text.now }
 {
     if is_file(text) {
         return Part::File;
     }
+    part_in_file(text)
+}
+
+// Returns what a line is in a file without a verdict.
+fn part_in_file(text: &str) -> Part
+    ensures { result ≡ part_in_file text.now }
+{
     if begins_summary(text) {
         return Part::Summary;
+    }
+    if is_stamp(text) {
+        return Part::Stamp;
     }
     match verdict_level(without_end(" ", text)) {
         Some(level) => Part::Verdict(level),
@@ -58,7 +93,7 @@ impl Tap {
     {
         self.heading = None;
         self.leave_deeper(0)?;
-        self.come_to_file(first_word(text))?;
+        self.come_to_file(name_of_file(text))?;
         self.take_tail(without_end(" ", tail_of_file(text)))
     }
 
@@ -113,9 +148,29 @@ impl Tap {
         ensures { OnOk result (self.new ≡ verdict_told level text.now self.old) }
     {
         match level {
-            Level::Error => self.push_error(text, self.subtest.span),
-            _ => self.push_line(level, text, self.subtest.span),
+            Level::Error => self.push_error(text, self.subtest.span)?,
+            _ => self.push_good(level, text)?,
         }
+        self.judge();
+        Ok(())
+    }
+
+    // Records a verdict without a failure. How long the file took is its time.
+    fn push_good(&mut self, level: Level, text: &str) -> Result<(), AllocError>
+        ensures { OnOk result (self.new ≡ good_told level text.now self.old) }
+    {
+        let time = verdict_time(text);
+        let fields = time_fields(self.alloc, time)?;
+        let span = self.subtest.span;
+        self.push_row(Role::End, level, good_text(time, text), fields, span)
+    }
+
+    // A file with a verdict needs no plan.
+    fn judge(&mut self)
+        ensures { self.new ≡ judged self.old }
+    {
+        self.mode = Mode::Judged;
+        self.subtest.planned = None;
     }
 
     #[tactic(auto, unfolding(crate::specs::Tap::summary_begun))]
@@ -130,11 +185,44 @@ impl Tap {
     }
 
     // Takes a line of the summary.
-    pub(super) fn take_summary(&mut self, text: &str)
-        ensures { self.new ≡ summary_taken text.now self.old }
+    #[tactic(auto, unfolding(crate::specs::Tap::summary_taken))]
+    pub(super) fn take_summary(&mut self, text: &str) -> Result<(), AllocError>
+        ensures { OnOk result (self.new ≡ summary_taken text.now self.old) }
     {
         if ends_summary(text) {
-            self.mode = Mode::Start;
+            return self.end_summary(text);
         }
+        Ok(())
+    }
+
+    // Ends the summary. A failure in it is an error, unless something is one already.
+    fn end_summary(&mut self, text: &str) -> Result<(), AllocError>
+        ensures { OnOk result (self.new ≡ summary_over text.now self.old) }
+    {
+        self.mode = Mode::Over;
+        if is_failed_summary(text) && !self.has_failed() {
+            return self.push_error(text, None);
+        }
+        Ok(())
+    }
+}
+
+// Returns the fields of a verdict.
+fn time_fields(alloc: Global, time: Option<u64>) -> Result<Vec<Field>, AllocError>
+    ensures { IfOk result (λ fields. fields.items ≡ time_fields time) }
+{
+    let elapsed = length_if(alloc, time)?;
+    let mut fields = Vec::new(alloc);
+    push_field(alloc, &mut fields, "time", elapsed.as_str())?;
+    Ok(fields)
+}
+
+// Returns what is shown of a verdict.
+fn good_text(time: Option<u64>, text: &str) -> &str
+    ensures { result.now ≡ good_text time text.now }
+{
+    match time {
+        Some(_) => "ok",
+        None => text,
     }
 }

@@ -1,16 +1,18 @@
 //! Results and plans.
 
 ghost use Rattle.std.specs.Prelude.{◌≡◌, ◌++◌, [], IfOk, OnOk, None, string_bytes, true, false};
-ghost use Rattle.tracing_tree_tap.specs.Tap.{directive_in, elapsed_text, given_taken, is_kept_plan, label_of, leaf_label, missed, missing_text, name_in, number_taken, one_counted, plan_kept, plan_missed, plan_set, plan_taken, plan_text, reason_in, restarted, result_in, result_taken, skip_told, subtest_ended, subtest_label, waiting_of, without_heading};
+ghost use Rattle.tracing_tree_tap.specs.Tap.{given_taken, is_kept_plan, is_unjudged, missed, number_taken, one_counted, plan_kept, plan_missed, plan_set, plan_taken, restarted, result_in, result_placed, result_taken, results_missed, script_missed, skip_told, subtest_ended, waiting_of, without_heading};
+ghost use Rattle.tracing_tree_tap.specs.Texts.{label_of, leaf_label, length_if, missing_text, name_as, name_in, no_plan_text, plan_text, reason_as, subtest_label};
 
 use super::subtests::Subtest;
 use super::waiting::{Waiting, end_fields};
 use super::{Mode, Tap};
 use crate::length::length_text;
 use crate::line::{
-    Directive, described, directive_of, elapsed_of, label_part, number_of, plan_reason, planned,
-    reason_of, tail_of,
+    Directive, described, directive_of, elapsed_of, number_of, parts_of, plan_reason, planned,
+    reason_of,
 };
+use crate::queue::Role;
 use crate::strings::unescaped;
 use crate::tally::Verdict;
 use std::alloc::{AllocError, Global};
@@ -22,8 +24,8 @@ use tracing_tree_text::text::Text;
 // Whether a result is `ok`, and its column.
 #[derive(Clone, Copy)]
 pub(crate) struct Mark {
-    is_ok: bool,
-    column: usize,
+    pub(super) is_ok: bool,
+    pub(super) column: usize,
 }
 
 impl Mark {
@@ -55,15 +57,27 @@ impl Tap {
         self.leave_inner(mark.column)?;
         self.deepen(mark.column)?;
         self.heading = None;
-        if mark.column < self.subtest.column {
-            return self.end_subtest(mark, rest);
+        self.place(mark, rest)
+    }
+
+    // Ends the subtest that runs, or adds a result to it. A subtest in braces is unfinished if a
+    // result comes before its brace.
+    fn place(&mut self, mark: Mark, rest: &str) -> Result<(), AllocError>
+        ensures { OnOk result (self.new ≡ result_placed mark rest.now self.old) }
+    {
+        if mark.column >= self.subtest.column {
+            return self.take_beside(mark, rest);
         }
-        self.wait_for(None, "", mark, rest)
+        if self.subtest.result.is_some() {
+            self.leave()?;
+            return self.take_beside(mark, rest);
+        }
+        self.end_subtest(mark, rest)
     }
 
     // Ends the subtest that runs by its result.
     #[tactic(auto, unfolding(crate::specs::Tap::subtest_ended))]
-    fn end_subtest(&mut self, mark: Mark, rest: &str) -> Result<(), AllocError>
+    pub(super) fn end_subtest(&mut self, mark: Mark, rest: &str) -> Result<(), AllocError>
         ensures { OnOk result (self.new ≡ subtest_ended mark rest.now self.old) }
     {
         let Some(parent) = self.outer.pop_front() else {
@@ -77,7 +91,7 @@ impl Tap {
     // Counts a result of the subtest that runs, and waits for its block. It ends the subtest with
     // this span and this name, if there is one.
     #[tactic(auto, unfolding(crate::specs::Tap::result_in))]
-    fn wait_for(
+    pub(super) fn wait_for(
         &mut self,
         span: Option<Id>,
         name: &str,
@@ -104,13 +118,16 @@ impl Tap {
         ensures { IfOk result (λ made. made ≡ waiting_of span name.now mark rest.now self.now) }
     {
         let alloc = self.alloc;
-        let text = unescaped(alloc, name_in(rest))?;
+        let text = described(rest);
+        let parts = parts_of(text);
+        let directive = directive_of(parts.tail);
+        let text = unescaped(alloc, name_as(directive, text, parts.label))?;
         Ok(Waiting {
             column: mark.column,
-            verdict: Verdict::of(mark.is_ok, directive_in(rest)),
+            verdict: Verdict::of(mark.is_ok, directive),
             label: label_of(alloc, span, name, text, self.subtest.last)?,
-            reason: unescaped(alloc, reason_in(rest))?,
-            elapsed: elapsed_text(alloc, rest)?,
+            reason: unescaped(alloc, reason_as(directive, parts.tail))?,
+            elapsed: length_if(alloc, elapsed_of(parts.tail))?,
             span,
             parent: self.subtest.span,
             margin: Text::from_str(alloc, "")?,
@@ -167,11 +184,42 @@ impl Tap {
     fn restart(&mut self) -> Result<(), AllocError>
         ensures { OnOk result (self.new ≡ restarted self.old) }
     {
-        self.check_plan(self.subtest.planned, self.subtest.ran, self.subtest.span)?;
+        self.check_results()?;
         self.subtest.planned = None;
         self.subtest.ran = 0;
         self.subtest.last = 0;
         Ok(())
+    }
+
+    // Checks the plan of what runs.
+    fn check_results(&mut self) -> Result<(), AllocError>
+        ensures { OnOk result (self.new ≡ results_missed self.old) }
+    {
+        let planned = self.subtest.planned;
+        let ran = self.subtest.ran;
+        let span = self.subtest.span;
+        if self.outer.is_empty() {
+            self.check_script(planned, ran, span)
+        } else {
+            self.check_plan(planned, ran, span)
+        }
+    }
+
+    // Checks the plan of a script. If it isn't met, or there is none, that is an error.
+    pub(super) fn check_script(
+        &mut self,
+        planned: Option<u64>,
+        ran: u64,
+        span: Option<Id>,
+    ) -> Result<(), AllocError>
+        ensures { OnOk result (self.new ≡ script_missed planned ran span self.old) }
+    {
+        if planned.is_some() || !is_unjudged(self.mode) {
+            return self.check_plan(planned, ran, span);
+        }
+        let mut text = String::new(self.alloc);
+        push_no_plan(&mut text, ran)?;
+        self.push_error(text.as_str(), span)
     }
 
     // Checks the plan. If it isn't met, that is an error.
@@ -218,7 +266,7 @@ impl Tap {
         Ok(())
     }
 
-    // Keeps a plan. prove says by itself whether that of a file is met.
+    // Keeps a plan. prove's verdict says whether that of a file is met.
     fn keep_plan(&mut self, count: u64)
         ensures { self.new ≡ plan_kept count self.old }
     {
@@ -231,7 +279,7 @@ impl Tap {
         ensures { result ≡ is_kept_plan self.now }
     {
         match self.mode {
-            Mode::File => !self.outer.is_empty(),
+            Mode::Judged => !self.outer.is_empty(),
             _ => true,
         }
     }
@@ -244,44 +292,52 @@ impl Tap {
         let reason = unescaped(self.alloc, reason)?;
         let fields = end_fields(self.alloc, reason.as_str(), "")?;
         let span = self.subtest.span;
-        self.push_row(Level::Warn, "skip", fields, span)
+        self.push_row(Role::Good, Level::Warn, "skip", fields, span)
     }
-}
-
-// Returns what the note of a result says of it.
-fn directive_in(rest: &str) -> Directive
-    ensures { result ≡ directive_in rest.now }
-{
-    directive_of(tail_of(described(rest)))
 }
 
 // Returns the description of a result, without its note.
-fn name_in(rest: &str) -> &str
+pub(super) fn name_in(rest: &str) -> &str
     ensures { result.now ≡ name_in rest.now }
 {
-    match directive_in(rest) {
-        Directive::Absent => described(rest),
-        Directive::Skip | Directive::Todo | Directive::Time => label_part(described(rest)),
+    let text = described(rest);
+    let parts = parts_of(text);
+    name_as(directive_of(parts.tail), text, parts.label)
+}
+
+fn name_as<'a>(directive: Directive, text: &'a str, label: &'a str) -> &'a str
+    ensures { result.now ≡ name_as directive text.now label.now }
+{
+    match directive {
+        Directive::Absent => text,
+        Directive::Skip | Directive::Todo | Directive::Time => label,
     }
 }
 
-fn reason_in(rest: &str) -> &str
-    ensures { result.now ≡ reason_in rest.now }
+fn reason_as(directive: Directive, tail: &str) -> &str
+    ensures { result.now ≡ reason_as directive tail.now }
 {
-    match directive_in(rest) {
-        Directive::Skip | Directive::Todo => reason_of(tail_of(described(rest))),
+    match directive {
+        Directive::Skip | Directive::Todo => reason_of(tail),
         Directive::Time | Directive::Absent => "",
     }
 }
 
-// Returns how long a test took, by the note of its result.
-fn elapsed_text(alloc: Global, rest: &str) -> Result<Text, AllocError>
-    ensures { IfOk result (λ text. text ≡ elapsed_text rest.now) }
+// Returns a length of time, or nothing.
+pub(super) fn length_if(alloc: Global, nanoseconds: Option<u64>) -> Result<Text, AllocError>
+    ensures { IfOk result (λ text. text ≡ length_if nanoseconds) }
 {
-    match elapsed_of(tail_of(described(rest))) {
+    match nanoseconds {
         Some(nanoseconds) => length_text(alloc, nanoseconds),
         None => Text::from_str(alloc, ""),
     }
+}
+
+// Returns whether prove gives no verdict on what is read.
+fn is_unjudged(mode: Mode) -> bool
+    ensures { result ≡ is_unjudged mode }
+{
+    matches!(mode, Mode::Script | Mode::File)
 }
 
 // Returns what is shown behind the verdict of a result with this description: nothing if its
@@ -328,6 +384,13 @@ fn push_missing(out: &mut String, first: u64, last: u64) -> Result<(), AllocErro
         return write!(out, "missing {first}");
     }
     write!(out, "missing {first} to {last}")
+}
+
+// Appends how many tests ran without a plan.
+fn push_no_plan(out: &mut String, ran: u64) -> Result<(), AllocError>
+    ensures { OnOk result (string_bytes out.new ≡ string_bytes out.old ++ no_plan_text ran) }
+{
+    write!(out, "no plan, ran {ran}")
 }
 
 // Appends how many tests a plan has, and how many ran.

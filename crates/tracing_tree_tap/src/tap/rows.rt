@@ -2,9 +2,10 @@
 
 ghost use Rattle.std.specs.Prelude.{◌≡◌, [], IfOk, OnOk, Some};
 ghost use Rattle.tracing_tree_spans.specs.Registry.Ids.{id_of};
-ghost use Rattle.tracing_tree_tap.specs.Tap.{closed_if, error_told, line_told, opened, row_told, told};
+ghost use Rattle.tracing_tree_tap.specs.Tap.{closed, closed_if, error_told, line_told, opened, row_told, told};
 
 use super::Tap;
+use crate::queue::Role;
 use std::alloc::AllocError;
 use tracing_tree_context::Id;
 use tracing_tree_layer::call::Call;
@@ -13,26 +14,27 @@ use tracing_tree_text::field::{Field, Fields};
 use tracing_tree_text::style::Level;
 
 impl Tap {
-    pub(super) fn push(&mut self, call: Call) -> Result<(), AllocError>
-        ensures { OnOk result (self.new ≡ told call self.old) }
+    pub(super) fn push(&mut self, role: Role, call: Call) -> Result<(), AllocError>
+        ensures { OnOk result (self.new ≡ told role call self.old) }
     {
-        Ok(self.calls.push(call)?)
+        self.queue.add(role, call)
     }
 
     // Records an event with further fields in this span.
     pub(super) fn push_row(
         &mut self,
+        role: Role,
         level: Level,
         text: &str,
         rest: Vec<Field>,
         span: Option<Id>,
     ) -> Result<(), AllocError>
-        ensures { OnOk result (self.new ≡ row_told level text.now rest.items span self.old) }
+        ensures { OnOk result (self.new ≡ row_told role level text.now rest.items span self.old) }
     {
         let mut fields = Fields::one(self.alloc, message_field(self.alloc, text)?);
         fields.append(Fields::from(rest))?;
         let call = event_call(self.alloc, self.moment, level, fields, span)?;
-        self.push(call)
+        self.push(role, call)
     }
 
     // Records an event in this span.
@@ -46,7 +48,7 @@ impl Tap {
     {
         let fields = Fields::one(self.alloc, message_field(self.alloc, text)?);
         let call = event_call(self.alloc, self.moment, level, fields, span)?;
-        self.push(call)
+        self.push(Role::Note, call)
     }
 
     // Records a failure that isn't a result.
@@ -54,7 +56,9 @@ impl Tap {
         ensures { OnOk result (self.new ≡ error_told text.now span self.old) }
     {
         self.tally = self.tally.broken();
-        self.push_line(Level::Error, text, span)
+        let fields = Fields::one(self.alloc, message_field(self.alloc, text)?);
+        let call = event_call(self.alloc, self.moment, Level::Error, fields, span)?;
+        self.push(Role::Failure, call)
     }
 
     // Opens a span, and returns its id.
@@ -64,7 +68,7 @@ impl Tap {
     {
         let fields = Fields::new(self.alloc);
         let call = span_call(self.alloc, self.moment, name, fields, parent)?;
-        self.push(call)?;
+        self.push(Role::Opening, call)?;
         let span = Id(self.next);
         self.next = self.next.saturating_add(1);
         Ok(Some(span))
@@ -79,8 +83,18 @@ impl Tap {
         ensures { OnOk result (self.new ≡ closed_if span parent self.old) }
     {
         match span {
-            Some(id) => self.push(close_call(self.moment, id, parent)),
+            Some(id) => self.close(id, parent),
             None => Ok(()),
         }
+    }
+
+    // Closes a span. If it is left out, its id is free again: all later spans were in it.
+    fn close(&mut self, id: Id, parent: Option<Id>) -> Result<(), AllocError>
+        ensures { OnOk result (self.new ≡ closed id parent self.old) }
+    {
+        if self.queue.is_held() {
+            self.next = id.0;
+        }
+        self.push(Role::Closing, close_call(self.moment, id, parent))
     }
 }

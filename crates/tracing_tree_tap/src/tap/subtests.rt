@@ -4,6 +4,7 @@ ghost use Rattle.std.specs.Prelude.{◌≡◌, [], IfOk, OnOk, None};
 ghost use Rattle.tracing_tree_tap.specs.Tap.{come, come_to, deepened, deeper_left, inner_column, inner_left, is_nested, left, new_subtest, script, script_closed, subtest_opened};
 
 use super::Tap;
+use super::braces::Braced;
 use std::alloc::{AllocError, Global};
 use std::mem;
 use tracing_tree_context::Id;
@@ -22,6 +23,8 @@ pub(crate) struct Subtest {
     pub(crate) ran: u64,
     // The number of the last.
     pub(crate) last: u64,
+    // The result of a subtest in braces.
+    pub(crate) result: Option<Braced>,
 }
 
 // The name of a subtest that isn't open yet, and its column.
@@ -50,6 +53,7 @@ impl Subtest {
             planned: None,
             ran: 0,
             last: 0,
+            result: None,
         }
     }
 }
@@ -131,7 +135,7 @@ impl Tap {
     }
 
     // Leaves a subtest that has no result.
-    fn leave(&mut self) -> Result<(), AllocError>
+    pub(super) fn leave(&mut self) -> Result<(), AllocError>
         ensures { OnOk result (self.new ≡ left self.old) }
     {
         let Some(parent) = self.outer.pop_front() else {
@@ -148,13 +152,13 @@ impl Tap {
         ensures { OnOk result (self.new ≡ script_closed self.old) }
     {
         let subtest = mem::replace(&mut self.subtest, Subtest::script(self.alloc)?);
-        self.check_plan(subtest.planned, subtest.ran, subtest.span)?;
+        self.check_script(subtest.planned, subtest.ran, subtest.span)?;
         self.close_if(subtest.span, None)
     }
 }
 
 // Returns the column of a subtest's lines, by its name and its first line.
-fn inner_column(heading: &Heading, column: usize) -> usize
+pub(super) fn inner_column(heading: &Heading, column: usize) -> usize
     ensures { result ≡ inner_column heading.now column }
 {
     column.min(heading.column.saturating_add(4))

@@ -1,9 +1,11 @@
 //! A result that waits for its block.
 
 ghost use Rattle.std.specs.Prelude.{◌≡◌, ◌++◌, IfOk, OnOk};
-ghost use Rattle.tracing_tree_tap.specs.Tap.{end_fields, end_text, finished, flushed, value_field};
+ghost use Rattle.tracing_tree_tap.specs.Tap.{finished, flushed, role_in, role_of};
+ghost use Rattle.tracing_tree_tap.specs.Texts.{end_fields, end_text, value_field};
 
 use super::Tap;
+use crate::queue::Role;
 use crate::tally::Verdict;
 use std::alloc::{AllocError, Global};
 use std::mem;
@@ -52,8 +54,28 @@ impl Tap {
             waiting.elapsed.as_str(),
         )?;
         let at = waiting.span.or(waiting.parent);
-        self.push_row(waiting.verdict.level(), text.as_str(), fields, at)?;
+        let role = role_of(waiting.verdict, waiting.span);
+        self.push_row(role, waiting.verdict.level(), text.as_str(), fields, at)?;
         self.close_if(waiting.span, waiting.parent)
+    }
+}
+
+// Returns what a result says, which ends this span if there is one.
+fn role_of(verdict: Verdict, span: Option<Id>) -> Role
+    ensures { result ≡ role_of verdict span }
+{
+    match verdict {
+        Verdict::Failed => Role::Failure,
+        Verdict::Passed | Verdict::Skipped | Verdict::Todo => role_in(span),
+    }
+}
+
+fn role_in(span: Option<Id>) -> Role
+    ensures { result ≡ role_in span }
+{
+    match span {
+        Some(_) => Role::End,
+        None => Role::Good,
     }
 }
 
@@ -83,7 +105,7 @@ pub(super) fn end_fields(
 }
 
 // Appends a field with this value, if there is one.
-fn push_field(
+pub(super) fn push_field(
     alloc: Global,
     fields: &mut Vec<Field>,
     name: &str,

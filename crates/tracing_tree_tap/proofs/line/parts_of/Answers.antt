@@ -1,7 +1,7 @@
 use Rattle.std.proofs.Common.{sym, subst}
 use Rattle.std.specs.Str.{IsCharBoundary}
 use Rattle.tracing_tree_tap.proofs.Places.{note_boundary}
-use Rattle.tracing_tree_tap.proofs.line.label_part.Goals as goal
+use Rattle.tracing_tree_tap.proofs.line.parts_of.Goals as goal
 
 pub split_at-requires : goal.split_at-requires
 split_at-requires c =
