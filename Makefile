@@ -135,16 +135,19 @@ faults: need-python need-cc build ## fails each allocation, read and write in tu
 LINES = 1000000
 CALLS = 300000
 DRAWN = 300000
+CHANGED = 100000
 SEED = 1
 SOAKED = 100000000
 SOAKED_CALLS = 100000000
 
 # Outside the gate. Runs random lines, calls and drawings through the programs. A model that was
 # written only from the docs says what is right. The model must first agree with the worked cases.
-# Each failing input is left below bin/fuzz and can be run again.
+# Then draws changed examples of other tools' output. Each failing input is left below bin/fuzz and
+# can be run again.
 fuzz: need-python build ## runs random and damaged lines
 	@python3 scripts/model.py $(DATA)
 	@python3 scripts/fuzz.py --lines $(LINES) --calls $(CALLS) --drawings $(DRAWN) --seed $(SEED) bin/tracing_tree bin/tracing_tree_read
+	@python3 scripts/fuzz_formats.py --inputs $(CHANGED) --seed $(SEED) bin/ttree
 
 # Outside the gate. Makes many calls through the program and many of the library itself. Compares
 # the memory and the speed at the start and at the end.

@@ -4,6 +4,7 @@ complete -c ttree -l color -x -a 'auto always never' -d 'Whether the tree is col
 complete -c ttree -l amount -x -d 'The columns a level of the drawing'
 complete -c ttree -l level -x -a 'trace debug info warn error' -d 'Draws only events of this level and above'
 complete -c ttree -l failed -d 'Leaves out the tests that passed or were skipped'
+complete -c ttree -l group -x -d 'Groups the events of logs by their value at KEY'
 complete -c ttree -l min -x -d 'Leaves out the spans of a trace that took less than this'
 complete -c ttree -l depth -x -d 'Leaves out the spans of a trace below N levels'
 complete -c ttree -l html -d 'Writes a page of HTML that shows the tree in a browser'

@@ -3,7 +3,8 @@
 
 Each input is a file of examples/ with a few random changes: bytes are replaced, removed, repeated
 or inserted, lines are swapped, or the end is cut off. `ttree` draws many inputs in one run, once
-with the --from option of their example and once by detection. A run ends as it must if its status
+with the --from option of their example, once by detection, and once with a further option that only
+their format has. A run ends as it must if its status
 is 0, 1 or 2 and if it writes no control characters except tabs and line ends. By detection only
 standard error is checked, since an unknown input is printed unchanged. The inputs of a run that
 fails are left below bin/fuzz. The last line is 'fuzz formats: N of M runs ended as they must'."""
@@ -27,6 +28,8 @@ STRANGE = (b"\x1b[31m", b"\x00", b"\xff", b"\xc2\x9b", b"{", b"}", b"[", b"]", b
            b"not ok ", b"ok 1", b"    ", b"# Subtest: ", b"  ---", b"  ...", b"1..0", b"<![CDATA[", b"]]>", b"<!--", b"\\u001b", b",", b"-1", b"1e9")
 FORMATS = {"go-": "go-test", "tap-": "tap", "junit-": "junit", "tracing": "tracing", "log-": "logs", "otlp-": "otlp",
            "clang-": "chrome", "uftrace": "chrome", "node-": "chrome"}
+# The options that only some formats have.
+OPTIONS = {"go-test": "--failed", "junit": "--failed", "tap": "--level=warn", "tracing": "--threads", "logs": "--group=service", "chrome": "--min=1ms"}
 
 
 def format_of(name):
@@ -90,7 +93,8 @@ def main():
             files = [f"{folder}/{it}" for it in range(SHARE)]
             for file in files:
                 pathlib.Path(file).write_bytes(changed(text, chance))
-            for words in ([f"--from={name}", "--color=never"], []):
+            named = [f"--from={name}", "--color=never"]
+            for words in (named, [], [*named, *filter(None, [OPTIONS.get(name)])]):
                 runs += 1
                 fault = fault_of(program, words, files)
                 passed += fault is None

@@ -145,6 +145,7 @@ class Gate:
         the library for C."""
         asked = ["--lines", "20000", "--calls", "20000", "--drawings", "20000", "--sizes", "16385"]
         self.programs("scripts/fuzz.py", "tracing_tree_cli", "tracing_tree_read", more=asked)
+        self.programs("scripts/fuzz_formats.py", "tracing_tree_ttree", more=["--inputs", "2000"])
         self.programs("scripts/program.sh", "tracing_tree_cli", "tracing_tree_read")
         self.programs("scripts/ttree.sh", "tracing_tree_ttree", "tracing_tree_cli")
         self.programs("scripts/page.py", "tracing_tree_ttree", "tracing_tree_cli")

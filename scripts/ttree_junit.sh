@@ -2,12 +2,12 @@
 # docs/FORMATS.md.
 
 # Counts the run with this name on a document. Standard input has the document, a line `--` and its
-# tree. The other arguments are the status and the standard error.
+# tree. The other arguments are the status, the standard error, and options.
 junit_of() {
     cat > "$room/both"
     sed '/^--$/,$d' "$room/both" > "$room/junit"
     sed '1,/^--$/d' "$room/both" > "$room/want"
-    run --from junit "$room/junit"
+    run --from junit "${@:4}" "$room/junit"
     count "$1" want "${3-}" "${2-0}"
 }
 
@@ -140,8 +140,8 @@ run_junit_xml() {
 INFO passed=1, failed=0, skipped=0
 END_OF_RUN
     junit_of 'on elements at odd places' 0 << 'END_OF_RUN'
-</x><failure/><a b c="d" e=f / ><testcase name="x"><testcase name="y"/><testsuite name="z"/><skipped message="why"/><failure message="z"/></testcase></a>
-<testcase name=">" time=""><skipped><failure message="inner"/></skipped></testcase>
+<testsuites><a b c="d" e=f / ><testcase name="x"><testcase name="y"/><testsuite name="z"/><skipped message="why"/><failure message="z"/></testcase></b><skipped/><rerunFailure message="r"/>
+<testcase name=">" time=""><skipped><failure message="inner"/></skipped></testcase></c>
 --
 ┐x 
 ├─ ERROR z
@@ -149,6 +149,18 @@ END_OF_RUN
 ┘
 WARN skip >
 INFO passed=0, failed=0, skipped=2
+END_OF_RUN
+    junit_of 'on elements around a document' 0 << 'END_OF_RUN'
+</x><failure/><a b c="d" e=f / ><testcase name="x"/></a>
+<![CDATA[<testcase name="y"/>]]>
+--
+INFO </x><failure/><a b c="d" e=f / >
+INFO pass x
+INFO </a>
+INFO <![CDATA[
+INFO pass y
+INFO ]]>
+INFO passed=2, failed=0, skipped=0
 END_OF_RUN
 }
 
@@ -176,13 +188,184 @@ INFO passed=1, failed=0, skipped=0
 END_OF_RUN
 }
 
+# Failures of suites, messages of several lines, and texts around a document.
+run_junit_failures() {
+    junit_of 'on failures of suites' 1 << 'END_OF_RUN'
+<testsuites>
+  <testsuite name="CartTest" errors="1" time="0.5">
+    <testcase name="first" classname="other"/>
+    <error message="no database" type="java.sql.SQLException">java.sql.SQLException: no database
+	at CartTest.setUp(CartTest.java:12)
+    </error>
+    <testcase name="second" classname="other"/>
+  </testsuite>
+  <failure/>
+</testsuites>
+--
+┐CartTest 
+└─┐other 
+  ├─ INFO pass first
+┌─┘
+├─ ERROR no database
+├─ INFO java.sql.SQLException: no database
+├─ INFO 	at CartTest.setUp(CartTest.java:12)
+└─┐other 
+  ├─ INFO pass second
+┌─┘
+├─ INFO end, time=500.000ms
+┘
+ERROR failure
+ERROR passed=2, failed=2, skipped=0
+END_OF_RUN
+    junit_of 'on messages of several lines' 1 << 'END_OF_RUN'
+<testsuite name="a">
+  <testcase name="alone"><failure message="expected 1&#10;  but was 2&#10;&#10;(see b)"/></testcase>
+  <testcase name="in its body"><failure message="bad -1&#10;  second line&#10;assert -1 != -1"><![CDATA[
+E     bad -1
+E       second line
+E     assert -1 != -1
+]]></failure></testcase>
+  <testcase name="in another order"><error message="&#10;one&#10;two">two
+one</error></testcase>
+</testsuite>
+--
+┐a 
+└─┐alone 
+  ├─ ERROR expected 1
+  ├─ INFO   but was 2
+  ├─ INFO (see b)
+  ├─ ERROR fail
+┌─┘
+└─┐in its body 
+  ├─ ERROR bad -1
+  ├─ INFO E     bad -1
+  ├─ INFO E       second line
+  ├─ INFO E     assert -1 != -1
+  ├─ ERROR fail
+┌─┘
+└─┐in another order 
+  ├─ ERROR error
+  ├─ INFO one
+  ├─ INFO two
+  ├─ INFO two
+  ├─ INFO one
+  ├─ ERROR fail
+┌─┘
+┘
+ERROR passed=0, failed=3, skipped=0
+END_OF_RUN
+    junit_of 'on lines around two documents' 0 << 'END_OF_RUN'
+Running <3 suites> & more
+
+<?xml version="1.0"?>
+<!-- the first -->
+<testsuites><testsuite name="a"><testcase name="x"/></testsuite></testsuites>
+real 0m1s </3>
+panic: in a thread
+  <?xml version="1.0"?><testsuite name="b"><testcase name="y"/></testsuite> done
+--
+INFO Running <3 suites> & more
+┐a 
+├─ INFO pass x
+┘
+INFO real 0m1s </3>
+ERROR panic: in a thread
+┐b 
+├─ INFO pass y
+┘
+INFO  done
+INFO passed=2, failed=0, skipped=0
+END_OF_RUN
+}
+
+# Texts without a report.
+run_junit_none() {
+    local none='ttree: expected an element testsuites, testsuite or testcase'
+    junit_of 'on a text without an element' 1 "$none" << 'END_OF_RUN'
+error: no such test
+<html><body>502</body></html>
+--
+INFO error: no such test
+INFO <html><body>502</body></html>
+END_OF_RUN
+    junit_of 'on XML without a report' 1 "$none" << 'END_OF_RUN'
+<?xml version="1.0"?>
+<!-- nothing -->
+--
+END_OF_RUN
+    junit_of 'on a report without a case' 0 '' << 'END_OF_RUN'
+<testsuites/>
+--
+INFO passed=0, failed=0, skipped=0
+END_OF_RUN
+}
+
+# Only what failed.
+run_junit_failed() {
+    junit_of 'on JUnit XML with --failed' 1 '' --failed << 'END_OF_RUN'
+first <line>
+<testsuites>
+<testsuite name="passes" time="1"><properties><property name="p" value="1"/></properties><testcase name="a" classname="C"/><system-out>quiet</system-out></testsuite>
+<testsuite name="fails" time="2">
+  <testsuite name="inner passes" time="3"><testcase name="b"/></testsuite>
+  <testcase name="c" classname="D"/>
+  <testcase name="d" classname="D"><failure message="no"/><system-out>printed</system-out></testcase>
+  <testcase name="e" classname="E"><skipped/></testcase>
+  <testcase name="f" classname="D"><error/></testcase>
+  <system-out>loud</system-out>
+</testsuite>
+<testsuite name="no setup"><error message="broken"/></testsuite>
+<testcase name="g"/>
+</testsuites>
+--
+INFO first <line>
+┐fails 
+└─┐D 
+  └─┐d 
+    ├─ ERROR no
+    ├─ INFO printed
+    ├─ ERROR fail
+  ┌─┘
+  └─┐f 
+    ├─ ERROR error
+    ├─ ERROR fail
+  ┌─┘
+┌─┘
+├─ INFO loud
+├─ INFO end, time=2.000s
+┘
+┐no setup 
+├─ ERROR broken
+┘
+ERROR passed=4, failed=3, skipped=1
+END_OF_RUN
+    junit_of 'on a truncated document with --failed' 1 'ttree: the document ends early' --failed << 'END_OF_RUN'
+<testsuite name="a"><testsuite name="b"><testcase name="x"><failure/></testcase></testsuite><testsuite name="c"><system-out>d</system-out><testcase name="y"/>
+--
+┐a 
+└─┐b 
+  └─┐x 
+    ├─ ERROR failure
+    ├─ ERROR fail
+  ┌─┘
+┌─┘
+┘
+ERROR passed=1, failed=1, skipped=0
+END_OF_RUN
+    run --failed --json --from junit "$room/junit"
+    grep -c '"step":"new"' "$room/out" > "$room/found"
+    cp "$room/found" "$room/out"
+    printf '3\n' > "$room/want"
+    count 'on the spans of JUnit XML with --failed and --json' want 'ttree: the document ends early' 1
+}
+
 # Long documents and deep ones.
 run_junit_long() {
     { printf '<testsuite name="a"><testcase name="x"'; for at in $(seq 100000); do printf ' a%d="b"' "$at"; done; printf '/></testsuite>\n'; } > "$room/long"
     printf '┐a \n├─ INFO pass x\n┘\nINFO passed=1, failed=0, skipped=0\n' > "$room/want"
     run --from junit "$room/long"
     count 'on an element with 100,000 attributes' want '' 0
-    { printf '<a>%.0s' $(seq 10000); printf '<testsuite name="a"><testcase name="x"/></testsuite>'; printf '</a>%.0s' $(seq 10000); } > "$room/deep"
+    { printf '<testsuites>'; printf '<a>%.0s' $(seq 10000); printf '<testsuite name="a"><testcase name="x"/></testsuite>'; printf '</a>%.0s' $(seq 10001); } > "$room/deep"
     run --from junit "$room/deep"
     count 'on 10,000 elements in one another' want '' 0
     { printf '<testsuite name="a"><testcase name="x"><system-out>\n'; head -c 300000 /dev/zero | tr '\0' '&'; printf '</system-out></testcase></testsuite>\n'; } > "$room/amps"
@@ -196,5 +379,8 @@ run_junit() {
     run_junit_runners
     run_junit_xml
     run_junit_cut
+    run_junit_failures
+    run_junit_none
+    run_junit_failed
     run_junit_long
 }

@@ -166,9 +166,85 @@ INFO [1]
 END_OF_LINES
 }
 
+# What `journalctl -o json` prints, with the fields of systemd.journal-fields(7).
+run_log_journal() {
+    log_of 'on a log of journald' << 'END_OF_LINES'
+{"__CURSOR":"s=1;i=1","__REALTIME_TIMESTAMP":"1795950765387019","__MONOTONIC_TIMESTAMP":"39","_BOOT_ID":"f3","_MACHINE_ID":"a1","_HOSTNAME":"web-1","PRIORITY":"6","SYSLOG_FACILITY":"3","SYSLOG_IDENTIFIER":"nginx","SYSLOG_PID":"812","SYSLOG_TIMESTAMP":"Nov 29 11:12:45 ","_TRANSPORT":"syslog","_PID":"812","_UID":"0","_COMM":"nginx","_CMDLINE":"nginx: master","_SYSTEMD_UNIT":"nginx.service","_SYSTEMD_INVOCATION_ID":"9c","MESSAGE":"started"}
+{"__REALTIME_TIMESTAMP":"1795950765387020","PRIORITY":"3","SYSLOG_IDENTIFIER":"nginx","_PID":"813","_SYSTEMD_UNIT":"nginx.service","MESSAGE":"bind failed","CODE_FILE":"src/core.c"}
+{"__REALTIME_TIMESTAMP":"1795950765387021","PRIORITY":"5","SYSLOG_IDENTIFIER":"kernel","_TRANSPORT":"kernel","MESSAGE":"eth0: link up"}
+{"__REALTIME_TIMESTAMP":"1795950765387022","PRIORITY":"4","_PID":"812","_SYSTEMD_UNIT":"nginx.service","MESSAGE":"slow"}
+{"__REALTIME_TIMESTAMP":"1795950765387023","PRIORITY":"4","_SYSTEMD_UNIT":"init.scope","UNIT":"nginx.service","MESSAGE":"stopped"}
+{"PRIORITY":"6","_PID":"7","_SYSTEMD_UNIT":"a.service","MESSAGE":"of another tool"}
+--
+┐unit id=nginx.service, pid=812
+├─ INFO started, SYSLOG_IDENTIFIER=nginx
+┐unit id=nginx.service, pid=813
+├─ ERROR bind failed, SYSLOG_IDENTIFIER=nginx, CODE_FILE=src/core.c
+INFO eth0: link up, SYSLOG_IDENTIFIER=kernel
+┐unit id=nginx.service, pid=812
+├─ WARN slow
+┐unit id=init.scope
+├─ WARN stopped, UNIT=nginx.service
+INFO of another tool, _PID=7, _SYSTEMD_UNIT=a.service
+END_OF_LINES
+    log_of 'on a log of journald with --group' --group _HOSTNAME << 'END_OF_LINES'
+{"__REALTIME_TIMESTAMP":"1795950765387019","_HOSTNAME":"web-1","PRIORITY":"6","_PID":"812","_SYSTEMD_UNIT":"nginx.service","MESSAGE":"started"}
+{"__REALTIME_TIMESTAMP":"1795950765387020","PRIORITY":"6","_PID":"812","_SYSTEMD_UNIT":"nginx.service","MESSAGE":"elsewhere"}
+--
+┐_HOSTNAME id=web-1
+├─ INFO started
+INFO elsewhere
+END_OF_LINES
+}
+
+run_log_groups() {
+    log_of 'on a log with --group' --group tenant << 'END_OF_LINES'
+{"level":"info","msg":"a","tenant":"acme","trace_id":"x"}
+{"level":"info","msg":"b","tenant":7}
+c
+{"level":"info","msg":"d","tenant":"acme"}
+{"level":"info","msg":"e","tenant":"","request_id":"r"}
+{"level":"info","msg":"f","tenant":{"id":1}}
+--
+┐tenant id=acme
+├─ INFO a, trace_id=x
+┐tenant id=7
+├─ INFO b
+├─ INFO c
+┐tenant id=acme
+├─ INFO d
+INFO e, tenant=, request_id=r
+INFO f, tenant.id=1
+END_OF_LINES
+    log_of 'on a log with --group and a key that no line has' --group 'x[31m' << 'END_OF_LINES'
+{"level":"info","msg":"a","trace_id":"x"}
+--
+INFO a, trace_id=x
+END_OF_LINES
+    log_of 'on a log with --group and a path' --group req.id << 'END_OF_LINES'
+{"level":30,"req":{"id":1,"method":"GET"},"msg":"a"}
+{"level":30,"req":{"method":"GET"},"msg":"b"}
+{"level":30,"req.id":2,"req":{"id":1},"msg":"c"}
+{"level":30,"req":[{"id":1}],"msg":"d"}
+--
+┐req.id id=1
+├─ INFO a, req.id=1, req.method=GET
+INFO b, req.method=GET
+┐req.id id=2
+├─ INFO c, req.id=1
+INFO d, req=[{"id":1}]
+END_OF_LINES
+    printf '{"Action":"pass","Package":"p"}\n' > "$room/other"
+    : > "$room/want"
+    run --group tenant "$room/other"
+    count 'on --group with another format' want 'ttree: --group has no meaning for go-test' 2
+}
+
 run_logs() {
     run_log_samples
     run_log_levels
     run_log_times
     run_log_lines
+    run_log_journal
+    run_log_groups
 }

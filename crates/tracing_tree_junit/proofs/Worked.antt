@@ -2,7 +2,7 @@
 use Rattle.std.proofs.Common.{◌≡◌, None, Some, true, false, [], ◌∷◌, codes, refl}
 use Rattle.tracing_tree_text.specs.declared.style.Level.TheVariants.{Warn, Error}
 use Rattle.tracing_tree_junit.specs.Case.{case_of, outcome_of, with_failure, with_skip}
-use Rattle.tracing_tree_junit.specs.Element.{element_named, is_off, role_of}
+use Rattle.tracing_tree_junit.specs.Element.{begins_document, element_named, is_off, role_of}
 use Rattle.tracing_tree_junit.specs.Lines.{head_of, info_row, printed_rows}
 use Rattle.tracing_tree_junit.specs.Reading.{no_tag}
 use Rattle.tracing_tree_junit.specs.Seconds.{nanoseconds_of}
@@ -40,6 +40,15 @@ output_in_a_rerun = refl
 
 pub output_of_a_suite : role_of (element_named (codes "system-out")) false false ≡ Output
 output_of_a_suite = refl
+
+pub an_error_of_a_suite : role_of (element_named (codes "error")) false false ≡ Failure
+an_error_of_a_suite = refl
+
+pub a_banner_is_no_document : begins_document (codes "<nil> was expected") ≡ false
+a_banner_is_no_document = refl
+
+pub suites_begin_a_document : begins_document (codes "<testsuites>") ≡ true
+suites_begin_a_document = refl
 
 -- ---- outcomes
 

@@ -5,8 +5,9 @@ use Rattle.tracing_tree_text.specs.declared.style.Level.{Level}
 use Rattle.tracing_tree_text.specs.declared.style.Level.TheVariants.{Trace, Debug, Info, Warn, Error}
 use Rattle.tracing_tree_sources.specs.Told.{message_field, shown}
 use Rattle.tracing_tree_junit.specs.Element.{attribute_in, is_off}
+use Rattle.tracing_tree_junit.specs.Failure.{failure_rows}
 use Rattle.tracing_tree_junit.specs.Length.{length_text}
-use Rattle.tracing_tree_junit.specs.Lines.{head_of, printed_rows, reason_of}
+use Rattle.tracing_tree_junit.specs.Lines.{printed_rows, reason_of}
 use Rattle.tracing_tree_junit.specs.Seconds.{nanoseconds_of}
 use Rattle.tracing_tree_junit.specs.States.{CaseState, PartState, TagState}
 use Rattle.tracing_tree_junit.specs.declared.case.Outcome.{Outcome}
@@ -36,12 +37,11 @@ is_error Info = false
 is_error Warn = false
 is_error Error = true
 
--- a failure is its first line, and then its contents; the case failed if it is an error
+-- a failure is its rows; the case failed if it is an error
 abbrev pub with_failure : Level → PartState → CaseState → CaseState
 with_failure level part case = record case {
   is_failed = case.is_failed || is_error level;
-  rows = case.rows ++ (record { level = level; text = head_of part.message part.name }) ∷ []
-      ++ printed_rows part.body;
+  rows = case.rows ++ failure_rows level part;
 }
 
 abbrev pub with_printed : PartState → CaseState → CaseState

@@ -1,14 +1,16 @@
 -- What a document means.
-use Rattle.std.specs.Prelude.{ℕ, zero, suc, Bool, true, List, length, Option, Some, None, Result, Ok, Err}
+use Rattle.std.specs.Prelude.{ℕ, zero, suc, ◌||◌, Bool, true, if◌then◌else◌, List, length, Option, Some, None, Result, Ok, Err}
 use Rattle.tracing_tree_context.specs.declared.context.Moment.{Moment}
 use Rattle.tracing_tree_layer.specs.declared.call.Call.{Call}
 use Rattle.tracing_tree_xml.specs.Reading.{Reading}
 use Rattle.tracing_tree_xml.specs.Token.{ReadStep}
-use Rattle.tracing_tree_xml.specs.Xml.{next_step}
+use Rattle.tracing_tree_xml.specs.Xml.{next_plain_step, next_step}
 use Rattle.tracing_tree_xml.specs.Xml.{at_start as document_start}
 use Rattle.tracing_tree_xml.specs.declared.reader.Unfinished.{Unfinished}
+use Rattle.tracing_tree_junit.specs.Element.{begins_document}
 use Rattle.tracing_tree_junit.specs.Junit.{JunitState}
 use Rattle.tracing_tree_junit.specs.Reading.{at_start, finished, is_open, taken}
+use Rattle.tracing_tree_junit.specs.declared.reading.Selection.{Selection}
 
 -- a document as far as it is read, and whether it is truncated
 pub record ReadDocument : Type 0 where
@@ -24,22 +26,27 @@ read_next (Ok (Some step)) s others = others step.after (taken step.token s)
 read_next (Ok None) s others = at_end s
 read_next (Err unfinished) s others = record { state = s; is_cut = true }
 
+-- the next token: outside of all elements, what doesn't begin a document is plain text
+abbrev pub step_of : Reading → JunitState → Result (Option ReadStep) Unfinished
+step_of reading s =
+    if is_open s || begins_document reading.rest then next_step reading else next_plain_step reading
+
 abbrev pub read_within : ℕ → Reading → JunitState → ReadDocument
 read_within zero reading s = at_end s
 read_within (suc tokens) reading s =
-    read_next (next_step reading) s (λ rest t. read_within tokens rest t)
+    read_next (step_of reading s) s (λ rest t. read_within tokens rest t)
 
 -- A document that is read. Each token has a byte or more.
-abbrev pub read_document : ℕ → Moment → List ℕ → ReadDocument
-read_document next moment text =
-    read_within (length text) (document_start text) (at_start next moment)
+abbrev pub read_document : Selection → ℕ → Moment → List ℕ → ReadDocument
+read_document selection next moment text =
+    read_within (length text) (document_start text) (at_start selection next moment)
 
 -- the document in its drawn form: what is open at its end closes
-abbrev pub document_state : ℕ → Moment → List ℕ → JunitState
-document_state next moment text = finished (read_document next moment text).state
+abbrev pub document_state : Selection → ℕ → Moment → List ℕ → JunitState
+document_state selection next moment text = finished (read_document selection next moment text).state
 
-abbrev pub document_calls : ℕ → Moment → List ℕ → List Call
-document_calls next moment text = (document_state next moment text).calls
+abbrev pub document_calls : Selection → ℕ → Moment → List ℕ → List Call
+document_calls selection next moment text = (document_state selection next moment text).calls
 
-abbrev pub is_cut : ℕ → Moment → List ℕ → Bool
-is_cut next moment text = (read_document next moment text).is_cut
+abbrev pub is_cut : Selection → ℕ → Moment → List ℕ → Bool
+is_cut selection next moment text = (read_document selection next moment text).is_cut

@@ -1,9 +1,11 @@
 pub mod Case
 pub mod Document
 pub mod Element
+pub mod Failure
 pub mod Junit
 pub mod Length
 pub mod Lines
+pub mod Plain
 pub mod Reading
 pub mod Seconds
 pub mod States

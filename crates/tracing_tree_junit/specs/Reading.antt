@@ -1,5 +1,5 @@
 -- What a document's tokens mean, one after another.
-use Rattle.std.specs.Prelude.{ℕ, zero, suc, ◌-◌, ◌==◌, ◌||◌, not, Bool, true, false, if◌then◌else◌, List, [], ◌∷◌, ◌++◌, length, take, slice_get, Option, Some, None, is_some, codes, bytes_eq, pos}
+use Rattle.std.specs.Prelude.{ℕ, zero, suc, ◌-◌, ◌==◌, ◌&&◌, ◌||◌, not, Bool, true, false, if◌then◌else◌, List, [], ◌∷◌, ◌++◌, length, take, slice_get, Option, Some, None, is_some, codes, bytes_eq, pos}
 use Rattle.tracing_tree_spans.specs.Registry.Ids.{id_of}
 use Rattle.tracing_tree_context.specs.declared.context.Id.{Id}
 use Rattle.tracing_tree_context.specs.declared.context.Moment.{Moment}
@@ -13,9 +13,11 @@ use Rattle.tracing_tree_sources.specs.Told.{close_call, event_call, message_fiel
 use Rattle.tracing_tree_xml.specs.Decoded.{cdata_decoded, text_decoded}
 use Rattle.tracing_tree_xml.specs.Token.{XmlToken, start_tag, attribute, tag_end, empty_tag_end, end_tag, characters, cdata, skipped}
 use Rattle.tracing_tree_junit.specs.Case.{case_of, event_fields, is_bare, level_of, outcome_of, span_fields, time_fields, with_failure, with_printed, with_property, with_skip}
-use Rattle.tracing_tree_junit.specs.Element.{attribute_in, element_named, role_of}
+use Rattle.tracing_tree_junit.specs.Element.{attribute_in, element_named, is_of_report, role_of}
+use Rattle.tracing_tree_junit.specs.Failure.{failure_rows}
 use Rattle.tracing_tree_junit.specs.Junit.{JunitState}
-use Rattle.tracing_tree_junit.specs.Lines.{printed_rows}
+use Rattle.tracing_tree_junit.specs.Lines.{is_blank_text, printed_rows}
+use Rattle.tracing_tree_junit.specs.Plain.{plain_calls}
 use Rattle.tracing_tree_junit.specs.Seconds.{nanoseconds_of}
 use Rattle.tracing_tree_junit.specs.States.{TagState, with_attribute}
 use Rattle.tracing_tree_junit.specs.declared.case.Outcome.{Outcome}
@@ -23,7 +25,10 @@ use Rattle.tracing_tree_junit.specs.declared.case.Outcome.TheVariants.{Passed, F
 use Rattle.tracing_tree_junit.specs.declared.element.Element.{Element}
 use Rattle.tracing_tree_junit.specs.declared.element.Element.TheVariants.{Suite as SuiteElement, Case, Failure, Rerun, Skipped, Output, Property, Other}
 use Rattle.tracing_tree_junit.specs.declared.lines.Row.{Row}
+use Rattle.tracing_tree_junit.specs.declared.reading.Before.{Before}
 use Rattle.tracing_tree_junit.specs.declared.reading.Class.{Class}
+use Rattle.tracing_tree_junit.specs.declared.reading.Selection.{Selection}
+use Rattle.tracing_tree_junit.specs.declared.reading.Selection.TheVariants.{All, Failures}
 use Rattle.tracing_tree_junit.specs.declared.reading.Suite.{Suite}
 use Rattle.tracing_tree_junit.specs.declared.reading.Tally.{Tally}
 
@@ -31,10 +36,13 @@ abbrev pub no_tag : TagState
 no_tag = record { name = []; attributes = [] }
 
 -- nothing is read yet
-abbrev pub at_start : ℕ → Moment → JunitState
-at_start next moment = record {
+abbrev pub at_start : Selection → ℕ → Moment → JunitState
+at_start selection next moment = record {
+  selection = selection;
   next = next;
   moment = moment;
+  outside = [];
+  is_report = false;
   elements = [];
   tag = no_tag;
   suites = [];
@@ -129,9 +137,18 @@ case_span None suites = innermost_span suites
 
 -- ---- suites
 
+-- what a suite that isn't shown leaves
+abbrev pub before_now : JunitState → Before
+before_now s = record { calls = length s.calls; next = s.next; failed = s.tally.failed }
+
 abbrev pub suite_named : List ℕ → Option ℕ → JunitState → JunitState
 suite_named name nanoseconds s = record (opened name [] (innermost_span s.suites) s) {
-  suites = s.suites ++ (record { name = name; nanoseconds = nanoseconds; span = id_of s.next }) ∷ [];
+  suites = s.suites ++ (record {
+    name = name;
+    nanoseconds = nanoseconds;
+    span = id_of s.next;
+    before = before_now s;
+  }) ∷ [];
 }
 
 -- a suite begins, in the suite around it
@@ -147,9 +164,27 @@ end_event suite s =
     (Some suite.span) s
     else s
 
+abbrev pub shows_failures_only : Selection → Bool
+shows_failures_only All = false
+shows_failures_only Failures = true
+
+-- a suite isn't shown if only failures are, and it has none
+abbrev pub is_suite_hidden : Suite → JunitState → Bool
+is_suite_hidden suite s =
+    shows_failures_only s.selection && (s.tally.failed == suite.before.failed)
+
+-- the calls since the beginning of a suite are left out
+abbrev pub suite_hidden : Suite → JunitState → JunitState
+suite_hidden suite s =
+    record s { calls = take suite.before.calls s.calls; next = suite.before.next }
+
+abbrev pub shut : Suite → JunitState → JunitState
+shut suite s = closed suite.span (innermost_span s.suites) s
+
 -- a suite with a time ends with an event
 abbrev pub ended_with : Suite → JunitState → JunitState
-ended_with suite s = closed suite.span (innermost_span s.suites) (end_event suite s)
+ended_with suite s =
+    if is_suite_hidden suite s then suite_hidden suite s else shut suite (end_event suite s)
 
 abbrev pub ended_if : Option Suite → JunitState → JunitState
 ended_if (Some suite) s = ended_with suite s
@@ -208,9 +243,21 @@ span_shown s =
 abbrev pub case_shown : JunitState → JunitState
 case_shown s = if is_bare s.case then event_shown s else span_shown s
 
+abbrev pub has_failed : Outcome → Bool
+has_failed Passed = false
+has_failed Failed = true
+has_failed WasSkipped = false
+
+-- a case isn't shown if only failures are, and it isn't one
+abbrev pub is_case_hidden : JunitState → Bool
+is_case_hidden s = shows_failures_only s.selection && not (has_failed (outcome_of s.case))
+
+abbrev pub shown_unless_hidden : JunitState → JunitState
+shown_unless_hidden s = if is_case_hidden s then s else case_shown (class_entered s)
+
 -- a case is counted, and shown in the span of its class
 abbrev pub case_ended : JunitState → JunitState
-case_ended s = case_shown (counted (class_entered (record s { in_case = false })))
+case_ended s = shown_unless_hidden (counted (record s { in_case = false }))
 
 -- ---- parts
 
@@ -224,21 +271,31 @@ part_begun s = record s {
   in_part = true;
 }
 
+-- rows in the span of the innermost suite
+abbrev pub rows_in_suite : List Row → JunitState → JunitState
+rows_in_suite rows s =
+    record s { calls = s.calls ++ row_calls s.moment (innermost_span s.suites) rows }
+
+-- a failure of a suite counts as one, and its rows are in the suite's span
+abbrev pub suite_failed : Level → JunitState → JunitState
+suite_failed level s =
+    rows_in_suite (failure_rows level s.part)
+    (class_left (record s { tally = counted_as Failed s.tally }))
+
+abbrev pub failure_of : Level → JunitState → JunitState
+failure_of level s =
+    if s.in_case then record s { case = with_failure level s.part s.case } else suite_failed level s
+
+-- a failure is of the case, otherwise of the suite
 abbrev pub failure_ended : Level → JunitState → JunitState
-failure_ended level s =
-    record s { in_part = false; case = with_failure level s.part s.case }
+failure_ended level s = failure_of level (record s { in_part = false })
 
 abbrev pub skip_ended : JunitState → JunitState
 skip_ended s = record s { in_part = false; case = with_skip s.part s.case }
 
-abbrev pub printed_in_suite : JunitState → JunitState
-printed_in_suite s = record s {
-  calls = s.calls ++ row_calls s.moment (innermost_span s.suites) (printed_rows s.part.body);
-}
-
 -- what a suite printed is in its span
 abbrev pub output_shown : JunitState → JunitState
-output_shown s = printed_in_suite (class_left s)
+output_shown s = rows_in_suite (printed_rows s.part.body) (class_left s)
 
 abbrev pub output_of : JunitState → JunitState
 output_of s =
@@ -267,12 +324,27 @@ property_added s =
 abbrev pub added_to_body : List ℕ → JunitState → JunitState
 added_to_body text s = record s { part = record s.part { body = s.part.body ++ text } }
 
--- characters count only in a part
+abbrev pub added_outside : List ℕ → JunitState → JunitState
+added_outside run s = if is_open s then s else record s { outside = s.outside ++ run }
+
+-- characters count in a part, and outside of all elements
 abbrev pub text_added : List ℕ → JunitState → JunitState
-text_added run s = if s.in_part then added_to_body (text_decoded run) s else s
+text_added run s =
+    if s.in_part then added_to_body (text_decoded run) s else added_outside run s
 
 abbrev pub cdata_added : List ℕ → JunitState → JunitState
 cdata_added part s = if s.in_part then added_to_body (cdata_decoded part) s else s
+
+-- ---- around the document
+
+abbrev pub plain_shown : List ℕ → JunitState → JunitState
+plain_shown text s = record s { calls = s.calls ++ plain_calls s.moment text }
+
+-- the lines of the text before this place are shown
+abbrev pub outside_shown : JunitState → JunitState
+outside_shown s =
+    if is_blank_text s.outside then record s { outside = [] }
+    else plain_shown s.outside (class_left (record s { outside = [] }))
 
 -- ---- elements
 
@@ -290,9 +362,15 @@ begun_as Output s = part_begun s
 begun_as Property s = property_added s
 begun_as Other s = cdata_added (codes "\n") s
 
+abbrev pub element_begun : JunitState → JunitState
+element_begun s = begun_as (element_of s) (record s {
+  is_report = s.is_report || is_of_report s.tag.name;
+  elements = s.elements ++ element_of s ∷ [];
+})
+
 -- an element begins: that of the tag; in a part its contents begin a line
 abbrev pub begun : JunitState → JunitState
-begun s = begun_as (element_of s) (record s { elements = s.elements ++ element_of s ∷ [] })
+begun s = element_begun (outside_shown s)
 
 abbrev pub ended_as : Element → JunitState → JunitState
 ended_as SuiteElement s = suite_ended s
@@ -330,8 +408,11 @@ taken skipped s = s
 
 -- ---- the end
 
+abbrev pub cut_with : Suite → JunitState → JunitState
+cut_with suite s = if is_suite_hidden suite s then suite_hidden suite s else shut suite s
+
 abbrev pub closed_if : Option Suite → JunitState → JunitState
-closed_if (Some suite) s = closed suite.span (innermost_span s.suites) s
+closed_if (Some suite) s = cut_with suite s
 closed_if None s = s
 
 abbrev pub suite_closed : JunitState → JunitState
@@ -352,8 +433,11 @@ tally_fields tally =
     ∷ whole_field (codes "skipped") (pos tally.skipped) ∷ []
 
 abbrev pub tallied : JunitState → JunitState
-tallied s = evented (if s.tally.failed == 0 then Info else Error) (tally_fields s.tally) None s
+tallied s =
+    if s.is_report
+    then evented (if s.tally.failed == 0 then Info else Error) (tally_fields s.tally) None s
+    else s
 
--- what is open closes, and the last event counts the cases
+-- what is open closes, and the last event counts the cases of a report
 abbrev pub finished : JunitState → JunitState
-finished s = tallied (suites_closed (class_left s))
+finished s = tallied (outside_shown (suites_closed (class_left s)))

@@ -4,8 +4,9 @@ ghost use Rattle.std.specs.Prelude.{◌≡◌, ◌++◌, ◌∷◌, [], IfOk, On
 ghost use Rattle.tracing_tree_junit.specs.Case.{case_of, end_fields, event_fields, is_bare, level_of, named, outcome_of, reason_fields, span_fields, time_fields, with_failure, with_printed, with_property, with_skip, word_of};
 
 use crate::element::is_off;
+use crate::failure::push_failure;
 use crate::length::length_text;
-use crate::lines::{Row, head_of, push_lines, push_row, reason_of};
+use crate::lines::{Row, push_lines, reason_of};
 use crate::seconds::nanoseconds_of;
 use crate::tag::{Part, Tag};
 use std::alloc::{AllocError, Global};
@@ -115,9 +116,7 @@ impl Case {
     ) -> Result<(), AllocError>
         ensures { OnOk result (self.new ≡ with_failure level part.now self.old) }
     {
-        let head = head_of(part.message(), part.name());
-        push_row(alloc, &mut self.rows, level, head)?;
-        push_lines(alloc, &mut self.rows, part.body())?;
+        push_failure(alloc, &mut self.rows, level, part)?;
         self.is_failed = self.is_failed || level == Level::Error;
         Ok(())
     }

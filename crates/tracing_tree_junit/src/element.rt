@@ -1,8 +1,10 @@
 //! The elements of JUnit XML, and their attributes.
 
 ghost use Rattle.std.specs.Prelude.{◌≡◌};
-ghost use Rattle.tracing_tree_junit.specs.Element.{attribute_in, element_named, is_off, role_of};
+ghost use Rattle.tracing_tree_sources.specs.Marks.{begins};
+ghost use Rattle.tracing_tree_junit.specs.Element.{attribute_in, begins_document, element_named, is_of_report, is_off, role_of};
 
+use tracing_tree_sources::marks::after_mark;
 use tracing_tree_text::field::Field;
 
 // What an element is.
@@ -40,7 +42,7 @@ pub(crate) fn element_named(name: &str) -> Element
 }
 
 // Returns the role of an element at its place. A part of a case contains only its text, and a case
-// contains no case or suite.
+// contains no case or suite. Only a case is skipped or repeated.
 pub(crate) fn role_of(element: Element, in_case: bool, in_part: bool) -> Element
     ensures { result ≡ role_of element in_case in_part }
 {
@@ -49,9 +51,33 @@ pub(crate) fn role_of(element: Element, in_case: bool, in_part: bool) -> Element
     }
     match element {
         Element::Suite | Element::Case if in_case => Element::Other,
-        Element::Failure | Element::Rerun | Element::Skipped if !in_case => Element::Other,
+        Element::Rerun | Element::Skipped if !in_case => Element::Other,
         _ => element,
     }
+}
+
+// Returns whether an element of this name is part of a report in JUnit XML.
+pub(crate) fn is_of_report(name: &str) -> bool
+    ensures { result ≡ is_of_report name.now }
+{
+    name == "testsuites" || name == "testsuite" || name == "testcase"
+}
+
+// Returns whether a document begins here: with a declaration, a comment or an element of a report.
+pub(crate) fn begins_document(text: &str) -> bool
+    ensures { result ≡ begins_document text.now }
+{
+    begins("<testsuite", text)
+        || begins("<testcase", text)
+        || begins("<?xml", text)
+        || begins("<!--", text)
+        || begins("<!DOCTYPE", text)
+}
+
+fn begins(mark: &str, text: &str) -> bool
+    ensures { result ≡ begins mark.now text.now }
+{
+    after_mark(text, mark).is_some()
 }
 
 // Returns the value of the first attribute with this name. It is empty if there isn't one.

@@ -7,10 +7,12 @@
 mod case;
 pub mod document;
 mod element;
+mod failure;
 mod length;
 mod lines;
+mod plain;
 mod reading;
 mod seconds;
 mod tag;
 
-pub use document::{JunitCalls, Tally, junit_calls};
+pub use document::{JunitCalls, Selection, Tally, junit_calls};

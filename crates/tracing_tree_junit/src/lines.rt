@@ -72,7 +72,7 @@ fn push_line<'a>(
 }
 
 // Returns the first line of a string, and what follows it.
-fn first_line(text: &str) -> (&str, &str)
+pub(crate) fn first_line(text: &str) -> (&str, &str)
     ensures line { result.0.now ≡ line_of text.now }
     ensures others { result.1.now ≡ after_line text.now }
 {
@@ -82,7 +82,7 @@ fn first_line(text: &str) -> (&str, &str)
     }
 }
 
-fn is_blank_text(text: &str) -> bool
+pub(crate) fn is_blank_text(text: &str) -> bool
     ensures { result ≡ is_blank_text text.now }
 {
     first_byte(text.as_bytes()).is_none()

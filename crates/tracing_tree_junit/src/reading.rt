@@ -4,15 +4,18 @@ ghost use Rattle.std.specs.Prelude.{◌≡◌, ◌++◌, [], IfOk, OnOk, pos};
 ghost use Rattle.tracing_tree_spans.specs.Registry.Ids.{id_of};
 ghost use Rattle.tracing_tree_text.specs.Field.{whole_field};
 ghost use Rattle.tracing_tree_xml.specs.Token.{token_view};
-ghost use Rattle.tracing_tree_junit.specs.Reading.{at_start, begun, called, case_begun, case_ended, case_span, cdata_added, class_entered, class_left, class_opened, closed, counted, element_of, end_shown, ended, ended_as, ended_with, event_shown, evented, failure_ended, finished, innermost_name, innermost_span, is_in_class, is_open, opened, output_ended, output_shown, part_begun, property_added, property_of, row_calls, rows_shown, skip_ended, span_shown, suite_begun, suite_closed, suite_ended, suites_closed, tag_begun, taken, tally_fields, text_added, wants_class};
+ghost use Rattle.tracing_tree_junit.specs.Reading.{added_outside, at_start, before_now, begun, called, case_begun, case_ended, case_span, cdata_added, class_entered, class_left, class_opened, closed, counted, cut_with, element_begun, element_of, end_event, end_shown, ended, ended_as, ended_with, event_shown, evented, failure_ended, finished, innermost_name, innermost_span, is_case_hidden, is_in_class, is_open, is_suite_hidden, opened, output_ended, output_shown, outside_shown, part_begun, property_added, property_of, row_calls, rows_in_suite, rows_shown, skip_ended, span_shown, suite_begun, suite_closed, suite_ended, suite_failed, suite_hidden, suites_closed, tag_begun, taken, tallied, tally_fields, text_added, wants_class};
 
 use crate::case::{Case, Outcome, level_of, time_fields};
-use crate::element::{Element, element_named, role_of};
-use crate::lines::{Row, push_lines};
+use crate::element::{Element, element_named, is_of_report, role_of};
+use crate::failure::push_failure;
+use crate::lines::{Row, is_blank_text, push_lines};
+use crate::plain::push_plain;
 use crate::seconds::nanoseconds_of;
 use crate::tag::{Part, Tag};
 use std::alloc::{AllocError, Global};
 use std::marker::Model;
+use std::mem;
 use tracing_tree_context::Id;
 use tracing_tree_layer::call::Call;
 use tracing_tree_sources::told::{
@@ -24,12 +27,31 @@ use tracing_tree_text::text::Text;
 use tracing_tree_time::Moment;
 use tracing_tree_xml::Token;
 
+/// Which cases and suites are shown.
+#[derive(Clone, Copy, Debug, PartialEq, Eq)]
+pub enum Selection {
+    All,
+
+    /// Only the cases that failed, and the suites with a failure.
+    Failures,
+}
+
+// The state before a suite, for one that isn't shown: how many calls there were, the id that the
+// next span would have got, and how many failures there were.
+#[derive(Clone, Copy, Debug)]
+pub(crate) struct Before {
+    calls: usize,
+    next: u64,
+    failed: u64,
+}
+
 // A suite that is open.
 #[derive(Debug, Drop)]
 pub(crate) struct Suite {
     name: Text,
     nanoseconds: Option<u64>,
     span: Id,
+    before: Before,
 }
 
 // The span of consecutive cases of a class.
@@ -45,7 +67,7 @@ pub struct Tally {
     /// The cases that passed.
     pub passed: u64,
 
-    /// The cases that failed.
+    /// The cases that failed, and the failures of suites.
     pub failed: u64,
 
     /// The cases that were skipped, or weren't run.
@@ -57,9 +79,14 @@ pub struct Tally {
 #[derive(Drop)]
 pub(crate) struct Junit {
     alloc: Global,
+    selection: Selection,
     // The id that the next span gets.
     next: u64,
     moment: Moment,
+    // The text around the document that isn't shown yet.
+    outside: String,
+    // An element of a report has begun.
+    is_report: bool,
     elements: Vec<Element>,
     tag: Tag,
     suites: Vec<Suite>,
@@ -74,13 +101,17 @@ pub(crate) struct Junit {
 }
 
 impl Model for Junit {
+    ghost use Rattle.std.specs.Prelude.{string_bytes};
     ghost use Rattle.tracing_tree_junit.specs.Junit.{JunitState};
 
     ghost Value = { JunitState };
 
     ghost view = { λ j. record {
+      selection = j.selection;
       next = j.next;
       moment = j.moment;
+      outside = string_bytes j.outside;
+      is_report = j.is_report;
       elements = j.elements.items;
       tag = j.tag;
       suites = j.suites.items;
@@ -96,15 +127,23 @@ impl Model for Junit {
 
 impl Junit {
     // Returns the state before the first token. The first span gets the id `next`.
-    pub(crate) fn new(alloc: Global, next: u64, moment: Moment) -> Result<Junit, AllocError>
-        ensures { IfOk result (λ junit. junit ≡ at_start next moment) }
+    pub(crate) fn new(
+        alloc: Global,
+        selection: Selection,
+        next: u64,
+        moment: Moment,
+    ) -> Result<Junit, AllocError>
+        ensures { IfOk result (λ junit. junit ≡ at_start selection next moment) }
     {
         let tag = Tag::new(alloc, "")?;
         let case = Case::new(alloc, &tag)?;
         Ok(Junit {
             alloc,
+            selection,
             next,
             moment,
+            outside: String::new(alloc),
+            is_report: false,
             elements: Vec::new(alloc),
             tag,
             suites: Vec::new(alloc),
@@ -126,6 +165,13 @@ impl Junit {
         ensures { result ≡ self.now.tally }
     {
         self.tally
+    }
+
+    // Returns whether an element of a report has begun.
+    pub(crate) fn is_report(&self) -> bool
+        ensures { result ≡ self.now.is_report }
+    {
+        self.is_report
     }
 
     // Returns whether an element is open.
@@ -178,7 +224,18 @@ impl Junit {
         if self.in_part {
             self.part.add_text(run)
         } else {
+            self.add_outside(run)
+        }
+    }
+
+    // Adds text that is outside of all elements.
+    fn add_outside(&mut self, run: &str) -> Result<(), AllocError>
+        ensures { OnOk result (self.new ≡ added_outside run.now self.old) }
+    {
+        if self.is_open() {
             Ok(())
+        } else {
+            self.outside.push_str(run)
         }
     }
 
@@ -192,11 +249,32 @@ impl Junit {
         }
     }
 
-    // Opens the element of the tag. The content of a part starts a line.
+    // Opens the element of the tag.
     fn begin(&mut self) -> Result<(), AllocError>
         ensures { OnOk result (self.new ≡ begun self.old) }
     {
+        self.show_outside()?;
+        self.begin_element()
+    }
+
+    // Shows the lines of the text before this place.
+    fn show_outside(&mut self) -> Result<(), AllocError>
+        ensures { OnOk result (self.new ≡ outside_shown self.old) }
+    {
+        let outside = mem::replace(&mut self.outside, String::new(self.alloc));
+        if is_blank_text(outside.as_str()) {
+            return Ok(());
+        }
+        self.leave_class()?;
+        push_plain(self.alloc, &mut self.calls, &self.moment, outside.as_str())
+    }
+
+    // The content of a part starts a line.
+    fn begin_element(&mut self) -> Result<(), AllocError>
+        ensures { OnOk result (self.new ≡ element_begun self.old) }
+    {
         let element = self.element();
+        self.is_report = self.is_report || is_of_report(self.tag.name());
         self.elements.push(element)?;
         match element {
             Element::Suite => self.begin_suite(),
@@ -299,6 +377,7 @@ impl Junit {
         self.leave_class()?;
         let name = Text::from_str(self.alloc, self.tag.value("name"))?;
         let nanoseconds = nanoseconds_of(self.tag.value("time"));
+        let before = self.before();
         let above = self.innermost_span();
         let span = self.open(name.as_str(), Fields::new(self.alloc), above)?;
         Ok(
@@ -306,8 +385,35 @@ impl Junit {
                 name,
                 nanoseconds,
                 span,
+                before,
             })?,
         )
+    }
+
+    // Returns what a suite that isn't shown leaves.
+    fn before(&self) -> Before
+        ensures { result ≡ before_now self.now }
+    {
+        Before {
+            calls: self.calls.len(),
+            next: self.next,
+            failed: self.tally.failed,
+        }
+    }
+
+    // Returns whether a suite isn't shown: only failures are, and it has none.
+    fn is_suite_hidden(&self, suite: &Suite) -> bool
+        ensures { result ≡ is_suite_hidden suite.now self.now }
+    {
+        self.selection == Selection::Failures && self.tally.failed == suite.before.failed
+    }
+
+    // Leaves out the calls since the beginning of a suite.
+    fn hide_suite(&mut self, suite: &Suite)
+        ensures { self.new ≡ suite_hidden suite.now self.old }
+    {
+        self.calls.truncate(suite.before.calls);
+        self.next = suite.before.next;
     }
 
     fn end_suite(&mut self) -> Result<(), AllocError>
@@ -320,16 +426,28 @@ impl Junit {
         }
     }
 
-    // Ends a suite. A suite with a time ends with an event.
+    // Ends a suite.
     fn end_with(&mut self, suite: &Suite) -> Result<(), AllocError>
         ensures { OnOk result (self.new ≡ ended_with suite.now self.old) }
     {
-        if suite.nanoseconds.is_some() {
-            let mut fields = Fields::one(self.alloc, message_field(self.alloc, "end")?);
-            fields.append(time_fields(self.alloc, suite.nanoseconds)?)?;
-            self.event(Level::Info, fields, Some(suite.span))?;
+        if self.is_suite_hidden(suite) {
+            self.hide_suite(suite);
+            return Ok(());
         }
+        self.show_suite_end(suite)?;
         self.close(suite.span, self.innermost_span())
+    }
+
+    // Shows the end of a suite with a time.
+    fn show_suite_end(&mut self, suite: &Suite) -> Result<(), AllocError>
+        ensures { OnOk result (self.new ≡ end_event suite.now self.old) }
+    {
+        if suite.nanoseconds.is_none() {
+            return Ok(());
+        }
+        let mut fields = Fields::one(self.alloc, message_field(self.alloc, "end")?);
+        fields.append(time_fields(self.alloc, suite.nanoseconds)?)?;
+        self.event(Level::Info, fields, Some(suite.span))
     }
 
     // ---- classes
@@ -412,13 +530,23 @@ impl Junit {
         ensures { OnOk result (self.new ≡ case_ended self.old) }
     {
         self.in_case = false;
-        self.enter_class()?;
         self.count();
+        if self.is_case_hidden() {
+            return Ok(());
+        }
+        self.enter_class()?;
         if self.case.is_bare() {
             self.show_event()
         } else {
             self.show_span()
         }
+    }
+
+    // Returns whether the case isn't shown: only failures are, and it isn't one.
+    fn is_case_hidden(&self) -> bool
+        ensures { result ≡ is_case_hidden self.now }
+    {
+        self.selection == Selection::Failures && self.case.outcome() != Outcome::Failed
     }
 
     fn count(&mut self)
@@ -487,7 +615,30 @@ impl Junit {
         ensures { OnOk result (self.new ≡ failure_ended level self.old) }
     {
         self.in_part = false;
-        self.case.add_failure(self.alloc, level, &self.part)
+        if self.in_case {
+            self.case.add_failure(self.alloc, level, &self.part)
+        } else {
+            self.fail_suite(level)
+        }
+    }
+
+    // Shows a failure of a suite, and counts it.
+    fn fail_suite(&mut self, level: Level) -> Result<(), AllocError>
+        ensures { OnOk result (self.new ≡ suite_failed level self.old) }
+    {
+        self.tally.failed = self.tally.failed.saturating_add(1);
+        self.leave_class()?;
+        let mut rows = Vec::new(self.alloc);
+        push_failure(self.alloc, &mut rows, level, &self.part)?;
+        self.show_in_suite(rows.as_slice())
+    }
+
+    // Shows rows in the span of the innermost suite.
+    fn show_in_suite(&mut self, rows: &[Row]) -> Result<(), AllocError>
+        ensures { OnOk result (self.new ≡ rows_in_suite rows.now self.old) }
+    {
+        let at = self.innermost_span();
+        push_rows(self.alloc, &mut self.calls, self.moment, rows, at)
     }
 
     fn end_skipped(&mut self) -> Result<(), AllocError>
@@ -515,14 +666,7 @@ impl Junit {
         self.leave_class()?;
         let mut rows = Vec::new(self.alloc);
         push_lines(self.alloc, &mut rows, self.part.body())?;
-        let at = self.innermost_span();
-        push_rows(
-            self.alloc,
-            &mut self.calls,
-            self.moment,
-            rows.as_slice(),
-            at,
-        )
+        self.show_in_suite(rows.as_slice())
     }
 
     // Adds the property of the tag as a field to the case or the suite.
@@ -547,6 +691,17 @@ impl Junit {
     {
         self.leave_class()?;
         self.close_suites()?;
+        self.show_outside()?;
+        self.show_tally()
+    }
+
+    // Shows the counts of the cases of a report.
+    fn show_tally(&mut self) -> Result<(), AllocError>
+        ensures { OnOk result (self.new ≡ tallied self.old) }
+    {
+        if !self.is_report {
+            return Ok(());
+        }
         let fields = tally_fields(self.alloc, &self.tally)?;
         let level = if self.tally.failed == 0 {
             Level::Info
@@ -570,9 +725,20 @@ impl Junit {
         ensures { OnOk result (self.new ≡ suite_closed self.old) }
     {
         match self.suites.pop() {
-            Some(suite) => self.close(suite.span, self.innermost_span()),
+            Some(suite) => self.cut_with(&suite),
             None => Ok(()),
         }
+    }
+
+    // Closes a suite that the document ends in.
+    fn cut_with(&mut self, suite: &Suite) -> Result<(), AllocError>
+        ensures { OnOk result (self.new ≡ cut_with suite.now self.old) }
+    {
+        if self.is_suite_hidden(suite) {
+            self.hide_suite(suite);
+            return Ok(());
+        }
+        self.close(suite.span, self.innermost_span())
     }
 }
 

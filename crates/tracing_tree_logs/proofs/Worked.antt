@@ -8,7 +8,7 @@ use Rattle.tracing_tree_text.specs.declared.style.Level.TheVariants.{Debug, Erro
 use Rattle.tracing_tree_sources.specs.Told.{close_call, event_call, message_field, shown, span_call}
 use Rattle.tracing_tree_sources.specs.JsonText.{json_text}
 use Rattle.tracing_tree_logs.specs.LogFields.{value_fields}
-use Rattle.tracing_tree_logs.specs.LogLine.{event_fields, level_in, level_named, same_word, used_keys}
+use Rattle.tracing_tree_logs.specs.LogLine.{event_fields, group_in, level_in, level_named, same_word, used_keys}
 use Rattle.tracing_tree_logs.specs.LogTime.{nanoseconds_of}
 use Rattle.tracing_tree_logs.specs.Logs.{LogsState, id_field, line_told, logs_ends, no_group}
 
@@ -90,11 +90,11 @@ request_fields =
     ∷ (record { name = shown (codes "request_id"); value = shown (codes "r1") })
     ∷ (record { name = shown (codes "req.path"); value = shown (codes "/pay") }) ∷ []
 
-pub keys_that_are_no_fields : used_keys request ≡ codes "level" ∷ codes "msg" ∷ codes "trace_id" ∷ []
+pub keys_that_are_no_fields : (used_keys None request).keys ≡ codes "level" ∷ codes "msg" ∷ codes "trace_id" ∷ []
 unfolding same_word
 keys_that_are_no_fields = refl
 
-pub the_trace_counts_before_the_request : event_fields request ≡ request_fields
+pub the_trace_counts_before_the_request : event_fields None request ≡ request_fields
 unfolding same_word
 the_trace_counts_before_the_request = refl
 
@@ -102,7 +102,7 @@ pub a_line_without_a_level : level_in unnamed ≡ Info
 unfolding same_word
 a_line_without_a_level = refl
 
-pub nothing_is_lost : event_fields unnamed
+pub nothing_is_lost : event_fields None unnamed
     ≡ (record { name = shown (codes "level"); value = shown (codes "audit") })
     ∷ (record { name = shown (codes "message"); value = shown [] })
     ∷ (record { name = shown (codes "port"); value = codes "8080" }) ∷ []
@@ -116,11 +116,34 @@ timed = object
     (member (codes "ts") (number (codes "1795950765.5"))
     (member (codes "msg") (string (codes "up")) no_members)))
 
-pub a_time_is_no_field : event_fields timed ≡ message_field (codes "up") ∷ []
+pub a_time_is_no_field : event_fields None timed ≡ message_field (codes "up") ∷ []
 unfolding same_word
 a_time_is_no_field = refl
 
 -- ---- groups
+
+-- {"__REALTIME_TIMESTAMP":"1795950765387019","_PID":"812","_SYSTEMD_UNIT":"a.service","MESSAGE":"up"}
+abbrev journaled : Json
+journaled = object
+    (member (codes "__REALTIME_TIMESTAMP") (string (codes "1795950765387019"))
+    (member (codes "_PID") (string (codes "812"))
+    (member (codes "_SYSTEMD_UNIT") (string (codes "a.service"))
+    (member (codes "MESSAGE") (string (codes "up")) no_members))))
+
+pub a_unit_is_a_group : group_in None journaled
+    ≡ Some (record { name = codes "unit"; id = codes "a.service"; process = Some (codes "812") })
+a_unit_is_a_group = refl
+
+pub what_journald_adds_is_no_field : event_fields None journaled ≡ message_field (codes "up") ∷ []
+unfolding same_word
+what_journald_adds_is_no_field = refl
+
+pub a_path_names_a_group : group_in (Some (codes "req.path")) request
+    ≡ Some (record { name = codes "req.path"; id = codes "/pay"; process = None })
+a_path_names_a_group = refl
+
+pub no_trace_if_another_key_is_asked_for : group_in (Some (codes "tenant")) request ≡ None
+no_trace_if_another_key_is_asked_for = refl
 
 module _ (moment : Moment) where
   abbrev pub after_request : LogsState
@@ -140,7 +163,7 @@ module _ (moment : Moment) where
   it_opens_once = refl
 
   pub a_line_without_a_group_is_at_the_root :
-      (line_told [] (Some unnamed) after_request).calls ≡ event_call moment Info (event_fields unnamed) None ∷ []
+      (line_told [] (Some unnamed) after_request).calls ≡ event_call moment Info (event_fields None unnamed) None ∷ []
   unfolding same_word
   a_line_without_a_group_is_at_the_root = refl
 

@@ -1,8 +1,9 @@
 -- An object's members as fields, and those of objects in it under both names.
-use Rattle.std.specs.Prelude.{ℕ, if◌then◌else◌, List, [], ◌∷◌, ◌++◌, codes, bytes_eq}
+use Rattle.std.specs.Prelude.{ℕ, ◌&&◌, ◌||◌, Bool, if◌then◌else◌, List, [], ◌∷◌, ◌++◌, codes, bytes_eq}
 use Rattle.std.specs.List.{list_any}
 use Rattle.json.specs.Json.{Json, null, boolean, number, string, array, object, Members, no_members, member}
 use Rattle.tracing_tree_text.specs.declared.field.Field.{Field}
+use Rattle.tracing_tree_sources.specs.Marks.{begins}
 use Rattle.tracing_tree_sources.specs.Told.{shown}
 use Rattle.tracing_tree_sources.specs.JsonText.{json_text}
 
@@ -34,12 +35,28 @@ abbrev mutual
   inner_fields name (member key value others) =
       value_fields (inner_name name key) value ++ inner_fields name others
 
--- a member as fields, unless it has one of these keys
-abbrev pub member_fields : List (List ℕ) → List ℕ → Json → List Field
-member_fields keys key value = if list_any (bytes_eq key) keys then [] else value_fields key value
+-- the keys of the members that aren't fields, and that journald wrote the line
+pub record Used : Type 0 where
+  pub keys : List (List ℕ)
+  pub is_of_journal : Bool
 
--- an object's members as fields, except those with one of these keys
-abbrev pub members_fields : List (List ℕ) → Members → List Field
-members_fields keys no_members = []
-members_fields keys (member key value others) =
-    member_fields keys key value ++ members_fields keys others
+-- what journald adds to each line, and what the syslog protocol does
+abbrev pub journal_keys : List (List ℕ)
+journal_keys =
+    codes "SYSLOG_FACILITY" ∷ codes "SYSLOG_PID" ∷ codes "SYSLOG_RAW" ∷ codes "SYSLOG_TIMESTAMP" ∷ []
+
+abbrev pub is_added : List ℕ → Bool
+is_added key = begins (codes "_") key || list_any (bytes_eq key) journal_keys
+
+abbrev pub is_used : Used → List ℕ → Bool
+is_used used key = list_any (bytes_eq key) used.keys || (used.is_of_journal && is_added key)
+
+-- a member as fields, unless it is used or added
+abbrev pub member_fields : Used → List ℕ → Json → List Field
+member_fields used key value = if is_used used key then [] else value_fields key value
+
+-- an object's members as fields, except those that are used or added
+abbrev pub members_fields : Used → Members → List Field
+members_fields used no_members = []
+members_fields used (member key value others) =
+    member_fields used key value ++ members_fields used others

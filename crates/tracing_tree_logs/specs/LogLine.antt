@@ -1,6 +1,6 @@
 -- What an object of a service's log means.
-use Rattle.std.specs.Prelude.{ℕ, ◌==◌, nat_lt, Bool, false, if◌then◌else◌, List, [], ◌∷◌, ◌++◌, length, Option, Some, None, is_some, unwrap_or, option_and_then, codes, bytes_eq}
-use Rattle.std.specs.List.{list_any, position_or_len, before_first}
+use Rattle.std.specs.Prelude.{ℕ, zero, suc, ◌==◌, nat_lt, Bool, false, if◌then◌else◌, List, [], ◌∷◌, ◌++◌, length, Option, Some, None, is_some, unwrap_or, option_and_then, option_map, codes, bytes_eq}
+use Rattle.std.specs.List.{list_any, position_or_len, before_first, after_first}
 use Rattle.std.specs.Str.{str_eq_ignore_ascii_case}
 use Rattle.json.specs.Json.{Json, null, boolean, number, string, array, object, no_members}
 use Rattle.json.specs.Find.{as_object, get}
@@ -10,7 +10,7 @@ use Rattle.tracing_tree_text.specs.declared.style.Level.{Level}
 use Rattle.tracing_tree_text.specs.declared.style.Level.TheVariants.{Trace, Debug, Info, Warn, Error}
 use Rattle.tracing_tree_sources.specs.Marks.{is_empty}
 use Rattle.tracing_tree_sources.specs.Told.{message_field}
-use Rattle.tracing_tree_logs.specs.LogFields.{members_fields}
+use Rattle.tracing_tree_logs.specs.LogFields.{Used, members_fields}
 use Rattle.tracing_tree_logs.specs.LogTime.{is_time, moment_of_word}
 
 -- ---- keys
@@ -58,6 +58,35 @@ first_key (key ∷ others) value =
 
 abbrev pub first_word : List (List ℕ) → Json → Option (List ℕ)
 first_word keys value = option_and_then (λ key. word_at key value) (first_key keys value)
+
+-- ---- paths
+
+abbrev pub is_point : ℕ → Bool
+is_point byte = byte == 46
+
+abbrev pub has_point : List ℕ → Bool
+has_point path = nat_lt (position_or_len is_point path) (length path)
+
+-- the rest of a path after its first key, and what the object has at that key
+abbrev pub inner_of : List ℕ → Json → Option (List ℕ × Json)
+inner_of path value =
+    if has_point path
+    then option_map (λ inner. (after_first is_point path, inner)) (get (before_first is_point path) value)
+    else None
+
+abbrev pub further : Option (List ℕ) → Option (List ℕ × Json) → (List ℕ → Json → Option (List ℕ)) → Option (List ℕ)
+further (Some word) inner others = Some word
+further None (Some inner) others = others inner.0 inner.1
+further None None others = None
+
+abbrev pub word_within : ℕ → List ℕ → Json → Option (List ℕ)
+word_within zero path value = None
+word_within (suc keys) path value =
+    further (word_at path value) (inner_of path value) (λ rest inner. word_within keys rest inner)
+
+-- The word at a key. A key with points is also a path through objects.
+abbrev pub word_along : List ℕ → Json → Option (List ℕ)
+word_along path value = word_within (length path) path value
 
 -- ---- levels
 
@@ -150,13 +179,54 @@ time_key value = if_key (first_key time_keys value) where
 
 -- ---- groups
 
+-- A group: the name of its span and its id. The group of a unit also has its process.
+pub record Group : Type 0 where
+  pub name : List ℕ
+  pub id : List ℕ
+  pub process : Option (List ℕ)
+
+-- the keys of groups: the one that was asked for, otherwise those of traces and requests
+abbrev pub keys_of_groups : Option (List ℕ) → List (List ℕ)
+keys_of_groups (Some asked) = asked ∷ []
+keys_of_groups None = group_keys
+
 -- the span of a group is a `trace` or a `request`
 abbrev pub group_name : List ℕ → List ℕ
 group_name key = if list_any (bytes_eq key) trace_keys then codes "trace" else codes "request"
 
--- what identifies a group: its name and its id
-abbrev pub group_key : List ℕ → List ℕ → List ℕ
-group_key name id = name ++ codes " " ++ id
+abbrev pub group_of : List ℕ → Option (List ℕ) → Option (List ℕ) → Option Group
+group_of name (Some id) process = Some (record { name = name; id = id; process = process })
+group_of name None process = None
+
+-- journald wrote a line
+abbrev pub is_of_journal : Json → Bool
+is_of_journal value = is_some (word_at (codes "__REALTIME_TIMESTAMP") value)
+
+-- a line of journald is in the group of its unit and its process
+abbrev pub unit_in : Json → Option Group
+unit_in value =
+    if is_of_journal value
+    then group_of (codes "unit") (word_at (codes "_SYSTEMD_UNIT") value)
+    (word_at (codes "_PID") value)
+    else None
+
+abbrev pub group_at : Option (List ℕ) → Json → Option Group
+group_at (Some key) value = group_of (group_name key) (word_at key value) None
+group_at None value = unit_in value
+
+-- the group of a line: that at the key that was asked for, otherwise its trace, its request or its
+-- unit
+abbrev pub group_in : Option (List ℕ) → Json → Option Group
+group_in (Some asked) value = group_of asked (word_along asked value) None
+group_in None value = group_at (first_key group_keys value) value
+
+abbrev pub process_key : Option (List ℕ) → List ℕ
+process_key (Some process) = codes " " ++ process
+process_key None = []
+
+-- what identifies a group: its name, its id and its process
+abbrev pub group_key : Group → List ℕ
+group_key group = group.name ++ codes " " ++ group.id ++ process_key group.process
 
 -- ---- fields
 
@@ -165,17 +235,21 @@ listed (Some key) = key ∷ []
 listed None = []
 
 -- the keys that aren't fields: those of the level, the time, the message and the group
-abbrev pub used_keys : Json → List (List ℕ)
-used_keys value =
-    listed (level_key value) ++ listed (time_key value)
-    ++ listed (first_key message_keys value) ++ listed (first_key group_keys value)
+abbrev pub used_keys : Option (List ℕ) → Json → Used
+used_keys asked value = record {
+  keys =
+      listed (level_key value) ++ listed (time_key value)
+      ++ listed (first_key message_keys value)
+      ++ listed (first_key (keys_of_groups asked) value);
+  is_of_journal = is_of_journal value;
+}
 
 abbrev pub message_fields : Option (List ℕ) → List Field
 message_fields (Some text) = message_field text ∷ []
 message_fields None = []
 
 -- the fields of a line's event: its message, and what else it has
-abbrev pub event_fields : Json → List Field
-event_fields value =
+abbrev pub event_fields : Option (List ℕ) → Json → List Field
+event_fields asked value =
     message_fields (first_word message_keys value)
-    ++ members_fields (used_keys value) (unwrap_or (as_object value) no_members)
+    ++ members_fields (used_keys asked value) (unwrap_or (as_object value) no_members)

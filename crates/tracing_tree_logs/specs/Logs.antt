@@ -15,11 +15,13 @@ use Rattle.tracing_tree_sources.specs.Counts.{one_more}
 use Rattle.tracing_tree_sources.specs.Told.{close_call, event_call, shown, span_call}
 use Rattle.tracing_tree_sources.specs.Traces.{plain_event}
 use Rattle.tracing_tree_logs.specs.Groups.{span_of, with_span}
-use Rattle.tracing_tree_logs.specs.LogLine.{event_fields, first_key, group_key, group_keys, group_name, level_in, moment_in, word_at}
+use Rattle.tracing_tree_logs.specs.LogLine.{Group, event_fields, group_in, group_key, level_in, moment_in}
 
--- What is known of the groups: the id of the next span, the moment of the last line, the span of
--- each group, that of the last line's group, and the calls that weren't returned yet.
+-- What is known of the groups: the key that was asked for, the id of the next span, the moment of
+-- the last line, the span of each group, that of the last line's group, and the calls that weren't
+-- returned yet.
 pub record LogsState : Type 0 where
+  pub asked : Option (List ℕ)
   pub next : ℕ
   pub moment : Moment
   pub groups : List (List ℕ × Id)
@@ -29,6 +31,7 @@ pub record LogsState : Type 0 where
 -- no group is known yet
 abbrev pub no_group : ℕ → Moment → LogsState
 no_group next moment = record {
+  asked = None;
   next = next;
   moment = moment;
   groups = [];
@@ -45,38 +48,46 @@ told call s = record s { calls = s.calls ++ call ∷ [] }
 abbrev pub arrived : Option Id → LogsState → LogsState
 arrived at s = record s { at = at }
 
+-- events are grouped by this key in place of their traces and requests
+abbrev pub grouped_by : List ℕ → LogsState → LogsState
+grouped_by key s = record s { asked = Some key }
+
 abbrev pub id_field : List ℕ → Field
 id_field id = record { name = codes "id"; value = shown id }
 
+abbrev pub process_fields : Option (List ℕ) → List Field
+process_fields (Some process) = (record { name = codes "pid"; value = shown process }) ∷ []
+process_fields None = []
+
+abbrev pub group_fields : Group → List Field
+group_fields group = id_field group.id ∷ [] ++ process_fields group.process
+
 -- the span of a new group opens, and nothing closes: no line says that a group ends
-abbrev pub opened : List ℕ → List ℕ → LogsState → LogsState
-opened name id s = record (told (span_call s.moment name (id_field id ∷ []) None) s) {
+abbrev pub opened : Group → LogsState → LogsState
+opened group s = record (told (span_call s.moment group.name (group_fields group) None) s) {
   next = one_more s.next;
-  groups = with_span (group_key name id) (id_of s.next) s.groups;
+  groups = with_span (group_key group) (id_of s.next) s.groups;
   at = Some (id_of s.next);
 }
 
-abbrev pub at_or_opened : Option Id → List ℕ → List ℕ → LogsState → LogsState
-at_or_opened (Some span) name id s = arrived (Some span) s
-at_or_opened None name id s = opened name id s
+abbrev pub at_or_opened : Option Id → Group → LogsState → LogsState
+at_or_opened (Some span) group s = arrived (Some span) s
+at_or_opened None group s = opened group s
 
 -- a line enters the span of this group
-abbrev pub entered : List ℕ → List ℕ → LogsState → LogsState
-entered name id s = at_or_opened (span_of (group_key name id) s.groups) name id s
+abbrev pub entered : Group → LogsState → LogsState
+entered group s = at_or_opened (span_of (group_key group) s.groups) group s
 
-abbrev pub entered_if : List ℕ → Option (List ℕ) → LogsState → LogsState
-entered_if name (Some id) s = entered name id s
-entered_if name None s = arrived None s
-
--- a line is in the span of its group, whose id is at this key; at the root if it has no group
-abbrev pub located : Option (List ℕ) → Json → LogsState → LogsState
-located (Some key) value s = entered_if (group_name key) (word_at key value) s
-located None value s = arrived None s
+-- a line is in the span of its group; at the root if it has no group
+abbrev pub located : Option Group → LogsState → LogsState
+located (Some group) s = entered group s
+located None s = arrived None s
 
 -- ---- lines
 
 abbrev pub event_told : Json → LogsState → LogsState
-event_told value s = told (event_call s.moment (level_in value) (event_fields value) s.at) s
+event_told value s =
+    told (event_call s.moment (level_in value) (event_fields s.asked value) s.at) s
 
 -- a line happens at its own time
 abbrev pub placed : Json → LogsState → LogsState
@@ -85,7 +96,7 @@ placed value s = record s { moment = moment_in value s.moment }
 -- an object is an event at its own time in the span of its group
 abbrev pub object_told : Json → LogsState → LogsState
 object_told value s =
-    event_told value (located (first_key group_keys value) value (placed value s))
+    event_told value (located (group_in s.asked value) (placed value s))
 
 -- a line that isn't an object is an event where the last object was
 abbrev pub plain_told : List ℕ → LogsState → LogsState

@@ -2,8 +2,8 @@
 
 ghost use Rattle.std.specs.Prelude.{◌≡◌, [], IfOk, OnOk, option_map};
 ghost use Rattle.json.specs.Value.{value_view};
-ghost use Rattle.tracing_tree_logs.specs.Logs.{arrived, close_of, entered, entered_if, event_told, id_field, line_told, located, no_group, object_told, opened, placed, plain_told};
-ghost use Rattle.tracing_tree_logs.specs.LogLine.{group_key};
+ghost use Rattle.tracing_tree_logs.specs.Logs.{logs_lacks, arrived, close_of, entered, event_told, group_fields, grouped_by, id_field, line_told, located, no_group, object_told, opened, placed, plain_told, process_fields};
+ghost use Rattle.tracing_tree_logs.specs.LogLine.{group_in, group_key};
 
 mod fields;
 mod level;
@@ -13,9 +13,7 @@ mod used;
 
 use crate::groups::Groups;
 use json::Value;
-use line::{
-    GROUP_KEYS, event_fields, first_key, group_key, group_name, level_in, moment_in, word_at,
-};
+use line::{Group, event_fields, group_in, group_key, level_in, moment_in};
 use std::alloc::{AllocError, Global};
 use std::marker::Model;
 use std::mem;
@@ -31,13 +29,15 @@ use tracing_tree_text::field::{Field, Fields};
 use tracing_tree_text::text::Text;
 use tracing_tree_time::Moment;
 
-/// The groups of a log: its traces and its requests.
+/// The groups of a log: its traces and its requests, the units of journald, or the values at a key.
 ///
 /// A line that is an object is an event in the span of its group, or at the root without a group.
 /// Any other line is an event in the same span as the last object.
 #[derive(Drop)]
-pub struct Logs {
+pub struct Logs<'k> {
     alloc: Global,
+    // The key that groups events, in place of their traces and requests.
+    asked: Option<&'k str>,
     // The id that the next span gets.
     next: u64,
     // That of the last line.
@@ -48,12 +48,14 @@ pub struct Logs {
     calls: Vec<Call>,
 }
 
-impl Model for Logs {
+impl<'k> Model for Logs<'k> {
+    ghost use Rattle.std.specs.Prelude.{option_map};
     ghost use Rattle.tracing_tree_logs.specs.Logs.{LogsState};
 
     ghost Value = { LogsState };
 
     ghost view = { λ l. record {
+      asked = option_map (λ k. k.now) l.asked;
       next = l.next;
       moment = l.moment;
       groups = l.groups;
@@ -62,14 +64,31 @@ impl Model for Logs {
     } };
 }
 
-impl Logs {
+impl<'k> Logs<'k> {
     /// Creates a source that knows no group. Its first span gets the id `next`, and calls are made
     /// at `moment` until a line says when it happened.
-    pub fn new(alloc: Global, next: u64, moment: Moment) -> Logs
+    pub fn new(alloc: Global, next: u64, moment: Moment) -> Logs<'k>
         ensures { result ≡ no_group next moment }
     {
         Logs {
             alloc,
+            asked: None,
+            next,
+            moment,
+            groups: Groups::new(alloc),
+            at: None,
+            calls: Vec::new(alloc),
+        }
+    }
+
+    /// Creates a source that groups events by the value at this key, in place of their traces,
+    /// requests and units. The spans of the groups have the key as their name.
+    pub fn grouped_by(alloc: Global, key: &'k str, next: u64, moment: Moment) -> Logs<'k>
+        ensures { result ≡ grouped_by key.now (no_group next moment) }
+    {
+        Logs {
+            alloc,
+            asked: Some(key),
             next,
             moment,
             groups: Groups::new(alloc),
@@ -101,7 +120,7 @@ impl Logs {
         ensures { OnOk result (self.new ≡ object_told (value_view value.now) self.old) }
     {
         self.place(value);
-        self.locate(first_key(&GROUP_KEYS, value), value)?;
+        self.locate(value)?;
         self.push_event(value)
     }
 
@@ -119,26 +138,13 @@ impl Logs {
         self.at = at;
     }
 
-    // Comes to the span of a line's group, whose id is at this key, or to the root.
-    fn locate(&mut self, key: Option<&str>, value: &Value<'_>) -> Result<(), AllocError>
+    // Comes to the span of a line's group, or to the root.
+    fn locate(&mut self, value: &Value<'_>) -> Result<(), AllocError>
         ensures { OnOk result (self.new
-            ≡ located (option_map (λ k. k.now) key.entry) (value_view value.now) self.old) }
+            ≡ located (group_in self.old.asked (value_view value.now)) self.old) }
     {
-        match key {
-            Some(key) => self.enter_if(group_name(key), word_at(value, key)),
-            None => {
-                self.arrive(None);
-                Ok(())
-            }
-        }
-    }
-
-    fn enter_if(&mut self, name: &str, id: Option<&str>) -> Result<(), AllocError>
-        ensures { OnOk result (self.new
-            ≡ entered_if name.now (option_map (λ i. i.now) id.entry) self.old) }
-    {
-        match id {
-            Some(id) => self.enter(name, id),
+        match group_in(self.asked, value) {
+            Some(group) => self.enter(&group),
             None => {
                 self.arrive(None);
                 Ok(())
@@ -147,26 +153,26 @@ impl Logs {
     }
 
     // Comes to the span of a group, which opens unless it is open.
-    fn enter(&mut self, name: &str, id: &str) -> Result<(), AllocError>
-        ensures { OnOk result (self.new ≡ entered name.now id.now self.old) }
+    fn enter(&mut self, group: &Group<'_>) -> Result<(), AllocError>
+        ensures { OnOk result (self.new ≡ entered group.now self.old) }
     {
-        let key = group_key(self.alloc, name, id)?;
+        let key = group_key(self.alloc, group)?;
         match self.groups.span_of(key.as_slice()) {
             Some(span) => {
                 self.arrive(Some(span));
                 Ok(())
             }
-            None => self.open(key, name, id),
+            None => self.open(key, group),
         }
     }
 
     // Opens the span of a group.
-    fn open(&mut self, key: Vec<u8>, name: &str, id: &str) -> Result<(), AllocError>
-        requires { key.items ≡ group_key name.now id.now }
-        ensures { OnOk result (self.new ≡ opened name.now id.now self.old) }
+    fn open(&mut self, key: Vec<u8>, group: &Group<'_>) -> Result<(), AllocError>
+        requires { key.items ≡ group_key group.now }
+        ensures { OnOk result (self.new ≡ opened group.now self.old) }
     {
-        let fields = Fields::one(self.alloc, id_field(self.alloc, id)?);
-        let call = span_call(self.alloc, self.moment, name, fields, None)?;
+        let fields = group_fields(self.alloc, group)?;
+        let call = span_call(self.alloc, self.moment, group.name, fields, None)?;
         self.calls.push(call)?;
         let span = Id(self.next);
         self.groups.put(key, span)?;
@@ -178,7 +184,7 @@ impl Logs {
     fn push_event(&mut self, value: &Value<'_>) -> Result<(), AllocError>
         ensures { OnOk result (self.new ≡ event_told (value_view value.now) self.old) }
     {
-        let fields = event_fields(self.alloc, value)?;
+        let fields = event_fields(self.alloc, self.asked, value)?;
         let call = event_call(self.alloc, self.moment, level_in(value), fields, self.at)?;
         Ok(self.calls.push(call)?)
     }
@@ -195,6 +201,31 @@ impl Logs {
     }
 }
 
+// Returns the fields of a group's span.
+fn group_fields(alloc: Global, group: &Group<'_>) -> Result<Fields, AllocError>
+    ensures { IfOk result (λ fields. fields ≡ group_fields group.now) }
+{
+    let mut fields = Fields::one(alloc, id_field(alloc, group.id)?);
+    fields.append(process_fields(alloc, group.process)?)?;
+    Ok(fields)
+}
+
+fn process_fields(alloc: Global, process: Option<&str>) -> Result<Fields, AllocError>
+    ensures { IfOk result (λ fields.
+        fields ≡ process_fields (option_map (λ p. p.now) process.entry)) }
+{
+    match process {
+        Some(process) => {
+            let field = Field {
+                name: Text::from_str(alloc, "pid")?,
+                value: shown(alloc, process)?,
+            };
+            Ok(Fields::one(alloc, field))
+        }
+        None => Ok(Fields::new(alloc)),
+    }
+}
+
 fn id_field(alloc: Global, id: &str) -> Result<Field, AllocError>
     ensures { IfOk result (λ field. field ≡ id_field id.now) }
 {
@@ -204,7 +235,7 @@ fn id_field(alloc: Global, id: &str) -> Result<Field, AllocError>
     })
 }
 
-impl Source for Logs {
+impl Source for Logs<'_> {
     ghost use Rattle.tracing_tree_logs.specs.Logs.{logs_ended, logs_ends, logs_lacks, logs_takes};
 
     ghost takes = { logs_takes };
@@ -225,7 +256,9 @@ impl Source for Logs {
         Ok(Some(self.told()))
     }
 
-    fn lack(_value: Option<&Value<'_>>) -> Lack {
+    fn lack(_value: Option<&Value<'_>>) -> Lack
+        ensures { result ≡ logs_lacks (option_map (λ v. value_view v.now) _value.entry) }
+    {
         Lack::Object
     }
 

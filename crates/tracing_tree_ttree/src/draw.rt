@@ -245,7 +245,10 @@ fn draw_logs<R: AllocGlobal + Eprint + Print, I: Read + Drop>(
     mark: Option<Mark>,
     options: &Options<'_>,
 ) -> Result<Status, AllocError> {
-    let logs = Logs::new(rt.alloc(), 1, some_moment());
+    let logs = match options.group {
+        Some(key) => Logs::grouped_by(rt.alloc(), key, 1, some_moment()),
+        None => Logs::new(rt.alloc(), 1, some_moment()),
+    };
     let mut source = AtLeast::new(Prefixed::new(logs, mark), options.min_level());
     draw_lines(rt, origin, input, &mut source, options)
 }

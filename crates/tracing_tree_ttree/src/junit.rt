@@ -11,11 +11,12 @@ use std::io;
 use tracing_tree::lines::{LineCause, LineFault};
 use tracing_tree::time::Clock;
 use tracing_tree_chrome::TraceCalls;
-use tracing_tree_junit::{JunitCalls, junit_calls};
+use tracing_tree_junit::{JunitCalls, Selection, junit_calls};
 use tracing_tree_sources::run::make;
 use tracing_tree_sources::{CallsAtLeast, SourceRun};
 
-// Shows a document of JUnit XML. The status is 1 also if a case failed.
+// Shows a document of JUnit XML. The status is 1 also if a case failed, if the document ends early,
+// or if there is no report.
 pub fn draw_junit<R: AllocGlobal + Eprint + Print>(
     rt: &R,
     origin: Origin<'_>,
@@ -23,20 +24,40 @@ pub fn draw_junit<R: AllocGlobal + Eprint + Print>(
     text: &str,
     options: &Options<'_>,
 ) -> Result<Status, AllocError> {
-    let junit = junit_calls(rt.alloc(), 1, some_moment(), text)?;
+    let junit = junit_calls(rt.alloc(), selection(options), 1, some_moment(), text)?;
     let mut status = if junit.has_failed() {
         Status::Failure
     } else {
         Status::Success
     };
-    if junit.is_cut {
-        let _ = eprintln!(rt; "{origin}the document ends early");
+    if let Some(fault) = fault_of(&junit) {
+        let _ = eprintln!(rt; "{origin}{fault}");
         status = Status::Failure;
         if options.is_strict {
             return Ok(status);
         }
     }
     Ok(status.worse(show(rt, origin, head, junit, options)?))
+}
+
+// Returns which cases and suites are shown.
+fn selection(options: &Options<'_>) -> Selection {
+    if options.is_failed {
+        Selection::Failures
+    } else {
+        Selection::All
+    }
+}
+
+// Returns what is wrong with a document.
+fn fault_of(junit: &JunitCalls) -> Option<&'static str> {
+    if junit.is_cut {
+        Some("the document ends early")
+    } else if !junit.is_report {
+        Some("expected an element testsuites, testsuite or testcase")
+    } else {
+        None
+    }
 }
 
 fn show<R: AllocGlobal + Eprint + Print>(
@@ -50,6 +71,7 @@ fn show<R: AllocGlobal + Eprint + Print>(
         calls,
         tally: _,
         is_cut: _,
+        is_report: _,
     } = junit;
     let reporter = Reporter::new(rt, origin, Unit::Element, options.is_strict);
     if let Some(form) = options.form {

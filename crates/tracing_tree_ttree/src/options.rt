@@ -23,8 +23,11 @@ pub struct Options<'a> {
     // Events below it aren't shown. Without it, each is.
     min_level: Option<Level>,
 
-    // Whether only the tests that failed are shown.
+    // Whether only what failed is shown, of tests.
     pub is_failed: bool,
+
+    // The key that groups the events of logs. Without it, their traces and requests do.
+    pub group: Option<&'a str>,
 
     // Which spans of a trace aren't drawn.
     pub cut: Cut,
@@ -64,11 +67,12 @@ pub struct Style {
 }
 
 // The options that not every format has.
-const OPTIONS: [&str; 10] = [
+const OPTIONS: [&str; 11] = [
     "amount",
     "color",
     "depth",
     "failed",
+    "group",
     "level",
     "min",
     "no-lines",
@@ -122,7 +126,8 @@ impl<'a> Options<'a> {
 // Returns whether a format has this option.
 fn is_option_of(format: Format, option: &str) -> bool {
     match option {
-        "failed" => matches!(format, Format::GoTest | Format::Tap),
+        "failed" => matches!(format, Format::GoTest | Format::Junit | Format::Tap),
+        "group" => format == Format::Logs,
         "min" | "depth" => format == Format::Chrome,
         "level" => matches!(
             format,
@@ -161,6 +166,7 @@ pub fn parse<'a>(
         style: style_of(&matches, terminal.is_coloured),
         min_level: matches.get_str("level").map(level_of),
         is_failed: matches.get_flag("failed"),
+        group: matches.get_str("group"),
         cut: Cut {
             least: shortest(alloc, matches.get_str("min"))?,
             depth: matches.get_one::<usize>("depth"),
@@ -226,6 +232,7 @@ fn command<'a>(alloc: Global) -> Result<Command<'a>, AllocError> {
         .arg(amount_option(alloc))?
         .arg(level_option(alloc))?
         .arg(failed_option(alloc))?
+        .arg(group_option(alloc))?
         .arg(min_option(alloc))?
         .arg(depth_option(alloc))?
         .arg(flag(
@@ -307,8 +314,17 @@ fn failed_option<'a>(alloc: Global) -> Arg<'a> {
     flag(
         alloc,
         "failed",
-        "Leaves out the tests that passed or were skipped, and packages, files and subtests without a failure; go-test and tap",
+        "Leaves out the tests that passed or were skipped, and packages, files, suites and subtests without a failure; go-test, junit and tap",
     )
+}
+
+fn group_option<'a>(alloc: Global) -> Arg<'a> {
+    Arg::new(alloc, "group")
+        .long("group")
+        .value_name("KEY")
+        .help(
+            "Groups the events of logs by their value at KEY, in place of their traces and requests",
+        )
 }
 
 fn min_option<'a>(alloc: Global) -> Arg<'a> {

@@ -232,6 +232,26 @@ some_step (Err unfinished) = Err unfinished
 abbrev pub next_step : Reading → Result (Option ReadStep) Unfinished
 next_step r = if is_at_end r then Ok None else some_step (step_in r.place r.rest)
 
+-- ---- plain text
+
+abbrev pub less_or_text : List ℕ → Option (List ℕ) → ReadStep
+less_or_text rest (Some after) = step (characters (codes "<")) Content after
+less_or_text rest None = text_step rest
+
+-- in plain text a `<` begins no markup
+abbrev pub plain_step : List ℕ → ReadStep
+plain_step rest = less_or_text rest (after_mark (codes "<") rest)
+
+abbrev pub plain_step_in : Place → List ℕ → Result ReadStep Unfinished
+plain_step_in Content rest = Ok (plain_step rest)
+plain_step_in place rest = step_in place rest
+
+-- the next token, if content is plain text here
+abbrev pub next_plain_step : Reading → Result (Option ReadStep) Unfinished
+next_plain_step r = if is_at_end r then Ok None else some_step (plain_step_in r.place r.rest)
+
+-- ---- what is read
+
 -- a reader returned this, and is at what comes after it
 abbrev pub Reads : Result (Option ReadStep) Unfinished → Reading → Result (Option Token) Unfinished → Reading → Type 0
 Reads (Ok (Some step)) old (Ok (Some token)) new = (token_view token ≡ step.token) × (new ≡ step.after)

@@ -2,7 +2,7 @@
 
 ghost use Rattle.std.specs.Prelude.{◌≡◌};
 ghost use Rattle.tracing_tree_xml.specs.Token.{token_view};
-ghost use Rattle.tracing_tree_xml.specs.Xml.{Reads, at_start, attribute_step, cdata_step, comment_step, content_step, declaration_step, doctype_step, end_tag_end_step, end_tag_step, greater_step, instruction_step, is_at_end, literal_end_step, literal_step, markup_step, next_step, quoted_step, start_tag_step, step_in, subset_step, tag_step, text_step, value_step};
+ghost use Rattle.tracing_tree_xml.specs.Xml.{Reads, at_start, attribute_step, cdata_step, comment_step, content_step, declaration_step, doctype_step, end_tag_end_step, end_tag_step, greater_step, instruction_step, is_at_end, literal_end_step, literal_step, markup_step, next_plain_step, next_step, plain_step, plain_step_in, quoted_step, start_tag_step, step_in, subset_step, tag_step, text_step, value_step};
 
 use crate::cut::{Until, after_blanks, after_mark, cut, without_end};
 use std::marker::Model;
@@ -142,6 +142,44 @@ impl<'a> Reader<'a> {
         }
     }
 
+    /// Returns the next token as [`Reader::next`] does, except that a `<` in content is text. So
+    /// what surrounds a document can be read without taking it for markup.
+    ///
+    /// # Errors
+    ///
+    /// `Unfinished` if the document ends in the middle of what comes next.
+    pub fn next_plain(&mut self) -> Result<Option<Token<'a>>, Unfinished>
+        ensures { Reads (next_plain_step self.old) self.old result self.new }
+    {
+        match self.plain_step()? {
+            Some(step) => {
+                let Step { token, after } = step;
+                *self = after;
+                Ok(Some(token))
+            }
+            None => Ok(None),
+        }
+    }
+
+    /// Returns the part of the document that hasn't been read.
+    pub fn rest(&self) -> &'a str
+        ensures { result.now ≡ self.now.rest }
+    {
+        self.rest
+    }
+
+    fn plain_step(&self) -> Result<Option<Step<'a>>, Unfinished>
+        ensures { result ≡ next_plain_step self.now }
+    {
+        if self.is_at_end() {
+            return Ok(None);
+        }
+        match plain_step_in(self.place, self.rest) {
+            Ok(step) => Ok(Some(step)),
+            Err(unfinished) => Err(unfinished),
+        }
+    }
+
     fn step(&self) -> Result<Option<Step<'a>>, Unfinished>
         ensures { result ≡ next_step self.now }
     {
@@ -179,6 +217,26 @@ fn step_in(place: Place, rest: &str) -> Result<Step<'_>, Unfinished>
         Place::Doctype => doctype_step(rest),
         Place::Subset => subset_step(rest),
         Place::SubsetComment => comment_step(Place::SubsetComment, Place::Subset, rest),
+    }
+}
+
+// Returns the step at a place, if content is plain text.
+fn plain_step_in(place: Place, rest: &str) -> Result<Step<'_>, Unfinished>
+    ensures { result ≡ plain_step_in place rest.now }
+{
+    match place {
+        Place::Content => Ok(plain_step(rest)),
+        _ => step_in(place, rest),
+    }
+}
+
+// Returns a `<`, or the text up to the next one.
+fn plain_step(text: &str) -> Step<'_>
+    ensures { result ≡ plain_step text.now }
+{
+    match after_mark(text, "<") {
+        Some(rest) => step_to(Token::Text("<"), Place::Content, rest),
+        None => text_step(text),
     }
 }
 

@@ -18,7 +18,7 @@ use tracing_tree_text::text::Text;
 pub(super) fn push_members(
     alloc: Global,
     fields: &mut Vec<Field>,
-    used: &UsedKeys,
+    used: &UsedKeys<'_>,
     members: &Vec<(&str, Value<'_>)>,
 ) -> Result<(), AllocError>
     ensures { OnOk result (fields.new.items ≡ fields.old.items
@@ -33,7 +33,7 @@ pub(super) fn push_members(
 fn push_member(
     alloc: Global,
     fields: &mut Vec<Field>,
-    used: &UsedKeys,
+    used: &UsedKeys<'_>,
     key: &str,
     value: &Value<'_>,
 ) -> Result<(), AllocError>

@@ -1,8 +1,8 @@
 //! What an object of a service's log says.
 
-ghost use Rattle.std.specs.Prelude.{◌≡◌, IfOk, map, option_map};
+ghost use Rattle.std.specs.Prelude.{◌≡◌, ◌++◌, IfOk, OnOk, map, option_map};
 ghost use Rattle.json.specs.Value.{value_view};
-ghost use Rattle.tracing_tree_logs.specs.LogLine.{event_fields, first_key, first_word, group_key, group_name, is_time_at, level_at, level_in, level_key, moment_in, time_key, used_keys, word_at, word_of};
+ghost use Rattle.tracing_tree_logs.specs.LogLine.{event_fields, first_key, first_word, group_at, group_in, group_key, group_name, group_of, inner_of, is_of_journal, is_time_at, keys_of_groups, level_at, level_in, level_key, moment_in, process_key, time_key, unit_in, used_keys, word_along, word_at, word_of, word_within};
 
 use super::fields::push_members;
 use super::level::level_named;
@@ -10,6 +10,7 @@ use super::time::{is_time, moment_of_word};
 use super::used::{UsedKeys, is_among};
 use json::Value;
 use std::alloc::{AllocError, Global};
+use std::marker::Model;
 use tracing_tree_sources::told::message_field;
 use tracing_tree_text::field::Fields;
 use tracing_tree_text::style::Level;
@@ -30,7 +31,7 @@ const MESSAGE_KEYS: [&str; 4] = ["msg", "message", "event", "MESSAGE"];
 const TRACE_KEYS: [&str; 3] = ["trace_id", "traceId", "trace.id"];
 
 // A trace counts before a request.
-pub(super) const GROUP_KEYS: [&str; 7] = [
+const GROUP_KEYS: [&str; 7] = [
     "trace_id",
     "traceId",
     "trace.id",
@@ -52,14 +53,14 @@ fn word_of<'v>(value: &'v Value<'_>) -> Option<&'v str>
 }
 
 // Returns the word at a key.
-pub(super) fn word_at<'v>(value: &'v Value<'_>, key: &str) -> Option<&'v str>
+fn word_at<'v>(value: &'v Value<'_>, key: &str) -> Option<&'v str>
     ensures { option_map (λ w. w.now) result ≡ word_at key.now (value_view value.now) }
 {
     word_of(value.get(key)?)
 }
 
 // Returns the first of these keys that has a word.
-pub(super) fn first_key(keys: &[&'static str], value: &Value<'_>) -> Option<&'static str>
+fn first_key(keys: &[&'static str], value: &Value<'_>) -> Option<&'static str>
     ensures { option_map (λ k. k.now) result
         ≡ first_key (map (λ k. k.now) keys.now) (value_view value.now) }
 {
@@ -137,8 +138,100 @@ pub(super) fn moment_in(value: &Value<'_>, before: &Moment) -> Moment
     moment_of_word(first_word(&TIME_KEYS, value), before)
 }
 
+// A group: the name of its span, its id, and the process of a unit.
+#[derive(Drop)]
+pub(super) struct Group<'v> {
+    pub(super) name: &'v str,
+    pub(super) id: &'v str,
+    pub(super) process: Option<&'v str>,
+}
+
+impl<'v> Model for Group<'v> {
+    ghost use Rattle.std.specs.Prelude.{option_map};
+    ghost use Rattle.tracing_tree_logs.specs.LogLine.{Group as GroupView};
+
+    ghost Value = { GroupView };
+
+    ghost view = { λ g. record {
+      name = g.name.now;
+      id = g.id.now;
+      process = option_map (λ p. p.now) g.process;
+    } };
+}
+
+// Returns the group of a line: that of the key that was asked for, otherwise its trace or its
+// request, otherwise its unit.
+pub(super) fn group_in<'v>(asked: Option<&'v str>, value: &'v Value<'_>) -> Option<Group<'v>>
+    ensures { result ≡ group_in (option_map (λ k. k.now) asked.entry) (value_view value.now) }
+{
+    match asked {
+        Some(asked) => group_of(asked, word_along(asked, value), None),
+        None => group_at(first_key(&GROUP_KEYS, value), value),
+    }
+}
+
+// Returns the group at this key, or the unit.
+fn group_at<'v>(key: Option<&'static str>, value: &'v Value<'_>) -> Option<Group<'v>>
+    ensures { result ≡ group_at (option_map (λ k. k.now) key.entry) (value_view value.now) }
+{
+    match key {
+        Some(key) => named_group(key, value),
+        None => unit_in(value),
+    }
+}
+
+// Returns the trace or the request at this key.
+fn named_group<'v>(key: &'static str, value: &'v Value<'_>) -> Option<Group<'v>>
+    ensures { result ≡ group_of (group_name key.now) (word_at key.now (value_view value.now)) None }
+{
+    group_of(group_name(key), word_at(value, key), None)
+}
+
+// Returns the word at a key. A key with points is also a path through objects.
+fn word_along<'v>(path: &str, value: &'v Value<'_>) -> Option<&'v str>
+    ensures { option_map (λ w. w.now) result ≡ word_along path.now (value_view value.now) }
+{
+    word_within(path.len(), path, value)
+}
+
+// Returns the word at a path of at most this many keys.
+fn word_within<'v>(keys: usize, path: &str, value: &'v Value<'_>) -> Option<&'v str>
+    ensures { option_map (λ w. w.now) result ≡ word_within keys path.now (value_view value.now) }
+{
+    if keys == 0 {
+        return None;
+    }
+    if let Some(word) = word_at(value, path) {
+        return Some(word);
+    }
+    let (rest, inner) = inner_of(path, value)?;
+    word_within(keys - 1, rest, inner)
+}
+
+// Returns the rest of a path after its first key, and what the object has at that key.
+fn inner_of<'p, 'v, 't>(path: &'p str, value: &'v Value<'t>) -> Option<(&'p str, &'v Value<'t>)>
+    ensures { option_map (λ i. (i.0.now, value_view i.1.now)) result
+        ≡ inner_of path.now (value_view value.now) }
+{
+    let (key, rest) = path.split_once('.')?;
+    let inner = value.get(key)?;
+    Some((rest, inner))
+}
+
+// Returns the key of a line's group.
+fn group_key_in<'v>(asked: Option<&'v str>, value: &Value<'_>) -> Option<&'v str>
+    ensures { option_map (λ k. k.now) result
+        ≡ first_key (keys_of_groups (option_map (λ k. k.now) asked.entry)) (value_view value.now) }
+{
+    match asked {
+        Some(asked) if word_at(value, asked).is_some() => Some(asked),
+        Some(_) => None,
+        None => first_key(&GROUP_KEYS, value),
+    }
+}
+
 // Returns the name of a group's span by the key of its id.
-pub(super) fn group_name(key: &str) -> &'static str
+fn group_name(key: &str) -> &'static str
     ensures { result.now ≡ group_name key.now }
 {
     if is_among(key, &TRACE_KEYS) {
@@ -148,33 +241,83 @@ pub(super) fn group_name(key: &str) -> &'static str
     }
 }
 
-// Returns what identifies a group.
-pub(super) fn group_key(alloc: Global, name: &str, id: &str) -> Result<Vec<u8>, AllocError>
-    ensures { IfOk result (λ key. key.items ≡ group_key name.now id.now) }
+fn group_of<'v>(name: &'v str, id: Option<&'v str>, process: Option<&'v str>) -> Option<Group<'v>>
+    ensures { result ≡ group_of name.now (option_map (λ i. i.now) id.entry)
+        (option_map (λ p. p.now) process.entry) }
 {
-    let mut key = Vec::from_slice(alloc, name.as_bytes())?;
+    match id {
+        Some(id) => Some(Group { name, id, process }),
+        None => None,
+    }
+}
+
+// Returns the group of a line of journald.
+fn unit_in<'v>(value: &'v Value<'_>) -> Option<Group<'v>>
+    ensures { result ≡ unit_in (value_view value.now) }
+{
+    if is_of_journal(value) {
+        group_of(
+            "unit",
+            word_at(value, "_SYSTEMD_UNIT"),
+            word_at(value, "_PID"),
+        )
+    } else {
+        None
+    }
+}
+
+// Returns whether journald wrote a line.
+fn is_of_journal(value: &Value<'_>) -> bool
+    ensures { result ≡ is_of_journal (value_view value.now) }
+{
+    word_at(value, "__REALTIME_TIMESTAMP").is_some()
+}
+
+// Returns what identifies a group.
+pub(super) fn group_key(alloc: Global, group: &Group<'_>) -> Result<Vec<u8>, AllocError>
+    ensures { IfOk result (λ key. key.items ≡ group_key group.now) }
+{
+    let mut key = Vec::from_slice(alloc, group.name.as_bytes())?;
     key.extend_from_slice(" ".as_bytes())?;
-    key.extend_from_slice(id.as_bytes())?;
+    key.extend_from_slice(group.id.as_bytes())?;
+    push_process(&mut key, group.process)?;
     Ok(key)
 }
 
+fn push_process(key: &mut Vec<u8>, process: Option<&str>) -> Result<(), AllocError>
+    ensures { OnOk result (key.new.items
+        ≡ key.old.items ++ process_key (option_map (λ p. p.now) process.entry)) }
+{
+    if let Some(process) = process {
+        key.extend_from_slice(" ".as_bytes())?;
+        key.extend_from_slice(process.as_bytes())?;
+    }
+    Ok(())
+}
+
 // Returns the keys that aren't fields: those of the level, the time, the message and the group.
-fn used_keys(value: &Value<'_>) -> UsedKeys
-    ensures { result ≡ used_keys (value_view value.now) }
+fn used_keys<'v>(asked: Option<&'v str>, value: &Value<'_>) -> UsedKeys<'v>
+    ensures { result ≡ used_keys (option_map (λ k. k.now) asked.entry) (value_view value.now) }
 {
     UsedKeys {
         level: level_key(value),
         time: time_key(value),
         message: first_key(&MESSAGE_KEYS, value),
-        group: first_key(&GROUP_KEYS, value),
+        group: group_key_in(asked, value),
+        is_of_journal: is_of_journal(value),
     }
 }
 
 // Returns the fields of a line's event: its message, and what else it has.
-pub(super) fn event_fields(alloc: Global, value: &Value<'_>) -> Result<Fields, AllocError>
-    ensures { IfOk result (λ fields. fields ≡ event_fields (value_view value.now)) }
+pub(super) fn event_fields(
+    alloc: Global,
+    asked: Option<&str>,
+    value: &Value<'_>,
+) -> Result<Fields, AllocError>
+    ensures { IfOk result (λ fields.
+        fields ≡ event_fields (option_map (λ k. k.now) asked.entry) (value_view value.now)) }
 {
-    let used = used_keys(value);
+    let used = used_keys(asked, value);
     let mut fields = Vec::new(alloc);
     if let Some(text) = first_word(&MESSAGE_KEYS, value) {
         fields.push(message_field(alloc, text)?)?;

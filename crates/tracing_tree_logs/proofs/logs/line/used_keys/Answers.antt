@@ -3,6 +3,8 @@ use Rattle.tracing_tree_logs.specs.LogLine.{listed}
 use Rattle.tracing_tree_logs.proofs.logs.line.used_keys.Goals as goal
 
 pub returns : goal.returns
-returns c = λ i.
-    listed (c.level_key.ensures i) ++ listed (c.time_key.ensures i) ++ listed (c.first_key.ensures i)
-    ++ listed (c.first_key-2.ensures i)
+returns c = λ i. record {
+  keys = listed (c.level_key.ensures i) ++ listed (c.time_key.ensures i) ++ listed (c.first_key.ensures i)
+      ++ listed (c.group_key_in.ensures i);
+  is_of_journal = c.is_of_journal.ensures i;
+}
