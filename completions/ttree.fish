@@ -4,6 +4,8 @@ complete -c ttree -l color -x -a 'auto always never' -d 'Whether the tree is col
 complete -c ttree -l amount -x -d 'The columns a level of the drawing'
 complete -c ttree -l level -x -a 'trace debug info warn error' -d 'Draws only events of this level and above'
 complete -c ttree -l failed -d 'Leaves out the tests that passed or were skipped'
+complete -c ttree -l service -x -d 'Draws only the spans and logs of this service'
+complete -c ttree -l trace -x -d 'Draws only the traces whose id begins with this'
 complete -c ttree -l min -x -d 'Leaves out the spans of a trace that took less than this'
 complete -c ttree -l depth -x -d 'Leaves out the spans of a trace below N levels'
 complete -c ttree -l html -d 'Writes a page of HTML that shows the tree in a browser'

@@ -7,7 +7,9 @@ use jiff::SignedDuration;
 use std::alloc::{AllocError, Global};
 use tracing_tree::format::Config;
 use tracing_tree::style::Level;
+use tracing_tree::text::Text;
 use tracing_tree_chrome::Cut;
+use tracing_tree_otlp::Selection;
 use tracing_tree_page::LineForm;
 use tracing_tree_sources::Format;
 
@@ -23,8 +25,14 @@ pub struct Options<'a> {
     // Events below it aren't shown. Without it, each is.
     min_level: Option<Level>,
 
-    // Whether only what failed of Go's tests is shown.
+    // Whether only what failed is shown.
     pub is_failed: bool,
+
+    // The service of OTLP that is shown. Without it, each is.
+    service: Option<&'a str>,
+
+    // The first part of the ids of the traces that are shown. Without it, each is.
+    trace: Option<&'a str>,
 
     // Which spans of a trace aren't drawn.
     pub cut: Cut,
@@ -64,7 +72,7 @@ pub struct Style {
 }
 
 // The options that not every format has.
-const OPTIONS: [&str; 10] = [
+const OPTIONS: [&str; 12] = [
     "amount",
     "color",
     "depth",
@@ -73,9 +81,14 @@ const OPTIONS: [&str; 10] = [
     "min",
     "no-lines",
     "no-retrace",
+    "service",
     "threads",
     "times",
+    "trace",
 ];
+
+// The options that select what is shown of OTLP.
+const SELECTING: [&str; 4] = ["failed", "level", "service", "trace"];
 
 impl<'a> Options<'a> {
     // Returns the settings of the drawing.
@@ -95,6 +108,34 @@ impl<'a> Options<'a> {
     // Events below this level aren't shown.
     pub fn min_level(&self) -> Level {
         self.min_level.unwrap_or(Level::Trace)
+    }
+
+    // Returns what is shown of OTLP.
+    pub fn selection(&self, alloc: Global) -> Result<Selection, AllocError> {
+        let service = match self.service {
+            Some(service) => Some(Text::from_str(alloc, service)?),
+            None => None,
+        };
+        let trace = self.trace.unwrap_or("").to_ascii_lowercase(alloc)?;
+        Ok(Selection {
+            service,
+            trace: Text::from(trace),
+            least: self.min_level,
+            is_failed: self.is_failed,
+        })
+    }
+
+    // Returns the given options that select what is shown of OTLP, or an empty string without any.
+    pub fn selecting(&self, alloc: Global) -> Result<String, AllocError> {
+        let mut words = String::new(alloc);
+        for option in SELECTING {
+            if self.given.iter().any(|given| *given == option) {
+                let mark = if words.is_empty() { "--" } else { ", --" };
+                words.push_str(mark)?;
+                words.push_str(option)?;
+            }
+        }
+        Ok(words)
     }
 
     // Returns an option that is given and has no meaning without a drawing.
@@ -117,11 +158,17 @@ impl<'a> Options<'a> {
 // Returns whether a format has this option.
 fn is_option_of(format: Format, option: &str) -> bool {
     match option {
-        "failed" => format == Format::GoTest,
+        "failed" => matches!(format, Format::GoTest | Format::Otlp),
+        "service" | "trace" => format == Format::Otlp,
         "min" | "depth" => format == Format::Chrome,
         "level" => matches!(
             format,
-            Format::GoTest | Format::Tracing | Format::Logs | Format::Junit | Format::Tap
+            Format::GoTest
+                | Format::Tracing
+                | Format::Logs
+                | Format::Otlp
+                | Format::Junit
+                | Format::Tap
         ),
         "threads" => format == Format::Tracing,
         "times" => !matches!(format, Format::Lines | Format::Junit | Format::Tap),
@@ -156,6 +203,8 @@ pub fn parse<'a>(
         style: style_of(&matches, terminal.is_coloured),
         min_level: matches.get_str("level").map(level_of),
         is_failed: matches.get_flag("failed"),
+        service: matches.get_str("service"),
+        trace: matches.get_str("trace"),
         cut: Cut {
             least: shortest(alloc, matches.get_str("min"))?,
             depth: matches.get_one::<usize>("depth"),
@@ -221,6 +270,8 @@ fn command<'a>(alloc: Global) -> Result<Command<'a>, AllocError> {
         .arg(amount_option(alloc))?
         .arg(level_option(alloc))?
         .arg(failed_option(alloc))?
+        .arg(service_option(alloc))?
+        .arg(trace_option(alloc))?
         .arg(min_option(alloc))?
         .arg(depth_option(alloc))?
         .arg(flag(
@@ -302,7 +353,22 @@ fn failed_option<'a>(alloc: Global) -> Arg<'a> {
     flag(
         alloc,
         "failed",
-        "Leaves out the tests that passed or were skipped, and packages without a failure; go-test alone",
+        "Leaves out the tests that passed or were skipped, and packages without a failure; of otlp, the spans without an error in them; go-test and otlp alone",
+    )
+}
+
+fn service_option<'a>(alloc: Global) -> Arg<'a> {
+    Arg::new(alloc, "service")
+        .long("service")
+        .value_name("NAME")
+        .help(
+            "Draws only the spans and logs of this service, and the spans that they are in; otlp alone",
+        )
+}
+
+fn trace_option<'a>(alloc: Global) -> Arg<'a> {
+    Arg::new(alloc, "trace").long("trace").value_name("ID").help(
+        "Draws only the traces whose id begins with this; otlp alone",
     )
 }
 
