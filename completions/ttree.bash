@@ -12,12 +12,12 @@ _ttree() {
         --from) words='go-test tap junit tracing logs otlp chrome lines' ;;
         --color) words='auto always never' ;;
         --level) words='trace debug info warn error' ;;
-        --amount|--group|--min|--depth|--title|--width) compopt +o default 2> /dev/null; return ;;
+        --amount|--group|--service|--trace|--min|--depth|--title|--width) compopt +o default 2> /dev/null; return ;;
         *)
             [[ $word == -* ]] || return
-            words='--from --color --amount --level --failed --group --min --depth --html --title
-            --json --no-lines --no-retrace --threads --times --strict --width --help -h
-            --version -V'
+            words='--from --color --amount --level --failed --group --service --trace --min --depth
+            --html --title --json --no-lines --no-retrace --threads --times --strict --width --help
+            -h --version -V'
             ;;
     esac
     mapfile -t COMPREPLY < <(compgen -W "$words" -- "$word")

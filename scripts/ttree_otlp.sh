@@ -136,7 +136,8 @@ END_OF_LINES
 --
 ┐trace id=a
 ├─ ERROR
-└─┐ time=0.000μs, e=null, s=, l=[], k={}
+└─┐ e=null, s=, l=[], k={}
+  ├─ WARN unfinished
 ┌─┘
 ┘
 INFO
@@ -148,6 +149,93 @@ INFO [{"a\"":[null,false,"AA==","\u{1b}\n"],"b":null},-1e3,-5], message=m
 END_OF_LINES
 }
 
+# Names of enumerations, as protobuf's JSON mapping allows them, levels without numbers, and
+# attributes called `message`.
+run_otlp_names() {
+    otlp_of 'on names of enumerations and levels of OTLP' '' 0 << 'END_OF_LINES'
+{"resourceSpans":[{"scopeSpans":[{"spans":[{"traceId":"a","spanId":"1","name":"call","kind":"SPAN_KIND_SERVER","startTimeUnixNano":"1","endTimeUnixNano":"2","status":{"code":"STATUS_CODE_ERROR","message":"no"},"attributes":[{"key":"message","value":{"stringValue":"m"}}]},{"traceId":"a","spanId":"2","name":"fine","kind":"SPAN_KIND_INTERNAL","startTimeUnixNano":"3","endTimeUnixNano":"4","status":{"code":"STATUS_CODE_OK"}}]}]}]}
+{"resourceLogs":[{"scopeLogs":[{"logRecords":[{"severityNumber":"SEVERITY_NUMBER_WARN","body":{"stringValue":"by number's name"}},{"severityNumber":"SEVERITY_NUMBER_FATAL4","body":{"stringValue":"fatal"}},{"severityText":"Warning","body":{"stringValue":"by text"}},{"severityText":"CRITICAL","body":{"stringValue":"critical"}},{"severityNumber":0,"severityText":"debug","body":{"stringValue":"debug"}},{"severityNumber":5,"severityText":"ERROR","body":{"stringValue":"the number counts"}},{"severityNumber":"SEVERITY_NUMBER_UNSPECIFIED","severityText":"?","body":{"stringValue":"neither"}}]}]}]}
+--
+WARN by number's name
+ERROR fatal
+WARN by text
+ERROR critical
+DEBUG debug
+DEBUG the number counts
+INFO neither
+┐trace id=a
+└─┐call time=0.001μs, kind=server, message=m
+  ├─ ERROR failed, message=no
+┌─┘
+└─┐fine time=0.001μs
+┌─┘
+┘
+END_OF_LINES
+}
+
+# Counts the run with this name on what three services wrote. Standard input has the tree. The next
+# argument is the standard error, and the others are passed to ttree.
+otlp_part() {
+    cat > "$room/want"
+    run "${@:3}" "$top/examples/otlp-shop.jsonl"
+    count "$1" want "$2" 0
+}
+
+# Parts of what three services wrote.
+run_otlp_parts() {
+    otlp_part 'on the spans of a service of OTLP' '' --service payment --trace F3FF << 'END_OF_TREE'
+┐trace id=f3ff4d451e429e182215aaee06a2d64b
+└─┐POST /orders service=frontend, time=9.306ms, kind=server, http.method=POST, http.status_code=201, http.retry=false, sampling.ratio=0.25, http.request.header.accept=["text/html","*/*"], item.ids=[7,11], flags=[true,false]
+  └─┐payment.Charge time=6.811ms, kind=client
+    └─┐payment.Charge service=payment, time=6.792ms, kind=server
+    ┌─┘
+  ┌─┘
+┌─┘
+┘
+END_OF_TREE
+    otlp_part 'on a trace of OTLP' '' --trace 1c00 << 'END_OF_TREE'
+┐trace id=1c00dd92d4e7d5b2c494d150ad051371
+└─┐restock service=cart, time=22.200μs, kind=consumer
+  ├─ INFO link, trace=f3ff4d451e429e182215aaee06a2d64b, span=6d1aadc9e5031e4b, why=sold
+  ├─ INFO link, trace=ecbd7cc3ba26c55e2f5169c92f2f4691, span=fae28d00f74ecaf2
+  └─┐count shelf time=2.178ms
+  ┌─┘
+┌─┘
+┘
+END_OF_TREE
+    otlp_part 'on the failures of OTLP' '' --failed << 'END_OF_TREE'
+┐trace id=ecbd7cc3ba26c55e2f5169c92f2f4691
+└─┐POST /orders service=frontend, time=9.535ms, kind=server, http.method=POST, http.status_code=502, http.retry=true, sampling.ratio=0.25, http.request.header.accept=["text/html","*/*"], item.ids=[7,11], flags=[true,false]
+  ├─ INFO order received, order=2
+  └─┐payment.Charge time=7.189ms, kind=client
+    └─┐payment.Charge service=payment, time=7.175ms, kind=server
+      ├─ ERROR exception, exception.type=*errors.errorString, exception.message=card declined:
+      │    insufficient funds
+      ├─ ERROR charge failed, error=card declined:
+      │    insufficient funds
+      ├─ ERROR failed, message=card declined
+    ┌─┘
+    ├─ ERROR failed, message=rpc error: code = Aborted
+  ┌─┘
+  ├─ ERROR failed
+┌─┘
+┘
+END_OF_TREE
+    otlp_part 'on the warnings of a trace of OTLP' '' --level warn --trace f3 << 'END_OF_TREE'
+┐trace id=f3ff4d451e429e182215aaee06a2d64b
+└─┐POST /orders service=frontend, time=9.306ms, kind=server, http.method=POST, http.status_code=201, http.retry=false, sampling.ratio=0.25, http.request.header.accept=["text/html","*/*"], item.ids=[7,11], flags=[true,false]
+  └─┐cart.Reserve time=6.882ms, kind=client
+    └─┐cart.Reserve service=cart, time=6.858ms, kind=server
+      ├─ WARN stock is low, left=3
+    ┌─┘
+  ┌─┘
+┌─┘
+┘
+END_OF_TREE
+    otlp_part 'on nothing that is selected of OTLP' \
+        'ttree: nothing is selected by --failed, --service' --failed --service cart < /dev/null
+}
+
 # Invalid input. Each span is drawn once.
 run_odd_otlp() {
     otlp_of 'on spans of OTLP that are nested in each other' '' 0 << 'END_OF_LINES'
@@ -155,15 +243,18 @@ run_odd_otlp() {
 {"resourceSpans":[{"scopeSpans":[{"spans":[{"traceId":"b","spanId":"3","parentSpanId":"3","name":"self","startTimeUnixNano":"3","events":[{"name":"in it"}]}]}]}]}
 --
 ┐trace id=b
-└─┐self time=0.000μs, parent=3
+└─┐self parent=3
   ├─ INFO in it
+  ├─ WARN unfinished
 ┌─┘
 ┘
 ┐trace id=a
-└─┐two time=0.000μs
-  └─┐one time=0.000μs
+└─┐two 
+  └─┐one 
   ┌─┘
+  ├─ WARN unfinished
 ┌─┘
+├─ WARN unfinished
 ┘
 END_OF_LINES
     otlp_of 'on two spans of OTLP with one id, and times that run backwards' '' 0 << 'END_OF_LINES'
@@ -171,17 +262,19 @@ END_OF_LINES
 {"resourceSpans":[{"scopeSpans":[{"spans":[{"traceId":"a","spanId":"1","name":"early","startTimeUnixNano":"5"}]}]}]}
 --
 ┐trace id=a
-└─┐early time=0.000μs
-  └─┐child time=0.000μs
+└─┐early 
+  └─┐child 
+    ├─ WARN unfinished
   ┌─┘
+  ├─ WARN unfinished
 ┌─┘
 └─┐late time=0.000μs
 ┌─┘
 ┘
 END_OF_LINES
-    otlp_of 'on lines of OTLP that are skipped' 'ttree: line 1: expected an object, and "traceId" and "spanId" in its spans, skipped
-ttree: line 2: expected an object, and "traceId" and "spanId" in its spans, skipped
-ttree: line 4: expected an object, and "traceId" and "spanId" in its spans, skipped
+    otlp_of 'on lines of OTLP that are skipped' 'ttree: line 1: expected an object with "resourceSpans", "resourceLogs" or "resourceMetrics", and "traceId" and "spanId" in its spans, skipped
+ttree: line 2: expected an object with "resourceSpans", "resourceLogs" or "resourceMetrics", and "traceId" and "spanId" in its spans, skipped
+ttree: line 4: expected an object with "resourceSpans", "resourceLogs" or "resourceMetrics", and "traceId" and "spanId" in its spans, skipped
 ttree: 3 lines skipped' 1 << 'END_OF_LINES'
 [1]
 {"resourceSpans":[{"scopeSpans":[{"spans":[{"spanId":"1","name":"no trace"},{"traceId":"A\u001b","spanId":"1","name":"\u001b[31m","status":{"code":2,"message":"\u001b"}}]}]}]}
@@ -189,7 +282,8 @@ ttree: 3 lines skipped' 1 << 'END_OF_LINES'
 {"resourceSpans":[{"scopeSp
 --
 ┐trace id=a\u{1b}
-└─┐\u{1b}[31m time=0.000μs
+└─┐\u{1b}[31m 
+  ├─ WARN unfinished
   ├─ ERROR failed, message=\u{1b}
 ┌─┘
 ┘
@@ -197,6 +291,38 @@ END_OF_LINES
     : > "$room/otlp"
     run --from otlp "$room/otlp"
     count 'on an empty input of OTLP' otlp '' 0
+    run_otlp_among_lines
+}
+
+# Lines that aren't of OTLP. The first of them determine no format.
+run_otlp_among_lines() {
+    needed='expected an object with "resourceSpans", "resourceLogs" or "resourceMetrics", and "traceId" and "spanId" in its spans, skipped'
+    cat > "$room/otlp" << 'END_OF_LINES'
+starting
+
+{"resourceLogs":[{"scopeLogs":[{"logRecords":[{"body":{"stringValue":"one"}}]}]}]}
+{"other":1}
+
+a plain line
+{}
+{"resourceMetrics":[]}
+{"resourceSpans":[{"scopeSpans":[{"spans":[{"spanId":"1"}]}]}]}
+END_OF_LINES
+    printf 'INFO starting\nINFO one\n' > "$room/want"
+    run "$room/otlp"
+    count 'on other lines among those of OTLP' want "ttree: line 4: $needed
+ttree: line 6: $needed
+ttree: line 9: $needed
+ttree: 3 lines skipped" 1
+    printf '{"resourceLogs":[]}\n\xff\n{"resourceLogs":[{"scopeLogs":[{"logRecords":[{"body":{"stringValue":"one"}}]}]}]}\n[\n' > "$room/otlp"
+    printf 'INFO one\n' > "$room/want"
+    run "$room/otlp"
+    count 'on a line of OTLP that is not UTF-8' want "ttree: line 2: not UTF-8, skipped
+ttree: line 4: $needed
+ttree: 2 lines skipped" 1
+    : > "$room/want"
+    run --strict "$room/otlp"
+    count 'on a line of OTLP that is not UTF-8, under --strict' want 'ttree: line 2: not UTF-8' 1
 }
 
 # A tree that is too deep for recursion, and one that is as wide.
@@ -208,7 +334,7 @@ n = int(sys.argv[1])
 for i in range(1, n): line(i, i - 1 if sys.argv[2] == "deep" else 0)' 2000 deep > "$room/otlp"
     run --from otlp "$room/otlp"
     head -n 2 "$room/out" > "$room/first"
-    printf '┐trace id=a\n└─┐ time=0.000μs\n' > "$room/want"
+    printf '┐trace id=a\n└─┐ \n' > "$room/want"
     cp "$room/first" "$room/out"
     count 'on deep spans of OTLP' want '' 0
 }
@@ -217,6 +343,8 @@ run_otlp() {
     run_otlp_sample
     run_otlp_order
     run_otlp_forms
+    run_otlp_names
+    run_otlp_parts
     run_odd_otlp
     run_large_otlp
 }

@@ -1,4 +1,5 @@
 mod Inner
 mod Kept
 mod Numbers
+mod Reach
 mod Worked

@@ -5,8 +5,9 @@ use Rattle.json.specs.Json.{Json, boolean, number, string, array, object, no_ite
 use Rattle.tracing_tree_text.specs.declared.style.Level.TheVariants.{Trace, Debug, Info, Warn, Error}
 use Rattle.tracing_tree_otlp.specs.AnyValue.{any_text}
 use Rattle.tracing_tree_otlp.specs.Draw.{kind_text}
-use Rattle.tracing_tree_otlp.specs.Item.{above_of, has_failed, number_of}
-use Rattle.tracing_tree_otlp.specs.Read.{count_at, id_of, level_of}
+use Rattle.tracing_tree_otlp.specs.Item.{above_of, number_of}
+use Rattle.tracing_tree_otlp.specs.Named.{has_failed, kind_at, level_of}
+use Rattle.tracing_tree_otlp.specs.Read.{count_at, id_of}
 
 -- {"key": value}
 abbrev one : List ℕ → Json → Json
@@ -36,6 +37,10 @@ levels = (refl, refl, refl, refl, refl, refl)
 -- a status with code 2 is a failure
 failure : (has_failed (one (codes "code") (number (codes "2"))) ≡ true) × (has_failed (one (codes "code") (number (codes "1"))) ≡ false)
 failure = (refl, refl)
+
+-- names of enumerations mean their numbers
+names : (has_failed (one (codes "code") (string (codes "STATUS_CODE_ERROR"))) ≡ true) × (kind_at (one (codes "kind") (string (codes "SPAN_KIND_SERVER"))) ≡ 2)
+names = (refl, refl)
 
 -- a span that is its own parent is a root
 own_parent : (above_of (codes "a") (codes "a") ≡ []) × (above_of (codes "a") (codes "b") ≡ codes "b")

@@ -1,5 +1,5 @@
--- The rows of an input nested by their ids, as calls.
-use Rattle.std.specs.Prelude.{ℕ, ◌-◌, ◌*◌, ◌^◌, ◌==◌, zero, suc, min, pos, ◌||◌, if◌then◌else◌, List, [], ◌∷◌, ◌++◌, length, Option, Some, None, unwrap_or, codes, bytes_eq}
+-- Rows in the order in which they are drawn, as calls.
+use Rattle.std.specs.Prelude.{ℕ, ◌-◌, ◌==◌, zero, suc, pos, ◌||◌, if◌then◌else◌, List, [], ◌∷◌, ◌++◌, length, Option, Some, None, codes, bytes_eq}
 use Rattle.tracing_tree_context.specs.declared.context.Id.{Id}
 use Rattle.tracing_tree_context.specs.declared.context.Moment.{Moment}
 use Rattle.tracing_tree_text.specs.Field.{rendered_field}
@@ -10,7 +10,6 @@ use Rattle.tracing_tree_sources.specs.Counts.{one_more}
 use Rattle.tracing_tree_sources.specs.Marks.{is_empty}
 use Rattle.tracing_tree_sources.specs.Moments.{moment_at}
 use Rattle.tracing_tree_sources.specs.Told.{close_call, event_call, span_call}
-use Rattle.tracing_tree_otlp.specs.Keyed.{after_first, first_kept, head_of, kept_at, key_of, tail_of, trace_of, with_kept, without_kept}
 use Rattle.tracing_tree_otlp.specs.Length.{length_text}
 use Rattle.tracing_tree_otlp.specs.Read.{field_of}
 use Rattle.tracing_tree_otlp.specs.declared.draw.Frame.{Frame}
@@ -19,59 +18,41 @@ use Rattle.tracing_tree_otlp.specs.declared.item.Note.{Note}
 use Rattle.tracing_tree_otlp.specs.declared.item.Shape.{Shape}
 use Rattle.tracing_tree_otlp.specs.declared.item.Shape.TheVariants.{Trace, Span as OfSpan, Note as OfNote}
 use Rattle.tracing_tree_otlp.specs.declared.item.Span.{Span}
+use Rattle.tracing_tree_otlp.specs.declared.walk.Row.{Row}
 
--- The id of the next span, the moment of the last row, the rows that aren't nested in an open span,
--- what is open with the innermost first, and the calls so far.
+-- The id of the next span, the moment of the last row, the open spans with the innermost first, and
+-- the calls so far.
 pub record TreeState : Type 0 where
   pub next : ℕ
   pub moment : Moment
-  pub groups : List (List ℕ × List Item)
   pub frames : List Frame
   pub calls : List Call
-
--- ---- rows by the span that they are in
-
-abbrev pub key_in : Item → List ℕ
-key_in item = key_of item.trace item.above
-
--- a row before the rows of its span that are already there
-abbrev pub put_first : Item → List (List ℕ × List Item) → List (List ℕ × List Item)
-put_first item groups =
-    with_kept (key_in item) (item ∷ unwrap_or (kept_at (key_in item) groups) [])
-    (without_kept (key_in item) groups)
-
-abbrev pub grouped : List Item → List (List ℕ × List Item)
-grouped [] = []
-grouped (item ∷ others) = put_first item (grouped others)
 
 -- ---- what is open
 
 abbrev pub told : Call → TreeState → TreeState
 told call s = record s { calls = s.calls ++ call ∷ [] }
 
+-- a row without a time happens when the row before it did
 abbrev pub at_time : ℕ → TreeState → TreeState
-at_time time s = record s { moment = moment_at (pos time) }
+at_time time s = if time == 0 then s else record s { moment = moment_at (pos time) }
 
 abbrev pub id_on_top : List Frame → Option Id
 id_on_top [] = None
-id_on_top (frame ∷ below) = frame.id
+id_on_top (frame ∷ below) = Some frame.id
 
 abbrev pub service_on_top : List Frame → List ℕ
 service_on_top [] = []
 service_on_top (frame ∷ below) = frame.service
 
-abbrev pub frame_of : Option Id → Option Id → Option ℕ → List ℕ → List Item → Frame
-frame_of id above end service items =
-    record { id = id; above = above; end = end; service = service; items = items }
-
 abbrev pub pushed : Frame → TreeState → TreeState
 pushed frame s = record s { frames = frame ∷ s.frames }
 
--- a span opens in the innermost one, with these rows in it
-abbrev pub opened : List ℕ → List Field → Option ℕ → List ℕ → List Item → TreeState → TreeState
-opened name fields end service items s =
+-- a span opens in the innermost one
+abbrev pub opened : List ℕ → List Field → ℕ → List ℕ → TreeState → TreeState
+opened name fields end service s =
     let above = id_on_top s.frames in
-    pushed (frame_of (Some (id_of s.next)) above end service items)
+    pushed (record { id = id_of s.next; above = above; end = end; service = service })
     (record (told (span_call s.moment name fields above) s) { next = one_more s.next })
 
 -- ---- rows
@@ -101,39 +82,25 @@ parent_fields above parent = if is_empty above then field_if (codes "parent") pa
 abbrev pub time_field : ℕ → Field
 time_field nanoseconds = rendered_field (codes "time") (length_text nanoseconds)
 
+-- how long a span took, if it has ended
+abbrev pub time_fields : ℕ → ℕ → List Field
+time_fields start end = if end == 0 then [] else time_field (end - start) ∷ []
+
 -- what the row of a span shows before its attributes
-abbrev pub span_fields : ℕ → List Field → List Field → ℕ → List Field
-span_fields nanoseconds service parent kind =
-    ((service ++ time_field nanoseconds ∷ []) ++ parent) ++ field_if (codes "kind") (kind_text kind)
+abbrev pub span_fields : List Field → List Field → List Field → ℕ → List Field
+span_fields service time parent kind =
+    ((service ++ time) ++ parent) ++ field_if (codes "kind") (kind_text kind)
 
-abbrev pub without_group : List ℕ → TreeState → TreeState
-without_group key s = record s { groups = without_kept key s.groups }
-
--- the rows nested in a span, and in no other span
-abbrev pub group_at : List ℕ → TreeState → List Item
-group_at key s = unwrap_or (kept_at key s.groups) []
-
--- a span of this trace, in the span above, opens with the rows that are nested in it
-abbrev pub span_shown : List ℕ → List ℕ → ℕ → Span → TreeState → TreeState
-span_shown trace above start span s =
-    let key = key_of trace span.id in
+-- a span opens in the innermost one; one that isn't nested in a span of the input shows its parent
+abbrev pub span_shown : List ℕ → ℕ → Span → TreeState → TreeState
+span_shown above start span s =
     let fields =
-    span_fields (span.end - start) (service_fields (service_on_top s.frames) span.service)
+    span_fields (service_fields (service_on_top s.frames) span.service) (time_fields start span.end)
     (parent_fields above span.parent) span.kind in
-    opened span.name (fields ++ span.fields) (Some span.end) span.service (group_at key s)
-    (without_group key s)
-
-abbrev pub trace_opened : List ℕ → List Item → TreeState → TreeState
-trace_opened id items s = opened (codes "trace") (field_of (codes "id") id ∷ []) None [] items s
-
-abbrev pub trace_shown_as : Option (List Item) → List ℕ → TreeState → TreeState
-trace_shown_as None id s = s
-trace_shown_as (Some items) id s = trace_opened id items s
+    opened span.name (fields ++ span.fields) span.end span.service s
 
 abbrev pub trace_shown : List ℕ → TreeState → TreeState
-trace_shown id s =
-    let key = key_of id [] in
-    trace_shown_as (kept_at key s.groups) id (without_group key s)
+trace_shown id s = opened (codes "trace") (field_of (codes "id") id ∷ []) 0 [] s
 
 abbrev pub note_fields : Note → List ℕ → List Field
 note_fields note service =
@@ -146,81 +113,45 @@ note_shown note s =
 
 abbrev pub row_shown_as : Shape → Item → TreeState → TreeState
 row_shown_as (Trace id) item s = trace_shown id s
-row_shown_as (OfSpan span) item s = span_shown item.trace item.above item.time span s
+row_shown_as (OfSpan span) item s = span_shown item.above item.time span s
 row_shown_as (OfNote note) item s = note_shown note s
 
 abbrev pub row_shown : Item → TreeState → TreeState
 row_shown item s = row_shown_as item.shape item (at_time item.time s)
 
--- ---- the walk
+-- ---- the drawing
 
-abbrev pub next_row : List Frame → Option Item
-next_row [] = None
-next_row (frame ∷ below) = head_of frame.items
-
-abbrev pub after_row : List Frame → List Frame
-after_row [] = []
-after_row (frame ∷ below) = record frame { items = tail_of frame.items } ∷ below
-
-abbrev pub at_end : Option ℕ → TreeState → TreeState
-at_end (Some end) s = at_time end s
-at_end None s = s
-
-abbrev pub closed_as : Option Id → Frame → TreeState → TreeState
-closed_as None frame s = s
-closed_as (Some id) frame s =
-    let ended = at_end frame.end s in told (close_call ended.moment id frame.above) ended
-
+-- A span closes at its end. One that hasn't ended, and a trace, close when their last row does.
 abbrev pub closed : Frame → TreeState → TreeState
-closed frame s = closed_as frame.id frame s
+closed frame s =
+    let ended = at_time frame.end s in told (close_call ended.moment frame.id frame.above) ended
 
--- Rows that no root leads to are nested in each other. The rows of the first span of these are
--- shown in their trace.
-abbrev pub left_over_as : Option (List Item) → TreeState → TreeState
-left_over_as None s = s
-left_over_as (Some items) s = trace_opened (trace_of items) items s
+abbrev pub closed_as : List Frame → TreeState → TreeState
+closed_as [] s = s
+closed_as (frame ∷ below) s = closed frame (record s { frames = below })
 
-abbrev pub left_over : TreeState → TreeState
-left_over s = left_over_as (first_kept s.groups) (record s { groups = after_first s.groups })
+abbrev pub closed_one : TreeState → TreeState
+closed_one s = closed_as s.frames s
 
-abbrev pub left_as : List Frame → TreeState → TreeState
-left_as [] s = left_over s
-left_as (frame ∷ below) s = closed frame (record s { frames = below })
+abbrev pub closed_times : ℕ → TreeState → TreeState
+closed_times zero s = s
+closed_times (suc n) s = closed_one (closed_times n s)
 
--- the innermost span closes
-abbrev pub left : TreeState → TreeState
-left s = left_as s.frames s
+-- spans close until this many are open
+abbrev pub closed_to : ℕ → TreeState → TreeState
+closed_to depth s = closed_times (length s.frames - depth) s
 
-abbrev pub stepped_as : Option Item → TreeState → TreeState
-stepped_as (Some item) s = row_shown item s
-stepped_as None s = left s
+-- the spans that a row isn't nested in close before it
+abbrev pub row_drawn : Row → TreeState → TreeState
+row_drawn row s = row_shown row.item (closed_to row.depth s)
 
--- shows the next row of the innermost span; if no row is left, closes it
-abbrev pub stepped : TreeState → TreeState
-stepped s = stepped_as (next_row s.frames) (record s { frames = after_row s.frames })
+abbrev pub rows_drawn : List Row → TreeState → TreeState
+rows_drawn [] s = s
+rows_drawn (row ∷ others) s = rows_drawn others (row_drawn row s)
 
-abbrev pub stepped_times : ℕ → TreeState → TreeState
-stepped_times zero s = s
-stepped_times (suc n) s = stepped (stepped_times n s)
+abbrev pub begun_tree : ℕ → Moment → TreeState
+begun_tree next moment = record { next = next; moment = moment; frames = []; calls = [] }
 
--- Each row is shown once, and each row's span closes once. Beyond that steps do nothing.
-abbrev pub step_count : ℕ → ℕ
-step_count rows = min (rows * 4) (2 ^ 64 - 1)
-
--- the root with the rows that are in no trace, and the traces
-abbrev pub root_of : List (List ℕ × List Item) → Frame
-root_of groups = frame_of None None None [] (unwrap_or (kept_at (key_of [] []) groups) [])
-
-abbrev pub begun_tree : ℕ → Moment → List (List ℕ × List Item) → TreeState
-begun_tree next moment groups = record {
-  next = next;
-  moment = moment;
-  groups = without_kept (key_of [] []) groups;
-  frames = root_of groups ∷ [];
-  calls = [];
-}
-
--- the calls of rows in their order
-abbrev pub calls_in_order : ℕ → Moment → List Item → List Call
-calls_in_order next moment rows =
-    (stepped_times (step_count (length rows)) (begun_tree next moment (grouped rows))).calls
+-- the calls that draw rows
+abbrev pub calls_of_rows : ℕ → Moment → List Row → List Call
+calls_of_rows next moment rows = (closed_to 0 (rows_drawn rows (begun_tree next moment))).calls

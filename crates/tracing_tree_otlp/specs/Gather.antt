@@ -1,5 +1,5 @@
 -- What the lines of an input say together: rows, and the span of each.
-use Rattle.std.specs.Prelude.{ℕ, ◌-◌, ◌^◌, min, ◌||◌, if◌then◌else◌, List, [], ◌∷◌, ◌++◌, length, Option, Some, None, is_some, codes}
+use Rattle.std.specs.Prelude.{ℕ, ◌-◌, ◌^◌, ◌==◌, min, Bool, not, ◌||◌, ◌&&◌, if◌then◌else◌, List, [], ◌∷◌, ◌++◌, length, Option, Some, None, is_some, codes}
 use Rattle.std.specs.Ordering.{nat_cmp, ordering_then}
 use Rattle.std.specs.declared.cmp.Ordering.{Ordering}
 use Rattle.std.specs.Str.Lines.{lines}
@@ -8,8 +8,9 @@ use Rattle.json.specs.Find.{as_object, get}
 use Rattle.tracing_tree_sources.specs.Blanks.{first_byte}
 use Rattle.tracing_tree_sources.specs.Counts.{one_more}
 use Rattle.tracing_tree_sources.specs.Marks.{is_empty}
-use Rattle.tracing_tree_otlp.specs.Item.{above_of, event_note, failed_note, has_failed, link_note, log_note, log_time, number_of, span_of}
+use Rattle.tracing_tree_otlp.specs.Item.{above_of, event_note, failed_note, has_body, link_note, log_note, log_time, number_of, span_of, unfinished_note}
 use Rattle.tracing_tree_otlp.specs.Keyed.{key_of, kept_at, with_kept}
+use Rattle.tracing_tree_otlp.specs.Named.{has_failed}
 use Rattle.tracing_tree_otlp.specs.Read.{count_at, id_at, items_at, service_in}
 use Rattle.tracing_tree_otlp.specs.declared.item.Item.{Item}
 use Rattle.tracing_tree_otlp.specs.declared.item.Place.{Place}
@@ -75,36 +76,42 @@ trace_seen trace time s = trace_seen_as (kept_at (key_of trace []) s.known) trac
 abbrev pub links_taken : List ℕ → List ℕ → ℕ → Items → GatheredState → GatheredState
 links_taken trace span time no_items s = s
 links_taken trace span time (item value others) s =
-    links_taken trace span time others (added trace span 0 time (Note (link_note value)) s)
+    links_taken trace span time others (added trace span 0 time (Note (link_note s.service value)) s)
 
 abbrev pub event_taken : List ℕ → List ℕ → Json → GatheredState → GatheredState
 event_taken trace span value s =
     let time = count_at (codes "timeUnixNano") value in
-    added trace span time time (Note (event_note value)) s
+    added trace span time time (Note (event_note s.service value)) s
 
 abbrev pub events_taken : List ℕ → List ℕ → Items → GatheredState → GatheredState
 events_taken trace span no_items s = s
 events_taken trace span (item value others) s =
     events_taken trace span others (event_taken trace span value s)
 
+-- a span without an end is unfinished
+abbrev pub end_taken : List ℕ → List ℕ → ℕ → GatheredState → GatheredState
+end_taken trace span end s =
+    if end == 0 then added trace span (2 ^ 64 - 1) 0 (Note (unfinished_note s.service)) s else s
+
 -- a failure comes last in a span
 abbrev pub status_taken : List ℕ → List ℕ → ℕ → Option Json → GatheredState → GatheredState
 status_taken trace span end None s = s
 status_taken trace span end (Some status) s =
     if has_failed status
-    then added trace span (2 ^ 64 - 1) end (Note (failed_note status)) s else s
+    then added trace span (2 ^ 64 - 1) end (Note (failed_note s.service status)) s else s
 
 -- a span without an id, or without that of its trace, is skipped
 abbrev pub lost : GatheredState → GatheredState
 lost s = record s { problems = s.problems ++ s.line ∷ [] }
 
--- a span's links, events and failure
+-- a span's links, events, end and failure
 abbrev pub notes_taken : List ℕ → List ℕ → Json → GatheredState → GatheredState
 notes_taken trace span value s =
     status_taken trace span (count_at (codes "endTimeUnixNano") value) (get (codes "status") value)
+    (end_taken trace span (count_at (codes "endTimeUnixNano") value)
     (events_taken trace span (items_at (codes "events") value)
     (links_taken trace span (count_at (codes "startTimeUnixNano") value)
-    (items_at (codes "links") value) s))
+    (items_at (codes "links") value) s)))
 
 -- a span of this id and trace, with what is in it
 abbrev pub span_added : List ℕ → List ℕ → Json → GatheredState → GatheredState
@@ -170,10 +177,21 @@ object_taken value s =
     resources_taken (items_at (codes "resourceLogs") value)
     (resources_taken (items_at (codes "resourceSpans") value) s)
 
--- what isn't an object is skipped
+abbrev pub has_key : List ℕ → Json → Bool
+has_key key value = is_some (get key value)
+
+-- an object of OTLP has one of these keys, or none at all
+abbrev pub is_export : Json → Bool
+is_export value =
+    is_some (as_object value)
+    && ((((not (has_body value) || has_key (codes "resourceSpans") value)
+    || has_key (codes "resourceLogs") value) || has_key (codes "resourceMetrics") value)
+    || has_key (codes "resourceProfiles") value)
+
+-- what isn't an object of OTLP is skipped
 abbrev pub value_taken : Option Json → GatheredState → GatheredState
 value_taken None s = lost s
-value_taken (Some value) s = if is_some (as_object value) then object_taken value s else lost s
+value_taken (Some value) s = if is_export value then object_taken value s else lost s
 
 abbrev pub next_line : GatheredState → GatheredState
 next_line s = record s { line = one_more s.line }

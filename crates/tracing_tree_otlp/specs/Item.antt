@@ -4,11 +4,12 @@ use Rattle.json.specs.Json.{Json, null, boolean, number, string, array, object, 
 use Rattle.json.specs.Find.{get}
 use Rattle.tracing_tree_text.specs.declared.field.Field.{Field}
 use Rattle.tracing_tree_text.specs.declared.style.Level.{Level}
-use Rattle.tracing_tree_text.specs.declared.style.Level.TheVariants.{Info, Error}
+use Rattle.tracing_tree_text.specs.declared.style.Level.TheVariants.{Info, Warn, Error}
 use Rattle.tracing_tree_sources.specs.Marks.{is_empty}
 use Rattle.tracing_tree_sources.specs.Told.{message_field}
 use Rattle.tracing_tree_otlp.specs.AnyValue.{any_text}
-use Rattle.tracing_tree_otlp.specs.Read.{attributes_in, count_at, field_of, id_at, level_of, string_at}
+use Rattle.tracing_tree_otlp.specs.Named.{kind_at, level_at}
+use Rattle.tracing_tree_otlp.specs.Read.{attributes_in, count_at, field_of, id_at, string_at}
 use Rattle.tracing_tree_otlp.specs.declared.item.Note.{Note}
 use Rattle.tracing_tree_otlp.specs.declared.item.Span.{Span}
 
@@ -39,49 +40,55 @@ body_fields None = []
 
 abbrev pub log_note : List ℕ → Json → Note
 log_note service value = record {
-  level = level_of (count_at (codes "severityNumber") value);
+  level = level_at value;
   message = body_fields (get (codes "body") value);
   service = service;
-  fields = attributes_in value;
+  fields = attributes_in true value;
 }
 
 -- an event called `exception` is an error
 abbrev pub event_level : List ℕ → Level
 event_level name = if bytes_eq name (codes "exception") then Error else Info
 
-abbrev pub event_note : Json → Note
-event_note value = record {
+abbrev pub event_note : List ℕ → Json → Note
+event_note service value = record {
   level = event_level (string_at (codes "name") value);
   message = message_field (string_at (codes "name") value) ∷ [];
-  service = [];
-  fields = attributes_in value;
+  service = service;
+  fields = attributes_in true value;
 }
 
 -- a link to another span
-abbrev pub link_note : Json → Note
-link_note value = record {
+abbrev pub link_note : List ℕ → Json → Note
+link_note service value = record {
   level = Info;
   message =
       message_field (codes "link") ∷ field_of (codes "trace") (id_at (codes "traceId") value)
       ∷ field_of (codes "span") (id_at (codes "spanId") value) ∷ [];
-  service = [];
-  fields = attributes_in value;
+  service = service;
+  fields = attributes_in true value;
 }
 
 abbrev pub reason_fields : List ℕ → List Field
 reason_fields text = if is_empty text then [] else field_of (codes "message") text ∷ []
 
 -- the last row of a span whose status is that it failed
-abbrev pub failed_note : Json → Note
-failed_note status = record {
+abbrev pub failed_note : List ℕ → Json → Note
+failed_note service status = record {
   level = Error;
   message = message_field (codes "failed") ∷ [];
-  service = [];
+  service = service;
   fields = reason_fields (string_at (codes "message") status);
 }
 
-abbrev pub has_failed : Json → Bool
-has_failed status = count_at (codes "code") status == 2
+-- the last row of a span that hasn't ended
+abbrev pub unfinished_note : List ℕ → Note
+unfinished_note service = record {
+  level = Warn;
+  message = message_field (codes "unfinished") ∷ [];
+  service = service;
+  fields = [];
+}
 
 -- ---- spans
 
@@ -90,10 +97,10 @@ span_of service value = record {
   id = id_at (codes "spanId") value;
   parent = id_at (codes "parentSpanId") value;
   name = string_at (codes "name") value;
-  kind = count_at (codes "kind") value;
+  kind = kind_at value;
   end = count_at (codes "endTimeUnixNano") value;
   service = service;
-  fields = attributes_in value;
+  fields = attributes_in false value;
 }
 
 -- The span in which a span is nested. A span that is its own parent is a root.

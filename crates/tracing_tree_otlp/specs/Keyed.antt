@@ -50,3 +50,8 @@ module _ {T : Type 0} where
 abbrev pub trace_of : List Item → List ℕ
 trace_of [] = []
 trace_of (x ∷ xs) = x.trace
+
+-- the time of the first of these rows
+abbrev pub time_of : List Item → ℕ
+time_of [] = 0
+time_of (x ∷ xs) = x.time

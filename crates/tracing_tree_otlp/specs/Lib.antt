@@ -1,8 +1,11 @@
 pub mod AnyValue
 pub mod Read
+pub mod Named
 pub mod Item
 pub mod Keyed
 pub mod Gather
 pub mod Length
+pub mod Walk
+pub mod Select
 pub mod Draw
 pub mod Otlp

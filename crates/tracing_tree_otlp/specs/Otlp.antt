@@ -11,9 +11,12 @@ use Rattle.tracing_tree_sources.specs.Noted.{Note}
 use Rattle.tracing_tree_sources.specs.Source.{Makes, StopsIn}
 use Rattle.tracing_tree_sources.specs.declared.notes.Lack.TheVariants.{Object}
 use Rattle.tracing_tree_sources.specs.declared.run.SourceRun.{SourceRun}
-use Rattle.tracing_tree_otlp.specs.Draw.{calls_in_order}
+use Rattle.tracing_tree_otlp.specs.Draw.{calls_of_rows}
 use Rattle.tracing_tree_otlp.specs.Gather.{GatheredState, gathered_in, item_cmp, resolved}
+use Rattle.tracing_tree_otlp.specs.Select.{shown}
+use Rattle.tracing_tree_otlp.specs.Walk.{rows_in_order}
 use Rattle.tracing_tree_otlp.specs.declared.item.Item.{Item}
+use Rattle.tracing_tree_otlp.specs.declared.select.Selection.{Selection}
 
 -- rows in the only order in which they are drawn
 abbrev pub IsInOrder : List Item → List Item → Type 0
@@ -23,51 +26,51 @@ IsInOrder rows ordered = IsPermutation rows ordered × IsSorted item_cmp ordered
 abbrev pub rows_of : GatheredState → List Item
 rows_of gathered = map (resolved gathered.known) gathered.items
 
--- the calls that draw what was gathered
-abbrev pub AreCallsOf : ℕ → Moment → GatheredState → List Call → Type 0
-AreCallsOf next moment gathered calls =
+-- The calls that draw what is shown of what was gathered. They are the only ones.
+abbrev pub AreCallsOf : ℕ → Moment → Selection → GatheredState → List Call → Type 0
+AreCallsOf next moment selection gathered calls =
     (ordered : List Item) × IsInOrder (rows_of gathered) ordered
-    × (calls ≡ calls_in_order next moment ordered)
+    × (calls ≡ calls_of_rows next moment (shown selection (rows_in_order ordered)))
 
 -- The drawing is that of the calls of the input, and each was accepted.
-abbrev pub DrawsAll : ℕ → Moment → GatheredState → Seen → Seen → Type 0
-DrawsAll next moment gathered old new =
-    (calls : List Call) × AreCallsOf next moment gathered calls × Makes calls old new
+abbrev pub DrawsAll : ℕ → Moment → Selection → GatheredState → Seen → Seen → Type 0
+DrawsAll next moment selection gathered old new =
+    (calls : List Call) × AreCallsOf next moment selection gathered calls × Makes calls old new
 
 -- The drawing ends at a call that was refused: it is that of the calls before it.
-abbrev pub DrawsUpTo : ℕ → Moment → GatheredState → Refusal → Seen → Seen → Type 0
-DrawsUpTo next moment gathered refusal old new =
-    (calls : List Call) × AreCallsOf next moment gathered calls
+abbrev pub DrawsUpTo : ℕ → Moment → Selection → GatheredState → Refusal → Seen → Seen → Type 0
+DrawsUpTo next moment selection gathered refusal old new =
+    (calls : List Call) × AreCallsOf next moment selection gathered calls
     × StopsIn Makes IsAnswered calls (Refused refusal) old new
 
 -- what was gathered is drawn, or the drawing ends at a call that was refused, or nothing is drawn
 -- because memory ran out
-abbrev pub DrawsOrEnds : ℕ → Moment → GatheredState → Result ⊤ LineCause → Seen → Seen → Type 0
-DrawsOrEnds next moment gathered (Ok done) old new = DrawsAll next moment gathered old new
-DrawsOrEnds next moment gathered (Err NoSettings) old new = ⊥
-DrawsOrEnds next moment gathered (Err NotACall) old new = ⊥
-DrawsOrEnds next moment gathered (Err Read) old new = ⊥
-DrawsOrEnds next moment gathered (Err Memory) old new = new ≡ old
-DrawsOrEnds next moment gathered (Err (Refused refusal)) old new =
-    DrawsUpTo next moment gathered refusal old new
+abbrev pub DrawsOrEnds : ℕ → Moment → Selection → GatheredState → Result ⊤ LineCause → Seen → Seen → Type 0
+DrawsOrEnds next moment selection gathered (Ok done) old new = DrawsAll next moment selection gathered old new
+DrawsOrEnds next moment selection gathered (Err NoSettings) old new = ⊥
+DrawsOrEnds next moment selection gathered (Err NotACall) old new = ⊥
+DrawsOrEnds next moment selection gathered (Err Read) old new = ⊥
+DrawsOrEnds next moment selection gathered (Err Memory) old new = new ≡ old
+DrawsOrEnds next moment selection gathered (Err (Refused refusal)) old new =
+    DrawsUpTo next moment selection gathered refusal old new
 
 -- What ended a run: nothing was drawn because memory ran out, or because the notes ended the run
 -- after a problem; or the drawing ends at a call that was refused.
-abbrev pub EndsRun : ℕ → Moment → GatheredState → LineCause → Seen → Seen → Type 0
-EndsRun next moment gathered NoSettings old new = ⊥
-EndsRun next moment gathered NotACall old new = (0 < length gathered.problems) × (new ≡ old)
-EndsRun next moment gathered Read old new = ⊥
-EndsRun next moment gathered Memory old new = new ≡ old
-EndsRun next moment gathered (Refused refusal) old new =
-    DrawsUpTo next moment gathered refusal old new
+abbrev pub EndsRun : ℕ → Moment → Selection → GatheredState → LineCause → Seen → Seen → Type 0
+EndsRun next moment selection gathered NoSettings old new = ⊥
+EndsRun next moment selection gathered NotACall old new = (0 < length gathered.problems) × (new ≡ old)
+EndsRun next moment selection gathered Read old new = ⊥
+EndsRun next moment selection gathered Memory old new = new ≡ old
+EndsRun next moment selection gathered (Refused refusal) old new =
+    DrawsUpTo next moment selection gathered refusal old new
 
 -- The drawing is that of an input. If something ended the run, it is that of a first part.
-abbrev pub RunsOtlp : ℕ → Moment → List ℕ → SourceRun → Seen → Seen → Type 0
-RunsOtlp next moment text run old new =
+abbrev pub RunsOtlp : ℕ → Moment → Selection → List ℕ → SourceRun → Seen → Seen → Type 0
+RunsOtlp next moment selection text run old new =
     let gathered = gathered_in text in
     MatchOption run.fault
-    (DrawsAll next moment gathered old new × (run.unknown ≡ length gathered.problems))
-    (λ fault. (fault.line ≡ 1) × EndsRun next moment gathered fault.cause old new)
+    (DrawsAll next moment selection gathered old new × (run.unknown ≡ length gathered.problems))
+    (λ fault. (fault.line ≡ 1) × EndsRun next moment selection gathered fault.cause old new)
 
 -- Why no calls were read: memory ran out, or the notes ended the run after a problem.
 abbrev pub EndsReading : LineCause → GatheredState → Type 0

@@ -1,5 +1,5 @@
 -- The values of OTLP/JSON's objects at their keys.
-use Rattle.std.specs.Prelude.{ℕ, ◌^◌, ◌==◌, ◌&&◌, nat_le, nat_lt, Bool, not, if◌then◌else◌, List, [], ◌∷◌, ◌++◌, map, Option, Some, None, unwrap_or, option_and_then, codes, bytes_eq}
+use Rattle.std.specs.Prelude.{ℕ, ◌^◌, ◌==◌, ◌&&◌, nat_lt, Bool, not, if◌then◌else◌, List, [], ◌∷◌, ◌++◌, map, Option, Some, None, unwrap_or, option_and_then, codes, bytes_eq}
 use Rattle.std.specs.Char.{to_ascii_lowercase}
 use Rattle.std.specs.List.{list_all}
 use Rattle.std.specs.Str.{all_ascii_digits}
@@ -7,8 +7,6 @@ use Rattle.std.specs.Str.Parse.{digits_value}
 use Rattle.json.specs.Json.{Json, null, boolean, number, string, array, object, Items, no_items, item}
 use Rattle.json.specs.Find.{get}
 use Rattle.tracing_tree_text.specs.declared.field.Field.{Field}
-use Rattle.tracing_tree_text.specs.declared.style.Level.{Level}
-use Rattle.tracing_tree_text.specs.declared.style.Level.TheVariants.{Trace, Debug, Info, Warn, Error}
 use Rattle.tracing_tree_sources.specs.Marks.{is_empty}
 use Rattle.tracing_tree_sources.specs.Told.{message_field, shown}
 use Rattle.tracing_tree_sources.specs.Values.{array_at, text_at}
@@ -72,22 +70,30 @@ text_or_null None = codes "null"
 abbrev pub attribute_text : Json → List ℕ
 attribute_text attribute = text_or_null (get (codes "value") attribute)
 
--- A field. One called `message` would be drawn without its name, so its value begins with it.
+-- a field of a span
+abbrev pub span_field : List ℕ → List ℕ → Field
+span_field name text = record { name = shown name; value = shown text }
+
+-- A field of an event. One called `message` would be drawn without its name, so its value begins
+-- with it.
 abbrev pub field_of : List ℕ → List ℕ → Field
 field_of name text =
     if bytes_eq name (codes "message") then message_field (codes "message=" ++ text)
-    else record { name = shown name; value = shown text }
+    else span_field name text
 
-abbrev pub attribute_field : Json → Field
-attribute_field attribute = field_of (string_at (codes "key") attribute) (attribute_text attribute)
+abbrev pub attribute_field : Bool → Json → Field
+attribute_field is_event attribute =
+    if is_event then field_of (string_at (codes "key") attribute) (attribute_text attribute)
+    else span_field (string_at (codes "key") attribute) (attribute_text attribute)
 
-abbrev pub attribute_fields : Items → List Field
-attribute_fields no_items = []
-attribute_fields (item attribute others) = attribute_field attribute ∷ attribute_fields others
+abbrev pub attribute_fields : Bool → Items → List Field
+attribute_fields is_event no_items = []
+attribute_fields is_event (item attribute others) =
+    attribute_field is_event attribute ∷ attribute_fields is_event others
 
--- the attributes of an object as fields
-abbrev pub attributes_in : Json → List Field
-attributes_in value = attribute_fields (items_at (codes "attributes") value)
+-- the attributes of an object as fields of an event, or of a span
+abbrev pub attributes_in : Bool → Json → List Field
+attributes_in is_event value = attribute_fields is_event (items_at (codes "attributes") value)
 
 -- the value of the first of these attributes with this key, or an empty string
 abbrev pub attribute_at : List ℕ → Items → List ℕ
@@ -107,15 +113,3 @@ service_or_none None = []
 -- the service whose resource an object has
 abbrev pub service_in : Json → List ℕ
 service_in value = service_or_none (get (codes "resource") value)
-
--- ---- levels
-
--- the level of a log's severity number; INFO if it has no number
-abbrev pub level_of : ℕ → Level
-level_of severity =
-    if nat_le 17 severity then Error
-    else if nat_le 13 severity then Warn
-    else if nat_le 9 severity then Info
-    else if nat_le 5 severity then Debug
-    else if nat_le 1 severity then Trace
-    else Info

@@ -1,14 +1,14 @@
-//! The rows of an input nested by their ids, as calls.
+//! Rows in the order in which they are drawn, as calls.
 
-ghost use Rattle.std.specs.Prelude.{◌≡◌, ◌∷◌, ◌++◌, [], ◌-◌, IfOk, OnOk, Some, pos};
-ghost use Rattle.tracing_tree_otlp.specs.Draw.{after_row, at_time, begun_tree, calls_in_order, closed, field_if, frame_of, group_at, grouped, id_on_top, key_in, kind_text, left, left_over, next_row, note_fields, note_shown, opened, parent_fields, put_first, row_shown, service_fields, service_on_top, span_fields, span_shown, step_count, stepped, stepped_times, time_field, trace_opened, trace_shown, without_group};
+ghost use Rattle.std.specs.Prelude.{◌≡◌, ◌∷◌, ◌++◌, [], ◌-◌, IfOk, OnOk, Some, length, pos};
+ghost use Rattle.tracing_tree_otlp.specs.Draw.{at_time, begun_tree, calls_of_rows, closed, closed_one, closed_times, closed_to, field_if, id_on_top, kind_text, note_fields, note_shown, opened, parent_fields, row_drawn, row_shown, rows_drawn, service_fields, service_on_top, span_fields, span_shown, time_field, time_fields, trace_shown};
 ghost use Rattle.tracing_tree_sources.specs.Moments.{moment_at};
-ghost use Rattle.tracing_tree_otlp.specs.Keyed.{key_of};
 
 use crate::item::{Item, Note, Shape, Span};
-use crate::keyed::{Group, Groups, key_of};
+use crate::keyed::Rows;
 use crate::length::length_text;
 use crate::read::field_of;
+use crate::walk::Row;
 use jiff::Timestamp;
 use std::alloc::{AllocError, Global};
 use std::marker::Model;
@@ -19,15 +19,14 @@ use tracing_tree_text::field::{Field, Fields};
 use tracing_tree_text::text::Text;
 use tracing_tree_time::Moment;
 
-// An open span with the rows that are left in it, or the root.
+// An open span.
 #[derive(Drop)]
 pub(crate) struct Frame {
-    id: Option<Id>,
+    id: Id,
     above: Option<Id>,
-    // When it closes. A trace closes when its last row does.
-    end: Option<u64>,
+    // When it closes. It is 0 if it closes when its last row does.
+    end: u64,
     service: Text,
-    items: Group,
 }
 
 // The calls so far, and what is open.
@@ -37,9 +36,7 @@ pub(crate) struct Tree {
     // The id that the next span gets.
     next: u64,
     moment: Moment,
-    // The rows that are nested in no open span.
-    groups: Groups,
-    // The root first.
+    // The outermost span first.
     frames: Vec<Frame>,
     calls: Vec<Call>,
 }
@@ -53,79 +50,37 @@ impl Model for Tree {
     ghost view = { λ t. record {
       next = t.next;
       moment = t.moment;
-      groups = t.groups;
       frames = reverse t.frames.items;
       calls = t.calls.items;
     } };
 }
 
-// Returns the calls of rows in their order.
-pub(crate) fn calls_in_order(
+// Returns the calls that draw rows.
+pub(crate) fn calls_of_rows(
     alloc: Global,
     next: u64,
     moment: Moment,
-    rows: Vec<Item>,
+    rows: Rows,
 ) -> Result<Vec<Call>, AllocError>
-    ensures { IfOk result (λ calls. calls.items ≡ calls_in_order next moment rows.items) }
+    ensures { IfOk result (λ calls. calls.items ≡ calls_of_rows next moment rows) }
 {
-    let count = step_count(rows.len());
-    let groups = grouped(alloc, rows)?;
-    let mut tree = Tree::new(alloc, next, moment, groups)?;
-    tree.step_times(count)?;
+    let mut tree = Tree::new(alloc, next, moment);
+    tree.draw(rows)?;
+    tree.close_to(0)?;
     Ok(tree.into_calls())
 }
 
-fn step_count(rows: usize) -> u64
-    ensures { result ≡ step_count rows }
-{
-    (rows as u64).saturating_mul(4)
-}
-
-// Returns rows grouped by the span that they are nested in.
-fn grouped(alloc: Global, rows: Vec<Item>) -> Result<Groups, AllocError>
-    ensures { IfOk result (λ groups. groups ≡ grouped rows.items) }
-{
-    let mut groups = Groups::new(alloc);
-    let mut rows = rows;
-    while let Some(item) = rows.pop() {
-        put_first(alloc, &mut groups, item)?;
-    }
-    Ok(groups)
-}
-
-fn key_in(alloc: Global, item: &Item) -> Result<Vec<u8>, AllocError>
-    ensures { IfOk result (λ key. key.items ≡ key_in item.now) }
-{
-    key_of(alloc, item.trace.as_str(), item.above.as_str())
-}
-
-// Puts a row before those of its span that are there.
-fn put_first(alloc: Global, groups: &mut Groups, item: Item) -> Result<(), AllocError>
-    ensures { OnOk result (groups.new ≡ put_first item groups.old) }
-{
-    let key = key_in(alloc, &item)?;
-    let mut group = groups.take(key.as_slice()).unwrap_or(Group::new(alloc));
-    group.put(item)?;
-    groups.put(key, group)
-}
-
 impl Tree {
-    fn new(alloc: Global, next: u64, moment: Moment, groups: Groups) -> Result<Tree, AllocError>
-        ensures { IfOk result (λ tree. tree ≡ begun_tree next moment groups) }
+    fn new(alloc: Global, next: u64, moment: Moment) -> Tree
+        ensures { result ≡ begun_tree next moment }
     {
-        let mut groups = groups;
-        let key = key_of(alloc, "", "")?;
-        let root = groups.take(key.as_slice()).unwrap_or(Group::new(alloc));
-        let mut frames = Vec::new(alloc);
-        frames.push(frame_of(None, None, None, Text::from_str(alloc, "")?, root))?;
-        Ok(Tree {
+        Tree {
             alloc,
             next,
             moment,
-            groups,
-            frames,
+            frames: Vec::new(alloc),
             calls: Vec::new(alloc),
-        })
+        }
     }
 
     fn into_calls(self) -> Vec<Call>
@@ -134,75 +89,68 @@ impl Tree {
         self.calls
     }
 
-    fn step_times(&mut self, count: u64) -> Result<(), AllocError>
-        ensures { OnOk result (self.new ≡ stepped_times count self.old) }
+    fn draw(&mut self, rows: Rows) -> Result<(), AllocError>
+        ensures { OnOk result (self.new ≡ rows_drawn rows self.old) }
     {
-        for _done in 0..count {
-            self.step()?;
+        let mut rows = rows;
+        while let Some(row) = rows.take() {
+            self.draw_row(row)?;
         }
         Ok(())
     }
 
-    // Shows the next row of the innermost span, or closes it after its last row.
-    fn step(&mut self) -> Result<(), AllocError>
-        ensures { OnOk result (self.new ≡ stepped self.old) }
+    // Closes the spans that a row isn't nested in, and shows the row.
+    fn draw_row(&mut self, row: Row) -> Result<(), AllocError>
+        ensures { OnOk result (self.new ≡ row_drawn row self.old) }
     {
-        match self.next_row() {
-            Some(item) => self.show_row(item),
-            None => self.leave(),
-        }
+        self.close_to(row.depth)?;
+        self.show_row(row.item)
     }
 
-    // Takes the next row of the innermost span.
-    fn next_row(&mut self) -> Option<Item>
-        ensures item { result ≡ next_row self.old.frames }
-        ensures rest { self.new ≡ record self.old { frames = after_row self.old.frames } }
+    // Closes spans until this many are open.
+    fn close_to(&mut self, depth: usize) -> Result<(), AllocError>
+        ensures { OnOk result (self.new ≡ closed_to depth self.old) }
     {
-        match self.frames.as_mut_slice().last_mut() {
-            Some(frame) => frame.items.take(),
-            None => None,
-        }
+        let open = self.frames.len();
+        self.close_times(open.saturating_sub(depth))
     }
 
-    fn leave(&mut self) -> Result<(), AllocError>
-        ensures { OnOk result (self.new ≡ left self.old) }
+    fn close_times(&mut self, count: usize) -> Result<(), AllocError>
+        ensures { OnOk result (self.new ≡ closed_times count self.old) }
+    {
+        for _done in 0..count {
+            self.close_one()?;
+        }
+        Ok(())
+    }
+
+    // Closes the innermost span.
+    fn close_one(&mut self) -> Result<(), AllocError>
+        ensures { OnOk result (self.new ≡ closed_one self.old) }
     {
         match self.frames.pop() {
             Some(frame) => self.close(frame),
-            None => self.open_left_over(),
+            None => Ok(()),
         }
     }
 
     fn close(&mut self, frame: Frame) -> Result<(), AllocError>
         ensures { OnOk result (self.new ≡ closed frame self.old) }
     {
-        let Some(id) = frame.id else {
-            return Ok(());
-        };
-        if let Some(end) = frame.end {
-            self.go_to(end);
-        }
-        Ok(self.calls.push(close_call(self.moment, id, frame.above))?)
+        self.go_to(frame.end);
+        Ok(
+            self.calls
+                .push(close_call(self.moment, frame.id, frame.above))?,
+        )
     }
 
-    // Shows rows that no root leads to.
-    fn open_left_over(&mut self) -> Result<(), AllocError>
-        ensures { OnOk result (self.new ≡ left_over self.old) }
-    {
-        match self.groups.take_first() {
-            Some(items) => {
-                let id = Text::from_str(self.alloc, items.trace())?;
-                self.open_trace(id.as_str(), items)
-            }
-            None => Ok(()),
-        }
-    }
-
-    // Goes on to a time.
+    // Goes on to a time, if it is known.
     fn go_to(&mut self, time: u64)
         ensures { self.new ≡ at_time time self.old }
     {
-        self.moment = moment_at(time, self.moment);
+        if time != 0 {
+            self.moment = moment_at(time, self.moment);
+        }
     }
 
     fn show_row(&mut self, item: Item) -> Result<(), AllocError>
@@ -210,7 +158,7 @@ impl Tree {
     {
         self.go_to(item.time);
         let Item {
-            trace,
+            trace: _,
             above,
             place: _,
             time,
@@ -218,7 +166,7 @@ impl Tree {
         } = item;
         match shape {
             Shape::Trace(id) => self.show_trace(id.as_str()),
-            Shape::Span(span) => self.show_span(trace.as_str(), above.as_str(), time, span),
+            Shape::Span(span) => self.show_span(above.as_str(), time, span),
             Shape::Note(note) => self.show_note(note),
         }
     }
@@ -227,7 +175,10 @@ impl Tree {
     fn current(&self) -> Option<Id>
         ensures { result ≡ id_on_top self.now.frames }
     {
-        self.frames.as_slice().last()?.id
+        match self.frames.as_slice().last() {
+            Some(frame) => Some(frame.id),
+            None => None,
+        }
     }
 
     // Returns the service of the innermost span.
@@ -250,35 +201,17 @@ impl Tree {
         Ok(self.calls.push(call)?)
     }
 
-    // Shows a trace, unless all its rows were shown.
     fn show_trace(&mut self, id: &str) -> Result<(), AllocError>
         ensures { OnOk result (self.new ≡ trace_shown id.now self.old) }
     {
-        let key = key_of(self.alloc, id, "")?;
-        match self.groups.take(key.as_slice()) {
-            Some(items) => self.open_trace(id, items),
-            None => Ok(()),
-        }
-    }
-
-    fn open_trace(&mut self, id: &str, items: Group) -> Result<(), AllocError>
-        ensures { OnOk result (self.new ≡ trace_opened id.now items self.old) }
-    {
         let fields = Fields::one(self.alloc, field_of(self.alloc, "id", id)?);
         let service = Text::from_str(self.alloc, "")?;
-        self.open("trace", fields, None, service, items)
+        self.open("trace", fields, 0, service)
     }
 
-    fn show_span(
-        &mut self,
-        trace: &str,
-        above: &str,
-        start: u64,
-        span: Span,
-    ) -> Result<(), AllocError>
-        ensures { OnOk result (self.new ≡ span_shown trace.now above.now start span self.old) }
+    fn show_span(&mut self, above: &str, start: u64, span: Span) -> Result<(), AllocError>
+        ensures { OnOk result (self.new ≡ span_shown above.now start span self.old) }
     {
-        let items = self.take_group(trace, span.id.as_str())?;
         let Span {
             id: _,
             parent,
@@ -290,38 +223,24 @@ impl Tree {
         } = span;
         let mut shown = span_fields(
             self.alloc,
-            end.saturating_sub(start),
             service_fields(self.alloc, self.service(), service.as_str())?,
+            time_fields(self.alloc, start, end)?,
             parent_fields(self.alloc, above, parent.as_str())?,
             kind,
         )?;
         shown.append(fields)?;
-        self.open(name.as_str(), shown, Some(end), service, items)
+        self.open(name.as_str(), shown, end, service)
     }
 
-    // Takes the rows nested in a span.
-    fn take_group(&mut self, trace: &str, span: &str) -> Result<Group, AllocError>
-        ensures group { IfOk result (λ group. group ≡ group_at (key_of trace.now span.now) self.old) }
-        ensures rest { OnOk result (self.new ≡ without_group (key_of trace.now span.now) self.old) }
-    {
-        let key = key_of(self.alloc, trace, span)?;
-        Ok(
-            self.groups
-                .take(key.as_slice())
-                .unwrap_or(Group::new(self.alloc)),
-        )
-    }
-
-    // Opens a span in the innermost one, with these rows in it.
+    // Opens a span in the innermost one.
     fn open(
         &mut self,
         name: &str,
         fields: Fields,
-        end: Option<u64>,
+        end: u64,
         service: Text,
-        items: Group,
     ) -> Result<(), AllocError>
-        ensures { OnOk result (self.new ≡ opened name.now fields end service items self.old) }
+        ensures { OnOk result (self.new ≡ opened name.now fields end service self.old) }
     {
         let above = self.current();
         let call = span_call(self.alloc, self.moment, name, fields, above)?;
@@ -329,27 +248,13 @@ impl Tree {
         let id = Id(self.next);
         self.next = self.next.saturating_add(1);
         Ok(
-            self.frames
-                .push(frame_of(Some(id), above, end, service, items))?,
+            self.frames.push(Frame {
+                id,
+                above,
+                end,
+                service,
+            })?,
         )
-    }
-}
-
-fn frame_of(
-    id: Option<Id>,
-    above: Option<Id>,
-    end: Option<u64>,
-    service: Text,
-    items: Group,
-) -> Frame
-    ensures { result ≡ frame_of id above end service items }
-{
-    Frame {
-        id,
-        above,
-        end,
-        service,
-        items,
     }
 }
 
@@ -427,19 +332,29 @@ fn time_field(alloc: Global, nanoseconds: u64) -> Result<Field, AllocError>
     })
 }
 
+// Returns how long a span took, if it has ended.
+fn time_fields(alloc: Global, start: u64, end: u64) -> Result<Fields, AllocError>
+    ensures { IfOk result (λ fields. fields ≡ time_fields start end) }
+{
+    if end == 0 {
+        return Ok(Fields::new(alloc));
+    }
+    Ok(Fields::one(alloc, time_field(alloc, end.saturating_sub(start))?))
+}
+
 // Returns what the row of a span shows before its attributes: its service, how long it took, its
 // parent and its kind.
 fn span_fields(
     alloc: Global,
-    nanoseconds: u64,
     service: Fields,
+    time: Fields,
     parent: Fields,
     kind: u64,
 ) -> Result<Fields, AllocError>
-    ensures { IfOk result (λ fields. fields ≡ span_fields nanoseconds service parent kind) }
+    ensures { IfOk result (λ fields. fields ≡ span_fields service time parent kind) }
 {
     let mut fields = service;
-    fields.append(Fields::one(alloc, time_field(alloc, nanoseconds)?))?;
+    fields.append(time)?;
     fields.append(parent)?;
     fields.append(field_if(alloc, "kind", kind_text(kind))?)?;
     Ok(fields)

@@ -3,15 +3,16 @@
 ghost use Rattle.std.specs.Prelude.{◌≡◌, IfOk, OnOk, IsPermutation, IsSorted, codes, map, option_map};
 ghost use Rattle.std.specs.Str.Lines.{lines};
 ghost use Rattle.json.specs.Value.{value_view};
-ghost use Rattle.tracing_tree_otlp.specs.Gather.{added, event_taken, events_taken, gathered_in, item_cmp, line_taken, lines_taken, links_taken, log_added, log_taken, logs_taken, lost, next_line, note_known, notes_taken, nothing_gathered, number_in, object_taken, of_service, place_of, rank_of, resolved, resource_taken, resources_taken, scope_taken, scopes_taken, span_added, span_taken, spans_taken, status_taken, trace_seen, value_taken};
+ghost use Rattle.tracing_tree_otlp.specs.Gather.{added, end_taken, event_taken, events_taken, gathered_in, has_key, is_export, item_cmp, line_taken, lines_taken, links_taken, log_added, log_taken, logs_taken, lost, next_line, note_known, notes_taken, nothing_gathered, number_in, object_taken, of_service, place_of, rank_of, resolved, resource_taken, resources_taken, scope_taken, scopes_taken, span_added, span_taken, spans_taken, status_taken, trace_seen, value_taken};
 ghost use Rattle.tracing_tree_otlp.specs.Keyed.{key_of};
 ghost use Rattle.tracing_tree_otlp.specs.Read.{items_at};
 
 use crate::item::{
-    Item, Place, Shape, above_of, event_note, failed_note, has_failed, link_note, log_note,
-    log_time, number_of, span_of,
+    Item, Place, Shape, above_of, event_note, failed_note, has_body, link_note, log_note, log_time,
+    number_of, span_of, unfinished_note,
 };
 use crate::keyed::{Known, key_of};
+use crate::named::has_failed;
 use crate::read::{count_at, id_at, service_in};
 use json::{Scratch, Value};
 use std::alloc::{AllocError, Global};
@@ -138,7 +139,7 @@ impl Gathered {
             ≡ value_taken (option_map (λ v. value_view v.now) value.entry) self.old) }
     {
         match value {
-            Some(value) if is_object(value) => self.take_object(value),
+            Some(value) if is_export(value) => self.take_object(value),
             _ => self.lose(),
         }
     }
@@ -275,7 +276,7 @@ impl Gathered {
         self.known.put(key, time)
     }
 
-    // Takes a span's links, events and failure.
+    // Takes a span's links, events, end and failure.
     fn take_notes(&mut self, trace: &str, span: &str, value: &Value<'_>) -> Result<(), AllocError>
         ensures { OnOk result (self.new
             ≡ notes_taken trace.now span.now (value_view value.now) self.old) }
@@ -284,6 +285,7 @@ impl Gathered {
         let end = count_at(value, "endTimeUnixNano");
         self.take_links(trace, span, start, value)?;
         self.take_events(trace, span, value)?;
+        self.take_end(trace, span, end)?;
         self.take_status(trace, span, end, value.get("status"))
     }
 
@@ -302,7 +304,7 @@ impl Gathered {
             return Ok(());
         };
         for link in links {
-            let note = link_note(self.alloc, link)?;
+            let note = link_note(self.alloc, self.service.clone()?, link)?;
             self.add(trace, span, 0, time, Shape::Note(note))?;
         }
         Ok(())
@@ -326,8 +328,20 @@ impl Gathered {
             ≡ event_taken trace.now span.now (value_view value.now) self.old) }
     {
         let time = count_at(value, "timeUnixNano");
-        let note = event_note(self.alloc, value)?;
+        let note = event_note(self.alloc, self.service.clone()?, value)?;
         self.add(trace, span, time, time, Shape::Note(note))
+    }
+
+    // Takes the end of a span. If it is missing, the span is unfinished, which is said after
+    // everything else but a failure.
+    fn take_end(&mut self, trace: &str, span: &str, end: u64) -> Result<(), AllocError>
+        ensures { OnOk result (self.new ≡ end_taken trace.now span.now end self.old) }
+    {
+        if end != 0 {
+            return Ok(());
+        }
+        let note = unfinished_note(self.alloc, self.service.clone()?)?;
+        self.add(trace, span, u64::MAX, 0, Shape::Note(note))
     }
 
     // Takes a failure, which comes after everything else in a span.
@@ -343,7 +357,7 @@ impl Gathered {
     {
         match status {
             Some(status) if has_failed(status) => {
-                let note = failed_note(self.alloc, status)?;
+                let note = failed_note(self.alloc, self.service.clone()?, status)?;
                 self.add(trace, span, u64::MAX, end, Shape::Note(note))
             }
             _ => Ok(()),
@@ -392,6 +406,24 @@ impl Gathered {
         };
         Ok(self.items.push(item)?)
     }
+}
+
+// Returns whether a value is an object of OTLP: it has one of the keys, or none at all.
+fn is_export(value: &Value<'_>) -> bool
+    ensures { result ≡ is_export (value_view value.now) }
+{
+    is_object(value)
+        && (!has_body(value)
+            || has_key(value, "resourceSpans")
+            || has_key(value, "resourceLogs")
+            || has_key(value, "resourceMetrics")
+            || has_key(value, "resourceProfiles"))
+}
+
+fn has_key(value: &Value<'_>, key: &str) -> bool
+    ensures { result ≡ has_key key.now (value_view value.now) }
+{
+    value.get(key).is_some()
 }
 
 fn rank_of(shape: &Shape) -> u64

@@ -3,10 +3,11 @@
 ghost use Rattle.std.specs.Prelude.{◌≡◌, ◌<◌, IfOk, Some, codes};
 ghost use Rattle.json.specs.Find.{get};
 ghost use Rattle.json.specs.Value.{members_view, value_view};
-ghost use Rattle.tracing_tree_otlp.specs.Item.{above_of, body_fields, digit_added, event_level, event_note, failed_note, has_body, has_failed, has_members, hex_digit, link_note, log_note, log_time, number_of, reason_fields, span_of};
+ghost use Rattle.tracing_tree_otlp.specs.Item.{above_of, body_fields, digit_added, event_level, event_note, failed_note, has_body, has_members, hex_digit, link_note, log_note, log_time, number_of, reason_fields, span_of, unfinished_note};
 
 use crate::any::any_text;
-use crate::read::{attributes_in, count_at, field_of, id_at, level_of, string_at};
+use crate::named::{kind_at, level_at};
+use crate::read::{attributes_in, count_at, field_of, id_at, string_at};
 use json::Value;
 use std::alloc::{AllocError, Global};
 use tracing_tree_sources::told::message_field;
@@ -20,7 +21,7 @@ pub(crate) struct Note {
     pub(crate) level: Level,
     // What comes before the service.
     pub(crate) message: Fields,
-    // Empty if that of the span is shown.
+    // That whose resource it is in.
     pub(crate) service: Text,
     pub(crate) fields: Fields,
 }
@@ -31,7 +32,7 @@ pub(crate) struct Span {
     pub(crate) parent: Text,
     pub(crate) name: Text,
     pub(crate) kind: u64,
-    // In nanoseconds since 1970, as each time.
+    // In nanoseconds since 1970, as each time. It is 0 if the span hasn't ended.
     pub(crate) end: u64,
     pub(crate) service: Text,
     pub(crate) fields: Fields,
@@ -65,6 +66,7 @@ pub(crate) struct Item {
     // The id of the span that it is nested in. Empty at the root.
     pub(crate) above: Text,
     pub(crate) place: Place,
+    // It is 0 if it isn't known.
     pub(crate) time: u64,
     pub(crate) shape: Shape,
 }
@@ -88,8 +90,8 @@ fn has_members(members: &Vec<(&str, Value<'_>)>) -> bool
     }
 }
 
-// Returns whether a body says something.
-fn has_body(value: &Value<'_>) -> bool
+// Returns whether a value says something: it isn't null or an empty object.
+pub(crate) fn has_body(value: &Value<'_>) -> bool
     ensures { result ≡ has_body (value_view value.now) }
 {
     match value {
@@ -122,10 +124,10 @@ pub(crate) fn log_note(alloc: Global, service: Text, value: &Value<'_>) -> Resul
     ensures { IfOk result (λ note. note ≡ log_note service (value_view value.now)) }
 {
     Ok(Note {
-        level: level_of(count_at(value, "severityNumber")),
+        level: level_at(value),
         message: message_of(alloc, value)?,
         service,
-        fields: attributes_in(alloc, value)?,
+        fields: attributes_in(alloc, true, value)?,
     })
 }
 
@@ -139,21 +141,25 @@ fn event_level(name: &str) -> Level
     }
 }
 
-pub(crate) fn event_note(alloc: Global, value: &Value<'_>) -> Result<Note, AllocError>
-    ensures { IfOk result (λ note. note ≡ event_note (value_view value.now)) }
+pub(crate) fn event_note(
+    alloc: Global,
+    service: Text,
+    value: &Value<'_>,
+) -> Result<Note, AllocError>
+    ensures { IfOk result (λ note. note ≡ event_note service (value_view value.now)) }
 {
     let name = string_at(value, "name");
     Ok(Note {
         level: event_level(name),
         message: Fields::one(alloc, message_field(alloc, name)?),
-        service: Text::from_str(alloc, "")?,
-        fields: attributes_in(alloc, value)?,
+        service,
+        fields: attributes_in(alloc, true, value)?,
     })
 }
 
 // Returns a link to another span.
-pub(crate) fn link_note(alloc: Global, value: &Value<'_>) -> Result<Note, AllocError>
-    ensures { IfOk result (λ note. note ≡ link_note (value_view value.now)) }
+pub(crate) fn link_note(alloc: Global, service: Text, value: &Value<'_>) -> Result<Note, AllocError>
+    ensures { IfOk result (λ note. note ≡ link_note service (value_view value.now)) }
 {
     let trace = id_at(alloc, value, "traceId")?;
     let span = id_at(alloc, value, "spanId")?;
@@ -164,8 +170,8 @@ pub(crate) fn link_note(alloc: Global, value: &Value<'_>) -> Result<Note, AllocE
     Ok(Note {
         level: Level::Info,
         message: Fields::from(message),
-        service: Text::from_str(alloc, "")?,
-        fields: attributes_in(alloc, value)?,
+        service,
+        fields: attributes_in(alloc, true, value)?,
     })
 }
 
@@ -179,21 +185,31 @@ fn reason_fields(alloc: Global, text: &str) -> Result<Fields, AllocError>
 }
 
 // Returns the event that ends a span whose status is an error.
-pub(crate) fn failed_note(alloc: Global, status: &Value<'_>) -> Result<Note, AllocError>
-    ensures { IfOk result (λ note. note ≡ failed_note (value_view status.now)) }
+pub(crate) fn failed_note(
+    alloc: Global,
+    service: Text,
+    status: &Value<'_>,
+) -> Result<Note, AllocError>
+    ensures { IfOk result (λ note. note ≡ failed_note service (value_view status.now)) }
 {
     Ok(Note {
         level: Level::Error,
         message: Fields::one(alloc, message_field(alloc, "failed")?),
-        service: Text::from_str(alloc, "")?,
+        service,
         fields: reason_fields(alloc, string_at(status, "message"))?,
     })
 }
 
-pub(crate) fn has_failed(status: &Value<'_>) -> bool
-    ensures { result ≡ has_failed (value_view status.now) }
+// Returns the event that ends a span without an end.
+pub(crate) fn unfinished_note(alloc: Global, service: Text) -> Result<Note, AllocError>
+    ensures { IfOk result (λ note. note ≡ unfinished_note service) }
 {
-    count_at(status, "code") == 2
+    Ok(Note {
+        level: Level::Warn,
+        message: Fields::one(alloc, message_field(alloc, "unfinished")?),
+        service,
+        fields: Fields::new(alloc),
+    })
 }
 
 pub(crate) fn span_of(alloc: Global, service: Text, value: &Value<'_>) -> Result<Span, AllocError>
@@ -203,10 +219,10 @@ pub(crate) fn span_of(alloc: Global, service: Text, value: &Value<'_>) -> Result
         id: id_at(alloc, value, "spanId")?,
         parent: id_at(alloc, value, "parentSpanId")?,
         name: Text::from_str(alloc, string_at(value, "name"))?,
-        kind: count_at(value, "kind"),
+        kind: kind_at(value),
         end: count_at(value, "endTimeUnixNano"),
         service,
-        fields: attributes_in(alloc, value)?,
+        fields: attributes_in(alloc, false, value)?,
     })
 }
 

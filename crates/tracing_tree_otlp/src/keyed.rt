@@ -1,9 +1,11 @@
 //! What is kept by trace and span: the earliest time of each, and the rows nested in each.
 
 ghost use Rattle.std.specs.Prelude.{◌≡◌, ◌∷◌, [], IfOk, OnOk};
-ghost use Rattle.tracing_tree_otlp.specs.Keyed.{after_first, first_kept, head_of, kept_at, key_of, tail_of, trace_of, with_kept, without_kept};
+ghost use Rattle.tracing_tree_otlp.specs.Select.{begins_deeper, without_nested};
+ghost use Rattle.tracing_tree_otlp.specs.Keyed.{after_first, first_kept, head_of, kept_at, key_of, tail_of, time_of, trace_of, with_kept, without_kept};
 
 use crate::item::Item;
+use crate::walk::Row;
 use std::alloc::{AllocError, Global};
 use std::collections::BTreeMap;
 use std::marker::Model;
@@ -104,6 +106,75 @@ impl Group {
             Some(item) => item.trace.as_str(),
             None => "",
         }
+    }
+
+    // Returns the time of the first row.
+    pub(crate) fn time(&self) -> u64
+        ensures { result ≡ time_of self.now }
+    {
+        match self.items.as_slice().last() {
+            Some(item) => item.time,
+            None => 0,
+        }
+    }
+}
+
+// Rows in the order in which they are drawn, the first first.
+#[derive(Drop)]
+pub(crate) struct Rows {
+    // The first one last.
+    rows: Vec<Row>,
+}
+
+impl Model for Rows {
+    ghost use Rattle.std.specs.Prelude.{List, reverse};
+    ghost use Rattle.tracing_tree_otlp.specs.declared.walk.Row.{Row};
+
+    ghost Value = { List Row };
+
+    ghost view = { λ r. reverse r.rows.items };
+}
+
+impl Rows {
+    pub(crate) fn new(alloc: Global) -> Rows
+        ensures { result ≡ [] }
+    {
+        Rows {
+            rows: Vec::new(alloc),
+        }
+    }
+
+    // Puts a row before the others.
+    pub(crate) fn put(&mut self, row: Row) -> Result<(), AllocError>
+        ensures { OnOk result (self.new ≡ row ∷ self.old) }
+    {
+        Ok(self.rows.push(row)?)
+    }
+
+    // Drops the first rows that are deeper than this.
+    pub(crate) fn drop_nested(&mut self, depth: usize)
+        ensures { self.new ≡ without_nested depth self.old }
+    {
+        while self.begins_deeper(depth) {
+            drop(self.rows.pop());
+        }
+    }
+
+    fn begins_deeper(&self, depth: usize) -> bool
+        ensures { result ≡ begins_deeper depth self.now }
+    {
+        match self.rows.as_slice().last() {
+            Some(row) => depth < row.depth,
+            None => false,
+        }
+    }
+
+    // Takes the first row.
+    pub(crate) fn take(&mut self) -> Option<Row>
+        ensures row { result ≡ head_of self.old }
+        ensures rest { self.new ≡ tail_of self.old }
+    {
+        self.rows.pop()
     }
 }
 

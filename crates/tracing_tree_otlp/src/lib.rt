@@ -11,7 +11,11 @@ mod gather;
 mod item;
 mod keyed;
 mod length;
+mod named;
 pub mod otlp;
 mod read;
+pub mod select;
+mod walk;
 
 pub use otlp::{OtlpCalls, otlp_calls, run_otlp};
+pub use select::Selection;

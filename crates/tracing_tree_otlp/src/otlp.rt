@@ -1,13 +1,15 @@
 //! Traces and logs in OTLP/JSON.
 
-ghost use Rattle.std.specs.Prelude.{◌≡◌, ◌<◌, IfErr, IfOk, MatchOption, MatchResult, OnOk, Some, length, ⊤};
+ghost use Rattle.std.specs.Prelude.{◌≡◌, ◌<◌, IfErr, IfOk, MatchOption, MatchResult, OnOk, Some, length, string_bytes, ⊤};
 ghost use Rattle.tracing_tree_layer.specs.Layer.Layers.{seen, Changes};
 ghost use Rattle.tracing_tree_otlp.specs.Gather.{gathered_in};
 ghost use Rattle.tracing_tree_otlp.specs.Otlp.{AreCallsOf, DrawsOrEnds, EndsReading, RunsOtlp, notes_of};
 ghost use Rattle.tracing_tree_sources.specs.Noted.{AddsNotes};
 
-use crate::draw::calls_in_order;
+use crate::draw::calls_of_rows;
 use crate::gather::{Gathered, gathered_in, in_order};
+use crate::select::{Selection, shown};
+use crate::walk::rows_in_order;
 use std::alloc::{AllocError, Global};
 use tracing_tree_layer::call::Call;
 use tracing_tree_layer::layered::Layered;
@@ -23,11 +25,12 @@ use tracing_tree_time::{FormatTime, Moment};
 /// Each trace is a span `trace`, at its earliest time. A span is nested in its parent, wherever
 /// that is in the input. If its parent is missing, it is nested in its trace. Logs and events are
 /// in their spans, and logs without a trace are at the root. All are ordered by time. Spans that
-/// are nested in each other come last, in a separate `trace`. The first span gets the id `next`.
-/// Calls are made at the times in the input, or at `moment` if a moment can't have that time.
+/// are nested in each other come last, in a separate `trace`. Only what `selection` shows is drawn.
+/// The first span gets the id `next`. Calls are made at the times in the input, or at `moment` if a
+/// moment can't have that time.
 ///
-/// A line that isn't an object is counted, noted with its number from 1, and skipped. So is a span
-/// without an id or a trace id.
+/// A line that isn't an object of OTLP is counted, noted with its number from 1, and skipped. So is
+/// a span without an id or a trace id.
 ///
 /// # Errors
 ///
@@ -38,11 +41,12 @@ pub fn run_otlp<W: Output, FT: FormatTime, N: Notes>(
     alloc: Global,
     next: u64,
     moment: Moment,
+    selection: &Selection,
     text: &str,
     layered: &mut Layered<W, FT>,
     notes: &mut N,
 ) -> SourceRun
-    ensures run { Changes (seen FT.FormatTime W.Output) (RunsOtlp next moment text.now result)
+    ensures run { Changes (seen FT.FormatTime W.Output) (RunsOtlp next moment selection.now text.now result)
         layered.old layered.new }
     ensures noted { MatchOption result.fault
         (AddsNotes (notes_of (gathered_in text.now).problems) (N.noted notes.old) (N.noted notes.new))
@@ -55,7 +59,7 @@ pub fn run_otlp<W: Output, FT: FormatTime, N: Notes>(
     if let Err(cause) = note_all(gathered.problems.as_slice(), notes) {
         return ended(unknown, cause);
     }
-    match draw(alloc, next, moment, gathered, layered) {
+    match draw(alloc, next, moment, selection, gathered, layered) {
         Ok(()) => SourceRun {
             unknown,
             fault: None,
@@ -75,27 +79,30 @@ pub struct OtlpCalls {
 }
 
 /// Reads an input, and returns the calls that [`run_otlp`] makes on its receiver. The arguments are
-/// those of `run_otlp`, and so are the notes.
+/// those of `run_otlp`, and so are the notes. The text is dropped before the calls are made, since
+/// both together would take much memory.
 pub fn otlp_calls<N: Notes>(
     alloc: Global,
     next: u64,
     moment: Moment,
-    text: &str,
+    selection: &Selection,
+    text: String,
     notes: &mut N,
 ) -> OtlpCalls
     ensures read { MatchResult result.calls
-        (λ calls. AreCallsOf next moment (gathered_in text.now) calls.items
-        × (result.unknown ≡ length (gathered_in text.now).problems))
-        (λ cause. EndsReading cause (gathered_in text.now)) }
+        (λ calls. AreCallsOf next moment selection.now (gathered_in (string_bytes text)) calls.items
+        × (result.unknown ≡ length (gathered_in (string_bytes text)).problems))
+        (λ cause. EndsReading cause (gathered_in (string_bytes text))) }
     ensures noted { OnOk result.calls
-        (AddsNotes (notes_of (gathered_in text.now).problems) (N.noted notes.old) (N.noted notes.new)) }
+        (AddsNotes (notes_of (gathered_in (string_bytes text)).problems) (N.noted notes.old) (N.noted notes.new)) }
 {
-    let Ok(gathered) = gathered_in(alloc, text) else {
+    let Ok(gathered) = gathered_in(alloc, text.as_str()) else {
         return OtlpCalls {
             calls: Err(LineCause::Memory),
             unknown: 0,
         };
     };
+    drop(text);
     let unknown = gathered.problems.len() as u64;
     if let Err(cause) = note_all(gathered.problems.as_slice(), notes) {
         return OtlpCalls {
@@ -103,7 +110,7 @@ pub fn otlp_calls<N: Notes>(
             unknown,
         };
     }
-    let calls = match calls_of(alloc, next, moment, gathered) {
+    let calls = match calls_of(alloc, next, moment, selection, gathered) {
         Ok(calls) => Ok(calls),
         Err(AllocError) => Err(LineCause::Memory),
     };
@@ -136,13 +143,14 @@ fn draw<W: Output, FT: FormatTime>(
     alloc: Global,
     next: u64,
     moment: Moment,
+    selection: &Selection,
     gathered: Gathered,
     layered: &mut Layered<W, FT>,
 ) -> Result<(), LineCause>
-    ensures { Changes (seen FT.FormatTime W.Output) (DrawsOrEnds next moment gathered result)
+    ensures { Changes (seen FT.FormatTime W.Output) (DrawsOrEnds next moment selection.now gathered result)
         layered.old layered.new }
 {
-    let Ok(calls) = calls_of(alloc, next, moment, gathered) else {
+    let Ok(calls) = calls_of(alloc, next, moment, selection, gathered) else {
         return Err(LineCause::Memory);
     };
     match draw_calls(calls, layered) {
@@ -156,11 +164,13 @@ fn calls_of(
     alloc: Global,
     next: u64,
     moment: Moment,
+    selection: &Selection,
     gathered: Gathered,
 ) -> Result<Vec<Call>, AllocError>
-    ensures { IfOk result (λ calls. AreCallsOf next moment gathered calls.items) }
+    ensures { IfOk result (λ calls. AreCallsOf next moment selection.now gathered calls.items) }
 {
     let (items, known) = gathered.into_rows();
     let ordered = in_order(alloc, &known, items)?;
-    calls_in_order(alloc, next, moment, ordered)
+    let rows = shown(alloc, selection, rows_in_order(alloc, ordered)?)?;
+    calls_of_rows(alloc, next, moment, rows)
 }

@@ -4,7 +4,7 @@ ghost use Rattle.std.specs.Prelude.{◌≡◌, IfOk, option_map, string_bytes};
 ghost use Rattle.std.specs.List.{list_all};
 ghost use Rattle.std.specs.Str.{all_ascii_digits};
 ghost use Rattle.json.specs.Value.{items_view, value_view};
-ghost use Rattle.tracing_tree_otlp.specs.Read.{attribute_at, attribute_field, attribute_fields, attribute_text, attributes_in, count_at, field_of, id_at, id_of, is_digits, is_zero, level_of, number_at, service_in, service_of, string_at, whole_of, word_of};
+ghost use Rattle.tracing_tree_otlp.specs.Read.{attribute_at, attribute_field, attribute_fields, attribute_text, attributes_in, count_at, field_of, id_at, id_of, is_digits, is_zero, number_at, service_in, service_of, span_field, string_at, whole_of, word_of};
 
 use crate::any::any_text;
 use json::Value;
@@ -12,7 +12,6 @@ use std::alloc::{AllocError, Global};
 use tracing_tree_sources::told::{message_field, shown};
 use tracing_tree_sources::values::{array_at, text_at};
 use tracing_tree_text::field::{Field, Fields};
-use tracing_tree_text::style::Level;
 use tracing_tree_text::text::Text;
 
 // Returns a number as written, which may be in a string.
@@ -26,7 +25,7 @@ fn word_of<'v>(value: &'v Value<'_>) -> Option<&'v str>
     }
 }
 
-fn number_at(value: &Value<'_>, key: &str) -> Option<u64>
+pub(crate) fn number_at(value: &Value<'_>, key: &str) -> Option<u64>
     ensures { result ≡ number_at key.now (value_view value.now) }
 {
     whole_of(word_of(value.get(key)?)?)
@@ -111,8 +110,18 @@ fn attribute_text(alloc: Global, attribute: &Value<'_>) -> Result<String, AllocE
     }
 }
 
-// Returns a field. One called `message` would be drawn without its name, so its value begins with
-// it.
+// Returns a field of a span.
+fn span_field(alloc: Global, name: &str, text: &str) -> Result<Field, AllocError>
+    ensures { IfOk result (λ field. field ≡ span_field name.now text.now) }
+{
+    Ok(Field {
+        name: shown(alloc, name)?,
+        value: shown(alloc, text)?,
+    })
+}
+
+// Returns a field of an event. One called `message` would be drawn without its name, so its value
+// begins with it.
 pub(crate) fn field_of(alloc: Global, name: &str, text: &str) -> Result<Field, AllocError>
     ensures { IfOk result (λ field. field ≡ field_of name.now text.now) }
 {
@@ -121,35 +130,50 @@ pub(crate) fn field_of(alloc: Global, name: &str, text: &str) -> Result<Field, A
         named.push_str(text)?;
         return message_field(alloc, named.as_str());
     }
-    Ok(Field {
-        name: shown(alloc, name)?,
-        value: shown(alloc, text)?,
-    })
+    span_field(alloc, name, text)
 }
 
-fn attribute_field(alloc: Global, attribute: &Value<'_>) -> Result<Field, AllocError>
-    ensures { IfOk result (λ field. field ≡ attribute_field (value_view attribute.now)) }
+fn attribute_field(
+    alloc: Global,
+    is_event: bool,
+    attribute: &Value<'_>,
+) -> Result<Field, AllocError>
+    ensures { IfOk result (λ field. field ≡ attribute_field is_event (value_view attribute.now)) }
 {
     let text = attribute_text(alloc, attribute)?;
-    field_of(alloc, string_at(attribute, "key"), text.as_str())
+    let key = string_at(attribute, "key");
+    if is_event {
+        field_of(alloc, key, text.as_str())
+    } else {
+        span_field(alloc, key, text.as_str())
+    }
 }
 
-// Returns the attributes of an object as fields.
-pub(crate) fn attributes_in(alloc: Global, value: &Value<'_>) -> Result<Fields, AllocError>
-    ensures { IfOk result (λ fields. fields ≡ attributes_in (value_view value.now)) }
+// Returns the attributes of an object as fields of an event, or of a span.
+pub(crate) fn attributes_in(
+    alloc: Global,
+    is_event: bool,
+    value: &Value<'_>,
+) -> Result<Fields, AllocError>
+    ensures { IfOk result (λ fields. fields ≡ attributes_in is_event (value_view value.now)) }
 {
     match array_at(value, "attributes") {
-        Some(attributes) => attribute_fields(alloc, attributes),
+        Some(attributes) => attribute_fields(alloc, is_event, attributes),
         None => Ok(Fields::new(alloc)),
     }
 }
 
-fn attribute_fields(alloc: Global, attributes: &Vec<Value<'_>>) -> Result<Fields, AllocError>
-    ensures { IfOk result (λ fields. fields ≡ attribute_fields (items_view attributes.now.items)) }
+fn attribute_fields(
+    alloc: Global,
+    is_event: bool,
+    attributes: &Vec<Value<'_>>,
+) -> Result<Fields, AllocError>
+    ensures { IfOk result (λ fields. fields
+        ≡ attribute_fields is_event (items_view attributes.now.items)) }
 {
     let mut fields = Vec::new(alloc);
     for attribute in attributes {
-        fields.push(attribute_field(alloc, attribute)?)?;
+        fields.push(attribute_field(alloc, is_event, attribute)?)?;
     }
     Ok(Fields::from(fields))
 }
@@ -184,24 +208,5 @@ pub(crate) fn service_in(alloc: Global, value: &Value<'_>) -> Result<Text, Alloc
     match value.get("resource") {
         Some(resource) => service_of(alloc, resource),
         None => Text::from_str(alloc, ""),
-    }
-}
-
-// Returns the level of a log's severity number, or INFO without one.
-pub(crate) fn level_of(severity: u64) -> Level
-    ensures { result ≡ level_of severity }
-{
-    if severity >= 17 {
-        Level::Error
-    } else if severity >= 13 {
-        Level::Warn
-    } else if severity >= 9 {
-        Level::Info
-    } else if severity >= 5 {
-        Level::Debug
-    } else if severity >= 1 {
-        Level::Trace
-    } else {
-        Level::Info
     }
 }

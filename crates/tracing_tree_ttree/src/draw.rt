@@ -3,12 +3,13 @@
 use crate::input::{Detected, Head, is_gzip, whole_characters};
 use crate::junit::draw_junit;
 use crate::options::{Options, name_of};
+use crate::otlp::draw_otlp;
 use crate::output::Flush;
-use crate::page::{write_input, write_otlp, write_trace};
+use crate::page::{write_input, write_trace};
 use crate::report::{
     Origin, Status, out_of_memory, refuse_format, refuse_gzip, refuse_lines, refuse_option, report,
 };
-use crate::tree::{clock, draw_calls, draw_input, draw_otlp, draw_trace, some_moment};
+use crate::tree::{clock, draw_calls, draw_input, draw_trace, some_moment};
 use std::alloc::AllocError;
 use std::io;
 use std::io::{BufReader, Read, Write};
@@ -306,23 +307,25 @@ fn draw_document<R: AllocGlobal + Eprint + Print, I: Read + Drop>(
     if is_gzip(bytes.as_slice()) {
         return Ok(refuse_gzip(rt, origin));
     }
+    let format = format_of_document(format, bytes.as_slice(), options);
+    if format == Format::Otlp {
+        return draw_otlp(rt, origin, head, bytes, options);
+    }
     let Some(text) = whole_characters(bytes.as_slice()) else {
         let _ = eprintln!(rt; "{origin}{}", Lack::Utf8);
         return Ok(Status::Failure);
     };
-    match (format_of_document(format, text, options), options.form) {
+    match (format, options.form) {
         (Format::Junit, _) => draw_junit(rt, origin, head, text, options),
-        (Format::Otlp, None) => draw_otlp(rt, origin, text, options),
-        (Format::Otlp, Some(form)) => write_otlp(rt, origin, head, text, form, options),
         (_, None) => draw_trace(rt, origin, text, options),
         (_, Some(form)) => write_trace(rt, origin, head, text, form, options),
     }
 }
 
 // Returns the format of a document. What looks like a trace line by line may be an object of OTLP.
-fn format_of_document(format: Format, text: &str, options: &Options<'_>) -> Format {
+fn format_of_document(format: Format, bytes: &[u8], options: &Options<'_>) -> Format {
     match format {
-        Format::Chrome if options.from.is_none() && is_otlp(text.as_bytes()) => Format::Otlp,
+        Format::Chrome if options.from.is_none() && is_otlp(bytes) => Format::Otlp,
         _ => format,
     }
 }

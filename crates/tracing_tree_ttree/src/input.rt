@@ -177,7 +177,10 @@ impl Head {
 }
 
 // Reads up to the next line end, and this with it.
-fn read_through<R: Read>(lines: &mut BufReader<R>, line: &mut Vec<u8>) -> Result<(), LineCause> {
+pub fn read_through<R: Read>(
+    lines: &mut BufReader<R>,
+    line: &mut Vec<u8>,
+) -> Result<(), LineCause> {
     match lines.read_until(b'\n', line) {
         Ok(_) => Ok(()),
         Err(error) if error.kind() == io::ErrorKind::OutOfMemory => Err(LineCause::Memory),

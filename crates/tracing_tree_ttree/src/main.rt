@@ -5,6 +5,7 @@ mod draw;
 mod input;
 mod junit;
 mod options;
+mod otlp;
 mod output;
 mod page;
 mod report;

@@ -7,7 +7,9 @@ use jiff::SignedDuration;
 use std::alloc::{AllocError, Global};
 use tracing_tree::format::Config;
 use tracing_tree::style::Level;
+use tracing_tree::text::Text;
 use tracing_tree_chrome::Cut;
+use tracing_tree_otlp::Selection;
 use tracing_tree_page::LineForm;
 use tracing_tree_sources::Format;
 
@@ -23,11 +25,17 @@ pub struct Options<'a> {
     // Events below it aren't shown. Without it, each is.
     min_level: Option<Level>,
 
-    // Whether only what failed is shown, of tests.
+    // Whether only what failed is shown.
     pub is_failed: bool,
 
     // The key that groups the events of logs. Without it, their traces and requests do.
     pub group: Option<&'a str>,
+
+    // The service of OTLP that is shown. Without it, each is.
+    service: Option<&'a str>,
+
+    // The first part of the ids of the traces that are shown. Without it, each is.
+    trace: Option<&'a str>,
 
     // Which spans of a trace aren't drawn.
     pub cut: Cut,
@@ -67,7 +75,7 @@ pub struct Style {
 }
 
 // The options that not every format has.
-const OPTIONS: [&str; 11] = [
+const OPTIONS: [&str; 13] = [
     "amount",
     "color",
     "depth",
@@ -77,9 +85,14 @@ const OPTIONS: [&str; 11] = [
     "min",
     "no-lines",
     "no-retrace",
+    "service",
     "threads",
     "times",
+    "trace",
 ];
+
+// The options that select what is shown of OTLP.
+const SELECTING: [&str; 4] = ["failed", "level", "service", "trace"];
 
 impl<'a> Options<'a> {
     // Returns the settings of the drawing.
@@ -106,6 +119,34 @@ impl<'a> Options<'a> {
         self.min_level.unwrap_or(Level::Trace)
     }
 
+    // Returns what is shown of OTLP.
+    pub fn selection(&self, alloc: Global) -> Result<Selection, AllocError> {
+        let service = match self.service {
+            Some(service) => Some(Text::from_str(alloc, service)?),
+            None => None,
+        };
+        let trace = self.trace.unwrap_or("").to_ascii_lowercase(alloc)?;
+        Ok(Selection {
+            service,
+            trace: Text::from(trace),
+            least: self.min_level,
+            is_failed: self.is_failed,
+        })
+    }
+
+    // Returns the given options that select what is shown of OTLP, or an empty string without any.
+    pub fn selecting(&self, alloc: Global) -> Result<String, AllocError> {
+        let mut words = String::new(alloc);
+        for option in SELECTING {
+            if self.given.iter().any(|given| *given == option) {
+                let mark = if words.is_empty() { "--" } else { ", --" };
+                words.push_str(mark)?;
+                words.push_str(option)?;
+            }
+        }
+        Ok(words)
+    }
+
     // Returns an option that is given and has no meaning without a drawing.
     pub fn without_drawing(&self) -> Option<&'a str> {
         self.given
@@ -126,12 +167,21 @@ impl<'a> Options<'a> {
 // Returns whether a format has this option.
 fn is_option_of(format: Format, option: &str) -> bool {
     match option {
-        "failed" => matches!(format, Format::GoTest | Format::Junit | Format::Tap),
+        "failed" => matches!(
+            format,
+            Format::GoTest | Format::Junit | Format::Otlp | Format::Tap
+        ),
         "group" => format == Format::Logs,
+        "service" | "trace" => format == Format::Otlp,
         "min" | "depth" => format == Format::Chrome,
         "level" => matches!(
             format,
-            Format::GoTest | Format::Tracing | Format::Logs | Format::Junit | Format::Tap
+            Format::GoTest
+                | Format::Tracing
+                | Format::Logs
+                | Format::Otlp
+                | Format::Junit
+                | Format::Tap
         ),
         "threads" => format == Format::Tracing,
         "times" => !matches!(format, Format::Lines | Format::Junit | Format::Tap),
@@ -167,6 +217,8 @@ pub fn parse<'a>(
         min_level: matches.get_str("level").map(level_of),
         is_failed: matches.get_flag("failed"),
         group: matches.get_str("group"),
+        service: matches.get_str("service"),
+        trace: matches.get_str("trace"),
         cut: Cut {
             least: shortest(alloc, matches.get_str("min"))?,
             depth: matches.get_one::<usize>("depth"),
@@ -233,6 +285,8 @@ fn command<'a>(alloc: Global) -> Result<Command<'a>, AllocError> {
         .arg(level_option(alloc))?
         .arg(failed_option(alloc))?
         .arg(group_option(alloc))?
+        .arg(service_option(alloc))?
+        .arg(trace_option(alloc))?
         .arg(min_option(alloc))?
         .arg(depth_option(alloc))?
         .arg(flag(
@@ -314,7 +368,22 @@ fn failed_option<'a>(alloc: Global) -> Arg<'a> {
     flag(
         alloc,
         "failed",
-        "Leaves out the tests that passed or were skipped, and packages, files, suites and subtests without a failure; go-test, junit and tap",
+        "Leaves out the tests that passed or were skipped, and packages, files, suites and subtests without a failure; of otlp, the spans without an error in them; go-test, junit, tap and otlp",
+    )
+}
+
+fn service_option<'a>(alloc: Global) -> Arg<'a> {
+    Arg::new(alloc, "service")
+        .long("service")
+        .value_name("NAME")
+        .help(
+            "Draws only the spans and logs of this service, and the spans that they are in; otlp alone",
+        )
+}
+
+fn trace_option<'a>(alloc: Global) -> Arg<'a> {
+    Arg::new(alloc, "trace").long("trace").value_name("ID").help(
+        "Draws only the traces whose id begins with this; otlp alone",
     )
 }
 

@@ -11,7 +11,6 @@ use std::io::{BufReader, Read, Write};
 use tracing_tree::format::Wrap;
 use tracing_tree::lines::{BLOCK, LineCause, LineFault};
 use tracing_tree_chrome::{TraceCalls, trace_calls};
-use tracing_tree_otlp::{OtlpCalls, otlp_calls};
 use tracing_tree_page::{LineForm, StepWriter};
 use tracing_tree_sources::run::make;
 use tracing_tree_sources::{AtLeast, Plain, Source, SourceRun, run_source};
@@ -86,27 +85,6 @@ pub fn write_read<R: AllocGlobal + Eprint + Print>(
         Some(cause) => ended(read.unknown, cause),
     };
     Ok(finish(run, steps, form, reporter))
-}
-
-// Writes traces and logs of OTLP, and the lines before them first.
-pub fn write_otlp<R: AllocGlobal + Eprint + Print>(
-    rt: &R,
-    origin: Origin<'_>,
-    head: &Head,
-    text: &str,
-    form: LineForm,
-    options: &Options<'_>,
-) -> Result<Status, AllocError> {
-    let mut reporter = Reporter::new(rt, origin, Unit::Export, options.is_strict);
-    let OtlpCalls { calls, unknown } = otlp_calls(
-        rt.alloc(),
-        1,
-        some_moment(),
-        text,
-        &mut reporter,
-    );
-    let read = TraceCalls { calls, unknown };
-    write_read(rt, origin, head, read, form, &reporter, options)
 }
 
 // Writes the lines before a trace: each is an event at the root. Returns what ended that early.

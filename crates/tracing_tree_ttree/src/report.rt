@@ -14,6 +14,10 @@ use tracing_tree_sources::{Lack, Notes, SourceRun};
 const FORMATS: &str =
     "no line determines the format; expected the output of go test -json, TAP, JUnit XML, the JSON of Rust's tracing-subscriber, JSON logs, OTLP as JSON, a Chrome trace, or settings and calls; --from names the format";
 
+// What a line of OTLP needs.
+const EXPORT: &str =
+    "expected an object with \"resourceSpans\", \"resourceLogs\" or \"resourceMetrics\", and \"traceId\" and \"spanId\" in its spans";
+
 // How many skipped lines are reported one by one.
 const NOTED: u64 = 10;
 
@@ -209,9 +213,7 @@ struct Reason {
 impl fmt::Display for Reason {
     fn fmt<W: fmt::Write>(&self, f: &mut fmt::Formatter<W>) -> fmt::Result {
         match (self.unit, self.lack) {
-            (Unit::Export, Lack::Object) => {
-                f.write_str("expected an object, and \"traceId\" and \"spanId\" in its spans")
-            }
+            (Unit::Export, Lack::Object) => { f.write_str(EXPORT) }
             (_, lack) => write!(f, "{lack}"),
         }
     }
@@ -225,6 +227,8 @@ pub struct Reporter<'a, R> {
     origin: Origin<'a>,
     unit: Unit,
     is_strict: bool,
+    // How many lines of the input come before those that are numbered.
+    pub lines_before: u64,
     count: u64,
 }
 
@@ -236,6 +240,7 @@ impl<R: Eprint> Notes for Reporter<'_, R> {
             let _ = eprintln!(self.rt; "{origin}{lack}");
             return !self.is_strict;
         }
+        let number = number.saturating_add(self.lines_before);
         let reason = Reason { unit, lack };
         if self.is_strict {
             let _ = eprintln!(self.rt; "{origin}{unit} {number}: {reason}");
@@ -256,6 +261,7 @@ impl<'a, R: Eprint> Reporter<'a, R> {
             origin,
             unit,
             is_strict,
+            lines_before: 0,
             count: 0,
         }
     }

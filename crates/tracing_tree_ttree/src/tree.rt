@@ -15,7 +15,6 @@ use tracing_tree::lines::{BLOCK, LineFault};
 use tracing_tree::run_lines;
 use tracing_tree::time::{Clock, Moment, Uptime, UtcDateTime};
 use tracing_tree_chrome::run_trace;
-use tracing_tree_otlp::run_otlp;
 use tracing_tree_sources::{Source, draw_source};
 
 // Returns the moment of the calls before a source knows one.
@@ -91,22 +90,6 @@ pub fn draw_trace<R: AllocGlobal + Eprint + Print>(
         &mut layered,
         &mut reporter,
     );
-    Ok(report_run(&run, layered, &reporter))
-}
-
-// Draws traces and logs of OTLP.
-pub fn draw_otlp<R: AllocGlobal + Eprint + Print>(
-    rt: &R,
-    origin: Origin<'_>,
-    text: &str,
-    options: &Options<'_>,
-) -> Result<Status, AllocError> {
-    let alloc = rt.alloc();
-    let writer = output(alloc, io::writer(rt), options.width)?;
-    let config = options.config().with_deferred_spans(false);
-    let mut layered = layered(alloc, config, clock(options.is_timed), writer);
-    let mut reporter = Reporter::new(rt, origin, Unit::Export, options.is_strict);
-    let run = run_otlp(alloc, 1, some_moment(), text, &mut layered, &mut reporter);
     Ok(report_run(&run, layered, &reporter))
 }
 

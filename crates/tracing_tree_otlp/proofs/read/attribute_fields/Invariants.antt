@@ -6,5 +6,5 @@ use Rattle.tracing_tree_otlp.proofs.read.attribute_fields.Given as goal
 -- what was read, and then what is read of the rest, are all
 abbrev pub invariant-loop-attribute : goal.invariant-loop-attribute
 invariant-loop-attribute l =
-    attribute_fields (items_view l.attribute-items)
-    ≡ l.fields.items ++ attribute_fields (items_view (drop l.attribute-index l.attribute-items))
+    attribute_fields l.is_event (items_view l.attribute-items)
+    ≡ l.fields.items ++ attribute_fields l.is_event (items_view (drop l.attribute-index l.attribute-items))

@@ -1,13 +1,13 @@
 use Rattle.std.proofs.Common.{rules, ◌≡◌, List, [], ◌∷◌, ◌++◌, ap, ◌∙◌, append_assoc}
-use Rattle.tracing_tree_otlp.specs.Draw.{put_first}
+use Rattle.tracing_tree_otlp.specs.Walk.{put_first}
 use Rattle.tracing_tree_otlp.specs.declared.item.Item.{Item}
-use Rattle.tracing_tree_otlp.proofs.draw.grouped.Goals as goal
+use Rattle.tracing_tree_otlp.proofs.walk.grouped.Goals as goal
 
 pub loop-item-preserved : goal.loop-item-preserved
 loop-item-preserved c =
     let (done, split, same) = c.loop-item.invariant in
     let item = c.in-Some.item in
-    let popped : c.loop-item.rows.items ≡ c.pop.new.self.items ++ item ∷ [] = search rules in (
+    let popped : c.loop-item.items.items ≡ c.pop.new.self.items ++ item ∷ [] = search rules in (
       item ∷ done,
       split ∙ ap (λ (l : List Item). l ++ done) popped ∙ append_assoc c.pop.new.self.items (item ∷ []) done,
       c.in_ok-put_first.ensures ∙ ap (put_first item) same,

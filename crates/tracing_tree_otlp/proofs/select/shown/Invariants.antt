@@ -1,0 +1,13 @@
+use Rattle.std.proofs.Common.{◌≡◌, ◌++◌, List, length}
+use Rattle.tracing_tree_otlp.specs.Select.{reach_of, shown}
+use Rattle.tracing_tree_otlp.specs.declared.walk.Row.{Row}
+use Rattle.tracing_tree_otlp.proofs.select.shown.Given as goal
+
+-- those from some place on are judged
+abbrev pub invariant-loop-row : goal.invariant-loop-row
+invariant-loop-row l =
+    (done : List Row) × (l.fn.rows.items ≡ l.rows.items ++ done)
+    × (l.kept ≡ shown l.selection done) × (l.reach ≡ reach_of l.selection done)
+
+abbrev pub decreases-loop-row : goal.decreases-loop-row
+decreases-loop-row l = length l.rows.items

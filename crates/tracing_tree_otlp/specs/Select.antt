@@ -1,0 +1,125 @@
+-- What is shown of an input.
+use Rattle.std.specs.Prelude.{ℕ, nat_le, nat_lt, min, Bool, true, false, not, ◌&&◌, ◌||◌, if◌then◌else◌, List, [], ◌∷◌, Option, Some, None, is_some, bytes_eq}
+use Rattle.tracing_tree_text.specs.declared.style.Level.{Level}
+use Rattle.tracing_tree_text.specs.declared.style.Level.TheVariants.{Trace as OfTrace, Debug, Info, Warn, Error}
+use Rattle.tracing_tree_sources.specs.Levels.{rank}
+use Rattle.tracing_tree_sources.specs.Marks.{after_mark}
+use Rattle.tracing_tree_otlp.specs.declared.item.Note.{Note}
+use Rattle.tracing_tree_otlp.specs.declared.item.Shape.{Shape}
+use Rattle.tracing_tree_otlp.specs.declared.item.Shape.TheVariants.{Trace, Span, Note as OfNote}
+use Rattle.tracing_tree_otlp.specs.declared.select.Selection.{Selection}
+use Rattle.tracing_tree_otlp.specs.declared.walk.Row.{Row}
+
+abbrev pub everything : Selection
+everything = record { service = None; trace = []; least = None; is_failed = false }
+
+-- ---- what is selected
+
+abbrev pub is_of_service : Option (List ℕ) → List ℕ → Bool
+is_of_service (Some wanted) service = bytes_eq wanted service
+is_of_service None service = true
+
+-- a trace's id begins with this
+abbrev pub is_of_trace : List ℕ → List ℕ → Bool
+is_of_trace front trace = is_some (after_mark front trace)
+
+abbrev pub fits : Selection → List ℕ → List ℕ → Bool
+fits selection trace service =
+    is_of_trace selection.trace trace && is_of_service selection.service service
+
+abbrev pub is_at_least : Option Level → Level → Bool
+is_at_least (Some least) level = nat_le (rank least) (rank level)
+is_at_least None level = true
+
+abbrev pub is_error : Level → Bool
+is_error Error = true
+is_error OfTrace = false
+is_error Debug = false
+is_error Info = false
+is_error Warn = false
+
+abbrev pub note_fits : Selection → List ℕ → Note → Bool
+note_fits selection trace note =
+    fits selection trace note.service && is_at_least selection.least note.level
+
+-- under --failed only errors are selected
+abbrev pub note_is_selected : Selection → List ℕ → Note → Bool
+note_is_selected selection trace note =
+    note_fits selection trace note && (not selection.is_failed || is_error note.level)
+
+-- by a level, and under --failed, only events and logs are selected
+abbrev pub selects_events : Selection → Bool
+selects_events selection = selection.is_failed || is_some selection.least
+
+abbrev pub is_selected_as : Shape → Selection → List ℕ → Bool
+is_selected_as (Trace id) selection trace = false
+is_selected_as (Span span) selection trace =
+    not (selects_events selection) && fits selection trace span.service
+is_selected_as (OfNote note) selection trace = note_is_selected selection trace note
+
+-- a span, an event or a log is selected
+abbrev pub is_selected : Selection → Row → Bool
+is_selected selection row = is_selected_as row.item.shape selection row.item.trace
+
+-- ---- what is shown
+
+-- A row at this depth, which comes before these rows, has a selected one in it. The rows in it are
+-- those that follow it, up to the first that isn't deeper.
+abbrev pub contains : Selection → ℕ → List Row → Bool
+contains selection depth [] = false
+contains selection depth (row ∷ others) =
+    nat_lt depth row.depth && (is_selected selection row || contains selection depth others)
+
+abbrev pub is_around_as : Shape → Selection → Row → Bool
+is_around_as (Trace id) selection row = false
+is_around_as (Span span) selection row = false
+is_around_as (OfNote note) selection row =
+    (selection.is_failed && nat_lt 0 row.depth) && note_fits selection row.item.trace note
+
+-- under --failed, an event or a log that is shown if its span is
+abbrev pub is_around : Selection → Row → Bool
+is_around selection row = is_around_as row.item.shape selection row
+
+-- a row is shown if it is selected, or if a row that is nested in it is
+abbrev pub is_shown : Selection → Row → List Row → Bool
+is_shown selection row others =
+    (is_selected selection row || contains selection row.depth others) || is_around selection row
+
+-- the first row is deeper than this
+abbrev pub begins_deeper : ℕ → List Row → Bool
+begins_deeper depth [] = false
+begins_deeper depth (row ∷ others) = nat_lt depth row.depth
+
+-- the rows after those that are nested in a row at this depth
+abbrev pub without_nested : ℕ → List Row → List Row
+without_nested depth [] = []
+without_nested depth (row ∷ others) =
+    if nat_lt depth row.depth then without_nested depth others else row ∷ others
+
+-- a row before those that are shown after it, or what is left of these without it
+abbrev pub kept_with : Bool → Row → List Row → List Row
+kept_with is_kept row others =
+    if is_kept then row ∷ others else without_nested row.depth others
+
+-- The rows that are shown, of rows in the order in which they are drawn. What is nested in a row
+-- that isn't shown isn't shown either.
+abbrev pub shown : Selection → List Row → List Row
+shown selection [] = []
+shown selection (row ∷ others) =
+    kept_with (is_shown selection row others) row (shown selection others)
+
+-- ---- how far up a selected row is shown
+
+abbrev pub reach_with : Bool → ℕ → ℕ → ℕ
+reach_with selected depth reach = if selected then depth else min depth reach
+
+-- whether a row is shown, by the reach of the rows after it
+abbrev pub is_shown_by : Selection → Row → Bool → ℕ → Bool
+is_shown_by selection row selected reach =
+    (selected || nat_lt row.depth reach) || is_around selection row
+
+-- Exactly the rows of a lower depth than this have a selected one of these rows in them.
+abbrev pub reach_of : Selection → List Row → ℕ
+reach_of selection [] = 0
+reach_of selection (row ∷ others) =
+    reach_with (is_selected selection row) row.depth (reach_of selection others)

@@ -1,0 +1,181 @@
+//! The rows that are shown.
+
+ghost use Rattle.std.specs.Prelude.{◌≡◌, IfOk, OnOk};
+ghost use Rattle.tracing_tree_otlp.specs.Select.{everything, fits, is_around, is_at_least, is_error, is_of_service, is_of_trace, is_selected, is_shown_by, kept_with, note_fits, note_is_selected, reach_with, selects_events, shown};
+
+use crate::item::{Note, Shape};
+use crate::keyed::Rows;
+use crate::walk::Row;
+use std::alloc::{AllocError, Global};
+use tracing_tree_sources::level::rank;
+use tracing_tree_sources::marks::after_mark;
+use tracing_tree_text::style::Level;
+use tracing_tree_text::text::Text;
+
+/// What is shown of an input. A span is shown if it is selected, or if something in it is, at any
+/// depth. An event or a log is shown if it is selected.
+#[derive(Debug, Drop)]
+pub struct Selection {
+    /// Only spans, events and logs of this service are selected. `None` selects those of all.
+    pub service: Option<Text>,
+
+    /// Only what is in a trace whose id begins with this, in lower case, is selected. The empty
+    /// string selects all, also logs without a trace.
+    pub trace: Text,
+
+    /// Only events and logs of this level and above are selected, and no spans. `None` selects
+    /// those of all levels, and spans.
+    pub least: Option<Level>,
+
+    /// Only errors are selected: events and logs of the level ERROR, and failures. Other events
+    /// and logs are shown if their span is.
+    pub is_failed: bool,
+}
+
+impl Selection {
+    /// Returns the selection of everything.
+    ///
+    /// # Errors
+    ///
+    /// `AllocError` if an allocation fails.
+    pub fn all(alloc: Global) -> Result<Selection, AllocError>
+        ensures { IfOk result (λ selection. selection ≡ everything) }
+    {
+        Ok(Selection {
+            service: None,
+            trace: Text::from_str(alloc, "")?,
+            least: None,
+            is_failed: false,
+        })
+    }
+}
+
+fn is_of_service(wanted: &Option<Text>, service: &str) -> bool
+    ensures { result ≡ is_of_service wanted.now service.now }
+{
+    match wanted {
+        Some(wanted) => wanted.as_str() == service,
+        None => true,
+    }
+}
+
+fn is_of_trace(front: &str, trace: &str) -> bool
+    ensures { result ≡ is_of_trace front.now trace.now }
+{
+    after_mark(trace, front).is_some()
+}
+
+fn fits(selection: &Selection, trace: &str, service: &str) -> bool
+    ensures { result ≡ fits selection.now trace.now service.now }
+{
+    is_of_trace(selection.trace.as_str(), trace) && is_of_service(&selection.service, service)
+}
+
+fn is_at_least(least: Option<Level>, level: Level) -> bool
+    ensures { result ≡ is_at_least least level }
+{
+    match least {
+        Some(least) => rank(least) <= rank(level),
+        None => true,
+    }
+}
+
+fn is_error(level: Level) -> bool
+    ensures { result ≡ is_error level }
+{
+    match level {
+        Level::Error => true,
+        Level::Trace | Level::Debug | Level::Info | Level::Warn => false,
+    }
+}
+
+fn note_fits(selection: &Selection, trace: &str, note: &Note) -> bool
+    ensures { result ≡ note_fits selection.now trace.now note.now }
+{
+    fits(selection, trace, note.service.as_str()) && is_at_least(selection.least, note.level)
+}
+
+fn note_is_selected(selection: &Selection, trace: &str, note: &Note) -> bool
+    ensures { result ≡ note_is_selected selection.now trace.now note.now }
+{
+    note_fits(selection, trace, note) && (!selection.is_failed || is_error(note.level))
+}
+
+fn selects_events(selection: &Selection) -> bool
+    ensures { result ≡ selects_events selection.now }
+{
+    selection.is_failed || selection.least.is_some()
+}
+
+fn is_selected(selection: &Selection, row: &Row) -> bool
+    ensures { result ≡ is_selected selection.now row.now }
+{
+    let trace = row.item.trace.as_str();
+    match &row.item.shape {
+        Shape::Trace(_) => false,
+        Shape::Span(span) => {
+            !selects_events(selection) && fits(selection, trace, span.service.as_str())
+        }
+        Shape::Note(note) => note_is_selected(selection, trace, note),
+    }
+}
+
+// Returns whether a row is an event or a log that is shown if its span is.
+fn is_around(selection: &Selection, row: &Row) -> bool
+    ensures { result ≡ is_around selection.now row.now }
+{
+    match &row.item.shape {
+        Shape::Trace(_) | Shape::Span(_) => false,
+        Shape::Note(note) => {
+            selection.is_failed
+                && row.depth > 0
+                && note_fits(selection, row.item.trace.as_str(), note)
+        }
+    }
+}
+
+// Returns the depth from which on a row before these has nothing selected in it, after one more row.
+fn reach_with(is_selected: bool, depth: usize, reach: usize) -> usize
+    ensures { result ≡ reach_with is_selected depth reach }
+{
+    if is_selected { depth } else { depth.min(reach) }
+}
+
+// Returns whether a row is shown, given the reach of the rows after it.
+fn is_shown_by(selection: &Selection, row: &Row, selected: bool, reach: usize) -> bool
+    ensures { result ≡ is_shown_by selection.now row.now selected reach }
+{
+    selected || row.depth < reach || is_around(selection, row)
+}
+
+// Puts a row before those after it, or drops what is nested in it.
+fn keep(kept: &mut Rows, is_shown: bool, row: Row) -> Result<(), AllocError>
+    ensures { OnOk result (kept.new ≡ kept_with is_shown row kept.old) }
+{
+    if is_shown {
+        return kept.put(row);
+    }
+    kept.drop_nested(row.depth);
+    Ok(())
+}
+
+// Returns the rows that are shown, the first first.
+pub(crate) fn shown(
+    alloc: Global,
+    selection: &Selection,
+    rows: Vec<Row>,
+) -> Result<Rows, AllocError>
+    ensures { IfOk result (λ kept. kept ≡ shown selection.now rows.items) }
+{
+    let mut kept = Rows::new(alloc);
+    let mut reach = 0;
+    let mut rows = rows;
+    while let Some(row) = rows.pop() {
+        let selected = is_selected(selection, &row);
+        let depth = row.depth;
+        let is_shown = is_shown_by(selection, &row, selected, reach);
+        keep(&mut kept, is_shown, row)?;
+        reach = reach_with(selected, depth, reach);
+    }
+    Ok(kept)
+}
