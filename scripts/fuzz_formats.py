@@ -29,7 +29,8 @@ STRANGE = (b"\x1b[31m", b"\x00", b"\xff", b"\xc2\x9b", b"{", b"}", b"[", b"]", b
 FORMATS = {"go-": "go-test", "tap-": "tap", "junit-": "junit", "tracing": "tracing", "log-": "logs", "otlp-": "otlp",
            "clang-": "chrome", "uftrace": "chrome", "node-": "chrome"}
 # The options that only some formats have.
-OPTIONS = {"go-test": "--failed", "junit": "--failed", "tap": "--level=warn", "tracing": "--threads", "logs": "--group=service", "chrome": "--min=1ms"}
+OPTIONS = {"go-test": "--failed", "junit": "--failed", "tap": "--level=warn", "tracing": "--threads", "logs": "--group=service", "chrome": "--min=1ms",
+           "otlp": "--failed"}
 
 
 def format_of(name):
