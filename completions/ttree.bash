@@ -16,8 +16,8 @@ _ttree() {
         *)
             [[ $word == -* ]] || return
             words='--from --color --amount --level --failed --group --service --trace --min --depth
-            --html --title --json --no-lines --no-retrace --threads --times --strict --width --help
-            -h --version -V'
+            --html --title --json --no-lines --no-retrace --threads --times --strict --width
+            --help -h --version -V'
             ;;
     esac
     mapfile -t COMPREPLY < <(compgen -W "$words" -- "$word")
