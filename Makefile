@@ -35,8 +35,9 @@ gate: need-rt ## proves and tries everything from nothing
 edits: need-rt ## tries the edits that must be refused (CRATES=..)
 	@python3 scripts/edits.py $(CRATES)
 
-# Opens pages in headless Chromium, also those of the examples. Without Chromium it says so.
-page-test: need-python bin/ttree ## opens pages in headless Chromium
+# Opens pages in headless Chromium and Firefox, also those of the examples. Says so if a browser is
+# missing.
+page-test: need-python bin/ttree ## opens pages in headless browsers
 	@python3 viewer/page_test.py bin/ttree
 
 # Prints everything that a claim depends on: the contract of the function NAME or the definition

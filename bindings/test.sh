@@ -28,7 +28,7 @@ for field in 'bool ansi;=uint64_t ansi;' 'uint64_t epoch;=uint32_t epoch;' 'int6
         $cc -std=c11 -I"$room/changed" -fsyntax-only "$room/layout.c"
 done
 
-# ---- a stub of a library of version 0, in which each function returns 0
+# ---- a stub of a library of version 0, whose functions all return 0
 sed -n 's/^[a-z0-9_]* \(tt_[a-z0-9_]*\)(.*/int \1(void) { return 0; }/p' bindings/c/tracing_tree.h > "$room/other.c"
 mkdir "$room/other"
 step "another version of the library" $cc -c "$room/other.c" -o "$room/other.o"

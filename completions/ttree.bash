@@ -12,12 +12,13 @@ _ttree() {
         --from) words='go-test tap junit tracing logs otlp chrome lines' ;;
         --color) words='auto always never' ;;
         --level) words='trace debug info warn error' ;;
-        --amount|--group|--service|--trace|--min|--depth|--title|--width) compopt +o default 2> /dev/null; return ;;
+        --times) words='ms us ns' ;;
+        --amount|--group|--service|--trace|--min|--depth|--title|--fields|--width) compopt +o default 2> /dev/null; return ;;
         *)
             [[ $word == -* ]] || return
             words='--from --color --amount --level --failed --group --service --trace --min --depth
-            --html --title --json --no-lines --no-retrace --threads --times --strict --width
-            --help -h --version -V'
+            --html --title --json --no-lines --no-retrace --threads --times --full --fields
+            --summary --strict --width --help -h --version -V'
             ;;
     esac
     mapfile -t COMPREPLY < <(compgen -W "$words" -- "$word")

@@ -194,7 +194,7 @@ def lines_of(definitions):
 
 
 def find(name, definitions, functions):
-    """Returns the function or the definition with this name. If there is no such name, exits and
+    """Returns the function or the definition with this name. Without such a name, exits and
     suggests similar ones."""
     if functions.get(name):
         # A public function comes before a private one with the same name.

@@ -6,14 +6,16 @@ without its proofs."""
 import os, re, subprocess, sys, textwrap
 
 TOP = os.path.dirname(os.path.dirname(os.path.abspath(__file__)))
-OPTION = re.compile(r" +(?:-(\w), )?(?:    )?--([a-z-]+)(?: <(\w+)>)? +(.*)")
+OPTION = re.compile(r" +(?:-(\w), )?(?:    )?--([a-z-]+)(?:( |\[=)<(\w+)>\]?)? +(.*)")
 
 
 class Option:
-    """An option as --help prints it. `value` is the value's name, or None for a flag."""
+    """An option as --help prints it. `value` is the value's name, or None for a flag. An `optional`
+    value comes after `=`."""
 
-    def __init__(self, short, long, value, text):
+    def __init__(self, short, long, before, value, text):
         self.short, self.long, self.value, self.text = short, long, value, text
+        self.optional = before == "[="
         listed = re.search(r"\[possible values: (.*?)\]", text)
         self.values = listed[1].split(", ") if listed else []
         default = re.search(r"\[default: (.*?)\]", text)
@@ -92,7 +94,8 @@ def zsh(name, given):
             words.append(f"'(- *)'{{-{it.short},--{it.long}}}{quoted(described(it))}")
         elif it.value:
             values = f"({' '.join(it.values)})" if it.values else ""
-            words.append(quoted(f"--{it.long}={described(it)}:{it.value}:{values}"))
+            mark, colon = ("=-", "::") if it.optional else ("=", ":")
+            words.append(quoted(f"--{it.long}{mark}{described(it)}{colon}{it.value}:{values}"))
         else:
             words.append(quoted(f"--{it.long}{described(it)}"))
     if given.takes_file:
@@ -113,7 +116,7 @@ def fish(name, given):
         lines.append(f"complete -c {name} -f\n")
     for it in given.options:
         short = f" -s {it.short}" if it.short else ""
-        value = " -x" if it.value else ""
+        value = " -x" if it.value and not it.optional else ""
         values = f" -a '{' '.join(it.values)}'" if it.values else ""
         text = it.summary.replace("\\", "\\\\").replace("'", "\\'")
         lines.append(f"complete -c {name}{short} -l {it.long}{value}{values} -d '{text}'\n")

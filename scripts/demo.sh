@@ -1,5 +1,5 @@
 #!/bin/bash
-# Draws the example. Uses the proved program if bin/ has one that is newer than every source;
+# Draws the example. Uses the proved program if that in bin/ is newer than every source;
 # otherwise compiles and runs the sources without a proof.
 set -eu
 top=$(cd "$(dirname "$0")/.." && pwd)

@@ -55,7 +55,7 @@ ENDED = re.compile(r"(?m)^(logic=not-proved|only=\d+ proved=|logic=proved)")
 UNKNOWN = 2
 # What antt reports if a proof names what an edit removed. It says nothing about a contract.
 NAMES = re.compile(r"has no field|is not in scope|has no `|was not admitted|cannot continue|expected the end|write the case `goal")
-# Where antt breaks such a message into two lines. `rt must-fail` shows only the first: CUT.
+# The place at which antt breaks such a message into two lines. `rt must-fail` shows only the first: CUT.
 BROKEN = re.compile(r"\n +(?=has no )")
 CUT = re.compile(r"error: (`[^`]+`: )*(module `|record `|write the case `goal)")
 ONLY_NAMES = "only because a proof file names what the edit took away"

@@ -9,7 +9,7 @@ There are four kinds of runs:
 
 - --lines: lines of calls, with some lines changed by byte, token, member or as a whole.
 - --calls: unchanged calls, under all settings.
-- --sizes: inputs in which one quantity has a given size, up to this one.
+- --sizes: inputs with one quantity of a given size, up to this one.
 - --drawings: lines of drawings, with some changed.
 
 The output, the standard error and the status of each run must be those of the model, within a time
@@ -172,7 +172,7 @@ def fuzz_lines(tally, program, count, is_wide, share):
 
 
 def sized_inputs(rng, most):
-    """Returns inputs in which one quantity has a given size, for sizes up to `most`. The settings
+    """Returns inputs with one quantity of a given size, for sizes up to `most`. The settings
     are random, and in half of the inputs retracing is on too."""
     for size in sizes.sizes(most):
         yield from sizes.of_lines(size)

@@ -150,6 +150,7 @@ class Gate:
         self.programs("scripts/ttree.sh", "tracing_tree_ttree", "tracing_tree_cli")
         self.programs("scripts/page.py", "tracing_tree_ttree", "tracing_tree_cli")
         self.programs("scripts/manual.py", "tracing_tree_ttree", "tracing_tree_cli", "tracing_tree_read")
+        self.programs("scripts/controls.py", "tracing_tree_ttree")
         logs = sorted(glob.glob(f"{TOP}/examples/tracing*.jsonl"))
         self.programs("scripts/tracing_paths.py", "tracing_tree_ttree", "tracing_tree_read", more=logs)
         self.programs("viewer/page_test.py", "tracing_tree_ttree")

@@ -8,10 +8,13 @@ import json, random, re, sys
 
 LEVELS = {"pass": "INFO", "fail": "ERROR", "skip": "WARN", "unfinished": "ERROR"}
 VERDICTS = {"pass": "good", "bench": "good", "skip": "good", "fail": "bad", "build-fail": "bad"}
+PROGRESS = ("go: downloading ", "go: finding ", "go: extracting ")
 ENDINGS = {"pass": "pass", "bench": "pass", "fail": "fail", "skip": "skip"}
 STEPS = ("=== RUN   ", "=== PAUSE ", "=== CONT  ", "=== NAME  ", "=== ATTR  ", "=== ARTIFACTS ")
 STEPS += ("--- PASS: ", "--- FAIL: ", "--- SKIP: ", "--- BENCH: ")
-TRACES = re.compile(r"panic: |fatal error: |goroutine .*\]:$|thread '[^']*'( panicked at | \()|stack backtrace:|Traceback \(most recent call last\):|Exception in thread \"|Caused by: ")
+TRACES = re.compile(r"panic: |fatal error: |SIGSEGV: |stack backtrace:|goroutine [0-9]* (?:\[|gp=0x)"
+                    r"|thread '.* panicked at|Traceback \(most recent call last\):|Exception in thread \""
+                    r"|(?=[\w.$]*\.)[\w.$]*(?:Exception|Error)(?::|$)", re.ASCII)
 COVERAGE = re.compile(r"(?:[^\t]*\t[^\t]*\t[^\t]*\t)?coverage: ([^ ]*%)(?: |$)")
 
 
@@ -142,7 +145,7 @@ class Run:
             line = (text.partition("\n")[2] if text.startswith("# ") else text).removesuffix("\n")
             if line.strip(" \t\r"):
                 self.open(one)
-                self.event(level, line, {}, one.span)
+                self.event("INFO" if line.startswith(PROGRESS) else level, line, {}, one.span)
 
     def act(self, line):
         package = package_of(line)
@@ -160,14 +163,20 @@ class Run:
             one.has_begun = True
             if test:
                 self.running.append(Running(package, test))
+        elif action == "start":
+            self.owner(package, "").has_begun = True
         elif action == "output":
             self.output(self.owner(package, test), line)
         elif action in ENDINGS:
+            if not test and package == self.building:
+                self.building = ""
             end = self.end_test if test else lambda ending, package, _, elapsed: self.end_package(ending, package, elapsed)
             end(ENDINGS[action], package, test, line.get("Elapsed"))
         return None
 
     def plain(self, text):
+        if text.startswith("# ["):
+            return
         if text.startswith("# "):
             self.building = text[2:].split(" ")[0]
         elif text.startswith("FAIL\t"):
@@ -175,7 +184,7 @@ class Run:
             self.end_package("fail", text[5:].split(" ")[0], None)
         elif is_package_frame(text):
             return
-        elif not self.building or text.startswith("go: downloading "):
+        elif not self.building or text.startswith(PROGRESS):
             self.event("ERROR" if TRACES.match(text) else "INFO", text, {}, self.last)
         else:
             one = self.owner(self.building, "")
@@ -191,8 +200,17 @@ class Run:
             for one in self.left(package):
                 if one.has_begun:
                     self.leave(one)
+                else:
+                    self.close(one)
         for package in sorted(self.builds, key=str.encode):
             self.tell_build("WARN", package)
+            self.close(self.owner(package, ""))
+
+    def close(self, one):
+        """Closes the span of a package that only its build printed in."""
+        self.running.remove(one)
+        if one.span is not None:
+            self.call(None, None, call="close", id=one.span)
 
     def tell_counts(self, write=None):
         self.write = write or self.write

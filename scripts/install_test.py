@@ -97,7 +97,8 @@ def check_options(name, page, given):
         found = {it for it in listed if re.search(rf"(?m)(^\.Cm |\bis ){it}( |\.?$)", item)}
         equal(f"{name}.1: values of --{option.long}", found, listed)
         if option.value:
-            head = f"-{option.long} Ar {option.value}\n"
+            value = f"Ns Oo = Ar {option.value} Oc" if option.optional else f"Ar {option.value}"
+            head = f"-{option.long} {value}\n"
             check(f"{name}.1: the value of --{option.long}", item.startswith(head), item)
 
 
@@ -206,7 +207,7 @@ def check_fish(name, given):
 def check_completions(name, program):
     """Compares the completions of a program with what it prints."""
     given, (_, printed) = completions.Help(program), ran(program, "--help")
-    names = re.findall(r"(?m)(?:^ +|, )(--?[A-Za-z][a-z-]*)(?=[ ,])", printed)
+    names = re.findall(r"(?m)(?:^ +|, )(--?[A-Za-z][a-z-]*)(?=[ ,\[])", printed)
     equal(f"{name}: names that --help prints", {*given.names()}, {*names})
     values = [it.split(", ") for it in re.findall(r"possible values: ([^]]*)", printed)]
     found = [it.values for it in given.options if it.values]
@@ -347,7 +348,7 @@ def check_uninstall(copy, name):
 
 
 def check_without_library(copy):
-    """Checks that the rest is installed, and that the reason is printed, if there is no library."""
+    """Checks that the rest is installed, and that the reason is printed without a library."""
     def said(file, fault):
         return (f"install: the C library is left out, since bin/{file} {fault}: "
                 "run 'make bindings' (20 minutes on four cores)")

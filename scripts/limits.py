@@ -5,9 +5,9 @@ usage: limits.py [--checked] DRAWING_PROGRAM READING_PROGRAM TTREE
 
 The limits are memory, the stack, the size of a file, a full device and a full disk. There are also
 pipes whose reader stops, is slow or reads nothing, with SIGPIPE ignored or not. The output must be
-a prefix of the right text. It must end where docs/FORMATS.md says for the reported line and word,
+a prefix of the right output. It must end as docs/FORMATS.md says for the reported line and word,
 and the status must be that of the word. scripts/model.py and scripts/model_rows.py compute the
-right texts. For TTREE the right text is what it writes without a limit.
+right outputs. For TTREE the right output is what it writes without a limit.
 
 --checked says that the programs were compiled with checks of memory. They reserve terabytes of
 addresses, so the limits of memory and of the stack are left out. The last line is
@@ -78,7 +78,7 @@ def at_most(kind, count):
 
 
 def little_memory(limits, inputs):
-    """Limits the address space. The first limit is the smallest with which the program starts. With
+    """Limits the address space. The program starts under the first limit, and not under a smaller one. With
     the next ones it runs out of memory at several places."""
     for given in inputs:
         name = f"little memory, program {given.program}"
@@ -199,7 +199,7 @@ def pipes(limits, inputs):
 
 # ---- arguments and statuses
 
-# Any string that isn't empty. Used where the exact words aren't promised.
+# Any string that isn't empty. Used if the exact words aren't promised.
 ANY = object()
 
 

@@ -482,7 +482,7 @@ class Tree:
         return f"{number}:{context.thread_name}" if settings.thread_ids else context.thread_name
 
     def used(self, row):
-        """Returns the level at which a row is drawn."""
+        """Returns the drawn level of a row."""
         wrapped = row.level % self.settings.wraparound
         return wrapped + (1 if self.settings.indent_lines and is_above(row.kind) else 0)
 

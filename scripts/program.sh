@@ -70,7 +70,7 @@ pieces() {
     done < "$1"
 }
 
-# It isn't promised at which line a long output can't be written.
+# The line that is reported isn't promised if a long output can't be written.
 hide_line() {
     sed -i 's/^line [0-9][0-9]*: /line N: /' "$room/err"
 }

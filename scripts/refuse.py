@@ -5,9 +5,9 @@ the fault line and the output.
 The program must then end with status 1 and report the line and the cause. Its output must be that
 of the lines before the reported one: nothing is lost, and nothing of a refused call is drawn. (The
 program that reads may also lack the last row.) After a failed write the output may be truncated. It
-must not end behind the text of the reported line. If the input has a fault, the program may then
+must not end behind what the reported line draws. If the input has a fault, the program may then
 report that fault instead, with its status. The output of ttree only has to be a prefix of the whole
-text.
+output.
 
 After a failed read or write the run must end differently. After a failed allocation it may end as
 without a failure, since the program may do without that memory. The last line is

@@ -1,4 +1,4 @@
-"""Inputs in which one quantity of a call, a line or a run has a given size. The caller passes the
+"""Inputs that give one quantity of a call, a line or a run a size. The caller passes the
 settings."""
 import json
 

@@ -5,8 +5,8 @@ usage: soak.py PROGRAM GENERATOR [CALLS]
 
 GENERATOR (scripts/soak.c) writes rounds of calls that open and close the same spans, up to 100,000
 at once, with some long strings. The program runs them twice, with half of CALLS (10^8) each: once
-with retracing, and once with deferred spans too. The text of the first round must be that of
-scripts/model.py, and each later round must draw the same text. At the end the program may keep at
+with retracing, and once with deferred spans too. The drawing of the first round must be that of
+scripts/model.py, and each later round must draw the same bytes. At the end the program may keep at
 most a twentieth and 1 MiB more memory than after the first round. The last tenth of the rounds may
 take at most 1.5 times the processor time of the first tenth. The last line is
 'soak: N of M runs ended as they must'.
@@ -33,8 +33,8 @@ def resident(process):
 
 
 def first_round(generator, settings):
-    """Returns the number of calls in a round, and the length and the checksum of its text. The text
-    is the model's."""
+    """Returns the number of calls in a round, and the length and the checksum of its drawing. The
+    drawing is the model's."""
     made = subprocess.run([generator, settings, "1"], capture_output=True, check=True)
     out, _, status = model.run_of(made.stdout).ended()
     if status:
@@ -44,7 +44,7 @@ def first_round(generator, settings):
 
 class Soak:
     """A run of the program. `rounds` is its number of calls, and it has at least two rounds. Memory
-    and time are recorded at the end of each round's text."""
+    and time are recorded at the end of each round's drawing."""
 
     def __init__(self, program, generator, settings, rounds):
         self.calls, self.length, self.sum = first_round(generator, settings)

@@ -11,12 +11,13 @@ The programs are compiled in the same way (scripts/unproved.py), and these scrip
 - scripts/limits.py runs them with files and pipes that end.
 - scripts/page.py compares the pages of ttree with docs/PAGE.md.
 - scripts/manual.py runs the manual's commands.
+- scripts/controls.py draws inputs that are full of control characters.
 - scripts/tracing_paths.py compares the spans of drawn events with those in the logs.
 - scripts/install_test.py compares man pages and completions with the programs' help, and tries
   `make install` on a copy.
 
 scripts/messages.py compares what targets and scripts say if a tool is missing. The docs and the
-text of the viewer are compared with their sources. None of this shows that a function does only
+viewer are compared with their sources. None of this shows that a function does only
 what its contract says: `make gate` does, and runs tests, cases and programs again as they are
 proved and built.
 
@@ -39,6 +40,7 @@ RUNS = (
     ("scripts/ttree.sh", "--checked", "tracing_tree_ttree", "tracing_tree_cli"),
     ("scripts/page.py", "tracing_tree_ttree", "tracing_tree_cli"),
     ("scripts/manual.py", "tracing_tree_ttree", "tracing_tree_cli", "tracing_tree_read"),
+    ("scripts/controls.py", "tracing_tree_ttree"),
     ("scripts/tracing_paths.py", "tracing_tree_ttree", "tracing_tree_read", *LOGS),
     ("scripts/model.py", "crates/tracing_tree_cases/data"),
     ("scripts/fuzz.py", "--checked", "--lines", "3000", "--calls", "2000", "--drawings", "2000", "--sizes", "-1",

@@ -20,7 +20,7 @@ def shown(value):
 
 
 def entry(span):
-    """Returns the name of a span and its fields, as they are drawn."""
+    """Returns the name of a span and its fields, as a drawing has them."""
     return span.get("name", ""), {f"{key}={shown(value)}" for key, value in span.items() if key != "name"}
 
 

@@ -181,13 +181,14 @@ END_OF_LINES
 ┘
 ┐r 
 ├─ WARN r warns
+┘
 ERROR passed=1, failed=0, skipped=0, unfinished=2, packages=2, packages_failed=2, failed_packages=p q
 END_OF_TREE
     run "$room/ended"
     count 'on an input that ends while tests run' want '' 1
     drawing "$room/ended" 1
     echo '{"ImportPath":"r","Action":"build-output","Output":"r warns\n"}' > "$room/ended"
-    printf '┐r \n├─ WARN r warns\nINFO passed=0, failed=0, skipped=0, unfinished=0, packages=0, packages_failed=0\n' > "$room/want"
+    printf '┐r \n├─ WARN r warns\n┘\nINFO passed=0, failed=0, skipped=0, unfinished=0, packages=0, packages_failed=0\n' > "$room/want"
     run "$room/ended"
     count 'on a build alone' want '' 0
 }
@@ -288,6 +289,47 @@ INFO go: downloading example.com/x v1.2.3
 ┘
 INFO after
 ERROR passed=0, failed=0, skipped=0, unfinished=0, packages=2, packages_failed=1, failed_packages=r
+END_OF_LINES
+    tree_of_lines 'on a build among lines of JSON, and lines after its package' 1 << 'END_OF_LINES'
+# example.com/b
+# [example.com/b]
+b.go:1: bad
+go: finding module for package x
+{"Action":"fail","Package":"example.com/b"}
+make: *** [test] Error 1
+# example.com/c
+c.go:1: bad
+--
+┐example.com/b 
+├─ ERROR b.go:1: bad
+├─ INFO go: finding module for package x
+├─ ERROR fail
+┘
+INFO make: *** [test] Error 1
+┐example.com/c 
+├─ ERROR c.go:1: bad
+┘
+ERROR passed=0, failed=0, skipped=0, unfinished=0, packages=1, packages_failed=1, failed_packages=example.com/b
+END_OF_LINES
+    tree_of_lines 'on packages that started, and a build that did not' 1 << 'END_OF_LINES'
+{"ImportPath":"s","Action":"build-output","Output":"s warns\n"}
+{"ImportPath":"r","Action":"build-output","Output":"go: downloading x v1\n"}
+{"ImportPath":"r","Action":"build-output","Output":"./a.go:3: undefined: x\n"}
+{"ImportPath":"r","Action":"build-fail"}
+{"Action":"start","Package":"p"}
+{"Action":"start","Package":"q"}
+{"Action":"pass","Package":"q"}
+--
+┐r 
+├─ INFO go: downloading x v1
+├─ ERROR ./a.go:3: undefined: x
+INFO pass q
+ERROR unfinished p
+┘
+┐s 
+├─ WARN s warns
+┘
+ERROR passed=0, failed=0, skipped=0, unfinished=0, packages=2, packages_failed=1, failed_packages=p
 END_OF_LINES
     { for name in {01..12}; do printf '{"Action":"fail","Package":"p","Test":"T%s"}\n' "$name"; done; echo '{"Action":"pass","Package":"p"}'; } > "$room/lines"
     {
@@ -487,7 +529,7 @@ END_OF_TREE
     count 'with --failed and --level error' want '' 1
 }
 
-# Tests that first print, or end, after the test in which they started.
+# Tests that first print, or end, after the test that they started in.
 run_late() {
     cat > "$room/late" << 'END_OF_LINES'
 {"Action":"run","Package":"p","Test":"TestA"}
@@ -602,7 +644,7 @@ ERROR passed=1, failed=2, skipped=0, unfinished=0, packages=2, packages_failed=2
 END_OF_TREE
 }
 
-# A build that fails, one that prints and doesn't fail, and one that isn't of a tested package.
+# A build that fails, a build that prints and doesn't fail, and a build of another package.
 run_failed_builds() {
     cat > "$room/builds" << 'END_OF_LINES'
 {"ImportPath":"s","Action":"build-output","Output":"s warns\n"}
@@ -763,13 +805,13 @@ run_times_and_threads() {
 {"timestamp":"1969-12-31T23:59:59Z","level":"INFO","fields":{"message":"five"},"threadId":"ThreadId(3"}
 END_OF_LINES
     cat > "$room/want" << 'END_OF_TREE'
-1970-01-01 0:00:00.0 INFO untimed
-┐a 
-├─2026-11-24 2:31:19.388  0.00μs INFO one
-├─2026-11-24 2:31:19.38950542  1.51ms WARN two
-├─2026-11-24 2:31:19.38950542  1.51ms INFO three
-2026-11-24 2:31:19.38950542 INFO four
-1969-12-31 23:59:59.0 INFO five
+                                      INFO untimed
+2026-11-24 02:31:19.388000            ┐a 
+           02:31:19.388000    0.000μs ├─ INFO one
+           02:31:19.389505    1.505ms ├─ WARN two
+           02:31:19.389505    1.505ms ├─ INFO three
+           02:31:19.389505            INFO four
+1969-12-31 23:59:59.000000            INFO five
 END_OF_TREE
     run --times "$room/timed"
     count 'with --times on tracing' want '' 0
@@ -793,25 +835,138 @@ END_OF_TREE
 {"Time":"","Action":"pass","Package":"p","Elapsed":3}
 END_OF_LINES
     cat > "$room/want" << 'END_OF_TREE'
-┐p 
-└─┐TestA 
-  ├─2026-11-24 2:31:20.0  0.00μs INFO one
-  ├─2026-11-24 2:31:21.25  1.25s  INFO pass, elapsed=2
-┌─┘
-├─2026-11-24 2:31:21.25  2.25s  INFO pass, elapsed=3
-┘
-2026-11-24 2:31:21.25 INFO passed=1, failed=0, skipped=0, unfinished=0, packages=1, packages_failed=0
+2026-11-24 02:31:19.000000            ┐p 
+           02:31:20.000000            └─┐TestA 
+           02:31:20.000000    0.000μs   ├─ INFO one
+           02:31:21.250000     1.250s   ├─ INFO pass, elapsed=2
+           02:31:21.250000     1.250s ┌─┘
+           02:31:21.250000     2.250s ├─ INFO pass, elapsed=3
+           02:31:21.250000     2.250s ┘
+           02:31:21.250000            INFO passed=1, failed=0, skipped=0, unfinished=0, packages=1, packages_failed=0
 END_OF_TREE
     run --times "$room/timed"
     count "with --times on Go's tests" want 'ttree: line 5: "Output" must be a string, skipped
 ttree: 1 line skipped' 1
 }
 
+# What rows show of values, of further fields and of control characters, and the summary. Each tree
+# was written by hand from docs/FORMATS.md.
+run_values() {
+    local zeros
+    zeros=$(printf '0,%.0s' {1..99})
+    cat > "$room/values" << END_OF_LINES
+{"level":"INFO","fields":{"message":"x","list":[1,2,{"a":"b\\u0007"}]},"target":"t","spans":[{"name":"a\\nb","k":"v\\nw"}]}
+{"level":"INFO","fields":{"message":"[${zeros}0]","whole":[${zeros%,}],"cut":[${zeros}0]},"target":"t"}
+END_OF_LINES
+    cat > "$room/want" << END_OF_TREE
+┐a\\nb k=v\\nw
+├─ INFO x, list=[1,2,{"a":"b\\u{7}"}]
+INFO [${zeros}0], whole=[${zeros%,}], cut=[${zeros}…
+END_OF_TREE
+    run "$room/values"
+    count 'on arrays, objects and line ends' want '' 0
+    sed -i "s/…/0]/" "$room/want"
+    run --full "$room/values"
+    count 'on arrays and objects with --full' want '' 0
+    cat > "$room/values" << 'END_OF_LINES'
+{"level":"INFO","fields":{"message":"x"},"target":"t","filename":"src/a.rs","line_number":3,"threadId":"ThreadId(1)"}
+panic: no JSON
+END_OF_LINES
+    cat > "$room/want" << 'END_OF_TREE'
+INFO x, target=t, file=src/a.rs, line=3, threadId=ThreadId(1)
+ERROR panic: no JSON
+END_OF_TREE
+    run --fields target,file,line,absent,threadId "$room/values"
+    count 'with --fields on tracing' want '' 0
+    cat > "$room/values" << 'END_OF_LINES'
+{"indent_lines":true}
+{"call":"new","name":"a\u001b[31m"}
+{"call":"event","level":"INFO","current":1,"fields":[["message","x\u0085\u007fy\tz"]]}
+END_OF_LINES
+    printf '┐a\\u{1b}[31m \n├─ INFO x\\u{85}\\u{7f}y\tz\n' > "$room/want"
+    run "$room/values"
+    count 'on control characters in calls' want '' 0
+}
+
+run_summary() {
+    cat > "$room/spans" << 'END_OF_LINES'
+{"timestamp":"2026-11-24T00:00:00Z","level":"INFO","fields":{"message":"new"},"target":"t","span":{"name":"a"},"spans":[]}
+{"timestamp":"2026-11-24T00:00:01Z","level":"INFO","fields":{"message":"new"},"target":"t","span":{"name":"b"},"spans":[{"name":"a"}]}
+{"timestamp":"2026-11-24T00:00:02Z","level":"ERROR","fields":{"message":"broken\nline"},"target":"t","spans":[{"name":"a"},{"name":"b"}]}
+{"timestamp":"2026-11-24T00:00:03Z","level":"INFO","fields":{"message":"close"},"target":"t","span":{"name":"b"},"spans":[{"name":"a"}]}
+{"timestamp":"2026-11-24T00:00:04Z","level":"WARN","fields":{"message":"late"},"target":"t","spans":[{"name":"a"}]}
+{"timestamp":"2026-11-24T00:00:05Z","level":"INFO","fields":{"message":"close"},"target":"t","span":{"name":"a"},"spans":[]}
+END_OF_LINES
+    cat > "$room/want" << 'END_OF_TREE'
+┐a 
+└─┐b 
+  ├─ ERROR broken
+  │  line
+┌─┘
+├─ WARN late
+┘
+
+spans 2, events 2, errors 1, warnings 1, time 5.000s
+slowest spans by own time:
+      3.000s a
+      2.000s a > b
+first errors:
+  a > b: broken
+END_OF_TREE
+    run --summary "$room/spans"
+    count 'with --summary on tracing' want '' 0
+    cat > "$room/spans" << 'END_OF_LINES'
+[{"ph":"X","ts":0,"dur":10,"name":"a"},{"ph":"X","ts":2,"dur":3,"name":"leaf"},{"ph":"X","ts":20,"dur":4,"name":"Total b"}]
+END_OF_LINES
+    cat > "$room/want" << 'END_OF_TREE'
+┐a time=10.000μs
+├─ INFO leaf, time=3.000μs
+┘
+INFO Total b, time=4.000μs
+
+spans 3, events 0, errors 0, warnings 0, time 24.000μs
+slowest spans by own time:
+     7.000μs a
+     3.000μs a > leaf
+END_OF_TREE
+    run --summary "$room/spans"
+    count 'with --summary on a trace' want '' 0
+    cat > "$room/spans" << 'END_OF_LINES'
+{"Action":"fail","Package":"p","Test":"A"}
+{"Action":"run","Package":"p","Test":"B"}
+{"Action":"output","Package":"p","Test":"B","Output":"starting\n"}
+{"Action":"output","Package":"p","Test":"B","Output":"    b_test.go:5: got 1\n"}
+{"Action":"output","Package":"p","Test":"B","Output":"    b_test.go:6: got 2\n"}
+{"Action":"fail","Package":"p","Test":"B"}
+{"Action":"fail","Package":"p"}
+END_OF_LINES
+    cat > "$room/want" << 'END_OF_TREE'
+┐p 
+├─ ERROR fail A
+└─┐B 
+  ├─ INFO starting
+  ├─ INFO     b_test.go:5: got 1
+  ├─ INFO     b_test.go:6: got 2
+  ├─ ERROR fail
+┌─┘
+├─ ERROR fail
+┘
+ERROR passed=0, failed=2, skipped=0, unfinished=0, packages=1, packages_failed=1, failed_packages=p, failed_tests=p.A p.B
+
+spans 2, events 7, errors 3, warnings 0
+first errors:
+  p > A: fail
+  p > B: b_test.go:5: got 1
+END_OF_TREE
+    run --summary "$room/spans"
+    count 'with --summary on tests' want '' 1
+}
+
 # Options that a format doesn't have.
 run_options_of_other_formats() {
     local option
     : > "$room/want"
-    for option in --min=1ms --depth=2 --threads; do
+    for option in --min=1ms --depth=2 --fields=target --threads; do
         run "$option" "$top/examples/go-test.jsonl"
         count "with $option on Go's tests" want "ttree: ${option%=*} has no meaning for go-test" 2
     done
@@ -827,7 +982,7 @@ run_options_of_other_formats() {
         run "$option" "$top/examples/clang-trace.json"
         count "with $option on a trace" want "ttree: ${option%=*} has no meaning for chrome" 2
     done
-    for option in --amount=2 --color=never --depth=2 --failed --level=error --min=1ms --no-lines --no-retrace --threads --times; do
+    for option in --amount=2 --color=never --depth=2 --failed --fields=target --full --level=error --min=1ms --no-lines --no-retrace --summary --threads --times; do
         run "$option" "$top/examples/server.jsonl"
         count "with $option on settings and calls" want "ttree: ${option%=*} has no meaning for lines" 2
     done
@@ -961,7 +1116,7 @@ detects() {
     count "on $1" want "${4-}" "${3-0}"
 }
 
-# Lines before the one that determines the format, and inputs without such a line.
+# Lines before a line that determines the format, and inputs without such a line.
 run_detection() {
     local event='{"level":"INFO","fields":{"message":"x"},"target":"t"}\n'
     detects 'a line before tracing' "Starting\n$event" <<< $'INFO Starting\nINFO x'
@@ -970,6 +1125,12 @@ run_detection() {
     detects 'an object of another format before tracing' "{\"a\":1}\n$event" 1 'ttree: line 1: "level" must be one of TRACE, DEBUG, INFO, WARN, ERROR, skipped
 ttree: 1 line skipped' <<< 'INFO x'
     detects 'services of docker compose' 'Attaching to web-1\nweb-1  | {"level":"WARN","fields":{"message":"x"},"target":"t"}\ndb-1   | ready\n{"level":"INFO","fields":{"message":"a | b"},"target":"t"}\n' <<< $'INFO Attaching to web-1\nWARN x, prefix=web-1\nINFO ready, prefix=db-1\nINFO a | b'
+    printf "Attaching to web-1\nweb-1  | $event" > "$room/lines"
+    printf 'INFO Attaching to web-1\nINFO x, prefix=web-1\n' > "$room/want"
+    run --from tracing "$room/lines"
+    count 'on services of docker compose with --from' want '' 0
+    detects 'a log with a target' '{"level":"INFO","msg":"x","target":"y"}\n' <<< 'INFO x, target=y'
+    detects 'a log with fields beside its message' '{"level":"INFO","message":"x","fields":{"a":1}}\n' <<< 'INFO x, fields.a=1'
     detects 'pods of kubectl' '[pod/web/a] {"Action":"pass","Package":"p"}\n' <<< $'INFO pass p, prefix=pod/web/a\nINFO passed=0, failed=0, skipped=0, unfinished=0, packages=1, packages_failed=0'
     detects 'times before tracing' '2026-11-24T02:31:19Z {"level":"INFO","fields":{"message":"x"},"target":"t"}\nStarting up\n2026-11-24T02:31:20Z  up\n' <<< $'INFO x, prefix=2026-11-24T02:31:19Z\nINFO Starting up\nINFO up, prefix=2026-11-24T02:31:20Z'
     detects 'a panic before a trace' 'panic: x\n[\n{"ph":"i","ts":1,"name":"a"}]' <<< $'ERROR panic: x\nINFO a'
@@ -1067,6 +1228,8 @@ run_levels
 run_failed
 run_random
 run_times_and_threads
+run_values
+run_summary
 run_options_of_other_formats
 run_files
 run_widths
@@ -1081,6 +1244,10 @@ run_tap
 run_otlp
 run_detection
 run_spans_of_traces
+run_times_of_traces
+run_strings_of_traces
+run_leaves_of_traces
+run_undrawn_of_traces
 run_tracks_of_traces
 run_threads_of_traces
 run_cut_traces

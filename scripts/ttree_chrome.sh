@@ -26,11 +26,9 @@ run_spans_of_traces() {
 --
 ┐a time=100.000μs
 └─┐b time=20.000μs, k=v, n=1.50
-  └─┐c time=5.000μs
-  ┌─┘
+  ├─ INFO c, time=5.000μs
 ┌─┘
-└─┐d time=0.250μs
-┌─┘
+├─ INFO d, time=0.250μs
 ┘
 END
     trace_of 'on spans that begin at once' << 'END'
@@ -38,8 +36,7 @@ END
 --
 ┐out time=10.000μs
 └─┐next time=10.000μs
-  └─┐in time=5.000μs
-  ┌─┘
+  ├─ INFO in, time=5.000μs
 ┌─┘
 ┘
 END
@@ -47,11 +44,9 @@ END
 [{"ph":"X","ts":0,"dur":10,"name":"a"},{"ph":"X","ts":5,"dur":10,"name":"b"},{"ph":"X","ts":12,"dur":1000,"name":"c"}]
 --
 ┐a time=10.000μs
-└─┐b time=10.000μs
-┌─┘
+├─ INFO b, time=10.000μs
 ┘
-┐c time=1.000ms
-┘
+INFO c, time=1.000ms
 END
     trace_of 'on begins and ends' << 'END'
 [{"ph":"B","ts":1,"pid":7,"name":"x"},{"ph":"B","ts":2,"pid":7,"name":"y","args":{"q":1}},{"ph":"E","ts":2.5,"pid":8},
@@ -59,8 +54,7 @@ END
 --
 ┐process pid=7
 └─┐x 
-  └─┐y time=1.000μs, q=1, r=ok
-  ┌─┘
+  ├─ INFO y, time=1.000μs, q=1, r=ok
   ├─ INFO mark, s=p
   ├─ INFO old
 ┌─┘
@@ -72,20 +66,158 @@ END
 --
 ┐a time=0.000μs
 ├─ INFO in a
-└─┐b time=0.000μs
-┌─┘
+├─ INFO b, time=0.000μs
 ┘
 INFO after a
-┐c time=0.000μs
-┘
-┐d time=0.000μs
-┘
+INFO c, time=0.000μs
+INFO d, time=0.000μs
 END
     trace_of 'on long times' << 'END'
 [{"ph":"X","ts":0,"dur":61234567.8919,"name":"a\u001b[31m","args":{"b\u0007":[1],"c":{}}},{"ph":"E","ts":1,"name":"none"}]
 --
-┐a\u{1b}[31m time=61.234s, b\u{7}=[1], c={}
+INFO a\u{1b}[31m, time=61.234s, b\u{7}=[1], c={}
+END
+}
+
+# Times are JSON numbers: with a sign, with a fraction and with an exponent. Before the trace's zero
+# they count from the first one.
+run_times_of_traces() {
+    trace_of 'on times with exponents' --times << 'END'
+[{"ph":"X","ts":1.5E3,"dur":1e2,"name":"a"},{"ph":"X","ts":15.30E+2,"dur":5e-05,"name":"b"},{"ph":"X","ts":1540,"dur":5e-03,"name":"c"},
+ {"ph":"i","ts":155000000000000000000e-17,"name":"d"},{"ph":"i","ts":0.00000000000000000000156e24,"name":"e"},{"ph":"i","ts":0e2147483647,"name":"zero"},
+ {"ph":"i","ts":7.00000000000000000000000000000001e-2147483648,"name":"tiny"}]
+--
+     0.000000            INFO zero
+     0.000000            INFO tiny
+     0.001500            ┐a time=100.000μs
+     0.001530   30.000μs ├─ INFO b, time=0.000μs
+     0.001540   40.000μs ├─ INFO c, time=0.005μs
+     0.001550   50.000μs ├─ INFO d
+     0.001560   60.000μs ├─ INFO e
+     0.001600  100.000μs ┘
+END
+    trace_of 'on times before zero' --times << 'END'
+[{"ph":"i","ts":2.5,"name":"after"},{"ph":"X","ts":-12.25,"dur":20,"name":"a"},{"ph":"i","ts":-0.0,"name":"zero"},{"ph":"i","ts":-1e1,"name":"early"},
+ {"ph":"X","ts":-20.0009,"dur":-3,"name":"first"},{"ph":"i","ts":10,"name":"last"}]
+--
+     0.000000            INFO first, time=0.000μs
+     0.000007            ┐a time=20.000μs
+     0.000010    2.250μs ├─ INFO early
+     0.000020   12.250μs ├─ INFO zero
+     0.000022   14.750μs ├─ INFO after
+     0.000027   20.000μs ┘
+     0.000030            INFO last
+END
+    trace_of 'on times at the limits' -- 1 'ttree: element 2: "ts" must be a number of microseconds, skipped
+ttree: element 4: "ts" must be a number of microseconds, skipped
+ttree: element 6: "ts" must be a number of microseconds, skipped
+ttree: element 8: "dur" must be a number of microseconds, skipped
+ttree: 4 elements skipped' << 'END'
+[{"ph":"i","ts":9223372036854775.807,"name":"last"},{"ph":"i","ts":9223372036854775.808},{"ph":"i","ts":-9223372036854775.807,"name":"first"},
+ {"ph":"i","ts":-9223372036854775.808},{"ph":"X","ts":9e15,"dur":9e15,"name":"long"},{"ph":"i","ts":1e2147483648},{"ph":"i","ts":1,"name":"one"},{"ph":"X","ts":1,"dur":1e17}]
+--
+INFO first
+INFO one
+INFO long, time=223372036.854s
+INFO last
+END
+}
+
+# A process or a thread may be a string. Numbers come before strings, and strings are in the order of
+# the file.
+run_strings_of_traces() {
+    trace_of 'on processes and threads that are strings' << 'END'
+[{"ph":"i","pid":"GPU","tid":"Main","ts":1,"name":"a"},{"ph":"i","pid":"CPU","tid":"Main","ts":2,"name":"b"},{"ph":"i","pid":12,"tid":"Main","ts":3,"name":"c"},
+ {"ph":"i","pid":"12","tid":7,"ts":4,"name":"d"},{"ph":"i","pid":"GPU","tid":"Main","ts":5,"name":"e"},{"ph":"i","pid":"GPU","tid":"","ts":6,"name":"f"},
+ {"ph":"M","pid":"CPU","name":"process_name","args":{"name":"Cores"}},{"ph":"M","pid":"GPU","tid":"Main","name":"thread_name","args":{"name":"Render"}},
+ {"ph":"B","pid":"GPU","tid":"Main","ts":6,"name":"x"},{"ph":"B","pid":"GPU","tid":"\u001b","ts":7,"name":"y"},{"ph":"E","pid":"GPU","tid":"Main","ts":8},
+ {"ph":"b","pid":"GPU","tid":"Other","ts":9,"cat":"c","id":"1","name":"z"},{"ph":"e","pid":"GPU","ts":10,"cat":"c","id":"1"}]
+--
+┐process pid=12
+└─┐thread tid=Main
+  ├─ INFO c
+┌─┘
 ┘
+┐process pid=GPU
+├─ INFO z, time=1.000μs, id=1
+└─┐Render tid=Main
+  ├─ INFO a
+  ├─ INFO e
+  ├─ INFO x, time=2.000μs
+┌─┘
+└─┐thread tid=
+  ├─ INFO f
+┌─┘
+└─┐thread tid=\u{1b}
+  └─┐y 
+  ┌─┘
+┌─┘
+┘
+┐Cores pid=CPU
+└─┐thread tid=Main
+  ├─ INFO b
+┌─┘
+┘
+┐process pid=12
+└─┐thread tid=7
+  ├─ INFO d
+┌─┘
+┘
+END
+}
+
+# A span is one row if it has ended and nothing is drawn in it.
+run_leaves_of_traces() {
+    trace_of 'on spans without anything in them' --times << 'END'
+[{"ph":"X","ts":10,"dur":90,"name":"a"},{"ph":"X","ts":20,"dur":5,"name":"row","args":{"k":1,"message":"m"}},{"ph":"X","ts":25,"dur":5,"name":"held"},
+ {"ph":"i","ts":26,"name":"in held"},{"ph":"B","ts":40,"name":"unended"},{"ph":"X","ts":50,"dur":60,"name":"outlasts"}]
+--
+     0.000010            ┐a time=90.000μs
+     0.000020   10.000μs ├─ INFO row, time=5.000μs, k=1, m
+     0.000025            └─┐held time=5.000μs
+     0.000026    1.000μs   ├─ INFO in held
+     0.000030    5.000μs ┌─┘
+     0.000040            └─┐unended 
+     0.000050   10.000μs   ├─ INFO outlasts, time=60.000μs
+     0.000100   60.000μs ┌─┘
+     0.000100   90.000μs ┘
+END
+    trace_of 'on a span of which only a part is left out' --depth 2 --min 2us << 'END'
+[{"ph":"X","ts":0,"dur":90,"name":"a"},{"ph":"X","ts":10,"dur":5,"name":"b"},{"ph":"X","ts":11,"dur":1,"name":"short"},
+ {"ph":"X","ts":20,"dur":5,"name":"c"},{"ph":"X","ts":21,"dur":3,"name":"deep"},{"ph":"X","ts":30,"dur":5,"name":"d"}]
+--
+┐a time=90.000μs
+└─┐b time=5.000μs
+  ├─ INFO left out, spans=1, time=1.000μs
+┌─┘
+└─┐c time=5.000μs
+  ├─ INFO left out, spans=1, time=3.000μs
+┌─┘
+├─ INFO d, time=5.000μs
+┘
+END
+    echo '[{"ph":"X","ts":1,"dur":5,"name":"row"},{"ph":"C","ts":1},{"ph":"C","ts":2}]' > "$room/trace"
+    cat > "$room/want" << 'END'
+{"step":"about","version":2,"title":"t"}
+{"step":"new","seconds":0,"nanos":1000,"ahead_seconds":-1,"ahead_nanos":999999000,"thread":"1","id":1,"parent":0,"name":"row","target":"","fields":{"time":"5.000μs"}}
+{"step":"close","seconds":0,"nanos":6000,"ahead_seconds":-1,"ahead_nanos":999994000,"thread":"1","id":1}
+{"step":"end"}
+END
+    run --json --title t "$room/trace"
+    count 'with --json on a leaf' want 'ttree: 2 counters, flows and other elements have no row' 0
+}
+
+# What has no row is counted, but metadata isn't.
+run_undrawn_of_traces() {
+    trace_of 'on elements without a row' -- 0 'ttree: 8 counters, flows and other elements have no row' << 'END'
+[{"ph":"C","ts":1,"name":"memory","args":{"bytes":7}},{"ph":"s","id":1},{"ph":"t","id":1},{"ph":"f","id":1},{"ph":"N"},{"ph":"O"},{"ph":"D"},{"ph":"?"},
+ {"ph":"M","name":"process_labels"},{"ph":"M","name":"process_name","args":{"name":"p"}},{"ph":"E","ts":3},{"ph":"i","ts":4,"name":"row"}]
+--
+INFO row
+END
+    trace_of 'on a single element without a row' -- 0 'ttree: 1 counter, flow or other element has no row' << 'END'
+[{"ph":"C"}]
+--
 END
 }
 
@@ -109,13 +241,11 @@ run_tracks_of_traces() {
     ├─ INFO found
   ┌─┘
 ┌─┘
-└─┐get time=4.000μs, id=0x2, url=/b
-┌─┘
+├─ INFO get, time=4.000μs, id=0x2, url=/b
 └─┐read id=0x1
 ┌─┘
 └─┐thread tid=1
-  └─┐main time=8.000μs
-  ┌─┘
+  ├─ INFO main, time=8.000μs
 ┌─┘
 ┘
 END
@@ -129,8 +259,7 @@ ttree: 1 element skipped' << 'END'
 ┐process pid=1
 └─┐old id=7
   ├─ INFO step
-  └─┐inner time=3.000μs, id=7
-  ┌─┘
+  ├─ INFO inner, time=3.000μs, id=7
 ┌─┘
 └─┐scoped id=7
 ┌─┘
@@ -154,33 +283,29 @@ run_threads_of_traces() {
  {"ph":"M","pid":1,"tid":9,"name":"thread_sort_index","args":{"sort_index":3}}]
 --
 ┐server pid=1
-└─┐none time=1.000μs
-┌─┘
+├─ INFO none, time=1.000μs
 └─┐thread tid=9
-  └─┐one time=1.000μs
-  ┌─┘
+  ├─ INFO one, time=1.000μs
 ┌─┘
 └─┐worker tid=10
-  └─┐two time=1.000μs
-  ┌─┘
+  ├─ INFO two, time=1.000μs
 ┌─┘
 ┘
 ┐process pid=2
 └─┐thread tid=9
-  └─┐late time=1.000μs
-  ┌─┘
+  ├─ INFO late, time=1.000μs
 ┌─┘
 ┘
 END
     trace_of 'with --times on a trace' --times << 'END'
 [{"ph":"X","tid":4,"ts":1000000,"dur":2000000,"name":"a"},{"ph":"i","tid":4,"ts":1500000.25,"name":"half"},{"ph":"i","ts":7,"name":"first"}]
 --
-   0.000007s INFO first
-┐thread tid=4
-└─┐a time=2.000s
-  ├─   1.500000s  500.00ms INFO half
-┌─┘
-┘
+     0.000007            INFO first
+     1.000000            ┐thread tid=4
+     1.000000            └─┐a time=2.000s
+     1.500000  500.000ms   ├─ INFO half
+     3.000000     2.000s ┌─┘
+     3.000000     2.000s ┘
 END
 }
 
@@ -191,8 +316,7 @@ run_cut_traces() {
 $nested
 --
 ┐a time=100.000μs
-└─┐e time=10.000μs
-┌─┘
+├─ INFO e, time=10.000μs
 ├─ INFO left out, spans=3, time=2.000μs
 ┘
 INFO left out, spans=1, time=1.000μs
@@ -203,8 +327,7 @@ $nested
 ┐a time=100.000μs
 ├─ INFO left out, spans=4, time=12.000μs
 ┘
-┐f time=1.000μs
-┘
+INFO f, time=1.000μs
 END
     trace_of 'with --depth 0' --depth 0 << END
 $nested
@@ -254,8 +377,7 @@ END
 ttree: 1 element skipped' << 'END'
 {"displayTimeUnit":"ms","traceEvents":[{"ph":"X","ts":1,"dur":1,"name":"]}\"{"},{"ph":"X","ts":
 --
-┐]}"{ time=1.000μs
-┘
+INFO ]}"{, time=1.000μs
 END
     trace_of 'on an object with more than its list' -- 1 'ttree: element 2: not a JSON object, skipped
 ttree: 1 element skipped' << 'END'
@@ -283,19 +405,17 @@ ttree: 1 element skipped' 1
 [{"ph":"X","tid":18446744073709551615,"ts":0,"dur":1,"name":"a"},{"ph":"X","tid":-1,"ts":0,"dur":1,"name":"b"}]
 --
 ┐thread tid=-1
-└─┐b time=1.000μs
-┌─┘
+├─ INFO b, time=1.000μs
 ┘
 ┐thread tid=18446744073709551615
-└─┐a time=1.000μs
-┌─┘
+├─ INFO a, time=1.000μs
 ┘
 END
     printf '[build] started\n{"Action":"fail","Package":"p"}\n' > "$room/banner"
     expect "$room/banner" 's/^//'
     run "$room/banner"
     count 'on a word in brackets before the lines of a test' want '' 1
-    local unknown='[1,{"ph":"X","ts":1},{"ph":"B","ts":-1},{"ph":"B","ts":1e3},{"ph":"i","ts":1,"pid":"x"},{"ph":"i","ts":1,"tid":1.5},
+    local unknown='[1,{"ph":"X","ts":1},{"ph":"B","ts":"1"},{"ph":"B","ts":1e99},{"ph":"i","ts":1,"pid":[]},{"ph":"i","ts":1,"tid":1.5},
 {"ph":"C","ts":"anything"},{"ph":"i","ts":0,"name":"kept"}]'
     trace_of 'on elements that say nothing' --from chrome -- 1 'ttree: element 1: "ph" must be a string, skipped
 ttree: element 2: "dur" must be a number of microseconds, skipped
@@ -303,7 +423,8 @@ ttree: element 3: "ts" must be a number of microseconds, skipped
 ttree: element 4: "ts" must be a number of microseconds, skipped
 ttree: element 5: "pid" must be a whole number, skipped
 ttree: element 6: "tid" must be a whole number, skipped
-ttree: 6 elements skipped' << END
+ttree: 6 elements skipped
+ttree: 1 counter, flow or other element has no row' << END
 $unknown
 --
 INFO kept
@@ -317,7 +438,9 @@ END
     local none='ttree: not a trace: expected an array, or an object with an array at "traceEvents"'
     trace_of 'on an object that is no trace' --from chrome -- 1 "$none" < <(printf '{"a":1}\n--\n')
     trace_of 'on a text that is no trace' --from chrome -- 1 "$none" < <(printf '"x"\n--\n')
-    trace_of 'on a list that is no JSON' -- 1 "$none" < <(printf '[{"ph":"i","ts":0,"name":"a"},,{}]\n--\n')
+    trace_of 'on a list that is no JSON' --from chrome -- 1 "$none" < <(printf '[{"ph":"i","ts":0,"name":"a"},,{}]\n--\n')
+    printf '[{"ph":"i","ts":0,"name":"a"},,{}]' > "$room/list"
+    trace_of 'on a list that only looks like a trace' -- 1 "$none" < <(cat "$room/list"; printf '\n--\n'; cat "$room/list"; echo)
     trace_of 'on nothing as a trace' --from chrome -- 1 "$none" < <(printf -- '--\n')
     trace_of 'on a list that just began' < <(printf '[\n--\n')
     printf '[{"ph":"i","ts":0,"name":"\377"}]' > "$room/bytes"
@@ -330,7 +453,7 @@ END
 # Runs this number of spans: side by side with the last one first, and nested in one another.
 many_spans() {
     python3 -c 'print("[" + ",".join("{\"ph\":\"X\",\"ts\":%d,\"dur\":1,\"name\":\"s\"}" % (n * 2) for n in reversed(range('"$1"'))) + "]")' > "$room/wide"
-    python3 -c 'print("┐s time=1.000μs\n┘\n" * '"$1"', end="")' > "$room/want"
+    python3 -c 'print("INFO s, time=1.000μs\n" * '"$1"', end="")' > "$room/want"
     run "$room/wide"
     count 'on many spans side by side' want '' 0
     python3 -c 'print("[" + ",".join("{\"ph\":\"B\",\"ts\":%d,\"name\":\"s\"}" % n for n in range('"$1"')) + "]")' > "$room/deep"
@@ -343,33 +466,24 @@ many_spans() {
 run_trace_samples() {
     cat > "$room/want" << 'END'
 ┐[20609] v pid=20609
-└─┐__monstartup time=4.756μs
-┌─┘
-└─┐__cxa_atexit time=2.448μs
-┌─┘
+├─ INFO __monstartup, time=4.756μs
+├─ INFO __cxa_atexit, time=2.448μs
 └─┐main time=4.147ms
-  └─┐pthread_create time=112.607μs
-  ┌─┘
+  ├─ INFO pthread_create, time=112.607μs
   └─┐load time=10.064μs
-    └─┐parse time=4.331μs
-    ┌─┘
-    └─┐parse time=5.212μs
-    ┌─┘
+    ├─ INFO parse, time=4.331μs
+    ├─ INFO parse, time=5.212μs
   ┌─┘
   └─┐pthread_join time=3.997ms
-    └─┐linux:schedule time=3.979ms
-    ┌─┘
+    ├─ INFO linux:schedule, time=3.979ms
   ┌─┘
-  └─┐puts time=23.340μs
-  ┌─┘
+  ├─ INFO puts, time=23.340μs
 ┌─┘
 └─┐thread tid=20611
   └─┐worker time=5.634μs
     └─┐load time=5.129μs
-      └─┐parse time=1.753μs
-      ┌─┘
-      └─┐parse time=2.580μs
-      ┌─┘
+      ├─ INFO parse, time=1.753μs
+      ├─ INFO parse, time=2.580μs
     ┌─┘
   ┌─┘
 ┌─┘
@@ -396,20 +510,16 @@ END
   ┌─┘
 ┌─┘
 └─┐thread tid=26612
-  └─┐Total ExecuteCompiler time=77.514ms, count=1, avg ms=77
-  ┌─┘
+  ├─ INFO Total ExecuteCompiler, time=77.514ms, count=1, avg ms=77
 ┌─┘
 └─┐thread tid=26613
-  └─┐Total Frontend time=68.744ms, count=2, avg ms=34
-  ┌─┘
+  ├─ INFO Total Frontend, time=68.744ms, count=2, avg ms=34
 ┌─┘
 └─┐thread tid=26614
-  └─┐Total Source time=27.640ms, count=1, avg ms=27
-  ┌─┘
+  ├─ INFO Total Source, time=27.640ms, count=1, avg ms=27
 ┌─┘
 └─┐thread tid=26615
-  └─┐Total Backend time=6.455ms, count=1, avg ms=6
-  ┌─┘
+  ├─ INFO Total Backend, time=6.455ms, count=1, avg ms=6
 ┌─┘
 ├─ INFO left out, spans=75, time=23.129ms
 ┘

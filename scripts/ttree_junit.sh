@@ -188,7 +188,7 @@ INFO passed=1, failed=0, skipped=0
 END_OF_RUN
 }
 
-# Failures of suites, messages of several lines, and texts around a document.
+# Failures of suites, messages of several lines, and lines around a document.
 run_junit_failures() {
     junit_of 'on failures of suites' 1 << 'END_OF_RUN'
 <testsuites>

@@ -236,6 +236,107 @@ END_OF_TREE
         'ttree: nothing is selected by --failed, --service' --failed --service cart < /dev/null
 }
 
+# Spans that --min and --depth leave out. One short span has a longer one in it.
+run_otlp_cut() {
+    cat > "$room/cut" << 'END_OF_LINES'
+{"resourceSpans":[{"scopeSpans":[{"spans":[{"traceId":"a","spanId":"7","parentSpanId":"5","name":"tiny","startTimeUnixNano":"5500","endTimeUnixNano":"5600"},{"traceId":"a","spanId":"6","parentSpanId":"5","name":"unended","startTimeUnixNano":"5000"},{"traceId":"a","spanId":"5","parentSpanId":"4","name":"task","startTimeUnixNano":"4100","endTimeUnixNano":"8000"},{"traceId":"a","spanId":"4","parentSpanId":"1","name":"starter","startTimeUnixNano":"4000","endTimeUnixNano":"4200","events":[{"timeUnixNano":"4100","name":"in starter"}]},{"traceId":"a","spanId":"3","parentSpanId":"2","name":"below short","startTimeUnixNano":"3200","endTimeUnixNano":"3300"},{"traceId":"a","spanId":"2","parentSpanId":"1","name":"short","startTimeUnixNano":"3000","endTimeUnixNano":"3999","events":[{"timeUnixNano":"3100","name":"in short"}],"status":{"code":2}},{"traceId":"a","spanId":"1","name":"request","startTimeUnixNano":"1000","endTimeUnixNano":"9000"}]}]}]}
+{"resourceSpans":[{"scopeSpans":[{"spans":[{"traceId":"b","spanId":"8","name":"ping","startTimeUnixNano":"10000","endTimeUnixNano":"10100"},{"traceId":"c","spanId":"9","name":"quick","startTimeUnixNano":"11100","endTimeUnixNano":"11200"}]}]}]}
+{"resourceLogs":[{"scopeLogs":[{"logRecords":[{"traceId":"a","spanId":"1","timeUnixNano":"2000","body":{"stringValue":"in request"}},{"traceId":"c","timeUnixNano":"11000","body":{"stringValue":"in c"}},{"timeUnixNano":"12000","body":{"stringValue":"in no trace"}}]}]}]}
+END_OF_LINES
+    cut_of 'short spans' --min 1us << 'END_OF_TREE'
+┐trace id=a
+└─┐request time=8.000μs
+  ├─ INFO in request
+  └─┐starter time=0.200μs
+    ├─ INFO in starter
+    └─┐task time=3.900μs
+      └─┐unended 
+        ├─ WARN unfinished
+      ┌─┘
+      ├─ INFO left out, spans=1
+    ┌─┘
+  ┌─┘
+  ├─ INFO left out, spans=2
+┌─┘
+┘
+┐trace id=c
+├─ INFO in c
+├─ INFO left out, spans=1
+┘
+INFO in no trace
+INFO left out, spans=1
+END_OF_TREE
+    cut_of 'deep spans' --depth 2 << 'END_OF_TREE'
+┐trace id=a
+└─┐request time=8.000μs
+  ├─ INFO in request
+  ├─ INFO left out, spans=6
+┌─┘
+┘
+┐trace id=b
+└─┐ping time=0.100μs
+┌─┘
+┘
+┐trace id=c
+├─ INFO in c
+└─┐quick time=0.100μs
+┌─┘
+┘
+INFO in no trace
+END_OF_TREE
+    cut_of 'short and deep spans' --min 1us --depth 3 << 'END_OF_TREE'
+┐trace id=a
+└─┐request time=8.000μs
+  ├─ INFO in request
+  └─┐starter time=0.200μs
+    ├─ INFO in starter
+    ├─ INFO left out, spans=3
+  ┌─┘
+  ├─ INFO left out, spans=2
+┌─┘
+┘
+┐trace id=c
+├─ INFO in c
+├─ INFO left out, spans=1
+┘
+INFO in no trace
+INFO left out, spans=1
+END_OF_TREE
+    cut_of 'all spans but those of traces' --depth 1 << 'END_OF_TREE'
+┐trace id=a
+├─ INFO left out, spans=7
+┘
+┐trace id=b
+├─ INFO left out, spans=1
+┘
+┐trace id=c
+├─ INFO in c
+├─ INFO left out, spans=1
+┘
+INFO in no trace
+END_OF_TREE
+    cut_of 'all spans' --depth 0 << 'END_OF_TREE'
+INFO in no trace
+INFO left out, spans=9
+END_OF_TREE
+    cut_of 'short spans of those with an error' --failed --min 1us << 'END_OF_TREE'
+┐trace id=a
+└─┐request time=8.000μs
+  ├─ INFO in request
+  ├─ INFO left out, spans=1
+┌─┘
+┘
+END_OF_TREE
+}
+
+# Counts the run with this name on the input `cut`. Standard input has the tree. The further
+# arguments are passed to ttree.
+cut_of() {
+    cat > "$room/want"
+    run --from otlp "${@:2}" "$room/cut"
+    count "on OTLP without $1" want '' 0
+}
+
 # Invalid input. Each span is drawn once.
 run_odd_otlp() {
     otlp_of 'on spans of OTLP that are nested in each other' '' 0 << 'END_OF_LINES'
@@ -325,7 +426,7 @@ ttree: 2 lines skipped" 1
     count 'on a line of OTLP that is not UTF-8, under --strict' want 'ttree: line 2: not UTF-8' 1
 }
 
-# A tree that is too deep for recursion, and one that is as wide.
+# A tree too deep for recursion, and a tree as wide.
 run_large_otlp() {
     python3 -c 'import sys
 def line(i, above):
@@ -345,6 +446,7 @@ run_otlp() {
     run_otlp_forms
     run_otlp_names
     run_otlp_parts
+    run_otlp_cut
     run_odd_otlp
     run_large_otlp
 }

@@ -50,7 +50,7 @@ END_OF_LINES
 }
 
 # What prove wrote without -v, with --timer, with both, and with -Q. Its scripts are one that passes,
-# one that fails, one without a plan, one without output and one that is skipped.
+# one that fails, one without a plan, one without output and a skipped one.
 run_tap_more_of_prove() {
     tap_of "on prove's output without -v" 1 << 'END_OF_LINES'
 t/bad.t ....... 

@@ -29,21 +29,21 @@ INFO open
   ├─ DEBUG in stock, left=4
 └─┐check item=cups
   ├─ DEBUG in stock, left=1
-├─ INFO shipped
+├─ INFO shipped, total=12.5
 ┐order id=2
 ├─ INFO received
 └─┐check item=tea
   ├─ DEBUG in stock, left=4
 └─┐check item=cups
   ├─ WARN sold out
-├─ INFO shipped
+├─ INFO shipped, total=12.5
 ┐order id=3
 ├─ INFO received
 └─┐check item=tea
   ├─ DEBUG in stock, left=4
 └─┐check item=cups
   ├─ DEBUG in stock, left=1
-├─ INFO shipped
+├─ INFO shipped, total=12.5
 INFO closed
 END_OF_TREE
     head -n 17 "$top/examples/tracing-full.jsonl" > "$room/part"
@@ -59,7 +59,7 @@ INFO open
   ├─ DEBUG in stock, left=1
   ├─ INFO close, time.busy=20.6µs, time.idle=17.8µs
 ┌─┘
-├─ INFO shipped
+├─ INFO shipped, total=12.5
 ├─ INFO close, time.busy=157µs, time.idle=33.4µs, total=12.5
 ┘
 END_OF_TREE
@@ -76,7 +76,7 @@ INFO open
   ├─ DEBUG in stock, left=1
   ├─ INFO close, time.busy=24.9µs, time.idle=5.82µs
 ┌─┘
-├─ INFO shipped
+├─ INFO shipped, total=12.5
 ├─ INFO close, time.busy=92.4µs, time.idle=8.39µs, total=12.5
 ┘
 END_OF_TREE
@@ -89,7 +89,7 @@ END_OF_TREE
   └─┐parse 
     ├─ DEBUG parsing
     ├─ WARN slow
-    │  answer, kind=late
+    │  answer, kind=late, rows=3
     ├─ INFO close, time.busy=147µs, time.idle=56.6µs, rows=3
   ┌─┘
   ├─ INFO close, time.busy=377µs, time.idle=109µs
@@ -228,7 +228,7 @@ END_OF_LINES
 --
 ┐r id=1
 ├─ INFO a
-├─ INFO b
+├─ INFO b, rows=3
 ┐r rows=3
 ├─ INFO c
 END_OF_LINES
@@ -244,7 +244,7 @@ END_OF_LINES
 --
 ┐r id=1
 ├─ INFO a
-├─ INFO b
+├─ INFO b, rows=3
 INFO c
 ┐r id=2
 ┐r id=1, rows=3

@@ -75,6 +75,16 @@ class Browser:
         self.events.clear()
         self.send("Page.navigate", {"url": url})
 
+    def fetched(self):
+        """Returns the addresses that the page has fetched, also its own."""
+        self.run("0")
+        return [it["params"]["request"]["url"] for it in self.events if it.get("method") == "Network.requestWillBeSent"]
+
+    def told(self):
+        """Returns what the page has on the console, and its dialogs."""
+        kinds = ("Runtime.exceptionThrown", "Runtime.consoleAPICalled", "Log.entryAdded", "Page.javascriptDialogOpening")
+        return [it for it in self.events if it.get("method") in kinds]
+
     def run(self, text, patience=180):
         answer = self.send("Runtime.evaluate", {"expression": text, "awaitPromise": True, "returnByValue": True}, patience=patience)
         if "exceptionDetails" in answer:

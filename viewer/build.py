@@ -7,7 +7,7 @@
     viewer/build.py --tail     prints the part after the data
 
 The head has the style, the script, and a Content-Security-Policy that allows these two by their
-hashes and nothing else. It ends inside the script element that has the data."""
+hashes and nothing else. It ends inside the element that has the data."""
 
 import base64
 import hashlib
@@ -44,7 +44,12 @@ def script():
 
 
 def style():
-    return compact(re.sub(r"/\*.*?\*/", "", read("style.css"), flags=re.S))
+    """Returns the style without comments, and without the spaces outside of strings that have no
+    meaning."""
+    text = compact(re.sub(r"/\*.*?\*/", "", read("style.css"), flags=re.S))
+    parts = re.split(r'("[^"]*")', text)
+    parts[::2] = [re.sub(r";}", "}", re.sub(r"\s*([{};,>])\s*|(:)\s+", r"\1\2", it)) for it in parts[::2]]
+    return "".join(parts)
 
 
 def hash_of(text):
@@ -66,7 +71,7 @@ def head():
         parts[f"{name}-hash"] = hash_of(parts[name])
     # One pass, so that a replacement isn't searched for placeholders.
     text = re.sub(r"\{\{([a-z-]+)\}\}", lambda found: parts[found[1]], text)
-    if not text.endswith('<script type="text/plain" id="data">\n'):
+    if not text.endswith('<xmp id="data" hidden>\n'):
         sys.exit("build.py: the head doesn't end at the start of the data")
     if "<meta charset" not in text[:1024]:
         sys.exit("build.py: the encoding isn't declared in the first 1024 bytes")

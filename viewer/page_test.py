@@ -1,88 +1,25 @@
 #!/usr/bin/env python3
-"""Tests pages in headless Chromium.
+"""Tests pages in headless Chromium and headless Firefox.
 
-usage: page_test.py [--measure] [--shots DIR] [--only NAME,..] [--keep DIR] [TTREE]
+usage: page_test.py [--browser chromium|firefox] [--only NAME,..] [--keep DIR] [TTREE]
+       page_test.py --measure | --shots DIR [TTREE]
 
 Writes pages of small, hostile, truncated and large inputs, opens each from a file, and checks what
 it shows. With the program TTREE, also checks the pages of the examples: their rows must be the tree
 of `ttree --json`. `--only` selects tests, and `--keep` is a folder for the pages. Instead of the
-tests, `--measure` prints sizes and times, and `--shots` writes screenshots. The last line is
-'pages in Chromium: N of M runs ended as they must'. Without Chromium, nothing is tried."""
+tests, `--measure` prints sizes and times, and `--shots` writes screenshots, both in Chromium. A
+browser that isn't installed is left out. The last line is 'pages in browsers: N of M runs ended as
+they must'."""
 import argparse, io, json, os, random, subprocess, sys, tempfile, time
 import pages
 import build
 from browser import Browser, find_browser
+from firefox import Firefox, find_firefox
+from inputs import HOSTILE, SECOND, SlowServer, deep, hostile, page_of, service, wide
 
-SECOND = 10 ** 9
-HOSTILE = ["</script><script>alert(1)</script>", "<!--", "<!--<script>", "<script", "</SCRIPT >", "]]>", "&lt;b&gt;", "<img src=x onerror=alert(1)>", "\u2028\u2029", "\x1b[31mred\x1b[0m", "a\0b", "\ufeffx",
-           "\u202egnp.exe", "'\"`\\", "\\u003c", "${alert(1)}", "javascript:alert(1)", "[5]\n</script>", "é→𝄞\U0010ffff", "\r\n", "\ud7ff\ue000", "__proto__", "constructor", "{{script}}", "</plaintext></template></style>"]
-
-
-def page_of(calls, title="test", end=True):
-    out = io.BytesIO()
-    if end:
-        pages.write_page(out, title, calls)
-        return out.getvalue()
-    out.write(build.head().encode() + pages.about(title))
-    calls(pages.Calls(out.write).take)
-    return out.getvalue()
-
-
-def hostile(take):
-    for at, text in enumerate(HOSTILE):
-        take({"call": "new", "name": text, "target": text, "fields": [[text, text], ["message", text]], "thread_name": text, "mono": at})
-        take({"call": "event", "level": "WARN", "target": text, "fields": [["message", text], [text, text]], "current": at + 1, "mono": at})
-        take({"call": "record", "id": at + 1, "fields": [["late", text]]})
-    long = "x" * 300_000
-    take({"call": "new", "name": long, "fields": [[long, long]]})
-    take({"call": "new", "name": "", "fields": [["", ""]]})
-
-
-def deep(take, depth=10_000):
-    for at in range(depth):
-        take({"call": "new", "name": f"level{at}", "current": at or None, "mono": at * 1000})
-    take({"call": "event", "level": "ERROR", "fields": [["message", "bottom"]], "current": depth, "mono": depth * 1000})
-    for at in range(depth, 0, -1):
-        take({"call": "close", "id": at, "mono": (2 * depth - at) * 1000})
-
-
-def wide(take, children=100_000):
-    take({"call": "new", "name": "root", "mono": 0})
-    for at in range(children):
-        take({"call": "new", "name": f"child{at}", "current": 1, "mono": at * 1000})
-        take({"call": "close", "id": at + 2, "mono": at * 1000 + 700})
-    take({"call": "close", "id": 1, "mono": children * 1000})
-
-
-def service(take, calls, failures=7):
-    """Makes the calls of a service: requests on four threads with queries in them. There are about
-    `calls` calls."""
-    draw, now, made, span = random.Random(7), 1_795_832_513 * SECOND, 1, 1
-    def at(thread=1):
-        nonlocal now
-        now += draw.randrange(2_000, 90_000)
-        return {"mono": now, "wall": now, "thread": thread, "thread_name": f"worker-{thread}"}
-    take({"call": "new", "name": "service", "fields": [["port", "8080"]], **at()})
-    bad = {int(calls * (it + 0.5) / failures) for it in range(failures)}
-    while made < calls - 8:
-        thread, request = draw.randrange(1, 5), span + 1
-        take({"call": "new", "name": "request", "target": "web::server", "fields": [["id", str(request)], ["path", f"/item/{draw.randrange(1000)}"]], "current": 1, **at(thread)})
-        take({"call": "event", "level": "INFO", "target": "web::server", "fields": [["message", "request received"]], "current": request, **at(thread)})
-        take({"call": "new", "name": "query", "target": "web::store", "fields": [["sql", "select * from items where id = ?"]], "current": request, **at(thread)})
-        take({"call": "event", "level": "DEBUG", "target": "web::store", "fields": [["message", "rows read"], ["rows", str(draw.randrange(500))]], "current": request + 1, **at(thread)})
-        if bad and made >= min(bad):
-            bad.remove(min(bad))
-            take({"call": "event", "level": "ERROR", "target": "web::store", "fields": [["message", "connection lost"], ["attempt", "3"]], "current": request + 1, **at(thread)})
-            made += 1
-        take({"call": "close", "id": request + 1, **at(thread)})
-        if draw.random() < 0.02:
-            take({"call": "event", "level": "WARN", "target": "web::server", "fields": [["message", "slow answer"], ["ms", "271"]], "current": request, **at(thread)})
-            made += 1
-        take({"call": "event", "level": "INFO", "target": "web::server", "fields": [["message", "request served"], ["status", "200"]], "current": request, **at(thread)})
-        take({"call": "close", "id": request, **at(thread)})
-        span, made = span + 2, made + 7
-    take({"call": "close", "id": 1, **at()})
-
+# Tests of the viewer's layout on small screens need the emulation that only Chromium has.
+IN_FIREFOX = ["samples", "server", "current", "random", "folds_when_big", "hostile", "texts", "zooms", "loading", "loading_without_times", "cut", "clocks", "map", "tall", "shapes"]
+IN_CHROMIUM = [*IN_FIREFOX, "sizes"]
 
 def length_text(ns):
     def digits(value):
@@ -97,9 +34,9 @@ def length_text(ns):
 
 
 class Tests:
-    def __init__(self, room, repo, ttree=None):
+    def __init__(self, browser, room, repo, ttree=None):
         self.ttree = ttree
-        self.room, self.repo, self.browser, self.count, self.failed = room, repo, Browser(), 0, 0
+        self.browser, self.room, self.repo, self.count, self.failed = browser, room, repo, 0, 0
 
     def check(self, name, is_so, what=""):
         self.count += 1
@@ -135,6 +72,11 @@ class Tests:
         time.sleep(0.25)
         return self.run("location.hash")
 
+    def follow(self, fragment):
+        """Follows a link within the page. The browser may be slow to say that the address changed."""
+        self.run(f"new Promise(done => {{ if (location.hash === '{fragment}') return done(); addEventListener('hashchange', () => done(), {{ once: true }}); location.hash = '{fragment}'; }})")
+        self.settle()
+
     def search(self, text):
         if self.run("document.activeElement.id == 'search'"):
             self.press("Escape")
@@ -154,12 +96,9 @@ class Tests:
     def is_quiet(self, name):
         """Checks that nothing but the page was fetched, and that nothing was logged on the
         console."""
-        self.run("0")
-        events = self.browser.events
-        fetched = [it["params"]["request"]["url"] for it in events if it.get("method") == "Network.requestWillBeSent"]
-        others = [it for it in fetched if not it.startswith(("file://", "data:image/svg+xml"))]
-        self.check(f"{name}: nothing is fetched", not others and sum(it.startswith("file://") for it in fetched) <= 1, fetched)
-        told = [it for it in events if it.get("method") in ("Runtime.exceptionThrown", "Runtime.consoleAPICalled", "Log.entryAdded", "Page.javascriptDialogOpening")]
+        fetched, told = self.browser.fetched(), self.browser.told()
+        others = [it for it in fetched if not it.startswith(("file://", "data:image/svg+xml", "http://127.0.0.1:"))]
+        self.check(f"{name}: nothing is fetched", not others and sum(not it.startswith("data:") for it in fetched) <= 1, fetched)
         self.check(f"{name}: nothing is told on the console", not told, json.dumps(told)[:500])
 
     def end_page(self, name):
@@ -274,6 +213,29 @@ class Tests:
         self.check("server: details", "82.9.9.9" in self.run("document.getElementById('details').innerText"))
         self.end_page("server link")
 
+    def current(self):
+        """Checks the details of events whose parent isn't their current span."""
+        new = [{"call": "new", "name": name, "current": above, "mono": at} for at, (name, above) in enumerate((("root", None), ("batch", 1), ("worker", 1)))]
+        event = lambda text, **spans: {"call": "event", "level": "INFO", "target": "t", "fields": [["message", text]], "mono": 9, **spans}
+        calls = [*new, event("moved", parent=2, current=3), event("at the root", parent="root", current=3), event("in it", current=3), event("alone", parent=2),
+            {"call": "close", "id": 3, "mono": 20}, event("after", parent=2, current=3),
+            {"call": "close", "id": 2, "mono": 21}, {"call": "close", "id": 1, "mono": 22}]
+        data = page_of(lambda take: [take({key: it for key, it in call.items() if it is not None}) for call in calls])
+        self.check("current: the lines", [it for it in data.decode().split("\n") if it.startswith("[3")] == [f'[3,0,9,-1,999999991,"1",{spans},2,"t","message","{text}"]' for spans, text in (("2,3", "moved"), ("0,3", "at the root"), ("3,3", "in it"), ("2,0", "alone"), ("2,0", "after"))])
+        self.show("current", data)
+        self.check("current: events are in their parents", self.rows() == ["root", "batch", "INFO moved", "INFO alone", "INFO after", "worker", "INFO in it", "INFO at the root"], self.rows())
+        facts = "Object.fromEntries([...document.querySelectorAll('#details .facts:not(.fields-list) dt')].map(it => [it.textContent, it.nextSibling.textContent]))"
+        for at, (call, text, want) in enumerate(((4, "moved", "worker"), (5, "at the root", "worker"), (6, "in it", None), (7, "alone", None), (9, "after", None))):
+            self.follow(f"#call-{call}")
+            got = self.run(facts)
+            self.check(f"current: details of {text!r}", self.selected() == f"INFO {text}" and got.get("Current span") == want and got.get("Target") == "t", (self.selected(), got))
+        self.follow("#call-4")
+        self.run("document.querySelector('#details dd .crumb').click()")
+        self.settle()
+        self.check("current: the link selects the span", self.selected().startswith("worker") and self.fragment() == "#span-3", self.selected())
+        self.check("current: a search finds fields", self.search("at the root") == "1 of 1" and self.search("t,2") == "none")
+        self.end_page("current")
+
     def folds_when_big(self):
         data = page_of(lambda take: service(take, 5000, 2))
         self.show("folds", data)
@@ -295,13 +257,16 @@ class Tests:
         self.check("folds: all folded", self.run("document.getElementById('sizer').clientHeight") <= self.run("document.getElementById('scroller').clientHeight"))
         self.end_page("folds")
 
-    def random(self, rounds=12):
-        """Compares the numbers and the order of random calls with a simple computation."""
+    def random(self, rounds=24):
+        """Compares the numbers and the order of random calls with a simple computation. In every
+        second round, a call may be earlier than the one before."""
         for seed in range(rounds):
             draw = random.Random(seed)
             nodes, roots, live, calls, now = [], [], [], [], 0
             for _ in range(draw.randint(5, 45)):
                 now += draw.choice([0, 1, 7, 900, 12_000, 3_000_000, 2_500_000_000])
+                if seed % 2 and draw.random() < 0.4:
+                    now = max(0, now - draw.choice([1, 8, 1000, 14_000, 3_100_000, 4_000_000_000]))
                 above = draw.choice([None, *live]) if draw.random() < 0.9 else None
                 kind = draw.choice(["new", "new", "event", "event", "close"])
                 if kind == "close":
@@ -309,7 +274,7 @@ class Tests:
                     if leaves:
                         one = draw.choice(leaves)
                         live.remove(one)
-                        one["end"] = now
+                        one["end"] = max(now, one["begin"])
                         calls.append({"call": "close", "id": one["id"], "mono": now})
                     continue
                 node = {"kind": kind, "begin": now, "end": None, "below": [], "above": above, "level": draw.choice(list(pages.LEVELS)), "name": f"n{len(nodes)}"}
@@ -320,17 +285,28 @@ class Tests:
                 if kind == "new":
                     live.append(node)
             calls = [{key: it for key, it in call.items() if it is not None} for call in calls]
-            last = max([it["mono"] for it in calls], default=0)
-            first = min([it["mono"] for it in calls], default=0)
+            last = max([max(it["begin"], it["end"] or 0) for it in nodes], default=0)
+            first = min([it["begin"] for it in nodes], default=0)
+
+            def end_of(node):
+                end = node["begin"] if node["kind"] == "event" else last if node["end"] is None else node["end"]
+                return max([end, *map(end_of, node["below"])])
+
+            def since(node):
+                since = node["begin"] - (node["above"]["begin"] if node["above"] else first)
+                return f"{'−' if since < 0 else '+'}{length_text(abs(since))}"
+
+            def own_of(node):
+                """Adds up the times without a child, between neighbouring starts and ends."""
+                begin, end = node["begin"], end_of(node)
+                inner = [(it["begin"], end_of(it)) for it in node["below"] if it["kind"] == "new"]
+                times = sorted({begin, end, *[clamp for it in inner for clamp in (min(max(at, begin), end) for at in it)]})
+                return sum(right - left for left, right in zip(times, times[1:]) if not any(one <= left and right <= other for one, other in inner))
 
             def told(node):
                 if node["kind"] == "event":
-                    return [f"{node['level']} {node['name']}||+{length_text(node['begin'] - (node['above']['begin'] if node['above'] else first))}"]
-                end = last if node["end"] is None else node["end"]
-                inner = sorted((it["begin"], min(end, last if it["end"] is None else it["end"])) for it in node["below"] if it["kind"] == "new")
-                own, done = end - node["begin"], node["begin"]
-                for begin, finish in inner:
-                    own, done = own - max(0, finish - max(begin, done)), max(done, finish)
+                    return [f"{node['level']} {node['name']}||{since(node)}"]
+                end, own = end_of(node), own_of(node)
                 events = below(node)
                 mark = " unfinished" if node["end"] is None else ""
                 return [f"{node['name']}{mark}|{len(events) or ''}|{length_text(end - node['begin'])}|{length_text(own) if own < end - node['begin'] else ''}|{max(events, default='')}", *[row for it in node["below"] for row in told(it)]]
@@ -350,13 +326,12 @@ class Tests:
     def hostile(self):
         self.show("hostile", page_of(hostile, "</script><script>alert(1)</script>"))
         self.check("hostile: the title", self.run("document.getElementById('title').textContent") == "</script><script>alert(1)</script>")
-        self.check("hostile: two scripts", self.run("document.scripts.length") == 2)
+        self.check("hostile: one script", self.run("document.scripts.length") == 1)
         self.check("hostile: nothing of the texts became an element", self.run("document.querySelectorAll('img, b, .row script, .row style, template, plaintext').length") == 0)
         self.press("+")
         unseen = lambda text: "".join(f"\\u{{{ord(it):x}}}" if ord(it) < 32 and it not in "\n\t" or 0x7F <= ord(it) <= 0x9F or it in "\u2028\u2029\u202e\ufeff" else it for it in text)
         for at, text in enumerate(HOSTILE):
-            self.run(f"location.hash = '#span-{at + 1}'")
-            self.settle()
+            self.follow(f"#span-{at + 1}")
             got = self.run("document.querySelector('.row.selected .name').textContent")
             self.check(f"hostile: {text!r} in the row", got == unseen(text).replace("\n", " ⏎ "), repr(got))
             got = self.run("document.querySelector('#details .text').textContent")
@@ -379,10 +354,9 @@ class Tests:
         draw = random.Random(11)
         want = ["".join(draw.choices(pieces, k=draw.randint(0, 9))) for _ in range(3000)]
         self.show("texts", page_of(lambda take: [take({"call": "event", "level": "INFO", "target": it, "fields": [[it, it]]}) for it in want]))
-        got = self.run("document.getElementById('data').textContent.trim().split('\\n').map(it => JSON.parse(it)).filter(it => it[0] === 3).map(it => it.slice(8))")
+        got = self.run("document.getElementById('data').textContent.trim().split('\\n').map(it => JSON.parse(it)).filter(it => it[0] === 3).map(it => it.slice(9))")
         self.check("texts: as they were written", got == [[it] * 3 for it in want])
-        self.check("texts: nothing else is in the document", self.run("document.scripts.length === 2 && !document.querySelector('#data *')"))
-        self.browser.events.clear()
+        self.check("texts: nothing else is in the document", self.run("document.scripts.length === 1 && !document.querySelector('#data *')"))
         tried = self.run("(async () => { const told = []; try { document.body.insertAdjacentHTML('beforeend', '<i id=bad></i>'); } catch { told.push('html'); } try { await fetch('https://example.com/'); } catch { told.push('fetch'); } const script = document.createElement('script'); try { script.textContent = 'window.bad = 1'; document.body.append(script); } catch { told.push('script'); } const picture = new Image(); picture.src = 'https://example.com/x.png'; await new Promise(done => { picture.onerror = done; }); told.push('image'); return [told.join(), Boolean(document.getElementById('bad') || window.bad)]; })()")
         self.check("policy: refuses markup, scripts and fetches", tried == ["html,fetch,script,image", False], tried)
         self.browser.close()
@@ -413,6 +387,218 @@ class Tests:
         self.check("zooms: no two ticks read alike", 1 < len(ticks) == len(set(ticks)), ticks)
         self.end_page("zooms")
 
+    def loading(self):
+        """Checks what one does while a page loads: it must stay. The page comes from a server that
+        sends its parts when the test says so."""
+        parts, out, step = [], io.BytesIO(), 1_000_000
+        made = pages.Calls(out.write)
+
+        def cut():
+            parts.append(out.getvalue())
+            out.seek(0), out.truncate()
+
+        def jobs(first, last):
+            for at in range(first, last):
+                made.take({"call": "new", "name": f"job{at}", "current": 1, "mono": at * step})
+                made.take({"call": "event", "level": "INFO", "fields": [["message", f"note {at}"]], "current": at + 3, "mono": at * step + 10})
+                made.take({"call": "close", "id": at + 3, "mono": at * step + step // 2})
+
+        out.write(build.head().encode() + pages.about("loading"))
+        made.take({"call": "new", "name": "root", "mono": 0})
+        made.take({"call": "new", "name": "early", "current": 1, "mono": 10})
+        for at in range(5):
+            made.take({"call": "event", "level": "INFO", "fields": [["message", f"first {at}"]], "current": 2, "mono": 20 + at})
+        jobs(0, 60)
+        cut()
+        jobs(60, 400)
+        for at in range(3):
+            made.take({"call": "event", "level": "INFO", "fields": [["message", f"late {at}"]], "current": 2, "mono": 400 * step + at})
+        cut()
+        made.take({"call": "event", "level": "INFO", "fields": [["message", "last"]], "current": 2, "mono": 400 * step + 40})
+        made.take({"call": "close", "id": 2, "mono": 400 * step + 50})
+        made.take({"call": "close", "id": 1, "mono": 400 * step + 100})
+        out.write(pages.end() + build.tail().encode())
+        cut()
+        axis = lambda: self.run("document.getElementById('axis').innerText")
+        row = lambda name: self.run(f"(() => {{ const row = [...document.querySelectorAll('.row:not([hidden])')].find(it => it.querySelector('.name')?.textContent === '{name}'); return row ? Math.round(row.getBoundingClientRect().top) : null; }})()")
+        is_read = "document.body.classList.contains('is-read')"
+
+        def open_first(fragment=""):
+            server = SlowServer(parts)
+            server.send(0)
+            self.browser.open()
+            self.browser.go(server.url + fragment)
+            self.browser.until("document.getElementById('counts') && document.getElementById('counts').innerText.startsWith('62')")
+            self.settle()
+            return server
+
+        def end(server, name):
+            server.send(2)
+            self.browser.until(is_read)
+            self.settle()
+            self.check(f"loading: {name}: all is read", "402" in self.run("document.getElementById('counts').innerText"), self.run("document.getElementById('counts').innerText"))
+
+        server = open_first()
+        self.check("loading: it isn't read yet", not self.run(is_read))
+        before = axis()
+        self.press("ArrowDown", "ArrowDown", "ArrowDown", "ArrowDown")
+        self.check("loading: a row is selected", self.selected() == "INFO first 1", self.selected())
+        self.run("scroller.scrollTop = 23 * 24 + 5")
+        self.settle()
+        place = row("job8")
+        lane = self.run("(() => { const box = document.querySelector('#axis').getBoundingClientRect(); return [box.left, box.top + 5, box.width] })()")
+        self.browser.mouse("mousePressed", lane[0] + lane[2] * 0.25, lane[1], buttons=1)
+        self.browser.mouse("mouseMoved", lane[0] + lane[2] * 0.5, lane[1], buttons=1)
+        self.browser.mouse("mouseReleased", lane[0] + lane[2] * 0.5, lane[1])
+        self.settle()
+        chosen = axis()
+        self.check("loading: a drag zooms", chosen != before)
+        server.send(1)
+        self.browser.until("document.getElementById('counts').innerText.startsWith('402')")
+        self.settle()
+        self.check("loading: the zoom stays when more has come", axis() == chosen, (chosen, axis()))
+        self.check("loading: the first row in sight stays", place is not None and row("job8") == place, (place, row("job8")))
+        end(server, "zoomed")
+        self.check("loading: the zoom stays when all has come", axis() == chosen, (chosen, axis()))
+        self.run("scroller.scrollTop = 0")
+        self.settle()
+        self.check("loading: the selected row stays", self.selected() == "INFO first 1", self.selected())
+        self.press("0")
+        self.check("loading: all of the time", axis() != chosen and axis() != before)
+        whole = axis()
+        self.end_page("loading: zoomed")
+        server.end()
+
+        server = open_first()
+        server.send(1)
+        time.sleep(0.1)
+        self.press("-")
+        self.check("loading: folds what has come", len(self.rows()) == 1, self.rows()[:9])
+        self.check("loading: a search", self.search("note 77") in ("1 of 1", "1", "none"), self.run("document.getElementById('found').textContent"))
+        end(server, "folded")
+        self.browser.until("!document.getElementById('found').textContent.endsWith('…')")
+        self.check("loading: a search goes on", self.run("document.getElementById('found').textContent") == "1 of 1", self.run("document.getElementById('found').textContent"))
+        self.check("loading: without a zoom, all of the time", axis() == whole, axis())
+        self.end_page("loading: folded")
+        server.end()
+
+        server = open_first("#span-5")
+        self.check("loading: a link selects as soon as its span has come", self.selected().startswith("job2"), self.selected())
+        end(server, "link")
+        self.check("loading: the link's span stays", self.selected().startswith("job2"), self.selected())
+        self.end_page("loading: link")
+        server.end()
+
+        server = open_first("#span-2")
+        focused = "[document.activeElement.closest('#slowest, #details')?.id, document.activeElement.textContent]"
+        self.check("loading: the details of an open span", "so far" in self.run("document.getElementById('details').innerText"))
+        self.run("document.getElementById('details').style.height = '60px', document.getElementById('details').scrollTop = 30")
+        self.run("document.querySelector('#details .crumb').focus({ preventScroll: true })")
+        self.press("f")
+        self.check("loading: only what failed", self.rows() == [], self.rows())
+        end(server, "details")
+        self.check("loading: the details are those of all calls", "so far" not in self.run("document.getElementById('details').innerText"))
+        self.check("loading: the details stay where they are", self.run("document.getElementById('details').scrollTop") == 30, self.run("document.getElementById('details').scrollTop"))
+        self.check("loading: a button of the details keeps the focus", self.run(focused) == ["details", "root"], self.run(focused))
+        self.check("loading: the filter can be switched off", self.rows() == [] and not self.run("document.getElementById('failed').hidden"))
+        self.press("f")
+        self.check("loading: all rows again", self.rows()[:1] == ["root"], self.rows()[:3])
+        self.end_page("loading: details")
+        server.end()
+
+        server = open_first()
+        self.run("document.querySelector('#slowest button').focus()")
+        self.press("-")
+        self.run("document.querySelector('#slowest button').focus()")
+        server.send(1)
+        self.browser.until("document.getElementById('counts').innerText.startsWith('402')")
+        self.settle()
+        self.check("loading: a button of the slowest spans keeps the focus", self.run(focused)[0] == "slowest", self.run(focused))
+        end(server, "focus")
+        self.check("loading: it still has the focus", self.run(focused)[0] == "slowest", self.run(focused))
+        self.end_page("loading: focus")
+        server.end()
+
+    def loading_without_times(self):
+        """Checks a page whose first calls have one time: what one does then must stay as well."""
+        parts, out, step = [], io.BytesIO(), 1_000_000
+        made = pages.Calls(out.write)
+
+        def cut():
+            parts.append(out.getvalue())
+            out.seek(0), out.truncate()
+
+        def jobs(first, last, time):
+            for at in range(first, last):
+                made.take({"call": "new", "name": f"job{at}", "mono": time(at)})
+                made.take({"call": "new", "name": f"inner{at}", "current": 2 * at + 1, "mono": time(at)})
+                made.take({"call": "event", "level": "INFO", "fields": [["message", f"note {at}"]], "current": 2 * at + 2, "mono": time(at)})
+                for span in (2 * at + 2, 2 * at + 1):
+                    made.take({"call": "close", "id": span, "mono": time(at) + (time(at) != time(0)) * step // 2})
+
+        out.write(build.head().encode() + pages.about("no times"))
+        jobs(0, 20, lambda _: SECOND)
+        cut()
+        jobs(20, 40, lambda at: SECOND + at * step)
+        cut()
+        jobs(40, 60, lambda at: SECOND + at * step)
+        out.write(pages.end() + build.tail().encode())
+        cut()
+        server = SlowServer(parts)
+        counts = lambda count: self.browser.until(f"document.getElementById('counts') && document.getElementById('counts').innerText.startsWith('{count}')")
+        axis = lambda: self.run("document.getElementById('axis').innerText")
+        is_whole = lambda: self.run("document.getElementById('map-range').hidden")
+        rows = lambda: self.run("parseFloat(document.getElementById('sizer').style.height) / 24")
+
+        def drag(part, other, between=None):
+            box = self.run("(() => { const box = document.querySelector('#axis').getBoundingClientRect(); return [box.left, box.top + 5, box.width] })()")
+            self.browser.mouse("mousePressed", box[0] + box[2] * part, box[1], buttons=1)
+            self.browser.mouse("mouseMoved", box[0] + box[2] * other, box[1], buttons=1)
+            if between:
+                between()
+            self.browser.mouse("mouseReleased", box[0] + box[2] * other, box[1])
+            self.settle()
+
+        server.send(0)
+        self.browser.open()
+        self.browser.go(server.url)
+        counts(40)
+        self.settle()
+        calls = axis()
+        self.check("no times: the axis counts calls", "call" in calls, calls)
+        drag(0.25, 0.5)
+        self.check("no times: nothing is chosen, and it says so", axis() == calls and is_whole() and "no times" in self.run("document.getElementById('notice').textContent"), axis())
+        self.press("ArrowDown", "z")
+        self.check("no times: z chooses nothing", axis() == calls and is_whole())
+        self.press("0", "-")
+        self.check("no times: all folded", rows() == 20, rows())
+
+        def more():
+            server.send(1)
+            counts(80)
+            self.settle()
+
+        drag(0.25, 0.5, more)
+        chosen = axis()
+        part = self.run("(() => { const style = document.getElementById('map-range').style; return [parseFloat(style.left), parseFloat(style.width)] })()")
+        self.check("no times: a drag during which times come chooses what is below it", "ms" in chosen and not is_whole() and abs(part[0] - 25) < 0.5 and abs(part[1] - 25) < 0.5, (chosen, part))
+        self.check("no times: what comes later is folded too", rows() == 40, rows())
+        server.send(2)
+        self.browser.until("document.body.classList.contains('is-read')")
+        self.settle()
+        self.check("no times: the zoom stays", axis() == chosen and not is_whole(), (chosen, axis()))
+        self.check("no times: still folded", rows() == 60, rows())
+        self.check("no times: the selected row stays", self.selected().startswith("job0"), self.selected())
+        self.press("0")
+        self.check("no times: all of the time", is_whole() and axis() != chosen, axis())
+        self.end_page("no times")
+        server.end()
+        self.show("calls", page_of(lambda take: [take({"call": "event", "level": "INFO"}) for _ in range(40)]))
+        whole = axis()
+        drag(0.25, 0.5)
+        self.check("no times: when all is read, calls can be chosen", axis() != whole and not is_whole(), axis())
+        self.end_page("calls")
+
     def sizes(self):
         data = page_of(lambda take: service(take, 20_000))
         for width, height in ((1280, 800), (2560, 1440), (390, 844), (800, 600), (320, 480)):
@@ -423,6 +609,13 @@ class Tests:
                 self.check(f"{name}: nothing sticks out", self.run("document.documentElement.scrollWidth <= innerWidth && document.documentElement.scrollHeight <= innerHeight"))
                 self.check(f"{name}: rows are in sight", self.run("document.getElementById('scroller').clientHeight") > 90, self.run("document.getElementById('scroller').clientHeight"))
                 self.end_page(name)
+
+        self.show("sizes", page_of(lambda take: [take({"call": "new", "name": "a", "mono": 0}), take({"call": "close", "id": 1, "mono": 9000})]), width=900, height=800)
+        self.check("900 by 800: without errors, the slowest spans are beside the counts", self.run("document.getElementById('slowest-box').offsetTop - document.querySelector('.verdict').offsetTop") == 0 and self.run("document.getElementById('slowest-box').offsetWidth") > 400)
+        self.end_page("900 by 800")
+        self.show("sizes", page_of(lambda take: take({"call": "event", "level": "INFO", "fields": [["message", "long " * 40]]})), width=390, height=844, mobile=True)
+        self.check("390 by 844: without times, a row has all of the width", self.run("document.querySelector('.row:not([hidden]) .tree').offsetWidth") > 370)
+        self.end_page("390 by 844")
 
     def cut(self):
         with open(os.path.join(self.repo, "examples", "server.jsonl"), encoding="utf-8") as file:
@@ -437,7 +630,7 @@ class Tests:
             self.check(f"cut at {at}: what came before is there", len(self.rows()) == want, (len(self.rows()), want))
             self.check(f"cut at {at}: it is told", self.run("document.querySelector('#counts .cut') !== null") == ("[5]" not in lines))
             self.end_page(f"cut at {at}")
-        damaged = data.replace(b'[3,0,0,0,0,"1",2,1', b'[3,0,0,"oh,0,"1",2,1')
+        damaged = data.replace(b'[3,0,0,0,0,"1",2,2,1', b'[3,0,0,"oh,0,"1",2,2,1')
         self.show("damaged", damaged)
         self.check("damaged: the rest is there", len(self.rows()) == 5 and "damaged" in self.run("document.getElementById('counts').innerText"))
         self.end_page("damaged")
@@ -460,6 +653,66 @@ class Tests:
         self.show("zero", page_of(lambda take: [take({"call": "new", "name": "trace"}), take({"call": "event", "level": "INFO", "current": 1, "mono": 5000}), take({"call": "close", "id": 1, "mono": 9000})]))
         self.check("clocks: a clock may begin at 0", "in 9.00 µs" in self.run("document.getElementById('verdict').innerText"))
         self.end_page("zero")
+
+    def map(self):
+        """Checks the map of spans that don't come in the order of their start."""
+        second, spans = SECOND, [(0, 10), (90, 100), (40, 60), (20, 20), (99, 100), (30, 30)]
+        calls = []
+        for at, (begin, end) in enumerate(spans):
+            calls += [{"call": "new", "name": f"span{at}", "mono": begin * second}, {"call": "close", "id": at + 1, "mono": end * second}]
+        self.show("map", page_of(lambda take: [take(it) for it in calls]))
+        want = [any(begin <= at < max(end, begin + 0.1) for begin, end in spans) for at in range(100)]
+        # 0.05 of a hundredth to the right, as the shortest bar is one pixel wide
+        got = self.run("(() => { const canvas = document.getElementById('map-picture'), data = canvas.getContext('2d').getImageData(0, 2, canvas.width, 1).data; return Array.from({ length: 100 }, (_, at) => data[4 * Math.floor((at + 0.05) * canvas.width / 100) + 3] > 0) })()")
+        self.check("map: each span is painted", got == want, [at for at in range(100) if got[at] != want[at]])
+        self.end_page("map")
+
+    def tall(self, events=500_000):
+        """Scrolls rows that are taller than their box: 12 million pixels. Small steps leave
+        no row out, at the ends of the box and in the middle. A long step moves to the rows there."""
+        lines = b"".join(b'[3,0,%d,0,0,"1",0,0,2,"","message","%d"]\n' % (at, at) for at in range(events))
+        self.show("tall", build.head().encode() + pages.about("tall") + lines + pages.end() + build.tail().encode(), height=1400)
+        top = "(() => { const box = scroller.getBoundingClientRect(), rows = [...document.querySelectorAll('.row:not([hidden])')].map(it => [it.getBoundingClientRect(), it.querySelector('.message').textContent]).sort((a, b) => a[0].top - b[0].top), [at, text] = rows.find(([it]) => it.bottom > box.top); return [Number(text) * 24 + box.top - at.top, Number(rows.findLast(([it]) => it.top < box.bottom)[1]), scroller.scrollTop] })()"
+
+        def steps(pixels, count):
+            """Scrolls by steps. Returns the position of the rows before, and after each step."""
+            return self.run(f"(async () => {{ const positions = []; for (let at = 0; at <= {count}; at++) {{ positions.push(Math.round({top}[0])); scroller.scrollTop += {pixels}; await new Promise(done => requestAnimationFrame(() => setTimeout(done))); }} return positions; }})()")
+
+        def are_even(positions, pixels):
+            return all(abs(after - before - pixels) <= 1 for before, after in zip(positions, positions[1:]))
+
+        height = self.run("scroller.clientHeight")
+        most = events * 24 - height
+        box = self.run("scroller.scrollHeight - scroller.clientHeight")
+        self.check("tall: the box is lower than its rows", box < most)
+        for part in (0.02, 0.3, 0.5, 0.9, 0.99):
+            self.run(f"scroller.scrollTop = {part} * {box}")
+            self.settle()
+            for pixels in (7, -240, 300):
+                positions = steps(pixels, 12)
+                self.check(f"tall: steps of {pixels} at {part}", are_even(positions, pixels), positions)
+                time.sleep(0.3)
+                after = self.run(top)[0]
+                self.check(f"tall: after a pause at {part}", abs(after - positions[-1] - pixels) <= 1, (positions[-1], after))
+        # Small steps without a pause to both ends of the box; rows remain behind them.
+        for start, pixels in ((510_000, -2000), (box - 510_000, 2000)):
+            self.run(f"scroller.scrollTop = {start}")
+            self.settle()
+            positions = steps(pixels, 260)
+            self.check(f"tall: on over the end of the box, from {start}", are_even(positions, pixels) and 0 < positions[-1] < most, [it for it in zip(positions, positions[1:]) if abs(it[1] - it[0] - pixels) > 1][:5])
+        self.run("scroller.scrollTop = 0")
+        self.settle()
+        self.check("tall: the first row", self.run(top)[:2] == [0, (height - 1) // 24], self.run(top))
+        self.run(f"scroller.scrollTop = {box}")
+        self.settle()
+        self.check("tall: the last row", self.run(top)[1] == events - 1 and abs(self.run(top)[0] - most) <= 1, self.run(top))
+        positions = steps(-300, 20)
+        self.check("tall: up from the end", are_even(positions, -300), positions)
+        self.press("Home", "End", "ArrowUp")
+        self.check("tall: keys", self.selected() == f"INFO {events - 2}", self.selected())
+        self.follow(f"#call-{events // 2}")
+        self.check("tall: a link", self.selected() == f"INFO {events // 2 - 1}", self.selected())
+        self.end_page("tall")
 
     def shapes(self):
         self.show("deep", page_of(deep))
@@ -549,27 +802,40 @@ def main():
     parser.add_argument("--keep")
     parser.add_argument("ttree", nargs="?", help="the program whose pages of the examples are tried")
     parser.add_argument("--only")
+    parser.add_argument("--browser", default="all", choices=["all", "chromium", "firefox"])
     parser.add_argument("--shots", help="a folder for screenshots of the examples' pages")
     words = parser.parse_args()
-    if not find_browser():
-        print("page_test: Chromium isn't installed (apt-get install chromium), so no page is opened")
-        print("pages in Chromium: 0 of 0 runs ended as they must")
-        return 0
-    with tempfile.TemporaryDirectory() as room:
-        tests = Tests(words.keep or room, words.repo, words.ttree and os.path.abspath(words.ttree))
-        try:
-            names = ["samples", "server", "random", "folds_when_big", "hostile", "texts", "zooms", "sizes", "cut", "clocks", "shapes"] if not words.measure and not words.shots else []
-            for name in names:
-                if not words.only or name in words.only.split(","):
-                    getattr(tests, name)()
-            if words.shots:
-                tests.take_shots(words.shots)
-            for calls in (10 ** 5, 10 ** 6) if words.measure else ():
-                tests.measures(calls)
-        finally:
-            tests.browser.end()
-    print(f"pages in Chromium: {tests.count - tests.failed} of {tests.count} runs ended as they must")
-    return 1 if tests.failed else 0
+    if words.measure or words.shots:
+        words.browser = "chromium"
+    if words.shots:
+        os.makedirs(words.shots, exist_ok=True)
+    ran, failed = 0, 0
+    for name, find, start in (("Chromium", find_browser, Browser), ("Firefox", find_firefox, Firefox)):
+        if words.browser.lower() not in ("all", name.lower()):
+            continue
+        if not find():
+            print(f"page_test: {name} isn't installed (apt-get install {name.lower()}{'-esr' * (name == 'Firefox')}), so it opens no page")
+            continue
+        with tempfile.TemporaryDirectory() as room:
+            tests = Tests(start(), words.keep or room, words.repo, words.ttree and os.path.abspath(words.ttree))
+            try:
+                try_all(tests, words, name)
+            finally:
+                tests.browser.end()
+        ran, failed = ran + tests.count, failed + tests.failed
+        print(f"page_test: {name}: {tests.count - tests.failed} of {tests.count}")
+    print(f"pages in browsers: {ran - failed} of {ran} runs ended as they must")
+    return 1 if failed else 0
+
+
+def try_all(tests, words, browser):
+    if words.shots:
+        return tests.take_shots(words.shots)
+    if words.measure:
+        return [tests.measures(calls) for calls in (10 ** 5, 10 ** 6)]
+    for name in IN_CHROMIUM if browser == "Chromium" else IN_FIREFOX:
+        if not words.only or name in words.only.split(","):
+            getattr(tests, name)()
 
 
 if __name__ == "__main__":

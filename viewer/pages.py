@@ -51,7 +51,7 @@ def strings(fields):
 
 
 def about(title):
-    return line(0, b"1", quick(title))
+    return line(0, b"2", quick(title))
 
 
 def end():
@@ -66,8 +66,8 @@ def record(span, fields):
     return line(2, number(span), *strings(fields))
 
 
-def event(at, parent, level, target, fields):
-    return line(3, *moment(*at), number(parent), number(level), quick(target), *strings(fields))
+def event(at, parent, current, level, target, fields):
+    return line(3, *moment(*at), number(parent), number(current), number(level), quick(target), *strings(fields))
 
 
 def close(at, span):
@@ -93,8 +93,8 @@ class Calls:
             self.write(new(at, span, parent, call["name"], call.get("target", ""), fields))
         elif kind == "event":
             parent = self.parent_of(call)
-            parent = parent if parent in self.live else 0
-            self.write(event(at, parent, LEVELS[call["level"]], call.get("target", ""), fields))
+            parent, current = (it if it in self.live else 0 for it in (parent, call.get("current")))
+            self.write(event(at, parent, current, LEVELS[call["level"]], call.get("target", ""), fields))
         elif kind == "record" and call["id"] in self.live:
             self.write(record(call["id"], fields))
         elif kind == "clone":

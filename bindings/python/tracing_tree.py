@@ -132,7 +132,7 @@ _library = _load()
 
 
 def _shown(value):
-    """Returns a field's value as it is drawn: a string unchanged, anything else as `repr` returns
+    """Returns a field's value in the form that is drawn: a string unchanged, anything else as `repr` returns
     it."""
     return value if isinstance(value, str) else repr(value)
 

@@ -5,7 +5,7 @@ const ABOUT = 0, NEW = 1, RECORD = 2, EVENT = 3, CLOSE = 4, END = 5;
 const AUTO = 0, OPEN = 1, FOLDED = 2;
 // Seconds from which a clock counts from 1970.
 const CALENDAR = 1e8;
-const SLICE = 20, FEW = 200, TALLEST = 12e6, LONGEST = 400;
+const SLICE = 20, FEW = 200, TALLEST = 5e6, EDGE = 5e5, LONGEST = 400;
 
 const find = (id) => document.getElementById(id);
 const clamp = (value, least, most) => Math.max(least, Math.min(most, value));
@@ -16,5 +16,14 @@ function make(tag, className = "", text = "") {
   if (className) element.className = className;
   if (text) element.textContent = text;
   return element;
+}
+
+// Paints the inside of an element again. Where one has scrolled to stays, and so does the focus on one
+// of its buttons.
+function repaint(element, paint) {
+  const top = element.scrollTop, at = [...element.querySelectorAll("button")].indexOf(document.activeElement);
+  paint();
+  element.scrollTop = top;
+  element.querySelectorAll("button")[at]?.focus({ preventScroll: true });
 }
 

@@ -3,10 +3,8 @@
 function select(node, shouldScroll = true) {
   selected = node;
   if (node !== NONE) {
-    if (shouldScroll) {
-      if (!isRow(node)) reveal(node);
-      scrollToRow(rowOf(node));
-    }
+    reveal(node);
+    if (shouldScroll) scrollToRow(rowOf(node));
     clearTimeout(select.timer);
     select.timer = setTimeout(() => history.replaceState(null, "", fragmentOf(node)), 150);
   }
@@ -19,7 +17,7 @@ const fragmentOf = (node) => isSpan(node) ? `#span-${run.id[node]}` : `#call-${r
 
 function goToFragment() {
   const [, kind, number] = location.hash.match(/^#(span|call)-(\d+)$/) || [];
-  for (let node = 0; kind && node < run.size; node++) {
+  for (let node = 0; kind && node < run.placed; node++) {
     if (isSpan(node) !== (kind === "span") || Number(number) !== (isSpan(node) ? run.id : run.opened)[node]) continue;
     if (node !== selected) select(node), showDetails(true);
     break;
@@ -48,22 +46,32 @@ function paintDetails() {
   const message = span ? call[8] || "(no name)" : fields.filter(([name]) => name === "message").map(([, value]) => value).join("\n");
   if (message) panel.append(make("pre", "text", whole100k(message)));
   const path = make("nav", "crumbs");
-  for (const above of spansAround(node, 12)) {
-    const step = make("button", "crumb", inRow(nameOf(above)).slice(0, 80) || "(no name)");
-    step.addEventListener("click", () => select(above));
-    path.append(step);
-  }
+  path.append(...spansAround(node, 12).map(linkTo));
   if (path.firstChild) panel.append(path);
-  const parent = run.parent[node], facts = [];
+  const parent = run.parent[node], current = span ? NONE : currentOf(node, call), facts = [];
   if (span && hasTimes()) facts.push(["Time", `${lengthText(lengthOf(node))}${isUnfinished(node) ? " so far" : ""}`], ["Own time", `${lengthText(run.own[node])}`]);
-  if (hasTimes()) facts.push([span ? "Begins at" : "Happens at", `+${lengthText(from(node) - run.least)}`]);
-  if (hasTimes() && !span && parent !== NONE) facts.push(["In its span", `+${lengthText(from(node) - from(parent))}`]);
+  if (hasTimes()) facts.push([span ? "Begins at" : "Happens at", sinceText(from(node) - run.least)]);
+  if (hasTimes() && !span && parent !== NONE) facts.push(["In its span", sinceText(from(node) - from(parent))]);
   if (wallText(call)) facts.push(["Clock", wallText(call)]);
   if (span) facts.push(["Events below", `${run.events[node].toLocaleString("en")}${run.errors[node] ? `, ${counted(run.errors[node], "error")}` : ""}`]);
   if (call[5] && threadNames.length > 1) facts.push(["Thread", call[5]]);
-  if (call[span ? 9 : 8]) facts.push(["Target", call[span ? 9 : 8]]);
+  if (current !== NONE) facts.push(["Current span", linkTo(current)]);
+  if (call[9]) facts.push(["Target", call[9]]);
   const shownFields = fields.filter(([name]) => name !== "message" || span);
   panel.append(table("Fields", shownFields), table("", facts));
+}
+
+// The current span of an event, if that isn't its parent.
+function currentOf(node, call) {
+  if (call[7] === call[6] || call[7] === 0) return NONE;
+  for (let before = node - 1; before >= 0; before--) if (isSpan(before) && run.id[before] === call[7]) return before;
+  return NONE;
+}
+
+function linkTo(span) {
+  const link = make("button", "crumb", inRow(nameOf(span)).slice(0, 80) || "(no name)");
+  link.addEventListener("click", () => select(span));
+  return link;
 }
 
 const whole100k = (text) => shown(text.slice(0, 1e5)) + (text.length > 1e5 ? `\n… ${counted(text.length - 1e5, "more character")}` : "");
@@ -84,7 +92,11 @@ function copyButton() {
 
 function table(title, pairs) {
   const list = make("dl", title ? "facts fields-list" : "facts");
-  for (const [name, value] of pairs) list.append(make("dt", "", inRow(name)), make("dd", "", whole100k(value)));
+  for (const [name, value] of pairs) {
+    const cell = make("dd");
+    cell.append(value instanceof Node ? value : whole100k(value));
+    list.append(make("dt", "", inRow(name)), cell);
+  }
   list.hidden = !pairs.length;
   return list;
 }

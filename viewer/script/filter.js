@@ -25,7 +25,7 @@ function isOpen(node) {
 
 function flatten() {
   shownRows = 0;
-  for (let next = 0; next < run.size;) {
+  for (let next = 0; next < run.placed;) {
     const node = run.order[next], span = isSpan(node);
     if (run.kept[node]) run.rows[shownRows++] = node;
     next = span && !(run.kept[node] && isOpen(node)) ? run.past[node] : next + 1;
@@ -33,6 +33,13 @@ function flatten() {
   nothing.hidden = shownRows > 0 || !run.isRead;
   nothing.textContent = run.size ? "Nothing fits these filters." : "No calls.";
   layOut();
+}
+
+// Computes the rows again. The first visible row stays where it is.
+function flattenInPlace() {
+  const top = pixel(), first = shownRows ? run.rows[Math.floor(top / rowHeight)] : NONE;
+  flatten();
+  if (top > 0 && first !== NONE) scrollToPixel(clamp(rowOf(first) * rowHeight + top % rowHeight, 0, reach(wholeHeight())));
 }
 
 // The row of a node, or the nearest row before it.
@@ -53,16 +60,19 @@ function setFold(node, isNowOpen) {
   flatten();
 }
 
+// Folds or unfolds all spans, also those that are read later.
 function foldAll(isNowOpen) {
-  run.fold.fill(isNowOpen ? OPEN : FOLDED, 0, run.size);
+  run.laterFold = isNowOpen ? OPEN : FOLDED;
+  run.fold.fill(run.laterFold, 0, run.size);
   for (; !isNowOpen && selected !== NONE && run.parent[selected] !== NONE;) selected = run.parent[selected];
   flatten();
   if (selected !== NONE) scrollToRow(rowOf(selected));
 }
 
+// Has a node stay a row, also when more calls have been read or other filters are set.
 function reveal(node) {
-  for (let above = run.parent[node]; above !== NONE; above = run.parent[above]) if (!isOpen(above)) run.fold[above] = OPEN;
-  flatten();
+  for (let above = run.parent[node]; above !== NONE; above = run.parent[above]) run.fold[above] = OPEN;
+  if (!isRow(node)) flatten();
 }
 
 function setFilter(change) {

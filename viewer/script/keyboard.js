@@ -8,9 +8,9 @@ const KEYS = [
 
 function step(rows) {
   if (!shownRows) return;
-  const here = selected !== NONE ? rowOf(selected) : rows > 0 ? -1 : shownRows, row = clamp(here + rows, 0, shownRows - 1), pixel = scroller.scrollTop + offset, top = row * rowHeight;
-  if (top < pixel) scrollToPixel(top);
-  else if (top + rowHeight > pixel + scroller.clientHeight) scrollToPixel(top + rowHeight - scroller.clientHeight);
+  const here = selected !== NONE ? rowOf(selected) : rows > 0 ? -1 : shownRows, row = clamp(here + rows, 0, shownRows - 1), top = row * rowHeight;
+  if (top < pixel()) scrollToPixel(top);
+  else if (top + rowHeight > pixel() + scroller.clientHeight) scrollToPixel(top + rowHeight - scroller.clientHeight);
   select(run.rows[row], false);
 }
 
@@ -81,8 +81,8 @@ scroller.addEventListener("dblclick", (event) => event.target.closest(".tree") &
 scroller.addEventListener("scroll", followScroll, { passive: true });
 document.querySelector(".table").addEventListener("pointermove", showCursor, { passive: true });
 document.querySelector(".table").addEventListener("pointerleave", () => find("cursor").hidden = true);
-dragsRange(scroller, () => ({ ...view }));
-dragsRange(find("axis"), () => ({ ...view }));
+dragsRange(scroller, () => view);
+dragsRange(find("axis"), () => view);
 dragsRange(find("map"), whole, resetView);
 addEventListener("hashchange", goToFragment);
 matchMedia("(prefers-color-scheme: dark)").addEventListener("change", paintMap);

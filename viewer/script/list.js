@@ -10,31 +10,46 @@ const reach = (height) => Math.max(1, height - scroller.clientHeight);
 
 function layOut() {
   sizer.style.height = `${boxHeight()}px`;
-  scrollToPixel(clamp(scroller.scrollTop + offset, 0, reach(wholeHeight())));
+  scrollToPixel(clamp(pixel(), 0, reach(wholeHeight())));
   isStale = true;
 }
 
-// All rows together may be taller than a browser allows. Then the position in the box is proportional
-// to the one in the rows, and `offset` is the difference. Small scroll steps leave it unchanged.
-function scrollToPixel(pixel) {
-  const top = wholeHeight() <= TALLEST ? pixel : pixel / reach(wholeHeight()) * reach(TALLEST);
-  scroller.scrollTop = top;
+// All rows together may be taller than a browser allows. Then the box is lower than they are, and
+// `offset` is the difference between the positions in both. Near both ends, a pixel of the box is one
+// of the rows. Between, positions are proportional.
+function convert(at, one, other) {
+  if (one === other || at <= EDGE) return at;
+  return at >= one - EDGE ? other - (one - at) : EDGE + (at - EDGE) / (one - 2 * EDGE) * (other - 2 * EDGE);
+}
+
+const pixel = () => scroller.scrollTop + offset;
+const inBox = (at) => convert(at, reach(wholeHeight()), reach(boxHeight()));
+
+function scrollToPixel(at) {
+  scroller.scrollTop = inBox(at);
   lastTop = scroller.scrollTop;
-  offset = wholeHeight() <= TALLEST ? 0 : Math.round(pixel - lastTop);
+  offset = boxHeight() < wholeHeight() ? Math.round(at - lastTop) : 0;
   wantPaint();
 }
 
+// A step that is longer than a wheel's, such as one of the scroll bar, moves to the rows at that
+// position. A smaller step moves the rows as far as the box. If the box ends too early, or the
+// scrolling stops, the position in the box is corrected.
 function followScroll() {
-  const top = scroller.scrollTop, leap = Math.abs(top - lastTop) > 4 * scroller.clientHeight;
-  const isAtEdge = top <= 0 || top >= reach(boxHeight()) - 1;
-  if (wholeHeight() > TALLEST && (leap || isAtEdge)) offset = Math.round(top / reach(TALLEST) * reach(wholeHeight()) - top);
-  lastTop = top;
+  const top = scroller.scrollTop, height = scroller.clientHeight, isAtEdge = top <= 0 || top >= reach(boxHeight()) - 1;
+  clearTimeout(followScroll.timer);
+  if (boxHeight() < wholeHeight()) {
+    if (Math.abs(top - lastTop) > Math.min(2 * height, TALLEST / height / 2)) offset = Math.round(convert(top, reach(boxHeight()), reach(wholeHeight())) - top);
+    else if (isAtEdge) scrollToPixel(pixel());
+    else followScroll.timer = setTimeout(() => Math.abs(inBox(pixel()) - top) > 1 && scrollToPixel(pixel()), 200);
+  }
+  lastTop = scroller.scrollTop;
   wantPaint();
 }
 
 function scrollToRow(row) {
-  const top = row * rowHeight, pixel = scroller.scrollTop + offset, height = scroller.clientHeight;
-  if (top < pixel || top + rowHeight > pixel + height) scrollToPixel(clamp(top - height / 3, 0, reach(wholeHeight())));
+  const top = row * rowHeight, height = scroller.clientHeight;
+  if (top < pixel() || top + rowHeight > pixel() + height) scrollToPixel(clamp(top - height / 3, 0, reach(wholeHeight())));
   isStale = true;
   wantPaint();
 }
@@ -56,8 +71,8 @@ function makeRow() {
 
 function paint() {
   isPaintWanted = false;
-  const pixel = clamp(scroller.scrollTop + offset, 0, Math.max(0, wholeHeight() - 1)), height = scroller.clientHeight;
-  const first = Math.max(0, Math.floor(pixel / rowHeight) - 8), last = Math.min(shownRows, Math.ceil((pixel + height) / rowHeight) + 8);
+  const top = clamp(pixel(), 0, Math.max(0, wholeHeight() - 1)), height = scroller.clientHeight;
+  const first = Math.max(0, Math.floor(top / rowHeight) - 8), last = Math.min(shownRows, Math.ceil((top + height) / rowHeight) + 8);
   const wanted = Math.ceil(height / rowHeight) + 20;
   while (pool.length < wanted) {
     const one = makeRow();
@@ -79,7 +94,7 @@ function paint() {
     one.row = NONE;
   }
   isStale = false;
-  paintPath(Math.floor(pixel / rowHeight));
+  paintPath(Math.floor(top / rowHeight));
   const active = isRow(selected) ? pool[rowOf(selected) % pool.length] : null;
   active && active.row === rowOf(selected) ? scroller.setAttribute("aria-activedescendant", active.element.id) : scroller.removeAttribute("aria-activedescendant");
 }
@@ -106,7 +121,7 @@ function paintRow(one, row) {
   one.row = row;
   element.hidden = false;
   element.id = `row-${row % pool.length}`;
-  element.className = `row ${span ? "span" : "event"} ${LEVELS[worst].toLowerCase()}${run.direct[node] === ERROR ? " direct" : ""}${node === selected ? " selected" : ""}${search.nodes.has(node) ? " match" : ""}`;
+  element.className = `row ${span ? "span" : "event"} ${LEVELS[worst].toLowerCase()}${run.direct[node] === ERROR ? " direct" : ""}${node === selected ? " selected" : ""}${run.match[node] ? " match" : ""}`;
   element.setAttribute("aria-level", run.depth[node] + 1);
   element.setAttribute("aria-posinset", run.ordinal[node]);
   element.setAttribute("aria-setsize", run.ordinal[run.parent[node] === NONE ? run.lastRoot : run.lastChild[run.parent[node]]]);
@@ -116,7 +131,7 @@ function paintRow(one, row) {
   parts.tree.replaceChildren(...treeParts(node, span, canFold, worst));
   parts.count.textContent = span && run.events[node] ? run.events[node].toLocaleString("en") : "";
   parts.self.textContent = span && hasTimes() && run.own[node] < lengthOf(node) ? lengthText(run.own[node]) : "";
-  parts.time.textContent = !hasTimes() ? "" : span ? lengthText(lengthOf(node)) : `+${lengthText(from(node) - (run.parent[node] === NONE ? run.least : from(run.parent[node])))}`;
+  parts.time.textContent = !hasTimes() ? "" : span ? lengthText(lengthOf(node)) : sinceText(from(node) - (run.parent[node] === NONE ? run.least : from(run.parent[node])));
   paintBar(parts.bar, node, span);
 }
 

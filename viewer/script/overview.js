@@ -20,7 +20,7 @@ function paintOverview() {
   }));
   if (run.isRead && !run.isWhole) find("counts").append(make("p", "cut", "The page ends early: this is what came before."));
   find("next-error").hidden = !errors;
-  find("failed").hidden = run.isRead && !errors;
+  find("failed").hidden = run.isRead && !errors && !filter.failed;
   find("next-error").textContent = counted(errors, "error");
   const groups = errorGroups();
   listNodes("errors", [...groups.values()].slice(0, 4), ({ where, text, count }) => {
@@ -56,13 +56,17 @@ function slowest(count) {
   return top.filter((it) => run.own[it] > 0);
 }
 
+// A list that reads the same stays, so that a click isn't lost while the page loads.
 function listNodes(id, ones, partsOf) {
-  find(`${id}-box`).hidden = !ones.length;
-  find(id).replaceChildren(...ones.map((one) => {
+  const list = find(id), items = ones.map((one) => {
     const item = make("li"), button = item.appendChild(make("button"));
     button.append(...partsOf(one));
     button.addEventListener("click", () => (select(one.node), showDetails(true), scroller.focus()));
     return item;
-  }));
+  });
+  const key = items.map((item, at) => `${ones[at].node} ${item.textContent}`).join("\n");
+  find(`${id}-box`).hidden = !ones.length;
+  if (key !== list.key) repaint(list, () => list.replaceChildren(...items));
+  list.key = key;
 }
 

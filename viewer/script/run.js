@@ -5,11 +5,12 @@ const KINDS = {
   at: Uint32Array, level: Uint8Array, id: Float64Array, thread: Int32Array, parent: Int32Array, depth: Int32Array, ordinal: Int32Array,
   firstChild: Int32Array, lastChild: Int32Array, nextSibling: Int32Array, start: Float64Array, end: Float64Array, opened: Int32Array,
   closed: Int32Array, fold: Uint8Array, events: Int32Array, errors: Int32Array, worst: Uint8Array, direct: Uint8Array, own: Float64Array, place: Int32Array,
-  past: Int32Array, kept: Uint8Array, order: Int32Array, rows: Int32Array,
+  past: Int32Array, kept: Uint8Array, match: Uint8Array, order: Int32Array, rows: Int32Array,
 };
 const run = {
-  size: 0, room: 0, spans: 0, calls: 0, damaged: 0, firstRoot: NONE, lastRoot: NONE, isWhole: false, isRead: false, title: "",
+  size: 0, placed: 0, room: 0, spans: 0, calls: 0, damaged: 0, firstRoot: NONE, lastRoot: NONE, isWhole: false, isRead: false, title: "",
   least: Infinity, most: -Infinity, second: null, levels: [0, 0, 0, 0, 0], unfinished: 0, errorPlaces: [], deepest: 0, autoDepth: 0,
+  isTimed: false, laterFold: AUTO,
 };
 const live = new Map(), threads = new Map(), threadNames = [], records = new Map(), recordOwners = new Map();
 
@@ -21,6 +22,8 @@ function grow() {
     run[name] = wider;
   }
 }
+
+grow();
 
 // The data that has arrived. It is taken from the document only when there is more, as that may copy
 // it.
@@ -35,7 +38,7 @@ function lookForMore() {
 const callAt = (at) => JSON.parse(source.slice(at, source.indexOf("\n", at)));
 
 const isSpan = (node) => run.level[node] === SPAN;
-const hasTimes = () => run.most > run.least;
+const hasTimes = () => run.isTimed;
 const begins = () => hasTimes() ? run.start : run.opened;
 const ends = () => hasTimes() ? run.end : run.closed;
 const from = (node) => begins()[node];
@@ -53,6 +56,7 @@ function addNode(level, at, call, time) {
   run.at[node] = at;
   run.level[node] = level;
   run.thread[node] = threads.get(call[5]);
+  run.fold[node] = run.laterFold;
   run.start[node] = time;
   run.opened[node] = run.calls;
   run.parent[node] = parent;
@@ -87,7 +91,7 @@ function addCall(call, at) {
     live.set(call[6], node);
     run.spans++;
   } else {
-    const level = clamp(call[7] | 0, 0, ERROR);
+    const level = clamp(call[8] | 0, 0, ERROR);
     addNode(level, at, call, time);
     run.levels[level]++;
   }
@@ -113,8 +117,8 @@ function spanTime(time) {
 function startAt(call) {
   run.second = call[1];
   run.least = run.most = call[2];
-  run.start?.fill(call[2], 0, run.size);
-  run.end?.fill(call[2], 0, run.size);
+  run.start.fill(call[2], 0, run.size);
+  run.end.fill(call[2], 0, run.size);
 }
 
 // A record has no time of its own.
@@ -125,10 +129,10 @@ function addRecord(id, at) {
   recordOwners.set(at, node);
 }
 
-// Computes what depends on all nodes so far: for each span the counts and the worst level in it and
-// directly in it, own times, and the order of the tree.
-function derive() {
-  const { size, parent, level, events, errors, worst, direct, own, depth, start, end, closed, firstChild, nextSibling, order, place, past } = run;
+// Computes for each span the end, the counts, and the worst level in it and directly in it.
+function sumUp() {
+  const { size, parent, level, events, errors, worst, direct, start, end, closed } = run;
+  run.isTimed = run.most > run.least;
   for (const node of live.values()) {
     end[node] = Math.max(run.most, start[node]);
     closed[node] = run.calls + 1;
@@ -146,17 +150,41 @@ function derive() {
     if (worst[node] > worst[above]) worst[above] = worst[node];
     if (isEvent && level[node] > direct[above]) direct[above] = level[node];
   }
-  const covered = new Float64Array(size), perDepth = [], begin = begins(), finish = ends();
-  for (let node = 0; node < size; node++) {
-    perDepth[depth[node]] = (perDepth[depth[node]] || 0) + 1;
-    if (level[node] !== SPAN) continue;
-    own[node] = finish[node] - begin[node];
-    covered[node] = begin[node];
-    if (depth[node] > run.deepest) run.deepest = depth[node];
-    const above = parent[node];
-    if (above === NONE) continue;
+}
+
+// Computes own times: for each span, its time without the times of its children. Children usually come
+// in the order of their start: `covered` is the end of those so far. Others are sorted first.
+function computeOwnTimes() {
+  const { size, parent, level, own, firstChild, nextSibling } = run, begin = begins(), finish = ends();
+  const covered = begin.slice(0, size), latest = new Float64Array(size).fill(-Infinity), unsorted = new Set();
+  const cover = (above, node) => {
     const left = Math.max(covered[above], begin[node]), right = Math.min(finish[node], finish[above]);
     if (right > left) own[above] -= right - left, covered[above] = right;
+  };
+  for (let node = 0; node < size; node++) {
+    if (level[node] !== SPAN) continue;
+    own[node] = finish[node] - begin[node];
+    const above = parent[node];
+    if (above === NONE) continue;
+    if (begin[node] < latest[above]) unsorted.add(above);
+    latest[above] = begin[node];
+    cover(above, node);
+  }
+  for (const above of unsorted) {
+    const children = [];
+    for (let node = firstChild[above]; node !== NONE; node = nextSibling[node]) if (level[node] === SPAN) children.push(node);
+    own[above] = finish[above] - begin[above];
+    covered[above] = begin[above];
+    children.sort((one, other) => begin[one] - begin[other]).forEach((node) => cover(above, node));
+  }
+}
+
+// Computes the depth down to which spans are open at first.
+function computeAutoDepth() {
+  const { size, level, depth } = run, perDepth = [];
+  for (let node = 0; node < size; node++) {
+    perDepth[depth[node]] = (perDepth[depth[node]] || 0) + 1;
+    if (level[node] === SPAN && depth[node] > run.deepest) run.deepest = depth[node];
   }
   run.autoDepth = 0;
   for (let nodes = 0, at = 0; at < perDepth.length && at < 1e4; at++) {
@@ -164,8 +192,14 @@ function derive() {
     if (nodes > FEW && at > 0) break;
     if (nodes <= FEW) run.autoDepth = at + 1;
   }
+}
+
+// Computes the order of the tree. Nodes that come later have no place in it until the next time.
+function orderNodes() {
+  const { parent, level, firstChild, nextSibling, order, place, past } = run;
   run.errorPlaces = [];
-  for (let node = run.firstRoot, next = 0; node !== NONE;) {
+  let next = 0;
+  for (let node = run.firstRoot; node !== NONE;) {
     if (level[node] === ERROR) run.errorPlaces.push(next);
     place[node] = next;
     order[next++] = node;
@@ -180,5 +214,5 @@ function derive() {
     }
     if (node !== NONE) node = nextSibling[node];
   }
+  run.placed = next;
 }
-

@@ -1,6 +1,6 @@
 // Search: a pattern over the lines as they are written finds candidates, and their strings decide.
 
-const search = { query: "", found: [], nodes: new Set(), run: 0, isDone: true };
+const search = { query: "", nodes: [], found: [], run: 0, isDone: true };
 
 function nodeOfLine(at) {
   let low = 0, high = run.size - 1;
@@ -14,7 +14,7 @@ function nodeOfLine(at) {
 
 function fits(line, query) {
   const call = JSON.parse(line), kind = call[0], texts = kind === NEW ? [call[8]] : [];
-  for (let at = kind === NEW ? 10 : kind === EVENT ? 9 : 2; at + 1 < call.length; at += 2) texts.push(call[at] === "message" ? call[at + 1] : `${call[at]}=${call[at + 1]}`);
+  for (let at = kind === RECORD ? 2 : 10; at + 1 < call.length; at += 2) texts.push(call[at] === "message" ? call[at + 1] : `${call[at]}=${call[at + 1]}`);
   return texts.some((it) => it.toLowerCase().includes(query));
 }
 
@@ -39,7 +39,8 @@ function* matches(query) {
 
 function startSearch(query) {
   const turn = ++search.run, steps = query ? matches(query) : [][Symbol.iterator](), found = [];
-  Object.assign(search, { query, found: [], nodes: new Set(), isDone: false });
+  Object.assign(search, { query, nodes: [], found: [], isDone: false });
+  run.match.fill(0, 0, run.size);
   isStale = true;
   wantPaint();
   const work = () => {
@@ -47,12 +48,13 @@ function startSearch(query) {
     for (const until = performance.now() + SLICE; performance.now() < until;) {
       const { value, done } = steps.next();
       if (done) {
-        search.nodes = new Set(found.filter((it) => run.kept[it]));
-        search.found = Int32Array.from(search.nodes, (it) => run.place[it]).sort();
+        // A span is found once, also if several of its lines fit.
+        search.nodes = Int32Array.from(found.filter((it) => it < run.placed && run.kept[it] && !run.match[it] && (run.match[it] = 1)));
+        placeMatches();
         search.isDone = true;
         isStale = true;
         wantPaint();
-        if (search.found.length && document.activeElement === find("search") && !search.nodes.has(selected)) goToMatch(1, true);
+        if (search.found.length && document.activeElement === find("search") && !run.match[selected]) goToMatch(1);
         return showFound();
       }
       if (value !== NONE) found.push(value);
@@ -61,6 +63,10 @@ function startSearch(query) {
     setTimeout(work);
   };
   work();
+}
+
+function placeMatches() {
+  search.found = search.nodes.map((it) => run.place[it]).sort();
 }
 
 function showFound() {

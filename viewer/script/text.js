@@ -7,7 +7,7 @@ const inRow = (text) => shown(text.slice(0, LONGEST)).replace(/\n/g, " ⏎ ") + 
 
 function fieldsOf(node, most = Infinity) {
   const call = callAt(run.at[node]), fields = [];
-  for (let at = isSpan(node) ? 10 : 9; at + 1 < call.length && fields.length < most; at += 2) fields.push([call[at], call[at + 1]]);
+  for (let at = 10; at + 1 < call.length && fields.length < most; at += 2) fields.push([call[at], call[at + 1]]);
   for (const record of records.get(node) || []) {
     if (fields.length >= most) break;
     const more = callAt(record);
@@ -39,6 +39,8 @@ function lengthText(ns) {
   const seconds = Math.round(ns / 1e9), minutes = Math.floor(seconds / 60);
   return minutes < 60 ? `${minutes} m ${seconds % 60} s` : `${Math.floor(minutes / 60)} h ${minutes % 60} m`;
 }
+
+const sinceText = (ns) => `${ns < 0 ? "−" : "+"}${lengthText(Math.abs(ns))}`;
 
 function tickText(ns, step) {
   if (ns === 0) return "0";

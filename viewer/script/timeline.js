@@ -1,8 +1,7 @@
 // Time: the visible part of it, bars, and the map of all of it.
 
-const view = { from: 0, to: 1, isWhole: true, hasTimes: false };
+const view = { from: 0, to: 1, isWhole: true };
 const whole = () => hasTimes() ? { from: run.least, to: run.most } : { from: 0, to: run.calls + 1 };
-const isZoomed = () => view.from > whole().from || view.to < whole().to;
 
 function setView(begin, end) {
   const all = whole(), least = hasTimes() ? Math.min(100, all.to - all.from) : 2;
@@ -19,16 +18,21 @@ const resetView = () => setView(whole().from, whole().to);
 
 // While the page loads, all of the time grows. A part that was chosen stays.
 function growView() {
-  const isOther = view.hasTimes !== hasTimes();
-  view.hasTimes = hasTimes();
-  if (view.isWhole || isOther) Object.assign(view, whole(), { isWhole: true });
+  if (view.isWhole && run.size) resetView();
+}
+
+// Zooms to a part of the axis. Without times, the axis counts calls. While the page loads, no part of
+// that axis can be chosen, since the axis of times may still take its place.
+function zoom(begin, end) {
+  if (hasTimes() || run.isRead) setView(begin, end);
+  else notify("There are no times yet");
 }
 
 function zoomTo(node) {
   const span = isSpan(node) ? node : run.parent[node];
   if (span === NONE) return resetView();
   const room = lengthOf(span) * 0.04;
-  return setView(from(span) - room, to(span) + room);
+  return zoom(from(span) - room, to(span) + room);
 }
 
 function paintBar(bar, node, span) {
@@ -56,32 +60,39 @@ function paintAxis() {
 
 function paintRange() {
   const all = whole(), range = find("map-range"), scale = 100 / (all.to - all.from || 1);
-  range.hidden = !isZoomed();
+  range.hidden = view.isWhole;
   range.style.left = `${(view.from - all.from) * scale}%`;
   range.style.width = `${(view.to - view.from) * scale}%`;
 }
 
-// Draws spans by their depth, from the top, and warnings and errors as ticks below.
+// Draws spans by their depth, from the top, those with warnings and errors over others, and warnings
+// and errors as ticks below.
 function paintMap() {
   const canvas = find("map-picture"), density = devicePixelRatio || 1, width = canvas.clientWidth, height = canvas.clientHeight;
   canvas.width = width * density, canvas.height = height * density;
   const pen = canvas.getContext("2d"), style = getComputedStyle(document.body), colour = (name) => style.getPropertyValue(name).trim();
   const colours = [0, 1, 2].map(() => colour("--bar")).concat(colour("--bar-warn"), colour("--bar-error"));
-  const all = whole(), scale = width / (all.to - all.from || 1), deepest = clamp(run.deepest + 1, 1, 9), tall = Math.min(9, (height - 11) / deepest), painted = new Float64Array(deepest);
+  const all = whole(), scale = width / (all.to - all.from || 1), deepest = clamp(run.deepest + 1, 1, 9), tall = Math.min(9, (height - 11) / deepest);
+  // The last part that is painted at each depth, and the worst short span in each column.
+  const partFrom = new Float64Array(deepest), partTo = new Float64Array(deepest), columns = new Uint8Array(deepest * (width + 2));
   pen.scale(density, density);
   const begin = begins(), finish = ends(), { level, depth, direct } = run, ticks = [new Uint8Array(width + 1), new Uint8Array(width + 1)];
-  for (let node = 0; node < run.size; node++) {
-    const left = (begin[node] - all.from) * scale;
-    if (level[node] !== SPAN) {
-      if (level[node] >= WARN) ticks[level[node] - WARN][Math.round(left)] = 1;
-      continue;
-    }
-    const deep = depth[node], right = Math.max(left + 1, (finish[node] - all.from) * scale);
-    if (deep >= deepest || right <= painted[deep] + 0.3 && direct[node] < WARN) continue;
-    painted[deep] = Math.max(painted[deep], right);
+  const paintSpan = (node) => {
+    const left = (begin[node] - all.from) * scale, deep = depth[node], right = Math.max(left + 1, (finish[node] - all.from) * scale), column = deep * (width + 2) + Math.floor(left);
+    const isShort = right - left < 1.5, worst = Math.max(WARN - 1, direct[node]);
+    if (deep >= deepest || isShort && columns[column] >= worst || worst < WARN && left >= partFrom[deep] && right <= partTo[deep] + 0.3) return;
+    if (left < partFrom[deep] || left > partTo[deep]) partFrom[deep] = left, partTo[deep] = right;
+    else partTo[deep] = Math.max(partTo[deep], right);
+    if (isShort) columns[column] = worst;
     pen.fillStyle = colours[direct[node]];
     pen.fillRect(left, deep * tall, Math.max(1, right - left - 0.5), tall - 1);
+  };
+  const bad = [];
+  for (let node = 0; node < run.size; node++) {
+    if (level[node] === SPAN) direct[node] < WARN ? paintSpan(node) : bad.push(node);
+    else if (level[node] >= WARN) ticks[level[node] - WARN][Math.round((begin[node] - all.from) * scale)] = 1;
   }
+  bad.forEach(paintSpan);
   pen.fillStyle = colour("--cut");
   ticks[1].forEach((isThere, x) => isThere && pen.fillRect(x - 0.5, 0, 1, height));
   for (const [at, name] of ["--tick-warn", "--error"].entries()) {
@@ -90,26 +101,28 @@ function paintMap() {
   }
 }
 
-// Dragging over an element chooses the visible part of time. `click` is called for a mere click.
+// Dragging over an element chooses the visible part of time: what is between the pointer's positions
+// when the drag ends. `click` is called for a mere click.
 function dragsRange(element, wholeOfIt, click) {
   let begin = null, box = null;
-  const at = (event) => clamp((event.clientX - box.left) / box.width, 0, 1);
+  const timeAt = (x) => {
+    const { from, to } = wholeOfIt();
+    return from + clamp((x - box.left) / box.width, 0, 1) * (to - from);
+  };
   element.addEventListener("pointerdown", (event) => {
     const lane = element.id === "scroller" ? event.target.closest(".lane") : element;
     if (!lane || event.button !== 0 || event.pointerType === "touch" && lane !== element) return;
-    box = (lane.querySelector(".track") || lane).getBoundingClientRect(), begin = { at: at(event), x: event.clientX, range: wholeOfIt() };
+    box = (lane.querySelector(".track") || lane).getBoundingClientRect(), begin = { x: event.clientX };
   });
   addEventListener("pointermove", (event) => {
     if (!begin || Math.abs(event.clientX - begin.x) < 4 && !begin.isDrag) return;
     begin.isDrag = true;
-    const place = (part) => begin.range.from + part * (begin.range.to - begin.range.from), ends = [place(begin.at), place(at(event))].sort((one, other) => one - other);
-    begin.ends = ends;
-    if (element.id === "map") setView(...ends);
-    else showBand(box, Math.min(begin.x, event.clientX), Math.max(begin.x, event.clientX));
+    const ends = begin.ends = [begin.x, event.clientX].sort((one, other) => one - other);
+    element.id === "map" ? zoom(...ends.map(timeAt)) : showBand(box, ...ends);
   });
   addEventListener("pointerup", (event) => {
     if (!begin) return;
-    if (begin.ends && element.id !== "map") setView(...begin.ends);
+    if (begin.ends && element.id !== "map") zoom(...begin.ends.map(timeAt));
     if (!begin.isDrag && click) click(event);
     wasDrag = Boolean(begin.isDrag);
     begin = null;

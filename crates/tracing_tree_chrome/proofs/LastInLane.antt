@@ -1,7 +1,7 @@
 -- The last item of a lane.
 use Rattle.std.proofs.Common.{◌≡◌, Bool, true, false, ℕ, zero, suc, ◌+◌, ◌-◌, ◌<◌, ◌≤◌, List, [], ◌∷◌, length, take, get_or, Option, Some, if◌then◌else◌, refl, sym, ap, ◌∙◌, arith}
 use Rattle.tracing_tree_chrome.specs.Gather.{further_or, last_in, same_lane}
-use Rattle.tracing_tree_chrome.specs.declared.element.Lane.{Lane}
+use Rattle.tracing_tree_chrome.specs.declared.gather.Lane.{Lane}
 use Rattle.tracing_tree_chrome.specs.declared.gather.Item.{Item}
 
 further_if : (m b : Bool) (k n : ℕ) (found : Option ℕ) → n ≡ k + 1 →

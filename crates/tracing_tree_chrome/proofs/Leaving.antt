@@ -1,18 +1,27 @@
 -- Spans that are left one after another.
 use Rattle.std.proofs.Common.{rules, ◌≡◌, Bool, true, false, List, [], ◌∷◌, length, drop, Option, Some, None, if◌then◌else◌, refl, sym, ap, ◌∙◌}
 use Rattle.tracing_tree_context.specs.declared.context.Id.{Id}
-use Rattle.tracing_tree_chrome.specs.Tree.{TreeState, at_end, closed, is_left, leaving, leaving_count, left, left_out_told, left_while}
+use Rattle.tracing_tree_chrome.specs.Tree.{TreeState, at_end, closed, closed_as, is_left, leaving, leaving_count, left, left_out_told, left_while, with_settled}
 use Rattle.tracing_tree_chrome.specs.declared.gather.Point.{Point}
 use Rattle.tracing_tree_chrome.specs.declared.tree.Frame.{Frame}
 use Rattle.tracing_tree_chrome.specs.declared.tree.Until.{Until}
+use Rattle.tracing_tree_chrome.specs.declared.tree.Waiting.{Waiting}
 
 end_keeps : (end : Option Point) (s : TreeState) → (at_end end s).frames ≡ s.frames
 end_keeps (Some end) s = refl
 end_keeps None s = refl
 
+settled_keeps : (span : Option Waiting) (s : TreeState) → (with_settled span s).frames ≡ s.frames
+settled_keeps None s = refl
+settled_keeps (Some span) s = refl
+
 closed_keeps : (id above : Option Id) (s : TreeState) → (closed id above s).frames ≡ s.frames
 closed_keeps (Some id) above s = refl
 closed_keeps None above s = refl
+
+leaf_keeps : (span : Option Waiting) (frame : Frame) (s : TreeState) → (closed_as span frame s).frames ≡ s.frames
+leaf_keeps None frame s = closed_keeps frame.id frame.above s
+leaf_keeps (Some span) frame s = refl
 
 if_keeps : (b : Bool) (s t : TreeState) → t.frames ≡ s.frames → (if b then s else t).frames ≡ s.frames
 if_keeps true s t h = refl
@@ -21,8 +30,9 @@ if_keeps false s t h = h
 -- a span that is left was taken off before
 left_keeps : (frame : Frame) (s : TreeState) → (left frame s).frames ≡ s.frames
 left_keeps frame s =
-    closed_keeps frame.id frame.above (left_out_told frame (at_end frame.end s))
-    ∙ if_keeps _ (at_end frame.end s) _ refl ∙ end_keeps frame.end s
+    let ended : TreeState = at_end frame.end s in
+    leaf_keeps (left_out_told frame ended).waiting frame (left_out_told frame ended)
+    ∙ if_keeps _ ended _ (settled_keeps ended.waiting ended) ∙ end_keeps frame.end s
 
 -- a span that is left, and those after it
 step_if : (b : Bool) (until : Until) (f frame : Frame) (below : List Frame) (s : TreeState) →

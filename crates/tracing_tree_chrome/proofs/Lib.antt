@@ -1,8 +1,10 @@
 pub mod Numbers
+pub mod Digits
 pub mod Places
 mod Leaving
 mod LastInLane
 pub mod Hearing
 pub mod Noting
 mod Worked
-mod TrackLists
+mod WorkedLeaves
+mod KeyLists

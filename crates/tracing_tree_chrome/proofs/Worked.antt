@@ -1,16 +1,18 @@
 -- Examples computed from the definitions of what a string and an element of a trace mean.
-use Rattle.std.proofs.Common.{◌≡◌, pos, true, false, None, Some, [], ◌∷◌, codes, refl}
+use Rattle.std.proofs.Common.{◌≡◌, ◌+◌, ◌-◌, ◌^◌, pos, true, false, None, Some, [], ◌∷◌, codes, refl}
 use Rattle.std.specs.Prelude.{negsuc, Ok, Err}
 use Rattle.std.specs.Str.{chars}
 use lib.Utf8.{encode}
-use Rattle.json.specs.Json.{null, number, string, object, member, no_members}
-use Rattle.tracing_tree_chrome.specs.Element.{element_of, nanoseconds_of}
+use Rattle.json.specs.Json.{null, number, string, array, object, member, no_members, no_items}
+use Rattle.tracing_tree_chrome.specs.Element.{element_of}
+use Rattle.tracing_tree_chrome.specs.Number.{length_of, nanoseconds_of, time_of}
 use Rattle.tracing_tree_chrome.specs.Text.{is_cut, mended}
 use Rattle.tracing_tree_sources.specs.declared.notes.Lack.TheVariants.{Phase, Process, Thread, Start, Duration}
-use Rattle.tracing_tree_chrome.specs.declared.element.Element.TheVariants.{Span, Begin, End, Instant, Async, ProcessName, ThreadName, Other}
+use Rattle.tracing_tree_chrome.specs.declared.element.Element.TheVariants.{Span, Begin, End, Instant, Async, ProcessName, ThreadName, Metadata, Undrawn}
+use Rattle.tracing_tree_chrome.specs.declared.element.Ident.TheVariants.{Number, Name}
 use Rattle.tracing_tree_chrome.specs.declared.element.Track.TheVariants.{Begin as TrackBegins, End as TrackEnds}
 
--- ---- times
+-- ---- numbers
 
 pub whole_microseconds : nanoseconds_of (codes "57411") ≡ Some 57411000
 whole_microseconds = refl
@@ -21,23 +23,41 @@ with_thousandths = refl
 pub half_a_microsecond : nanoseconds_of (codes "0.5") ≡ Some 500
 half_a_microsecond = refl
 
-pub more_is_cut : nanoseconds_of (codes "1.23456") ≡ Some 1234
+pub more_is_cut : nanoseconds_of (codes "1.2345678901234567890123456789") ≡ Some 1234
 more_is_cut = refl
 
-pub before_the_trace_is_no_time : nanoseconds_of (codes "-1") ≡ None
-before_the_trace_is_no_time = refl
+pub a_small_exponent : nanoseconds_of (codes "6.25e-02") ≡ Some 62
+a_small_exponent = refl
 
-pub an_exponent_is_no_time : nanoseconds_of (codes "1.5e3") ≡ None
-an_exponent_is_no_time = refl
+pub below_a_nanosecond : nanoseconds_of (codes "5e-05") ≡ Some 0
+below_a_nanosecond = refl
 
-pub so_is_one_of_a_whole_number : nanoseconds_of (codes "1E3") ≡ None
-so_is_one_of_a_whole_number = refl
+pub a_large_exponent : nanoseconds_of (codes "1.5E+3") ≡ Some 1500000
+a_large_exponent = refl
 
-pub the_last_nanosecond : nanoseconds_of (codes "18446744073709551.615") ≡ Some 18446744073709551615
+pub zeros_before_many_digits : nanoseconds_of (codes "0.000000000000000000000015e24") ≡ Some 15000
+zeros_before_many_digits = refl
+
+pub an_exponent_is_whole : nanoseconds_of (codes "1e1.5") ≡ None
+an_exponent_is_whole = refl
+
+pub the_last_nanosecond : nanoseconds_of (codes "9223372036854775.807") ≡ Some (2 ^ 63 - 1)
 the_last_nanosecond = refl
 
-pub one_after_it : nanoseconds_of (codes "18446744073709551.616") ≡ None
+pub one_after_it : nanoseconds_of (codes "9223372036854775.808") ≡ None
 one_after_it = refl
+
+pub after_the_zero : time_of (codes "1.5") ≡ Some (2 ^ 63 + 1500)
+after_the_zero = refl
+
+pub before_the_zero : time_of (codes "-12.25") ≡ Some (2 ^ 63 - 12250)
+before_the_zero = refl
+
+pub a_length_is_not_negative : length_of (codes "-12.25") ≡ Some 0
+a_length_is_not_negative = refl
+
+pub a_length : length_of (codes "1e2") ≡ Some 100000
+a_length = refl
 
 -- ---- elements
 
@@ -50,11 +70,11 @@ pub a_span_of_clang : element_of (object (
     (member (codes "name") (string (codes "Source"))
     (member (codes "args") (object (member (codes "detail") (string (codes "include/sys/cdefs.h")) no_members))
     no_members)))))))) ≡ Ok (Span (record {
-      lane = record { process = Some (pos 26611); thread = Some (pos 26611); track = None };
-      start = 57411000;
+      owner = record { process = Some (Number (pos 26611)); thread = Some (Number (pos 26611)) };
+      start = 2 ^ 63 + 57411000;
       name = codes "Source";
       fields = (record { name = codes "detail"; value = codes "include/sys/cdefs.h" }) ∷ [];
-    }) 58316000)
+    }) (2 ^ 63 + 58316000))
 unfolding chars encode
 a_span_of_clang = refl
 
@@ -63,8 +83,8 @@ pub a_begin_of_uftrace : element_of (object (
     (member (codes "ph") (string (codes "B"))
     (member (codes "pid") (number (codes "20609"))
     (member (codes "name") (string (codes "main")) no_members))))) ≡ Ok (Begin (record {
-      lane = record { process = Some (pos 20609); thread = None; track = None };
-      start = 1350024132832;
+      owner = record { process = Some (Number (pos 20609)); thread = None };
+      start = 2 ^ 63 + 1350024132832;
       name = codes "main";
       fields = [];
     }))
@@ -75,8 +95,8 @@ pub an_end_of_uftrace : element_of (object (
     (member (codes "ph") (string (codes "E"))
     (member (codes "pid") (number (codes "20609"))
     (member (codes "name") (string (codes "main")) no_members))))) ≡ Ok (End (record {
-      lane = record { process = Some (pos 20609); thread = None; track = None };
-      start = 1350024137588;
+      owner = record { process = Some (Number (pos 20609)); thread = None };
+      start = 2 ^ 63 + 1350024137588;
       name = codes "main";
       fields = [];
     }))
@@ -86,8 +106,8 @@ pub an_instant_of_no_lane : element_of (object (
     member (codes "ph") (string (codes "i"))
     (member (codes "ts") (number (codes "7"))
     (member (codes "tid") null no_members)))) ≡ Ok (Instant (record {
-      lane = record { process = None; thread = None; track = None };
-      start = 7000;
+      owner = record { process = None; thread = None };
+      start = 2 ^ 63 + 7000;
       name = [];
       fields = [];
     }))
@@ -99,7 +119,7 @@ pub a_process_by_its_name : element_of (object (
     (member (codes "pid") (number (codes "-1"))
     (member (codes "name") (string (codes "process_name"))
     (member (codes "args") (object (member (codes "name") (string (codes "clang")) no_members))
-    no_members)))))) ≡ Ok (ProcessName (record { process = Some (negsuc 0); thread = None; track = None }) (codes "clang"))
+    no_members)))))) ≡ Ok (ProcessName (record { process = Some (Number (negsuc 0)); thread = None }) (codes "clang"))
 a_process_by_its_name = refl
 
 pub a_thread_by_its_name : element_of (object (
@@ -107,19 +127,31 @@ pub a_thread_by_its_name : element_of (object (
     (member (codes "tid") (number (codes "2"))
     (member (codes "name") (string (codes "thread_name"))
     (member (codes "args") (object (member (codes "name") (string (codes "worker")) no_members))
-    no_members))))) ≡ Ok (ThreadName (record { process = None; thread = Some (pos 2); track = None }) (codes "worker"))
+    no_members))))) ≡ Ok (ThreadName (record { process = None; thread = Some (Number (pos 2)) }) (codes "worker"))
 a_thread_by_its_name = refl
 
 pub other_metadata : element_of (object (
     member (codes "ph") (string (codes "M"))
     (member (codes "pid") (string (codes "one"))
-    (member (codes "name") (string (codes "process_labels")) no_members)))) ≡ Ok Other
+    (member (codes "name") (string (codes "process_labels")) no_members)))) ≡ Ok Metadata
 other_metadata = refl
 
-pub an_unknown_phase : element_of (object (
+pub a_counter : element_of (object (
     member (codes "ph") (string (codes "C"))
-    (member (codes "tid") (string (codes "one")) no_members))) ≡ Ok Other
-an_unknown_phase = refl
+    (member (codes "tid") (number (codes "1.5")) no_members))) ≡ Ok Undrawn
+a_counter = refl
+
+pub a_thread_of_a_gpu : element_of (object (
+    member (codes "ph") (string (codes "i"))
+    (member (codes "pid") (string (codes "GPU"))
+    (member (codes "tid") (string (codes "12"))
+    (member (codes "ts") (number (codes "-0.001")) no_members))))) ≡ Ok (Instant (record {
+      owner = record { process = Some (Name (codes "GPU")); thread = Some (Name (codes "12")) };
+      start = 2 ^ 63 - 1;
+      name = [];
+      fields = [];
+    }))
+a_thread_of_a_gpu = refl
 
 pub an_async_begin_of_node : element_of (object (
     member (codes "pid") (number (codes "19428"))
@@ -129,8 +161,8 @@ pub an_async_begin_of_node : element_of (object (
     (member (codes "cat") (string (codes "node"))
     (member (codes "name") (string (codes "PROMISE"))
     (member (codes "id") (string (codes "0x3")) no_members)))))))) ≡ Ok (Async TrackBegins (record {
-      lane = record { process = Some (pos 19428); thread = Some (pos 19428); track = None };
-      start = 7000;
+      owner = record { process = Some (Number (pos 19428)); thread = Some (Number (pos 19428)) };
+      start = 2 ^ 63 + 7000;
       name = codes "PROMISE";
       fields = (record { name = codes "id"; value = codes "0x3" }) ∷ [];
     }) (codes "node\0\00x3"))
@@ -141,8 +173,8 @@ pub an_older_end_has_an_id_of_its_process : element_of (object (
     member (codes "ts") (number (codes "9"))
     (member (codes "ph") (string (codes "F"))
     (member (codes "id2") (object (member (codes "local") (number (codes "3")) no_members)) no_members)))) ≡ Ok (Async TrackEnds (record {
-      lane = record { process = None; thread = None; track = None };
-      start = 9000;
+      owner = record { process = None; thread = None };
+      start = 2 ^ 63 + 9000;
       name = [];
       fields = [];
     }) (codes "\0\03"))
@@ -156,16 +188,16 @@ no_object = refl
 pub a_phase_that_is_no_text : element_of (object (member (codes "ph") (number (codes "1")) no_members)) ≡ Err Phase
 a_phase_that_is_no_text = refl
 
-pub a_process_that_is_a_text : element_of (object (
+pub a_process_that_is_a_list : element_of (object (
     member (codes "ph") (string (codes "B"))
-    (member (codes "tid") (string (codes "two"))
-    (member (codes "pid") (string (codes "one")) no_members)))) ≡ Err Process
-a_process_that_is_a_text = refl
+    (member (codes "tid") (number (codes "0.5"))
+    (member (codes "pid") (array no_items) no_members)))) ≡ Err Process
+a_process_that_is_a_list = refl
 
-pub a_thread_that_is_a_text : element_of (object (
+pub a_thread_that_is_a_fraction : element_of (object (
     member (codes "ph") (string (codes "B"))
-    (member (codes "tid") (string (codes "one")) no_members))) ≡ Err Thread
-a_thread_that_is_a_text = refl
+    (member (codes "tid") (number (codes "0.5")) no_members))) ≡ Err Thread
+a_thread_that_is_a_fraction = refl
 
 pub a_begin_at_no_time : element_of (object (member (codes "ph") (string (codes "B")) no_members)) ≡ Err Start
 a_begin_at_no_time = refl
@@ -177,13 +209,13 @@ a_span_of_no_length = refl
 
 pub no_end_after_the_last_nanosecond : element_of (object (
     member (codes "ph") (string (codes "X"))
-    (member (codes "ts") (number (codes "18446744073709551"))
-    (member (codes "dur") (number (codes "18446744073709551")) no_members)))) ≡ Ok (Span (record {
-      lane = record { process = None; thread = None; track = None };
-      start = 18446744073709551000;
+    (member (codes "ts") (number (codes "9e15"))
+    (member (codes "dur") (number (codes "9e15")) no_members)))) ≡ Ok (Span (record {
+      owner = record { process = None; thread = None };
+      start = 2 ^ 63 + 9000000000000000000;
       name = [];
       fields = [];
-    }) 18446744073709551615)
+    }) (2 ^ 64 - 1))
 no_end_after_the_last_nanosecond = refl
 
 -- ---- truncated strings

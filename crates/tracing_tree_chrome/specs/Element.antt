@@ -1,21 +1,20 @@
 -- What one element of a trace in Chrome's trace event format says.
-use Rattle.std.specs.Prelude.{ℕ, ◌+◌, ◌-◌, ◌*◌, ◌^◌, ◌==◌, ◌++◌, ◌&&◌, ◌||◌, min, nat_lt, ℤ, pos, negsuc, Bool, not, if◌then◌else◌, List, [], ◌∷◌, length, Option, Some, None, unwrap_or, option_and_then, Result, Ok, Err, codes, bytes_eq}
-use Rattle.std.specs.List.{position_or_len, before_first, after_first}
-use Rattle.std.specs.Str.{all_ascii_digits}
-use Rattle.std.specs.Str.Parse.{digits_value, signed_digits_value, without_leading_sign}
+use Rattle.std.specs.Prelude.{ℕ, ◌+◌, ◌-◌, ◌^◌, ◌++◌, ◌||◌, min, ℤ, if◌then◌else◌, List, [], ◌∷◌, Option, Some, None, unwrap_or, option_and_then, Result, Ok, Err, codes, bytes_eq}
 use Rattle.json.specs.Json.{Json, null, boolean, number, string, array, object}
 use Rattle.json.specs.Find.{get, as_number}
 use Rattle.tracing_tree_text.specs.declared.field.Field.{Field}
-use Rattle.tracing_tree_sources.specs.Marks.{is_empty}
 use Rattle.tracing_tree_sources.specs.Values.{text_at}
 use Rattle.tracing_tree_sources.specs.Fields.{event_fields}
 use Rattle.tracing_tree_sources.specs.Told.{shown}
+use Rattle.tracing_tree_chrome.specs.Number.{integer_of, length_of, time_of}
 use Rattle.tracing_tree_sources.specs.declared.notes.Lack.{Lack}
 use Rattle.tracing_tree_sources.specs.declared.notes.Lack.TheVariants.{Phase as NoPhase, Process as NoProcess, Thread as NoThread, Start as NoStart, Duration as NoDuration}
-use Rattle.tracing_tree_chrome.specs.declared.element.Lane.{Lane}
+use Rattle.tracing_tree_chrome.specs.declared.element.Ident.{Ident}
+use Rattle.tracing_tree_chrome.specs.declared.element.Ident.TheVariants.{Number, Name}
+use Rattle.tracing_tree_chrome.specs.declared.element.Owner.{Owner}
 use Rattle.tracing_tree_chrome.specs.declared.element.Entry.{Entry}
 use Rattle.tracing_tree_chrome.specs.declared.element.Element.{Element}
-use Rattle.tracing_tree_chrome.specs.declared.element.Element.TheVariants.{Span, Begin, End, Instant, Async, ProcessName, ThreadName, Other}
+use Rattle.tracing_tree_chrome.specs.declared.element.Element.TheVariants.{Span, Begin, End, Instant, Async, ProcessName, ThreadName, Metadata, Undrawn}
 use Rattle.tracing_tree_chrome.specs.declared.element.Phase.{Phase}
 use Rattle.tracing_tree_chrome.specs.declared.element.Phase.TheVariants.{Complete, Begin as Begins, End as Ends, Instant as Happens}
 use Rattle.tracing_tree_chrome.specs.declared.element.Track.{Track}
@@ -23,99 +22,46 @@ use Rattle.tracing_tree_chrome.specs.declared.element.Track.TheVariants.{Begin a
 use Rattle.tracing_tree_chrome.specs.declared.element.Naming.{Naming}
 use Rattle.tracing_tree_chrome.specs.declared.element.Naming.TheVariants.{Process as OfProcess, Thread as OfThread}
 
--- ---- numbers
-
--- one digit or more, and only digits
-abbrev pub is_digits : List ℕ → Bool
-is_digits text = not (is_empty text) && all_ascii_digits text
-
--- the number that digits write, if a u64 holds it
-abbrev pub whole_of : List ℕ → Option ℕ
-whole_of text =
-    if is_digits text && nat_lt (digits_value 10 text) (2 ^ 64)
-    then Some (digits_value 10 text) else None
-
-abbrev pub fits_i128 : ℤ → Bool
-fits_i128 (pos n) = nat_lt n (2 ^ 127)
-fits_i128 (negsuc n) = nat_lt n (2 ^ 127)
-
--- the number that digits write, with or without a sign before them, if an i128 holds it
-abbrev pub integer_of : List ℕ → Option ℤ
-integer_of text =
-    if is_digits (without_leading_sign text) && fits_i128 (signed_digits_value 10 text)
-    then Some (signed_digits_value 10 text) else None
-
--- the value of a digit
-abbrev pub digit_in : ℕ → ℕ
-digit_in byte = byte - 48
-
--- The thousandths that the digits after a point write. Digits after the third are ignored.
-abbrev pub thousandths : List ℕ → ℕ
-thousandths [] = 0
-thousandths (a ∷ []) = digit_in a * 100
-thousandths (a ∷ b ∷ []) = digit_in a * 100 + digit_in b * 10
-thousandths (a ∷ b ∷ c ∷ rest) = digit_in a * 100 + digit_in b * 10 + digit_in c
-
--- the nanoseconds of these microseconds and this many thousandths of one, if a u64 holds them
-abbrev pub nanoseconds : ℕ → ℕ → Option ℕ
-nanoseconds whole part =
-    if nat_lt (whole * 1000 + part) (2 ^ 64) then Some (whole * 1000 + part) else None
-
-abbrev pub is_point : ℕ → Bool
-is_point byte = byte == 46
-
-abbrev pub has_point : List ℕ → Bool
-has_point text = nat_lt (position_or_len is_point text) (length text)
-
--- the same of a number with a point, by the digits before the point and after it
-abbrev pub decimal_of : List ℕ → List ℕ → Option ℕ
-decimal_of before after =
-    if is_digits after
-    then option_and_then (λ whole. nanoseconds whole (thousandths after)) (whole_of before)
-    else None
-
--- The nanoseconds of a number of microseconds: only digits, or digits, a point and digits. A number
--- with a sign or an exponent has no nanoseconds.
-abbrev pub nanoseconds_of : List ℕ → Option ℕ
-nanoseconds_of text =
-    if has_point text then decimal_of (before_first is_point text) (after_first is_point text)
-    else option_and_then (λ whole. nanoseconds whole 0) (whole_of text)
-
 -- ---- keys
 
--- the time at a key, in nanoseconds
+-- the time at a key
 abbrev pub time_at : List ℕ → Json → Option ℕ
-time_at key value = option_and_then nanoseconds_of (option_and_then as_number (get key value))
+time_at key value = option_and_then time_of (option_and_then as_number (get key value))
 
-abbrev pub integer_or : Option ℤ → Lack → Result (Option ℤ) Lack
-integer_or (Some found) lack = Ok (Some found)
-integer_or None lack = Err lack
+-- the length at a key, in nanoseconds
+abbrev pub length_at : List ℕ → Json → Option ℕ
+length_at key value = option_and_then length_of (option_and_then as_number (get key value))
 
--- a whole number; `None` for null
-abbrev pub integer_in : Lack → Json → Result (Option ℤ) Lack
-integer_in lack null = Ok None
-integer_in lack (boolean _) = Err lack
-integer_in lack (number text) = integer_or (integer_of text) lack
-integer_in lack (string _) = Err lack
-integer_in lack (array _) = Err lack
-integer_in lack (object _) = Err lack
+abbrev pub number_or : Option ℤ → Lack → Result (Option Ident) Lack
+number_or (Some found) lack = Ok (Some (Number found))
+number_or None lack = Err lack
 
--- the whole number at a key; `None` if the key is absent or its value is null
-abbrev pub integer_at : List ℕ → Lack → Json → Result (Option ℤ) Lack
-integer_at key lack value = if_any (get key value) where
-  if_any : Option Json → Result (Option ℤ) Lack
+-- a whole number or a string; `None` for null
+abbrev pub ident_in : Lack → Json → Result (Option Ident) Lack
+ident_in lack null = Ok None
+ident_in lack (boolean _) = Err lack
+ident_in lack (number text) = number_or (integer_of text) lack
+ident_in lack (string text) = Ok (Some (Name text))
+ident_in lack (array _) = Err lack
+ident_in lack (object _) = Err lack
+
+-- what identifies a process or a thread: the whole number or the string at a key; `None` if the key
+-- is absent or its value is null
+abbrev pub ident_at : List ℕ → Lack → Json → Result (Option Ident) Lack
+ident_at key lack value = if_any (get key value) where
+  if_any : Option Json → Result (Option Ident) Lack
   if_any None = Ok None
-  if_any (Some found) = integer_in lack found
+  if_any (Some found) = ident_in lack found
 
-abbrev pub lane_of : Result (Option ℤ) Lack → Result (Option ℤ) Lack → Result Lane Lack
-lane_of (Err lack) thread = Err lack
-lane_of (Ok process) (Err lack) = Err lack
-lane_of (Ok process) (Ok thread) = Ok (record { process = process; thread = thread; track = None })
+abbrev pub owner_of : Result (Option Ident) Lack → Result (Option Ident) Lack → Result Owner Lack
+owner_of (Err lack) thread = Err lack
+owner_of (Ok process) (Err lack) = Err lack
+owner_of (Ok process) (Ok thread) = Ok (record { process = process; thread = thread })
 
 -- the process and the thread of an element
-abbrev pub lane_in : Json → Result Lane Lack
-lane_in value =
-    lane_of (integer_at (codes "pid") NoProcess value) (integer_at (codes "tid") NoThread value)
+abbrev pub owner_in : Json → Result Owner Lack
+owner_in value =
+    owner_of (ident_at (codes "pid") NoProcess value) (ident_at (codes "tid") NoThread value)
 
 -- the name of an element, or an empty string
 abbrev pub name_in : Json → List ℕ
@@ -130,11 +76,11 @@ fields_in value = at_args (get (codes "args") value) where
 
 -- ---- elements
 
-abbrev pub entry_of : Result Lane Lack → Option ℕ → Json → Result Entry Lack
+abbrev pub entry_of : Result Owner Lack → Option ℕ → Json → Result Entry Lack
 entry_of (Err lack) start value = Err lack
-entry_of (Ok lane) None value = Err NoStart
-entry_of (Ok lane) (Some start) value = Ok (record {
-  lane = lane;
+entry_of (Ok owner) None value = Err NoStart
+entry_of (Ok owner) (Some start) value = Ok (record {
+  owner = owner;
   start = start;
   name = name_in value;
   fields = fields_in value;
@@ -142,7 +88,7 @@ entry_of (Ok lane) (Some start) value = Ok (record {
 
 -- what most elements say
 abbrev pub entry_in : Json → Result Entry Lack
-entry_in value = entry_of (lane_in value) (time_at (codes "ts") value) value
+entry_in value = entry_of (owner_in value) (time_at (codes "ts") value) value
 
 -- the phase that a string names, of an element at a time
 abbrev pub phase_of : List ℕ → Option Phase
@@ -156,10 +102,10 @@ phase_of text =
 -- a span by how long it takes
 abbrev pub span_of : Entry → Option ℕ → Result Element Lack
 span_of entry None = Err NoDuration
-span_of entry (Some duration) = Ok (Span entry (min (entry.start + duration) (2 ^ 64 - 1)))
+span_of entry (Some length) = Ok (Span entry (min (entry.start + length) (2 ^ 64 - 1)))
 
 abbrev pub phased : Phase → Entry → Json → Result Element Lack
-phased Complete entry value = span_of entry (time_at (codes "dur") value)
+phased Complete entry value = span_of entry (length_at (codes "dur") value)
 phased Begins entry value = Ok (Begin entry)
 phased Ends entry value = Ok (End entry)
 phased Happens entry value = Ok (Instant entry)
@@ -237,18 +183,18 @@ naming_of name =
     else if bytes_eq name (codes "thread_name") then Some OfThread
     else None
 
-abbrev pub named_as : Naming → Lane → List ℕ → Element
-named_as OfProcess lane text = ProcessName lane text
-named_as OfThread lane text = ThreadName lane text
+abbrev pub named_as : Naming → Owner → List ℕ → Element
+named_as OfProcess owner text = ProcessName owner text
+named_as OfThread owner text = ThreadName owner text
 
-abbrev pub lane_named : Naming → Result Lane Lack → List ℕ → Result Element Lack
-lane_named naming (Err lack) text = Err lack
-lane_named naming (Ok lane) text = Ok (named_as naming lane text)
+abbrev pub owner_named : Naming → Result Owner Lack → List ℕ → Result Element Lack
+owner_named naming (Err lack) text = Err lack
+owner_named naming (Ok owner) text = Ok (named_as naming owner text)
 
-abbrev pub named_of : Option Naming → Option (List ℕ) → Result Lane Lack → Result Element Lack
-named_of None text lane = Ok Other
-named_of (Some naming) None lane = Ok Other
-named_of (Some naming) (Some text) lane = lane_named naming lane text
+abbrev pub named_of : Option Naming → Option (List ℕ) → Result Owner Lack → Result Element Lack
+named_of None text owner = Ok Metadata
+named_of (Some naming) None owner = Ok Metadata
+named_of (Some naming) (Some text) owner = owner_named naming owner text
 
 -- the string at `args`.`name`
 abbrev pub given_name : Json → Option (List ℕ)
@@ -256,10 +202,10 @@ given_name value = option_and_then (text_at (codes "name")) (get (codes "args") 
 
 -- an element of metadata: it may name its process or its thread
 abbrev pub named_in : Json → Result Element Lack
-named_in value = named_of (naming_of (name_in value)) (given_name value) (lane_in value)
+named_in value = named_of (naming_of (name_in value)) (given_name value) (owner_in value)
 
 abbrev pub async_if : Option Track → Json → Result Element Lack
-async_if None value = Ok Other
+async_if None value = Ok Undrawn
 async_if (Some track) value = async_in track value
 
 abbrev pub timed_if : Option Phase → Option Track → Json → Result Element Lack
@@ -269,7 +215,8 @@ timed_if (Some phase) track value = timed_in phase value
 abbrev pub told_as : Option (List ℕ) → Json → Result Element Lack
 told_as None value = Err NoPhase
 told_as (Some phase) value =
-    if bytes_eq phase (codes "M") then named_in value else timed_if (phase_of phase) (async_of phase) value
+    if bytes_eq phase (codes "M") then named_in value else timed_if (phase_of phase) (async_of
+    phase) value
 
 -- what an element says, or what it lacks
 abbrev pub element_of : Json → Result Element Lack

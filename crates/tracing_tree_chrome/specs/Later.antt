@@ -1,7 +1,8 @@
 -- Which items of a trace are drawn, and after which of them others of their thread and their
 -- process are.
 use Rattle.std.specs.Prelude.{ℕ, ◌-◌, nat_le, Bool, true, ◌&&◌, ◌||◌, List, [], ◌∷◌, Option, Some, None}
-use Rattle.tracing_tree_chrome.specs.Gather.{none_later, same_lane, same_number}
+use Rattle.tracing_tree_chrome.specs.Gather.{none_later, same_lane}
+use Rattle.tracing_tree_chrome.specs.Strings.{same_label}
 use Rattle.tracing_tree_chrome.specs.declared.gather.Item.{Item}
 use Rattle.tracing_tree_chrome.specs.declared.gather.Later.{Later}
 use Rattle.tracing_tree_chrome.specs.declared.gather.Shape.{Shape}
@@ -25,7 +26,7 @@ later_by least item None = none_later
 later_by least item (Some next) = record {
   in_thread = same_lane next.lane item.lane && (is_long next least || next.later.in_thread);
   in_process =
-      same_number next.lane.process item.lane.process
+      same_label next.lane.process item.lane.process
       && (is_long next least || next.later.in_process);
 }
 

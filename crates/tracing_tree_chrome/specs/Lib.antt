@@ -1,8 +1,9 @@
 pub mod Text
+pub mod Number
 pub mod Element
-pub mod Tracks
+pub mod Keys
+pub mod Strings
 pub mod Gather
-pub mod Length
 pub mod Later
 pub mod Tree
 pub mod Notes

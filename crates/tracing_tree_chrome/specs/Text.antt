@@ -32,7 +32,14 @@ pub record ScanState : Type 0 where
   pub left_open : List Bracket
 
 abbrev pub nothing_read : ScanState
-nothing_read = record { brackets = []; in_text = false; is_escaped = false; place = 0; left_open = [] }
+nothing_read = record {
+  brackets = [];
+  in_text = false;
+  is_escaped = false;
+  place = 0;
+  left_open =
+      [];
+}
 
 abbrev pub opened : Bracket → ScanState → ScanState
 opened bracket s = record s { brackets = bracket ∷ s.brackets }

@@ -11,16 +11,17 @@ use Rattle.tracing_tree_chrome.specs.Element.{element_of}
 use Rattle.tracing_tree_chrome.specs.Gather.{GatheredState, all_items, gathered_one, item_cmp, nothing_gathered}
 use Rattle.tracing_tree_chrome.specs.Later.{marked}
 use Rattle.tracing_tree_chrome.specs.Text.{elements_in, is_cut, mended}
-use Rattle.tracing_tree_chrome.specs.Tree.{begun_tree, finished, stepped_all}
+use Rattle.tracing_tree_chrome.specs.Tree.{begun_tree, clock_start, finished, stepped_all}
 use Rattle.tracing_tree_sources.specs.Counts.{one_more}
 use Rattle.tracing_tree_layer.specs.Layered.Answered.{IsAnswered}
 use Rattle.tracing_tree_sources.specs.Source.{Makes, StopsIn}
-use Rattle.tracing_tree_chrome.specs.declared.trace.Cut.{Cut}
+use Rattle.tracing_tree_sources.specs.declared.cut.Cut.{Cut}
 use Rattle.tracing_tree_chrome.specs.declared.trace.Heard.{Heard}
 use Rattle.tracing_tree_chrome.specs.declared.element.Element.{Element}
 use Rattle.tracing_tree_chrome.specs.declared.gather.Item.{Item}
 use Rattle.tracing_tree_sources.specs.declared.notes.Lack.{Lack}
-use Rattle.tracing_tree_sources.specs.declared.run.SourceRun.{SourceRun}
+use Rattle.tracing_tree_chrome.specs.declared.leaves.Leaves.{Leaves}
+use Rattle.tracing_tree_chrome.specs.declared.trace.TraceRun.{TraceRun}
 
 -- nothing was read yet
 abbrev pub nothing_heard_of : Heard
@@ -92,56 +93,70 @@ abbrev pub IsInOrder : List Item → List Item → Type 0
 IsInOrder items ordered = IsPermutation items ordered × IsSorted item_cmp ordered
 
 -- the calls of items in their order
-abbrev pub calls_in_order : ℕ → Moment → Cut → GatheredState → List Item → List Call
-calls_in_order next moment cut gathered ordered =
+abbrev pub calls_in_order : ℕ → Moment → Cut → Leaves → GatheredState → List Item → List Call
+calls_in_order next moment cut leaves gathered ordered =
     (finished
-    (stepped_all (marked cut.least ordered)
-    (begun_tree next moment cut gathered.processes gathered.threads))).calls
+    (stepped_all (marked cut.min_time ordered)
+    (begun_tree next moment (clock_start ordered) cut leaves gathered.processes gathered.threads
+    gathered.strings.texts))).calls
 
 -- the calls that draw what was gathered
-abbrev pub AreCallsOf : ℕ → Moment → Cut → GatheredState → List Call → Type 0
-AreCallsOf next moment cut gathered calls =
+abbrev pub AreCallsOf : ℕ → Moment → Cut → Leaves → GatheredState → List Call → Type 0
+AreCallsOf next moment cut leaves gathered calls =
     (ordered : List Item) × IsInOrder (all_items gathered) ordered
-    × (calls ≡ calls_in_order next moment cut gathered ordered)
+    × (calls ≡ calls_in_order next moment cut leaves gathered ordered)
 
 -- The drawing is that of the calls of the trace, and each was accepted.
-abbrev pub DrawsTrace : ℕ → Moment → Cut → GatheredState → Seen → Seen → Type 0
-DrawsTrace next moment cut gathered old new =
-    (calls : List Call) × AreCallsOf next moment cut gathered calls × Makes calls old new
+abbrev pub DrawsTrace : ℕ → Moment → Cut → Leaves → GatheredState → Seen → Seen → Type 0
+DrawsTrace next moment cut leaves gathered old new =
+    (calls : List Call) × AreCallsOf next moment cut leaves gathered calls × Makes calls old new
 
 -- The drawing ends at a call that was refused: it is that of the calls before it.
-abbrev pub DrawsUpTo : ℕ → Moment → Cut → GatheredState → Refusal → Seen → Seen → Type 0
-DrawsUpTo next moment cut gathered refusal old new =
-    (calls : List Call) × AreCallsOf next moment cut gathered calls
+abbrev pub DrawsUpTo : ℕ → Moment → Cut → Leaves → GatheredState → Refusal → Seen → Seen → Type 0
+DrawsUpTo next moment cut leaves gathered refusal old new =
+    (calls : List Call) × AreCallsOf next moment cut leaves gathered calls
     × StopsIn Makes IsAnswered calls (Refused refusal) old new
 
 -- what was gathered is drawn, or the drawing ends at a call that was refused, or nothing is drawn
 -- because memory ran out
-abbrev pub DrawsOrEnds : ℕ → Moment → Cut → GatheredState → Result ⊤ LineCause → Seen → Seen → Type 0
-DrawsOrEnds next moment cut gathered (Ok done) old new = DrawsTrace next moment cut gathered old new
-DrawsOrEnds next moment cut gathered (Err NoSettings) old new = ⊥
-DrawsOrEnds next moment cut gathered (Err NotACall) old new = ⊥
-DrawsOrEnds next moment cut gathered (Err Read) old new = ⊥
-DrawsOrEnds next moment cut gathered (Err Memory) old new = new ≡ old
-DrawsOrEnds next moment cut gathered (Err (Refused refusal)) old new =
-    DrawsUpTo next moment cut gathered refusal old new
+abbrev pub DrawsOrEnds :
+    ℕ → Moment → Cut → Leaves → GatheredState → Result ⊤ LineCause → Seen → Seen → Type 0
+DrawsOrEnds next moment cut leaves gathered (Ok done) old new =
+    DrawsTrace next moment cut leaves gathered old new
+DrawsOrEnds next moment cut leaves gathered (Err NoSettings) old new = ⊥
+DrawsOrEnds next moment cut leaves gathered (Err NotACall) old new = ⊥
+DrawsOrEnds next moment cut leaves gathered (Err Read) old new = ⊥
+DrawsOrEnds next moment cut leaves gathered (Err Memory) old new = new ≡ old
+DrawsOrEnds next moment cut leaves gathered (Err (Refused refusal)) old new =
+    DrawsUpTo next moment cut leaves gathered refusal old new
 
--- What ended a run, with this count of unknown elements: nothing was drawn because memory ran out
--- or the notes ended the run after something unknown; or the drawing ends at a refused call.
-abbrev pub EndsTrace : ℕ → Moment → Cut → Heard → ℕ → LineCause → Seen → Seen → Type 0
-EndsTrace next moment cut heard unknown NoSettings old new = ⊥
-EndsTrace next moment cut heard unknown NotACall old new =
-    (0 < unknown) × (0 < heard.unknown) × (new ≡ old)
-EndsTrace next moment cut heard unknown Read old new = ⊥
-EndsTrace next moment cut heard unknown Memory old new = new ≡ old
-EndsTrace next moment cut heard unknown (Refused refusal) old new =
-    (unknown ≡ heard.unknown) × DrawsUpTo next moment cut heard.gathered refusal old new
+-- What ended a run, with the counts of unknown elements and of those without a row: nothing was
+-- drawn because memory ran out or the notes ended the run after something unknown; or the drawing
+-- ends at a refused call.
+abbrev pub EndsTrace : ℕ → Moment → Cut → Leaves → Heard → ℕ → ℕ → LineCause → Seen → Seen → Type 0
+EndsTrace next moment cut leaves heard unknown undrawn NoSettings old new = ⊥
+EndsTrace next moment cut leaves heard unknown undrawn NotACall old new =
+    (0 < unknown) × (0 < heard.unknown) × (undrawn ≡ 0) × (new ≡ old)
+EndsTrace next moment cut leaves heard unknown undrawn Read old new = ⊥
+EndsTrace next moment cut leaves heard unknown undrawn Memory old new =
+    (undrawn ≡ 0) × (new ≡ old)
+EndsTrace next moment cut leaves heard unknown undrawn (Refused refusal) old new =
+    (unknown ≡ heard.unknown) × (undrawn ≡ heard.gathered.undrawn)
+    × DrawsUpTo next moment cut leaves heard.gathered refusal old new
+
+abbrev pub ended_run : ℕ → LineCause → ℕ → TraceRun
+ended_run unknown cause undrawn = record {
+  run = record { unknown = unknown; fault = Some (record { line = 1; cause = cause }) };
+  undrawn = undrawn;
+}
 
 -- The drawing is that of a string as a trace. If something ended the run, it is a first part of
 -- that.
-abbrev pub RunsTrace : ℕ → Moment → Cut → List ℕ → SourceRun → Seen → Seen → Type 0
-RunsTrace next moment cut text run old new =
+abbrev pub RunsTrace : ℕ → Moment → Cut → Leaves → List ℕ → TraceRun → Seen → Seen → Type 0
+RunsTrace next moment cut leaves text made old new =
     let heard = heard_in text in
-    MatchOption run.fault
-    (DrawsTrace next moment cut heard.gathered old new × (run.unknown ≡ heard.unknown))
-    (λ fault. (fault.line ≡ 1) × EndsTrace next moment cut heard run.unknown fault.cause old new)
+    MatchOption made.run.fault
+    (DrawsTrace next moment cut leaves heard.gathered old new
+    × (made.run.unknown ≡ heard.unknown) × (made.undrawn ≡ heard.gathered.undrawn))
+    (λ fault. (fault.line ≡ 1)
+    × EndsTrace next moment cut leaves heard made.run.unknown made.undrawn fault.cause old new)

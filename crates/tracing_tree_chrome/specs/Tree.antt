@@ -1,5 +1,5 @@
 -- The spans of a trace nested by time, and its events in them, as calls.
-use Rattle.std.specs.Prelude.{ℕ, ◌+◌, ◌-◌, ◌^◌, ◌==◌, nat_le, min, max, ℤ, pos, Bool, true, false, ◌||◌, if◌then◌else◌, List, [], ◌∷◌, ◌++◌, length, find, reverse, Option, Some, None, option_map, unwrap_or, codes}
+use Rattle.std.specs.Prelude.{ℕ, ◌+◌, ◌-◌, ◌^◌, ◌==◌, nat_le, min, max, pos, Bool, true, false, ◌||◌, if◌then◌else◌, List, [], ◌∷◌, ◌++◌, length, find, reverse, Option, Some, None, option_map, unwrap_or, codes}
 use Rattle.tracing_tree_text.specs.Field.{rendered_field, whole_field}
 use Rattle.tracing_tree_context.specs.declared.context.Id.{Id}
 use Rattle.tracing_tree_context.specs.declared.context.Moment.{Moment}
@@ -7,34 +7,45 @@ use Rattle.tracing_tree_text.specs.declared.field.Field.{Field}
 use Rattle.tracing_tree_text.specs.declared.style.Level.TheVariants.{Info}
 use Rattle.tracing_tree_spans.specs.Registry.Ids.{id_of}
 use Rattle.tracing_tree_layer.specs.declared.call.Call.{Call}
-use Rattle.tracing_tree_chrome.specs.Gather.{process_of, same_lane, same_number}
+use Rattle.tracing_tree_chrome.specs.Gather.{process_of, same_lane}
 use Rattle.tracing_tree_chrome.specs.Later.{is_long}
-use Rattle.tracing_tree_chrome.specs.Length.{length_text}
+use Rattle.tracing_tree_chrome.specs.Number.{zero_time}
+use Rattle.tracing_tree_chrome.specs.Strings.{label_field, same_label}
+use Rattle.tracing_tree_sources.specs.Length.{length_text}
 use Rattle.tracing_tree_sources.specs.Counts.{one_more}
 use Rattle.tracing_tree_sources.specs.Told.{close_call, event_call, message_field, span_call}
-use Rattle.tracing_tree_chrome.specs.declared.trace.Cut.{Cut}
-use Rattle.tracing_tree_chrome.specs.declared.element.Lane.{Lane}
+use Rattle.tracing_tree_sources.specs.declared.cut.Cut.{Cut}
 use Rattle.tracing_tree_chrome.specs.declared.gather.Item.{Item}
+use Rattle.tracing_tree_chrome.specs.declared.gather.Lane.{Lane}
 use Rattle.tracing_tree_chrome.specs.declared.gather.Name.{Name}
 use Rattle.tracing_tree_chrome.specs.declared.gather.Point.{Point}
 use Rattle.tracing_tree_chrome.specs.declared.gather.Shape.{Shape}
 use Rattle.tracing_tree_chrome.specs.declared.gather.Shape.TheVariants.{Event, Whole, Unended}
+use Rattle.tracing_tree_chrome.specs.declared.leaves.Leaves.{Leaves}
+use Rattle.tracing_tree_chrome.specs.declared.leaves.Leaves.TheVariants.{Rows, Spans}
+use Rattle.tracing_tree_chrome.specs.declared.strings.Label.{Label}
 use Rattle.tracing_tree_chrome.specs.declared.tree.Frame.{Frame}
 use Rattle.tracing_tree_chrome.specs.declared.tree.Left.{Left}
 use Rattle.tracing_tree_chrome.specs.declared.tree.Until.{Until}
 use Rattle.tracing_tree_chrome.specs.declared.tree.Until.TheVariants.{Depth, Ended}
+use Rattle.tracing_tree_chrome.specs.declared.tree.Waiting.{Waiting}
 
--- The id of the next span, the moment of the last item, what is left out, the thread of the last
--- item, what is open with the innermost first and the root last, the names of processes and
--- threads, and the calls so far.
+-- The id of the next span, the moment of the last item, the start of the drawing's clock, what is
+-- left out, how leaves are drawn, the thread of the last item, what is open with the innermost
+-- first and the root last, the innermost span if nothing was drawn in it yet and it may be a leaf,
+-- the names of processes and threads and the strings that identify them, and the calls so far.
 pub record TreeState : Type 0 where
   pub next : ℕ
   pub moment : Moment
+  pub origin : ℕ
   pub cut : Cut
+  pub leaves : Leaves
   pub lane : Option Lane
   pub frames : List Frame
+  pub waiting : Option Waiting
   pub processes : List Name
   pub threads : List Name
+  pub strings : List (List ℕ)
   pub calls : List Call
 
 abbrev pub nothing_left_out : Left
@@ -44,26 +55,57 @@ abbrev pub frame_of : Option Id → Option Id → Option Point → Frame
 frame_of id above end = record { id = id; above = above; end = end; left = nothing_left_out }
 
 -- only the root is open
-abbrev pub begun_tree : ℕ → Moment → Cut → List Name → List Name → TreeState
-begun_tree next moment cut processes threads = record {
+abbrev pub begun_tree :
+    ℕ → Moment → ℕ → Cut → Leaves → List Name → List Name → List (List ℕ) → TreeState
+begun_tree next moment origin cut leaves processes threads strings = record {
   next = next;
   moment = moment;
+  origin = origin;
   cut = cut;
+  leaves = leaves;
   lane = None;
   frames = frame_of None None None ∷ [];
+  waiting = None;
   processes = processes;
   threads = threads;
+  strings = strings;
   calls = [];
 }
 
 abbrev pub told : Call → TreeState → TreeState
 told call s = record s { calls = s.calls ++ call ∷ [] }
 
-abbrev pub event_told : List Field → Option Id → TreeState → TreeState
-event_told fields above s = told (event_call s.moment Info fields above) s
+-- the moment of a time
+abbrev pub moment_at : ℕ → TreeState → Moment
+moment_at time s = record s.moment { mono = time - s.origin }
 
 abbrev pub at_moment : ℕ → TreeState → TreeState
-at_moment time s = record s { moment = record s.moment { mono = time } }
+at_moment time s = record s { moment = moment_at time s }
+
+-- ---- leaves
+
+-- a span opens at its start
+abbrev pub opened : Waiting → TreeState → TreeState
+opened span s =
+    record (told (span_call (moment_at span.start s) span.name span.fields span.above) s) {
+      next = one_more s.next;
+    }
+
+abbrev pub with_settled : Option Waiting → TreeState → TreeState
+with_settled None s = s
+with_settled (Some span) s = opened span (record s { waiting = None })
+
+-- something is drawn in the innermost span: it isn't a leaf
+abbrev pub settled : TreeState → TreeState
+settled s = with_settled s.waiting s
+
+abbrev pub event_told : List Field → Option Id → TreeState → TreeState
+event_told fields above s = told (event_call s.moment Info fields above) (settled s)
+
+-- a leaf as an event at its start
+abbrev pub leaf_call : Waiting → TreeState → Call
+leaf_call span s =
+    event_call (moment_at span.start s) Info (message_field span.name ∷ span.fields) span.above
 
 -- ---- what is open
 
@@ -82,19 +124,31 @@ end_on_top (frame ∷ below) = frame.end
 abbrev pub current_end : TreeState → Option Point
 current_end s = end_on_top s.frames
 
--- a span opens in the innermost one
-abbrev pub opened : List ℕ → List Field → Option Point → TreeState → TreeState
-opened name fields end s = record (told (span_call s.moment name fields (current s)) s) {
-  next = one_more s.next;
-  frames = frame_of (Some (id_of s.next)) (current s) end ∷ s.frames;
+abbrev pub waiting_in : Option Id → List ℕ → List Field → ℕ → Waiting
+waiting_in above name fields start = record {
+  start = start;
+  name = name;
+  fields = fields;
+  above = above;
 }
+
+abbrev pub put_in : Option Id → List ℕ → List Field → ℕ → Option Point → TreeState → TreeState
+put_in above name fields start end s = record s {
+  frames = frame_of (Some (id_of s.next)) above end ∷ s.frames;
+  waiting = Some (waiting_in above name fields start);
+}
+
+-- a span that starts at this time is the innermost one, and may be a leaf
+abbrev pub put : List ℕ → List Field → ℕ → Option Point → TreeState → TreeState
+put name fields start end s = put_in (current s) name fields start end (settled s)
 
 -- ---- what is left
 
 -- a point comes before another, or is equal to it
 abbrev pub is_by : Point → Point → Bool
 is_by point other =
-    if point.time == other.time then nat_le point.index other.index else nat_le point.time other.time
+    if point.time == other.time then nat_le point.index other.index else nat_le point.time
+    other.time
 
 abbrev pub ended_by : Option Point → Point → Bool
 ended_by (Some end) point = is_by end point
@@ -132,8 +186,16 @@ abbrev pub closed : Option Id → Option Id → TreeState → TreeState
 closed (Some id) above s = told (close_call s.moment id above) s
 closed None above s = s
 
+abbrev pub closed_as : Option Waiting → Frame → TreeState → TreeState
+closed_as None frame s = closed frame.id frame.above s
+closed_as (Some span) frame s = told (leaf_call span s) (record s { waiting = None })
+
+-- a span closes, or it is a leaf
+abbrev pub closed_or_leaf : Frame → TreeState → TreeState
+closed_or_leaf frame s = closed_as s.waiting frame s
+
 abbrev pub left : Frame → TreeState → TreeState
-left frame s = closed frame.id frame.above (left_out_told frame (at_end frame.end s))
+left frame s = closed_or_leaf frame (left_out_told frame (at_end frame.end s))
 
 -- spans are left from the innermost on
 abbrev pub left_while : Until → List Frame → TreeState → TreeState
@@ -149,7 +211,7 @@ is_lane lane (Some before) = same_lane lane before
 is_lane lane None = false
 
 abbrev pub is_in_process : Lane → Option Lane → Bool
-is_in_process lane (Some before) = same_number lane.process before.process
+is_in_process lane (Some before) = same_label lane.process before.process
 is_in_process lane None = false
 
 abbrev pub text_in : Name → List ℕ
@@ -168,7 +230,7 @@ name_in names lane unnamed = unwrap_or (told_name names lane) unnamed
 -- the count of levels above the threads of a process
 abbrev pub process_depth : Lane → ℕ
 process_depth lane = depth_of lane.process where
-  depth_of : Option ℤ → ℕ
+  depth_of : Option Label → ℕ
   depth_of (Some process) = 2
   depth_of None = 1
 
@@ -180,32 +242,33 @@ is_within levels None = true
 abbrev pub fits : TreeState → Bool
 fits s = is_within (length s.frames) s.cut.depth
 
--- the span of a process or a thread opens, unless it would be too deep
-abbrev pub lane_opened : List ℕ → Field → TreeState → TreeState
-lane_opened name field s = if fits s then opened name (field ∷ []) None s else s
+-- the span of a process or a thread opens at this time, unless it would be too deep
+abbrev pub lane_opened : List ℕ → Field → ℕ → TreeState → TreeState
+lane_opened name field time s = if fits s then settled (put name (field ∷ []) time None s) else s
 
-abbrev pub process_opened_as : Option ℤ → Lane → TreeState → TreeState
-process_opened_as (Some process) lane s =
+abbrev pub process_opened_as : Option Label → Lane → ℕ → TreeState → TreeState
+process_opened_as (Some process) lane time s =
     lane_opened (name_in s.processes (process_of lane) (codes "process"))
-    (whole_field (codes "pid") process) s
-process_opened_as None lane s = s
+    (label_field (codes "pid") process s.strings) time s
+process_opened_as None lane time s = s
 
-abbrev pub process_opened : Lane → TreeState → TreeState
-process_opened lane s = process_opened_as lane.process lane s
+abbrev pub process_opened : Lane → ℕ → TreeState → TreeState
+process_opened lane time s = process_opened_as lane.process lane time s
 
-abbrev pub thread_opened_as : Option ℤ → Lane → TreeState → TreeState
-thread_opened_as (Some thread) lane s =
-    lane_opened (name_in s.threads lane (codes "thread")) (whole_field (codes "tid") thread) s
-thread_opened_as None lane s = s
+abbrev pub thread_opened_as : Option Label → Lane → ℕ → TreeState → TreeState
+thread_opened_as (Some thread) lane time s =
+    lane_opened (name_in s.threads lane (codes "thread"))
+    (label_field (codes "tid") thread s.strings) time s
+thread_opened_as None lane time s = s
 
 -- the previous process is left, unless it is this one; then its previous thread is left
 abbrev pub entered_process : Lane → ℕ → TreeState → TreeState
 entered_process lane time s =
     if is_in_process lane s.lane then left_while (Depth (process_depth lane)) s.frames s
-    else process_opened lane (at_moment time (left_while (Depth 1) s.frames s))
+    else process_opened lane time (at_moment time (left_while (Depth 1) s.frames s))
 
 abbrev pub entered_thread : Lane → ℕ → TreeState → TreeState
-entered_thread lane time s = thread_opened_as lane.thread lane (at_moment time s)
+entered_thread lane time s = thread_opened_as lane.thread lane time (at_moment time s)
 
 -- the previous thread is left for this one
 abbrev pub entered : Lane → ℕ → TreeState → TreeState
@@ -237,9 +300,21 @@ fields_as Unended item = []
 abbrev pub span_fields : Item → List Field
 span_fields item = fields_as item.shape item
 
+-- a span may be a leaf if its end is known and leaves are rows
+abbrev pub may_be_leaf : Leaves → Shape → Bool
+may_be_leaf Spans shape = false
+may_be_leaf Rows Event = false
+may_be_leaf Rows Whole = true
+may_be_leaf Rows Unended = false
+
+abbrev pub span_put : Item → TreeState → TreeState
+span_put item s =
+    put item.name (span_fields item ++ item.fields) item.start.time
+    (span_end item (current_end s)) s
+
 abbrev pub span_shown : Item → TreeState → TreeState
 span_shown item s =
-    opened item.name (span_fields item ++ item.fields) (span_end item (current_end s)) s
+    if may_be_leaf s.leaves item.shape then span_put item s else settled (span_put item s)
 
 abbrev pub extent_as : Shape → Item → ℕ
 extent_as Event item = item.start.time
@@ -306,10 +381,15 @@ passed_over item s =
 -- An item is drawn in the innermost span of its thread that hasn't ended.
 abbrev pub stepped : Item → TreeState → TreeState
 stepped item s =
-    if is_long item s.cut.least
+    if is_long item s.cut.min_time
     then placed item
     (at_moment item.start.time (left_by item.start (entered item.lane item.start.time s)))
     else passed_over item s
+
+-- where the clock of the drawing starts: at the trace's zero, or at the first item before it
+abbrev pub clock_start : List Item → ℕ
+clock_start [] = zero_time
+clock_start (item ∷ others) = min item.start.time (clock_start others)
 
 abbrev pub stepped_all : List Item → TreeState → TreeState
 stepped_all [] s = s

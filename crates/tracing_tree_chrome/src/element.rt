@@ -1,10 +1,10 @@
 //! Reads one element of a trace.
 
 ghost use Rattle.std.specs.Prelude.{◌≡◌, IfOk, option_map};
-ghost use Rattle.std.specs.Str.{all_ascii_digits};
 ghost use Rattle.json.specs.Value.{value_view};
-ghost use Rattle.tracing_tree_chrome.specs.Element.{async_in, async_of, decimal_of, digit_in, element_of, entry_in, fields_in, given_name, id_in, integer_at, integer_in, integer_of, is_digits, lane_in, name_in, named_as, named_in, naming_of, nanoseconds, nanoseconds_of, phase_of, phased, span_of, thousandths, text_of, time_at, timed_in, track_in, whole_of, with_id};
+ghost use Rattle.tracing_tree_chrome.specs.Element.{async_in, async_of, element_of, entry_in, fields_in, given_name, id_in, ident_at, ident_in, length_at, name_in, named_as, named_in, naming_of, owner_in, phase_of, phased, span_of, text_of, time_at, timed_in, track_in, with_id};
 
+use crate::number::{integer_of, length_of, time_of};
 use json::Value;
 use std::alloc::{AllocError, Global};
 use tracing_tree_sources::fields::event_fields;
@@ -14,20 +14,25 @@ use tracing_tree_sources::values::text_at;
 use tracing_tree_text::field::{Field, Fields};
 use tracing_tree_text::text::Text;
 
-// The process and the thread of an element, if they are known, or its process and the number of its
-// asynchronous track.
-#[derive(Clone, Copy, PartialEq, Eq, PartialOrd, Ord)]
-pub(crate) struct Lane {
-    pub(crate) process: Option<i128>,
-    pub(crate) thread: Option<i128>,
-    pub(crate) track: Option<u64>,
+// What identifies a process or a thread.
+#[derive(Drop)]
+pub(crate) enum Ident {
+    Number(i128),
+    Name(Text),
+}
+
+// The process and the thread of an element, if they are known.
+#[derive(Drop)]
+pub(crate) struct Owner {
+    pub(crate) process: Option<Ident>,
+    pub(crate) thread: Option<Ident>,
 }
 
 // The parts that most elements have.
 #[derive(Drop)]
 pub(crate) struct Entry {
-    pub(crate) lane: Lane,
-    // Nanoseconds on the trace's clock.
+    pub(crate) owner: Owner,
+    // Nanoseconds since 2^63 ns before the zero of the trace's clock.
     pub(crate) start: u64,
     pub(crate) name: Text,
     pub(crate) fields: Fields,
@@ -36,7 +41,7 @@ pub(crate) struct Entry {
 // What one element of a trace means.
 #[derive(Drop)]
 pub(crate) enum Element {
-    // A span, and its end in nanoseconds.
+    // A span, and its end.
     Span(Entry, u64),
     // A span that begins.
     Begin(Entry),
@@ -45,10 +50,12 @@ pub(crate) enum Element {
     Instant(Entry),
     // An element of an asynchronous track, with the track's key.
     Async(Track, Entry, Text),
-    ProcessName(Lane, Text),
-    ThreadName(Lane, Text),
-    // It isn't drawn.
-    Other,
+    ProcessName(Owner, Text),
+    ThreadName(Owner, Text),
+    // Metadata that names nothing.
+    Metadata,
+    // A counter, a flow, an object or another element that has no row.
+    Undrawn,
 }
 
 // The phase of an element that has a time.
@@ -92,7 +99,7 @@ pub(crate) fn element_of(
         Some(phase) => timed_in(alloc, phase, value),
         None => match async_of(phase) {
             Some(track) => async_in(alloc, track, value),
-            None => Ok(Ok(Element::Other)),
+            None => Ok(Ok(Element::Undrawn)),
         },
     }
 }
@@ -225,36 +232,36 @@ fn phased(phase: Phase, entry: Entry, value: &Value<'_>) -> Result<Element, Lack
     ensures { result ≡ phased phase entry (value_view value.now) }
 {
     match phase {
-        Phase::Complete => span_of(entry, time_at(value, "dur")),
+        Phase::Complete => span_of(entry, length_at(value, "dur")),
         Phase::Begin => Ok(Element::Begin(entry)),
         Phase::End => Ok(Element::End(entry)),
         Phase::Instant => Ok(Element::Instant(entry)),
     }
 }
 
-// Returns a span with this duration in nanoseconds.
-fn span_of(entry: Entry, duration: Option<u64>) -> Result<Element, Lack>
-    ensures { result ≡ span_of entry duration }
+// Returns a span of this length in nanoseconds.
+fn span_of(entry: Entry, length: Option<u64>) -> Result<Element, Lack>
+    ensures { result ≡ span_of entry length }
 {
-    let Some(duration) = duration else {
+    let Some(length) = length else {
         return Err(Lack::Duration);
     };
-    let end = entry.start.saturating_add(duration);
+    let end = entry.start.saturating_add(length);
     Ok(Element::Span(entry, end))
 }
 
 fn entry_in(alloc: Global, value: &Value<'_>) -> Result<Result<Entry, Lack>, AllocError>
     ensures { IfOk result (λ entry. entry ≡ entry_in (value_view value.now)) }
 {
-    let lane = match lane_in(value) {
-        Ok(lane) => lane,
+    let owner = match owner_in(alloc, value)? {
+        Ok(owner) => owner,
         Err(lack) => return Ok(Err(lack)),
     };
     let Some(start) = time_at(value, "ts") else {
         return Ok(Err(Lack::Start));
     };
     Ok(Ok(Entry {
-        lane,
+        owner,
         start,
         name: Text::from_str(alloc, name_in(value))?,
         fields: fields_in(alloc, value)?,
@@ -266,13 +273,13 @@ fn named_in(alloc: Global, value: &Value<'_>) -> Result<Result<Element, Lack>, A
     ensures { IfOk result (λ element. element ≡ named_in (value_view value.now)) }
 {
     let Some(naming) = naming_of(name_in(value)) else {
-        return Ok(Ok(Element::Other));
+        return Ok(Ok(Element::Metadata));
     };
     let Some(text) = given_name(value) else {
-        return Ok(Ok(Element::Other));
+        return Ok(Ok(Element::Metadata));
     };
-    match lane_in(value) {
-        Ok(lane) => Ok(Ok(named_as(naming, lane, Text::from_str(alloc, text)?))),
+    match owner_in(alloc, value)? {
+        Ok(owner) => Ok(Ok(named_as(naming, owner, Text::from_str(alloc, text)?))),
         Err(lack) => Ok(Err(lack)),
     }
 }
@@ -289,12 +296,12 @@ fn naming_of(name: &str) -> Option<Naming>
     }
 }
 
-fn named_as(naming: Naming, lane: Lane, text: Text) -> Element
-    ensures { result ≡ named_as naming lane text }
+fn named_as(naming: Naming, owner: Owner, text: Text) -> Element
+    ensures { result ≡ named_as naming owner text }
 {
     match naming {
-        Naming::Process => Element::ProcessName(lane, text),
-        Naming::Thread => Element::ThreadName(lane, text),
+        Naming::Process => Element::ProcessName(owner, text),
+        Naming::Thread => Element::ThreadName(owner, text),
     }
 }
 
@@ -326,128 +333,63 @@ fn fields_in(alloc: Global, value: &Value<'_>) -> Result<Fields, AllocError>
 }
 
 // Returns the process and the thread of an element.
-fn lane_in(value: &Value<'_>) -> Result<Lane, Lack>
-    ensures { result ≡ lane_in (value_view value.now) }
+fn owner_in(alloc: Global, value: &Value<'_>) -> Result<Result<Owner, Lack>, AllocError>
+    ensures { IfOk result (λ owner. owner ≡ owner_in (value_view value.now)) }
 {
-    let process = integer_at(value, "pid", Lack::Process)?;
-    let thread = integer_at(value, "tid", Lack::Thread)?;
-    Ok(Lane {
-        process,
-        thread,
-        track: None,
-    })
+    let process = match ident_at(alloc, value, "pid", Lack::Process)? {
+        Ok(process) => process,
+        Err(lack) => return Ok(Err(lack)),
+    };
+    match ident_at(alloc, value, "tid", Lack::Thread)? {
+        Ok(thread) => Ok(Ok(Owner { process, thread })),
+        Err(lack) => Ok(Err(lack)),
+    }
 }
 
-// Reads the whole number at a key. `None` if the key is absent or its value is null.
-fn integer_at(value: &Value<'_>, key: &str, lack: Lack) -> Result<Option<i128>, Lack>
-    ensures { result ≡ integer_at key.now lack (value_view value.now) }
+// Reads what identifies a process or a thread: a whole number or a string. `None` if the key is
+// absent or its value is null.
+fn ident_at(
+    alloc: Global,
+    value: &Value<'_>,
+    key: &str,
+    lack: Lack,
+) -> Result<Result<Option<Ident>, Lack>, AllocError>
+    ensures { IfOk result (λ ident. ident ≡ ident_at key.now lack (value_view value.now)) }
 {
     match value.get(key) {
-        Some(found) => integer_in(found, lack),
-        None => Ok(None),
+        Some(found) => ident_in(alloc, found, lack),
+        None => Ok(Ok(None)),
     }
 }
 
-// Reads a whole number, or `None` for a null.
-fn integer_in(value: &Value<'_>, lack: Lack) -> Result<Option<i128>, Lack>
-    ensures { result ≡ integer_in lack (value_view value.now) }
+fn ident_in(
+    alloc: Global,
+    value: &Value<'_>,
+    lack: Lack,
+) -> Result<Result<Option<Ident>, Lack>, AllocError>
+    ensures { IfOk result (λ ident. ident ≡ ident_in lack (value_view value.now)) }
 {
     match value {
-        Value::Null => Ok(None),
+        Value::Null => Ok(Ok(None)),
         Value::Number(text) => match integer_of(text) {
-            Some(found) => Ok(Some(found)),
-            None => Err(lack),
+            Some(found) => Ok(Ok(Some(Ident::Number(found)))),
+            None => Ok(Err(lack)),
         },
-        _ => Err(lack),
+        Value::String(text) => Ok(Ok(Some(Ident::Name(Text::from_str(alloc, text)?)))),
+        _ => Ok(Err(lack)),
     }
 }
 
-fn integer_of(text: &str) -> Option<i128>
-    ensures { result ≡ integer_of text.now }
-{
-    text.parse().ok()
-}
-
-// Returns the time at a key, in nanoseconds.
+// Returns the time at a key.
 fn time_at(value: &Value<'_>, key: &str) -> Option<u64>
     ensures { result ≡ time_at key.now (value_view value.now) }
 {
-    nanoseconds_of(value.get(key)?.as_number()?)
+    time_of(value.get(key)?.as_number()?)
 }
 
-// Returns the nanoseconds for a number of microseconds, which has neither a sign nor an exponent.
-fn nanoseconds_of(text: &str) -> Option<u64>
-    ensures { result ≡ nanoseconds_of text.now }
+// Returns the length of time at a key, in nanoseconds.
+fn length_at(value: &Value<'_>, key: &str) -> Option<u64>
+    ensures { result ≡ length_at key.now (value_view value.now) }
 {
-    match text.split_once('.') {
-        Some((before, after)) => decimal_of(before, after),
-        None => nanoseconds(whole_of(text)?, 0),
-    }
-}
-
-// Returns the nanoseconds for a number of microseconds with a point, given its parts before and
-// after the point.
-fn decimal_of(before: &str, after: &str) -> Option<u64>
-    ensures { result ≡ decimal_of before.now after.now }
-{
-    if !is_digits(after) {
-        return None;
-    }
-    nanoseconds(whole_of(before)?, thousandths(after.as_bytes()))
-}
-
-// Returns the nanoseconds for these microseconds and thousandths, if they fit `u64`.
-fn nanoseconds(whole: u64, part: u64) -> Option<u64>
-    ensures { result ≡ nanoseconds whole part }
-{
-    whole.checked_mul(1000)?.checked_add(part)
-}
-
-// Returns the number that digits encode, if it fits `u64`.
-fn whole_of(text: &str) -> Option<u64>
-    ensures { result ≡ whole_of text.now }
-{
-    if !is_digits(text) {
-        return None;
-    }
-    text.parse().ok()
-}
-
-// Returns the thousandths that the digits after a point encode. Digits after the third are cut off.
-fn thousandths(digits: &[u8]) -> u64
-    ensures { result ≡ thousandths digits.now }
-{
-    match digits {
-        [] => 0,
-        [a] => digit_in(*a) * 100,
-        [a, b] => digit_in(*a) * 100 + digit_in(*b) * 10,
-        [a, b, c, ..] => digit_in(*a) * 100 + digit_in(*b) * 10 + digit_in(*c),
-    }
-}
-
-// Returns the value of a digit.
-fn digit_in(byte: u8) -> u64
-    ensures { result ≡ digit_in byte }
-{
-    u64::from(byte.saturating_sub(b'0'))
-}
-
-// Returns whether a string has only digits, and at least one.
-fn is_digits(text: &str) -> bool
-    ensures { result ≡ is_digits text.now }
-{
-    !text.is_empty() && all_digits(text.as_bytes())
-}
-
-fn all_digits(bytes: &[u8]) -> bool
-    ensures { result ≡ all_ascii_digits bytes.now }
-{
-    let mut rest = bytes;
-    while let [byte, others @ ..] = rest {
-        if !byte.is_ascii_digit() {
-            return false;
-        }
-        rest = others;
-    }
-    true
+    length_of(value.get(key)?.as_number()?)
 }

@@ -1,15 +1,24 @@
 //! Collects the elements of a trace.
 
 ghost use Rattle.std.specs.Prelude.{◌≡◌, ◌∷◌, ◌++◌, [], ◌<◌, length, IfOk, IfSome, OnOk, IsPermutation, IsSorted};
-ghost use Rattle.tracing_tree_chrome.specs.Gather.{ended, gathered_one, item_cmp, item_of, last_in, none_later, nothing_gathered, on_track, process_of, same_lane, tracked, tracked_as, whole};
+ghost use Rattle.tracing_tree_chrome.specs.Gather.{began, drawn, ended, gathered_one, happened, item_cmp, item_of, lane_of, last_in, none_later, nothing_gathered, on_track, owned, placed, process_named, process_of, same_lane, thread_named, tracked, tracked_as, whole};
 
-use crate::element::{Element, Entry, Lane, Track};
-use crate::tracks::Tracks;
+use crate::element::{Element, Entry, Owner, Track};
+use crate::keys::Keys;
+use crate::strings::{Label, Strings};
 use std::alloc::{AllocError, Global};
 use std::cmp::Reverse;
 use std::marker::Model;
 use tracing_tree_text::field::Fields;
 use tracing_tree_text::text::Text;
+
+// A process and a thread, or a process and the number of an asynchronous track.
+#[derive(Clone, Copy, PartialEq, Eq, PartialOrd, Ord)]
+pub(crate) struct Lane {
+    pub(crate) process: Option<Label>,
+    pub(crate) thread: Option<Label>,
+    pub(crate) track: Option<u64>,
+}
 
 // The kind of an item of the drawing.
 #[derive(Clone, Copy)]
@@ -21,7 +30,8 @@ pub(crate) enum Shape {
     Unended,
 }
 
-// A point of a trace: nanoseconds on its clock, and how many elements came before.
+// A point of a trace: its time, and how many elements came before. A time is in nanoseconds since
+// 2^63 ns before the zero of the trace's clock.
 #[derive(Clone, Copy)]
 pub(crate) struct Point {
     pub(crate) time: u64,
@@ -35,6 +45,15 @@ pub(crate) struct Later {
     pub(crate) in_thread: bool,
     // One of the same process.
     pub(crate) in_process: bool,
+}
+
+// An entry in its lane.
+#[derive(Drop)]
+pub(crate) struct Placed {
+    pub(crate) lane: Lane,
+    pub(crate) start: u64,
+    pub(crate) name: Text,
+    pub(crate) fields: Fields,
 }
 
 // An event or a span.
@@ -67,9 +86,14 @@ pub(crate) struct Gathered {
     pub(crate) begun: Vec<Item>,
     pub(crate) processes: Vec<Name>,
     pub(crate) threads: Vec<Name>,
-    pub(crate) tracks: Tracks,
+    // The strings that identify processes and threads.
+    pub(crate) strings: Strings,
+    // The asynchronous tracks by their keys.
+    pub(crate) tracks: Keys,
     // The number of elements.
     pub(crate) count: u64,
+    // The number of those that have no row.
+    pub(crate) undrawn: u64,
 }
 
 impl Model for Gathered {
@@ -82,8 +106,10 @@ impl Model for Gathered {
       begun = g.begun.items;
       processes = g.processes.items;
       threads = g.threads.items;
+      strings = g.strings;
       tracks = g.tracks;
       count = g.count;
+      undrawn = g.undrawn;
     } };
 }
 
@@ -96,8 +122,10 @@ impl Gathered {
             begun: Vec::new(alloc),
             processes: Vec::new(alloc),
             threads: Vec::new(alloc),
-            tracks: Tracks::new(alloc),
+            strings: Strings::new(alloc),
+            tracks: Keys::new(alloc),
             count: 0,
+            undrawn: 0,
         }
     }
 
@@ -108,83 +136,153 @@ impl Gathered {
         let index = self.count;
         self.count = self.count.saturating_add(1);
         match element {
-            Element::Span(entry, end) => Ok(
-                self.items.push(item_of(entry, end, Shape::Whole, index))?,
-            ),
-            Element::Begin(entry) => {
-                Ok(
-                    self.begun
-                        .push(item_of(entry, u64::MAX, Shape::Unended, index))?,
-                )
+            Element::Span(entry, end) => {
+                let one = self.place(entry)?;
+                self.draw(item_of(one, end, Shape::Whole, index))
             }
-            Element::End(entry) => self.end(entry, index),
+            Element::Begin(entry) => {
+                let one = self.place(entry)?;
+                self.begin(one, index)
+            }
+            Element::End(entry) => {
+                let one = self.place(entry)?;
+                self.end(one, index)
+            }
             Element::Instant(entry) => {
-                let start = entry.start;
-                Ok(self.items.push(item_of(entry, start, Shape::Event, index))?)
+                let one = self.place(entry)?;
+                self.happen(one, index)
             }
             Element::Async(track, entry, key) => {
-                self.take_tracked(track, entry, key.as_str(), index)
+                let one = self.place(entry)?;
+                self.take_tracked(track, one, key.as_str(), index)
             }
-            Element::ProcessName(lane, text) => {
-                let lane = process_of(lane);
-                Ok(self.processes.push(Name { lane, text })?)
+            Element::ProcessName(owner, text) => self.name_process(owner, text),
+            Element::ThreadName(owner, text) => self.name_thread(owner, text),
+            Element::Metadata => Ok(()),
+            Element::Undrawn => {
+                self.undrawn = self.undrawn.saturating_add(1);
+                Ok(())
             }
-            Element::ThreadName(lane, text) => Ok(self.threads.push(Name { lane, text })?),
-            Element::Other => Ok(()),
         }
     }
 
-    // Adds an element of the asynchronous track with this key.
+    // Returns an entry in its lane.
+    fn place(&mut self, entry: Entry) -> Result<Placed, AllocError>
+        ensures place { IfOk result (λ one. one ≡ placed entry self.old.strings) }
+        ensures strings { OnOk result (self.new ≡ owned entry.owner self.old) }
+    {
+        let Entry {
+            owner,
+            start,
+            name,
+            fields,
+        } = entry;
+        let lane = self.lane_of(owner)?;
+        Ok(Placed {
+            lane,
+            start,
+            name,
+            fields,
+        })
+    }
+
+    // Returns the lane of a process and a thread.
+    fn lane_of(&mut self, owner: Owner) -> Result<Lane, AllocError>
+        ensures lane { IfOk result (λ lane. lane ≡ lane_of owner self.old.strings) }
+        ensures strings { OnOk result (self.new ≡ owned owner self.old) }
+    {
+        let Owner { process, thread } = owner;
+        let process = self.strings.take(process)?;
+        let thread = self.strings.take(thread)?;
+        Ok(Lane {
+            process,
+            thread,
+            track: None,
+        })
+    }
+
+    fn name_process(&mut self, owner: Owner, text: Text) -> Result<(), AllocError>
+        ensures { OnOk result (self.new
+            ≡ process_named (lane_of owner self.old.strings) text (owned owner self.old)) }
+    {
+        let lane = process_of(self.lane_of(owner)?);
+        Ok(self.processes.push(Name { lane, text })?)
+    }
+
+    fn name_thread(&mut self, owner: Owner, text: Text) -> Result<(), AllocError>
+        ensures { OnOk result (self.new
+            ≡ thread_named (lane_of owner self.old.strings) text (owned owner self.old)) }
+    {
+        let lane = self.lane_of(owner)?;
+        Ok(self.threads.push(Name { lane, text })?)
+    }
+
+    // Adds an entry of the asynchronous track with this key.
     fn take_tracked(
         &mut self,
         track: Track,
-        entry: Entry,
+        one: Placed,
         key: &str,
         index: u64,
     ) -> Result<(), AllocError>
-        ensures { OnOk result (self.new ≡ tracked track entry key.now index self.old) }
+        ensures { OnOk result (self.new ≡ tracked track one key.now index self.old) }
     {
         let number = self.tracks.take(key)?;
-        self.take_on_track(track, on_track(entry, number), index)
+        self.take_on_track(track, on_track(one, number), index)
     }
 
-    fn take_on_track(&mut self, track: Track, entry: Entry, index: u64) -> Result<(), AllocError>
-        ensures { OnOk result (self.new ≡ tracked_as track entry index self.old) }
+    fn take_on_track(&mut self, track: Track, one: Placed, index: u64) -> Result<(), AllocError>
+        ensures { OnOk result (self.new ≡ tracked_as track one index self.old) }
     {
         match track {
-            Track::Begin => {
-                Ok(
-                    self.begun
-                        .push(item_of(entry, u64::MAX, Shape::Unended, index))?,
-                )
-            }
-            Track::End => self.end(entry, index),
-            Track::Instant => {
-                let start = entry.start;
-                Ok(self.items.push(item_of(entry, start, Shape::Event, index))?)
-            }
+            Track::Begin => self.begin(one, index),
+            Track::End => self.end(one, index),
+            Track::Instant => self.happen(one, index),
         }
+    }
+
+    fn draw(&mut self, item: Item) -> Result<(), AllocError>
+        ensures { OnOk result (self.new ≡ drawn item self.old) }
+    {
+        Ok(self.items.push(item)?)
+    }
+
+    // Begins a span.
+    fn begin(&mut self, one: Placed, index: u64) -> Result<(), AllocError>
+        ensures { OnOk result (self.new ≡ began one index self.old) }
+    {
+        let item = item_of(one, u64::MAX, Shape::Unended, index);
+        Ok(self.begun.push(item)?)
     }
 
     // Ends the lane's span that began last, with the element at `index`. Does nothing if the lane
     // has no open span.
-    fn end(&mut self, entry: Entry, index: u64) -> Result<(), AllocError>
-        ensures { OnOk result (self.new ≡ ended entry index self.old) }
+    fn end(&mut self, one: Placed, index: u64) -> Result<(), AllocError>
+        ensures { OnOk result (self.new ≡ ended one index self.old) }
     {
-        match last_in(self.begun.as_slice(), entry.lane) {
+        match last_in(self.begun.as_slice(), one.lane) {
             Some(at) => {
-                let one = self.begun.remove(at);
-                Ok(self.items.push(whole(one, entry, index)?)?)
+                let begun = self.begun.remove(at);
+                Ok(self.items.push(whole(begun, one, index)?)?)
             }
             None => Ok(()),
         }
+    }
+
+    // Adds an event.
+    fn happen(&mut self, one: Placed, index: u64) -> Result<(), AllocError>
+        ensures { OnOk result (self.new ≡ happened one index self.old) }
+    {
+        let start = one.start;
+        self.draw(item_of(one, start, Shape::Event, index))
     }
 }
 
 // Returns all items to draw, in order: by process, thread and track, then by start, the longer
 // first, then in the order of the elements. Spans without an end are included.
 pub(crate) fn in_order(items: Vec<Item>, begun: Vec<Item>) -> Result<Vec<Item>, AllocError>
-    ensures same { IfOk result (λ ordered. IsPermutation (items.items ++ begun.items) ordered.items) }
+    ensures same { IfOk result (λ ordered. IsPermutation (items.items ++ begun.items)
+        ordered.items) }
     ensures sorted { IfOk result (λ ordered. IsSorted item_cmp ordered.items) }
 {
     let mut items = items;
@@ -209,28 +307,28 @@ fn sort(items: &mut Vec<Item>) -> Result<(), AllocError>
     Ok(())
 }
 
-fn item_of(entry: Entry, end: u64, shape: Shape, index: u64) -> Item
-    ensures { result ≡ item_of entry end shape index }
+fn item_of(one: Placed, end: u64, shape: Shape, index: u64) -> Item
+    ensures { result ≡ item_of one end shape index }
 {
     Item {
-        lane: entry.lane,
+        lane: one.lane,
         start: Point {
-            time: entry.start,
+            time: one.start,
             index,
         },
         end: Point {
             time: end,
             index: 0,
         },
-        name: entry.name,
-        fields: entry.fields,
+        name: one.name,
+        fields: one.fields,
         shape,
         later: none_later(),
     }
 }
 
 // Returns a span that began, with the time and the fields of its end at `index`.
-fn whole(one: Item, end: Entry, index: u64) -> Result<Item, AllocError>
+fn whole(one: Item, end: Placed, index: u64) -> Result<Item, AllocError>
     ensures { IfOk result (λ item. item ≡ whole one end index) }
 {
     let mut one = one;
@@ -264,16 +362,16 @@ pub(crate) fn same_lane(one: Lane, other: Lane) -> bool
     one.process == other.process && one.thread == other.thread && one.track == other.track
 }
 
-// Returns the entry of an element in the asynchronous track with this number.
-fn on_track(entry: Entry, number: u64) -> Entry
-    ensures { result ≡ on_track number entry }
+// Returns an entry in the asynchronous track with this number.
+fn on_track(one: Placed, number: u64) -> Placed
+    ensures { result ≡ on_track number one }
 {
     let lane = Lane {
-        process: entry.lane.process,
+        process: one.lane.process,
         thread: None,
         track: Some(number),
     };
-    Entry { lane, ..entry }
+    Placed { lane, ..one }
 }
 
 // Returns the lane of a process, for items without a thread.

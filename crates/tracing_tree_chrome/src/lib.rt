@@ -1,17 +1,21 @@
 //! Draws traces in Chrome's trace event format as a tree.
 //!
 //! [`run_trace`] draws a whole trace: its processes and threads are spans, and each thread's spans
-//! are nested by time. [`trace_calls`] returns the calls that it makes. [`Cut`] says which spans
-//! are left out.
+//! are nested by time. [`trace_calls`] returns the calls that it makes. `Cut` of
+//! `tracing_tree_sources` says which spans are left out, and [`Leaves`] how a span that has nothing
+//! in it is drawn.
 #![tactic(auto)]
 
 mod element;
 mod gather;
+mod keys;
 mod later;
-mod length;
+pub mod leaves;
+mod number;
+mod strings;
 mod text;
 pub mod trace;
-mod tracks;
 mod tree;
 
-pub use trace::{Cut, TraceCalls, run_trace, trace_calls};
+pub use leaves::Leaves;
+pub use trace::{TraceCalls, TraceRun, run_trace, trace_calls};

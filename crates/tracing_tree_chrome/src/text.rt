@@ -32,7 +32,10 @@ pub(crate) struct MendedText {
 
 // Returns the input up to the last place between two elements, and closes what is open there.
 pub(crate) fn mended(alloc: Global, text: &str) -> Result<MendedText, AllocError>
-    ensures { IfOk result (λ made. made ≡ record { text = mended text.now; is_cut = is_cut text.now }) }
+    ensures { IfOk result (λ made. made ≡ record {
+      text = mended text.now;
+      is_cut = is_cut text.now;
+    }) }
 {
     let scan = scan_of(alloc, text.as_bytes())?;
     let mut out = String::with_capacity(alloc, text.len())?;
@@ -64,7 +67,8 @@ fn closer(bracket: Bracket) -> &'static str
 
 // Closes these brackets, the last first.
 fn push_closers(out: &mut String, brackets: Vec<Bracket>) -> Result<(), AllocError>
-    ensures { OnOk result (string_bytes out.new ≡ string_bytes out.old ++ flat_map closer (reverse brackets.items)) }
+    ensures { OnOk result (string_bytes out.new ≡ string_bytes out.old ++ flat_map closer (reverse
+        brackets.items)) }
 {
     let mut brackets = brackets;
     while let Some(bracket) = brackets.pop() {

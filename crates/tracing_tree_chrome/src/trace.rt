@@ -3,7 +3,7 @@
 ghost use Rattle.std.specs.Prelude.{◌≡◌, [], ◌∷◌, IfErr, IfOk, MatchResult, OnOk, Some, is_none, is_ok, true};
 ghost use Rattle.json.specs.Value.{items_view, value_view};
 ghost use Rattle.tracing_tree_layer.specs.Layer.Layers.{seen, Changes};
-ghost use Rattle.tracing_tree_chrome.specs.Trace.{AreCallsOf, DrawsOrEnds, EndsHearing, EndsReading, RunsTrace, heard_all, heard_as, heard_cut, heard_from, heard_in, heard_mended, heard_unknown, heard_value, nothing_heard_of};
+ghost use Rattle.tracing_tree_chrome.specs.Trace.{AreCallsOf, DrawsOrEnds, EndsHearing, EndsReading, RunsTrace, ended_run, heard_all, heard_as, heard_cut, heard_from, heard_in, heard_mended, heard_unknown, heard_value, nothing_heard_of};
 ghost use Rattle.tracing_tree_chrome.specs.Element.{element_of};
 ghost use Rattle.tracing_tree_chrome.specs.Text.{elements_in};
 ghost use Rattle.tracing_tree_chrome.specs.Notes.{IsNoted, cut_notes, element_note, element_notes, mended_notes, notes_in, trace_notes};
@@ -11,29 +11,20 @@ ghost use Rattle.tracing_tree_sources.specs.Noted.{Note};
 
 use crate::element::element_of;
 use crate::gather::{Gathered, in_order};
+use crate::leaves::Leaves;
 use crate::text::{elements_in, mended};
-use crate::tree::Tree;
+use crate::tree::{Names, Tree, clock_start};
 use json::{Scratch, Value};
 use std::alloc::{AllocError, Global};
 use tracing_tree_layer::call::Call;
 use tracing_tree_layer::layered::Layered;
 use tracing_tree_lines::lines::{LineCause, LineFault};
 use tracing_tree_output::Output;
+use tracing_tree_sources::cut::Cut;
 use tracing_tree_sources::notes::{Lack, Notes};
 use tracing_tree_sources::run::{SourceRun, draw_calls, skip};
 use tracing_tree_sources::values::value_of;
 use tracing_tree_time::{FormatTime, Moment};
-
-/// Which spans of a trace are left out.
-#[derive(Clone, Copy, Debug, PartialEq, Eq)]
-pub struct Cut {
-    /// Spans that took fewer nanoseconds are left out.
-    pub least: u64,
-
-    /// Spans nested in `depth` or more spans are left out, counting their process and their thread.
-    /// `None` keeps spans of any depth.
-    pub depth: Option<usize>,
-}
 
 // What was read of a trace so far.
 #[derive(Drop)]
@@ -43,14 +34,26 @@ struct Heard {
     unknown: u64,
 }
 
+/// The result of drawing a trace.
+#[derive(Clone, Copy, Debug)]
+pub struct TraceRun {
+    /// The number of unknown elements, and what ended the run.
+    pub run: SourceRun,
+
+    /// The number of elements that have no row, such as counters and flows. Metadata doesn't count.
+    /// It is 0 if nothing is drawn because of a fault.
+    pub undrawn: u64,
+}
+
 /// Draws a trace: a JSON array of elements, or an object with such an array at `traceEvents`. A
 /// truncated trace is drawn up to its last complete element.
 ///
 /// Each process is a span, and each of its threads is a span in it. In a thread, spans are nested
 /// by time, and an event is in the innermost span that hasn't ended. A span shows how long it took.
-/// A span records how many spans were left out in it, before it closes. Times are nanoseconds on
-/// the trace's clock. The first span gets the id `next`. The moment of a call is `moment` with the
-/// element's time.
+/// A span that has nothing in it is drawn as `leaves` says. A span records how many spans were left
+/// out in it, before it closes. Times are nanoseconds on the trace's clock. If an event or a span
+/// begins before the zero of that clock, they are nanoseconds since the first of them. The first
+/// span gets the id `next`. The moment of a call is `moment` with the element's time.
 ///
 /// An unknown element is counted and left out, and what is missing is noted with its number from 1.
 /// A truncated element, or an input that isn't a trace, is counted and noted too.
@@ -66,26 +69,32 @@ pub fn run_trace<W: Output, FT: FormatTime, N: Notes>(
     next: u64,
     moment: Moment,
     cut: Cut,
+    leaves: Leaves,
     text: &str,
     layered: &mut Layered<W, FT>,
     notes: &mut N,
-) -> SourceRun
-    ensures run { Changes (seen FT.FormatTime W.Output) (RunsTrace next moment cut text.now result)
-        layered.old layered.new }
-    ensures noted { IsNoted (notes_in text.now) (is_none result.fault) 0 result.unknown
+) -> TraceRun
+    ensures run { Changes (seen FT.FormatTime W.Output)
+        (RunsTrace next moment cut leaves text.now result) layered.old layered.new }
+    ensures noted { IsNoted (notes_in text.now) (is_none result.run.fault) 0 result.run.unknown
         (N.noted notes.old) (N.noted notes.new) }
 {
     let mut heard = Heard::new(alloc);
     if let Err(cause) = hear(alloc, text, &mut heard, notes) {
-        return ended(heard.unknown, cause);
+        return ended(heard.unknown, cause, 0);
     }
     let Heard { gathered, unknown } = heard;
-    match draw(alloc, next, moment, cut, gathered, layered) {
-        Ok(()) => SourceRun {
-            unknown,
-            fault: None,
+    let undrawn = gathered.undrawn;
+    match draw(alloc, next, moment, cut, leaves, gathered, layered) {
+        Ok(()) => TraceRun {
+            run: SourceRun {
+                unknown,
+                fault: None,
+            },
+            undrawn,
         },
-        Err(cause) => ended(unknown, cause),
+        Err(LineCause::Memory) => ended(unknown, LineCause::Memory, 0),
+        Err(cause) => ended(unknown, cause, undrawn),
     }
 }
 
@@ -97,6 +106,10 @@ pub struct TraceCalls {
 
     /// The number of unknown elements.
     pub unknown: u64,
+
+    /// The number of elements that have no row, such as counters and flows. Metadata doesn't count.
+    /// It is 0 if the reading ended early.
+    pub undrawn: u64,
 }
 
 /// Reads a trace, and returns the calls that [`run_trace`] makes on its receiver. The arguments and
@@ -107,13 +120,15 @@ pub fn trace_calls<N: Notes>(
     next: u64,
     moment: Moment,
     cut: Cut,
+    leaves: Leaves,
     text: &str,
     notes: &mut N,
 ) -> TraceCalls
     ensures read { MatchResult result.calls
-        (λ calls. AreCallsOf next moment cut (heard_in text.now).gathered calls.items
-        × (result.unknown ≡ (heard_in text.now).unknown))
-        (λ cause. EndsReading cause result.unknown (heard_in text.now)) }
+        (λ calls. AreCallsOf next moment cut leaves (heard_in text.now).gathered calls.items
+        × (result.unknown ≡ (heard_in text.now).unknown)
+        × (result.undrawn ≡ (heard_in text.now).gathered.undrawn))
+        (λ cause. EndsReading cause result.unknown (heard_in text.now) × (result.undrawn ≡ 0)) }
     ensures noted { IsNoted (notes_in text.now) (is_ok result.calls) 0 result.unknown
         (N.noted notes.old) (N.noted notes.new) }
 {
@@ -122,28 +137,37 @@ pub fn trace_calls<N: Notes>(
         return TraceCalls {
             calls: Err(cause),
             unknown: read.unknown,
+            undrawn: 0,
         };
     }
     let Heard {
         gathered,
         unknown: count,
     } = read;
-    let calls = match calls_of(alloc, next, moment, cut, gathered) {
-        Ok(calls) => Ok(calls),
-        Err(AllocError) => Err(LineCause::Memory),
-    };
-    TraceCalls {
-        calls,
-        unknown: count,
+    let undrawn = gathered.undrawn;
+    match calls_of(alloc, next, moment, cut, leaves, gathered) {
+        Ok(calls) => TraceCalls {
+            calls: Ok(calls),
+            unknown: count,
+            undrawn,
+        },
+        Err(AllocError) => TraceCalls {
+            calls: Err(LineCause::Memory),
+            unknown: count,
+            undrawn: 0,
+        },
     }
 }
 
-fn ended(unknown: u64, cause: LineCause) -> SourceRun
-    ensures { result ≡ record { unknown = unknown; fault = Some (record { line = 1; cause = cause }) } }
+fn ended(unknown: u64, cause: LineCause, undrawn: u64) -> TraceRun
+    ensures { result ≡ ended_run unknown cause undrawn }
 {
-    SourceRun {
-        unknown,
-        fault: Some(LineFault { line: 1, cause }),
+    TraceRun {
+        run: SourceRun {
+            unknown,
+            fault: Some(LineFault { line: 1, cause }),
+        },
+        undrawn,
     }
 }
 
@@ -153,13 +177,14 @@ fn draw<W: Output, FT: FormatTime>(
     next: u64,
     moment: Moment,
     cut: Cut,
+    leaves: Leaves,
     gathered: Gathered,
     layered: &mut Layered<W, FT>,
 ) -> Result<(), LineCause>
-    ensures { Changes (seen FT.FormatTime W.Output) (DrawsOrEnds next moment cut gathered result)
-        layered.old layered.new }
+    ensures { Changes (seen FT.FormatTime W.Output)
+        (DrawsOrEnds next moment cut leaves gathered result) layered.old layered.new }
 {
-    let Ok(calls) = calls_of(alloc, next, moment, cut, gathered) else {
+    let Ok(calls) = calls_of(alloc, next, moment, cut, leaves, gathered) else {
         return Err(LineCause::Memory);
     };
     match draw_calls(calls, layered) {
@@ -174,20 +199,29 @@ fn calls_of(
     next: u64,
     moment: Moment,
     cut: Cut,
+    leaves: Leaves,
     gathered: Gathered,
 ) -> Result<Vec<Call>, AllocError>
-    ensures { IfOk result (λ calls. AreCallsOf next moment cut gathered calls.items) }
+    ensures { IfOk result (λ calls. AreCallsOf next moment cut leaves gathered calls.items) }
 {
     let Gathered {
         items,
         begun,
         processes,
         threads,
+        strings,
         tracks: _,
         count: _,
+        undrawn: _,
     } = gathered;
+    let names = Names {
+        processes,
+        threads,
+        strings: strings.into_texts(),
+    };
     let ordered = in_order(items, begun)?;
-    let mut tree = Tree::new(alloc, next, moment, cut, processes, threads)?;
+    let origin = clock_start(ordered.as_slice());
+    let mut tree = Tree::new(alloc, next, moment, origin, cut, leaves, names)?;
     tree.draw(ordered)?;
     Ok(tree.into_calls())
 }
@@ -201,7 +235,8 @@ fn hear<N: Notes>(
     notes: &mut N,
 ) -> Result<(), LineCause>
     ensures heard { OnOk result (heard.new ≡ heard_from text.now heard.old) }
-    ensures ended { IfErr result (λ cause. EndsHearing cause heard.new (heard_from text.now heard.old)) }
+    ensures ended { IfErr result (λ cause. EndsHearing cause heard.new (heard_from text.now
+        heard.old)) }
     ensures noted { IsNoted (notes_in text.now) (is_ok result) heard.old.unknown heard.new.unknown
         (N.noted notes.old) (N.noted notes.new) }
 {
@@ -221,7 +256,8 @@ fn hear_mended<N: Notes>(
     notes: &mut N,
 ) -> Result<(), LineCause>
     ensures heard { OnOk result (heard.new ≡ heard_mended text.now heard.old) }
-    ensures ended { IfErr result (λ cause. EndsHearing cause heard.new (heard_mended text.now heard.old)) }
+    ensures ended { IfErr result (λ cause. EndsHearing cause heard.new (heard_mended text.now
+        heard.old)) }
     ensures noted { IsNoted (mended_notes text.now) (is_ok result) heard.old.unknown
         heard.new.unknown (N.noted notes.old) (N.noted notes.new) }
 {
@@ -295,7 +331,8 @@ impl Heard {
         number: u64,
         notes: &mut N,
     ) -> Result<(), LineCause>
-        ensures heard { OnOk result (self.new ≡ heard_as (element_of (value_view element.now)) self.old) }
+        ensures heard { OnOk result (self.new ≡ heard_as (element_of (value_view element.now))
+            self.old) }
         ensures ended { IfErr result (λ cause. EndsHearing cause self.new
             (heard_as (element_of (value_view element.now)) self.old)) }
         ensures noted { IsNoted (element_note number (element_of (value_view element.now)))
@@ -317,7 +354,8 @@ impl Heard {
         notes: &mut N,
     ) -> Result<(), LineCause>
         ensures heard { OnOk result (self.new ≡ heard_cut is_cut self.old) }
-        ensures ended { IfErr result (λ cause. EndsHearing cause self.new (heard_cut is_cut self.old)) }
+        ensures ended { IfErr result (λ cause. EndsHearing cause self.new (heard_cut is_cut
+            self.old)) }
         ensures noted { IsNoted (cut_notes is_cut count) (is_ok result) self.old.unknown
             self.new.unknown (N.noted notes.old) (N.noted notes.new) }
     {

@@ -1,18 +1,21 @@
 //! Turns the spans of a trace, nested by time, and its events into calls.
 
 ghost use Rattle.std.specs.Prelude.{◌≡◌, ◌∷◌, [], drop, IfOk, None, OnOk, option_map, reverse};
+ghost use Rattle.tracing_tree_sources.specs.Told.{message_field};
 ghost use Rattle.tracing_tree_chrome.specs.Later.{marked};
-ghost use Rattle.tracing_tree_chrome.specs.Tree.{added, at_moment, begun_tree, counted_until, current, current_end, entered, entered_process, entered_thread, event_shown, event_told, extent, finished, fits, frame_of, is_by, is_in_process, is_lane, is_left, is_of_lane, lane_opened, leaving, leaving_count, left, left_out, left_out_told, left_while, length_field, name_in, opened, passed_over, placed, process_depth, process_opened, shown_lane, span_end, span_fields, span_placed, span_shown, stepped, stepped_all, told_name, within};
+ghost use Rattle.tracing_tree_chrome.specs.Tree.{added, at_moment, begun_tree, clock_start, closed_or_leaf, counted_until, current, current_end, entered, entered_process, entered_thread, event_shown, event_told, extent, finished, fits, frame_of, is_by, is_in_process, is_lane, is_left, is_of_lane, lane_opened, leaf_call, leaving, leaving_count, left, left_out, left_out_told, left_while, length_field, may_be_leaf, moment_at, name_in, opened, passed_over, placed, process_depth, process_opened, put, settled, shown_lane, span_end, span_fields, span_placed, span_put, span_shown, stepped, stepped_all, told, told_name, within};
 
-use crate::element::Lane;
-use crate::gather::{Item, Name, Point, Shape, process_of, same_lane};
+use crate::gather::{Item, Lane, Name, Point, Shape, process_of, same_lane};
 use crate::later::{is_long, marked};
-use crate::length::length_text;
-use crate::trace::Cut;
+use crate::leaves::Leaves;
+use crate::number::ZERO;
+use crate::strings::label_field;
 use std::alloc::{AllocError, Global};
 use std::marker::Model;
 use tracing_tree_context::Id;
 use tracing_tree_layer::call::Call;
+use tracing_tree_sources::cut::Cut;
+use tracing_tree_sources::length::length_text;
 use tracing_tree_sources::told::{close_call, event_call, message_field, span_call};
 use tracing_tree_text::field::{Field, Fields};
 use tracing_tree_text::style::Level;
@@ -39,6 +42,23 @@ struct Frame {
     left: Left,
 }
 
+// The innermost span, if nothing was drawn in it yet and it may be a leaf.
+#[derive(Drop)]
+struct Waiting {
+    start: u64,
+    name: Text,
+    fields: Fields,
+    above: Option<Id>,
+}
+
+// The names of processes and threads, and the strings that identify them.
+#[derive(Drop)]
+pub(crate) struct Names {
+    pub(crate) processes: Vec<Name>,
+    pub(crate) threads: Vec<Name>,
+    pub(crate) strings: Vec<Text>,
+}
+
 // Which open spans to close.
 #[derive(Clone, Copy)]
 enum Until {
@@ -55,13 +75,16 @@ pub(crate) struct Tree {
     // The id of the next span.
     next: u64,
     moment: Moment,
+    // The time at which the clock of the drawing starts.
+    origin: u64,
     cut: Cut,
+    leaves: Leaves,
     // The lane of the last item.
     lane: Option<Lane>,
     // The open spans, root first.
     frames: Vec<Frame>,
-    processes: Vec<Name>,
-    threads: Vec<Name>,
+    waiting: Option<Waiting>,
+    names: Names,
     calls: Vec<Call>,
 }
 
@@ -74,11 +97,15 @@ impl Model for Tree {
     ghost view = { λ t. record {
       next = t.next;
       moment = t.moment;
+      origin = t.origin;
       cut = t.cut;
+      leaves = t.leaves;
       lane = t.lane;
       frames = reverse t.frames.items;
-      processes = t.processes.items;
-      threads = t.threads.items;
+      waiting = t.waiting;
+      processes = t.names.processes.items;
+      threads = t.names.threads.items;
+      strings = t.names.strings.items;
       calls = t.calls.items;
     } };
 }
@@ -89,12 +116,13 @@ impl Tree {
         alloc: Global,
         next: u64,
         moment: Moment,
+        origin: u64,
         cut: Cut,
-        processes: Vec<Name>,
-        threads: Vec<Name>,
+        leaves: Leaves,
+        names: Names,
     ) -> Result<Tree, AllocError>
-        ensures { IfOk result (λ tree. tree
-            ≡ begun_tree next moment cut processes.items threads.items) }
+        ensures { IfOk result (λ tree. tree ≡ begun_tree next moment origin cut leaves
+            names.processes.items names.threads.items names.strings.items) }
     {
         let mut frames = Vec::new(alloc);
         frames.push(frame_of(None, None, None))?;
@@ -102,11 +130,13 @@ impl Tree {
             alloc,
             next,
             moment,
+            origin,
             cut,
+            leaves,
             lane: None,
             frames,
-            processes,
-            threads,
+            waiting: None,
+            names,
             calls: Vec::new(alloc),
         })
     }
@@ -114,9 +144,9 @@ impl Tree {
     // Draws these items one after another, then closes all open spans.
     pub(crate) fn draw(&mut self, items: Vec<Item>) -> Result<(), AllocError>
         ensures { OnOk result (self.new
-            ≡ finished (stepped_all (marked self.old.cut.least items.items) self.old)) }
+            ≡ finished (stepped_all (marked self.old.cut.min_time items.items) self.old)) }
     {
-        let items = marked(self.alloc, items, self.cut.least)?;
+        let items = marked(self.alloc, items, self.cut.min_time)?;
         self.step_all(items)?;
         self.leave_while(Until::Depth(0))
     }
@@ -144,7 +174,7 @@ impl Tree {
     fn step(&mut self, item: Item) -> Result<(), AllocError>
         ensures { OnOk result (self.new ≡ stepped item self.old) }
     {
-        if !is_long(&item, self.cut.least) {
+        if !is_long(&item, self.cut.min_time) {
             return self.pass_over(&item);
         }
         self.enter(item.lane, item.start.time)?;
@@ -185,7 +215,17 @@ impl Tree {
     fn go_to(&mut self, time: u64)
         ensures { self.new ≡ at_moment time self.old }
     {
-        self.moment.mono = time;
+        self.moment = self.moment_at(time);
+    }
+
+    // Returns the moment of a time.
+    fn moment_at(&self, time: u64) -> Moment
+        ensures { result ≡ moment_at time self.now }
+    {
+        Moment {
+            mono: time.saturating_sub(self.origin),
+            ..self.moment
+        }
     }
 
     // Leaves the current thread for this one.
@@ -209,19 +249,20 @@ impl Tree {
         }
         self.leave_while(Until::Depth(1))?;
         self.go_to(time);
-        self.open_process(lane)
+        self.open_process(lane, time)
     }
 
-    fn open_process(&mut self, lane: Lane) -> Result<(), AllocError>
-        ensures { OnOk result (self.new ≡ process_opened lane self.old) }
+    fn open_process(&mut self, lane: Lane, time: u64) -> Result<(), AllocError>
+        ensures { OnOk result (self.new ≡ process_opened lane time self.old) }
     {
         let Some(process) = lane.process else {
             return Ok(());
         };
-        let field = Field::whole(self.alloc, "pid", process)?;
-        let name = name_in(self.processes.as_slice(), process_of(lane), "process");
+        let names = &self.names;
+        let field = label_field(self.alloc, "pid", process, names.strings.as_slice())?;
+        let name = name_in(names.processes.as_slice(), process_of(lane), "process");
         let name = Text::from_str(self.alloc, name)?;
-        self.open_lane(name, field)
+        self.open_lane(name, field, time)
     }
 
     fn enter_thread(&mut self, lane: Lane, time: u64) -> Result<(), AllocError>
@@ -231,34 +272,70 @@ impl Tree {
         let Some(thread) = lane.thread else {
             return Ok(());
         };
-        let field = Field::whole(self.alloc, "tid", thread)?;
-        let name = name_in(self.threads.as_slice(), lane, "thread");
+        let names = &self.names;
+        let field = label_field(self.alloc, "tid", thread, names.strings.as_slice())?;
+        let name = name_in(names.threads.as_slice(), lane, "thread");
         let name = Text::from_str(self.alloc, name)?;
-        self.open_lane(name, field)
+        self.open_lane(name, field, time)
     }
 
     // Opens the span of a process or a thread, unless it would be too deep.
-    fn open_lane(&mut self, name: Text, field: Field) -> Result<(), AllocError>
-        ensures { OnOk result (self.new ≡ lane_opened name field self.old) }
+    fn open_lane(&mut self, name: Text, field: Field, time: u64) -> Result<(), AllocError>
+        ensures { OnOk result (self.new ≡ lane_opened name field time self.old) }
     {
         if !self.fits() {
             return Ok(());
         }
-        let mut fields = Vec::new(self.alloc);
-        fields.push(field)?;
-        self.open(name.as_str(), Fields::from(fields), None)
+        self.put(name, Fields::one(self.alloc, field), time, None)?;
+        self.settle()
     }
 
-    // Opens a span in the innermost open one.
-    fn open(&mut self, name: &str, fields: Fields, end: Option<Point>) -> Result<(), AllocError>
-        ensures { OnOk result (self.new ≡ opened name.now fields end self.old) }
+    // Puts a span in the innermost one. It may be a leaf.
+    fn put(
+        &mut self,
+        name: Text,
+        fields: Fields,
+        start: u64,
+        end: Option<Point>,
+    ) -> Result<(), AllocError>
+        ensures { OnOk result (self.new ≡ put name fields start end self.old) }
     {
         let above = self.current();
-        let call = span_call(self.alloc, self.moment, name, fields, above)?;
+        self.settle()?;
+        self.push(frame_of(Some(Id(self.next)), above, end))?;
+        self.waiting = Some(Waiting {
+            start,
+            name,
+            fields,
+            above,
+        });
+        Ok(())
+    }
+
+    // Opens the innermost span, if that waits for something to be drawn in it.
+    fn settle(&mut self) -> Result<(), AllocError>
+        ensures { OnOk result (self.new ≡ settled self.old) }
+    {
+        match self.waiting.take() {
+            Some(span) => self.open(span),
+            None => Ok(()),
+        }
+    }
+
+    fn open(&mut self, span: Waiting) -> Result<(), AllocError>
+        ensures { OnOk result (self.new ≡ opened span self.old) }
+    {
+        let Waiting {
+            start,
+            name,
+            fields,
+            above,
+        } = span;
+        let moment = self.moment_at(start);
+        let call = span_call(self.alloc, moment, name.as_str(), fields, above)?;
         self.calls.push(call)?;
-        let id = Id(self.next);
         self.next = self.next.saturating_add(1);
-        self.push(frame_of(Some(id), above, end))
+        Ok(())
     }
 
     fn push(&mut self, frame: Frame) -> Result<(), AllocError>
@@ -314,10 +391,36 @@ impl Tree {
             self.go_to(end.time);
         }
         self.tell_left_out(&frame)?;
+        self.close(&frame)
+    }
+
+    // Closes a span, or draws it as a leaf if nothing was drawn in it.
+    fn close(&mut self, frame: &Frame) -> Result<(), AllocError>
+        ensures { OnOk result (self.new ≡ closed_or_leaf frame.now self.old) }
+    {
+        if let Some(span) = self.waiting.take() {
+            return self.show_leaf(span);
+        }
         if let Some(id) = frame.id {
             self.calls.push(close_call(self.moment, id, frame.above))?;
         }
         Ok(())
+    }
+
+    // Draws a leaf as an event at its start.
+    fn show_leaf(&mut self, span: Waiting) -> Result<(), AllocError>
+        ensures { OnOk result (self.new ≡ told (leaf_call span self.old) self.old) }
+    {
+        let Waiting {
+            start,
+            name,
+            fields,
+            above,
+        } = span;
+        let moment = self.moment_at(start);
+        let fields = with_message(self.alloc, name.as_str(), fields)?;
+        let call = event_call(self.alloc, moment, Level::Info, fields, above)?;
+        Ok(self.calls.push(call)?)
     }
 
     // Records how many spans were left out, if there are any.
@@ -337,6 +440,7 @@ impl Tree {
     fn push_event(&mut self, fields: Fields, above: Option<Id>) -> Result<(), AllocError>
         ensures { OnOk result (self.new ≡ event_told fields above self.old) }
     {
+        self.settle()?;
         let call = event_call(self.alloc, self.moment, Level::Info, fields, above)?;
         Ok(self.calls.push(call)?)
     }
@@ -354,10 +458,16 @@ impl Tree {
     fn show_event(&mut self, item: Item) -> Result<(), AllocError>
         ensures { OnOk result (self.new ≡ event_shown item self.old) }
     {
-        let mut fields = Vec::new(self.alloc);
-        fields.push(message_field(self.alloc, item.name.as_str())?)?;
-        let mut fields = Fields::from(fields);
-        fields.append(item.fields)?;
+        let Item {
+            lane: _,
+            start: _,
+            end: _,
+            name,
+            fields,
+            shape: _,
+            later: _,
+        } = item;
+        let fields = with_message(self.alloc, name.as_str(), fields)?;
         let above = self.current();
         self.push_event(fields, above)
     }
@@ -386,10 +496,21 @@ impl Tree {
     fn show_span(&mut self, item: Item) -> Result<(), AllocError>
         ensures { OnOk result (self.new ≡ span_shown item self.old) }
     {
+        let waits = may_be_leaf(self.leaves, item.shape);
+        self.put_span(item)?;
+        if waits {
+            return Ok(());
+        }
+        self.settle()
+    }
+
+    fn put_span(&mut self, item: Item) -> Result<(), AllocError>
+        ensures { OnOk result (self.new ≡ span_put item self.old) }
+    {
         let end = span_end(&item, self.current_end());
         let mut fields = span_fields(self.alloc, &item)?;
         fields.append(item.fields)?;
-        self.open(item.name.as_str(), fields, end)
+        self.put(item.name, fields, item.start.time, end)
     }
 
     // Counts a span as left out in the innermost one.
@@ -416,6 +537,37 @@ fn frame_of(id: Option<Id>, above: Option<Id>, end: Option<Point>) -> Frame
             until: 0,
         },
     }
+}
+
+// Returns where the clock of the drawing starts: at the trace's zero, or at the first of these
+// items if that is earlier.
+pub(crate) fn clock_start(items: &[Item]) -> u64
+    ensures { result ≡ clock_start items.now }
+{
+    let mut start = ZERO;
+    for item in items {
+        start = start.min(item.start.time);
+    }
+    start
+}
+
+// Returns whether a span of this shape may be a leaf that is drawn as an event.
+fn may_be_leaf(leaves: Leaves, shape: Shape) -> bool
+    ensures { result ≡ may_be_leaf leaves shape }
+{
+    match (leaves, shape) {
+        (Leaves::Rows, Shape::Whole) => true,
+        (Leaves::Rows, Shape::Event | Shape::Unended) | (Leaves::Spans, _) => false,
+    }
+}
+
+// Returns the fields of an event with this message.
+fn with_message(alloc: Global, text: &str, fields: Fields) -> Result<Fields, AllocError>
+    ensures { IfOk result (λ all. all ≡ message_field text.now ∷ fields) }
+{
+    let mut all = Fields::one(alloc, message_field(alloc, text)?);
+    all.append(fields)?;
+    Ok(all)
 }
 
 // Returns whether to close an open span that has `below` frames before it.

@@ -30,7 +30,7 @@ use Rattle.tracing_tree_go_test.specs.declared.go_test.running.Kind.{Kind}
 use Rattle.tracing_tree_go_test.specs.declared.go_test.running.Running.{Running}
 use Rattle.tracing_tree_go_test.specs.declared.go_test.tally.Ending.{Ending}
 use Rattle.tracing_tree_go_test.specs.declared.go_test.tally.Ending.TheVariants.{Passed, Failed, Skipped, Unfinished}
-use Rattle.tracing_tree_go_test.specs.GoTest.{GoState, Held, Tests, above_held, acted, acted_for, all_ended, all_left_over, begun, begun_in, build_printed, build_printed_if, build_said, build_told, builds_said, builds_told, counted, elapsed_fields, elapsed_in, end_fields, ended, event_told, failed_counted, fails_as, finished, frame_printed, framed, go_takes, handed_out, has_failed, held, holds, is_aside, is_framing, kept, kind_in, left_as, left_one, left_over, level_of, level_of_line, level_of_text, line_of, line_told, more_printed, moved, noted, noted_left, nothing_run, one_ended, opened, opened_as, owner, package_counted, package_ended, package_failed, package_left, package_of, packages_left, part_told, placed, printed, printed_if, quiet_told, ran, running_as, said, span_ended, started, string_printed, takes_failure, takes_heading, takes_json, takes_plain, takes_text, test_ended, test_of, tests_of, text_printed, texts_told, timed, told, told_of_build, without_build, without_heading, without_package, word_of}
+use Rattle.tracing_tree_go_test.specs.GoTest.{GoState, Held, Tests, above_held, acted, acted_for, all_ended, all_left_over, begun, begun_in, build_last, build_over, build_printed, build_printed_if, build_said, build_told, builds_said, builds_told, built_after, counted, elapsed_fields, elapsed_in, end_fields, ended, event_told, failed_counted, fails_as, finished, frame_printed, framed, go_takes, handed_out, has_failed, held, holds, is_aside, is_framing, kept, kind_in, left_as, left_one, left_over, level_of, level_of_build, level_of_line, level_of_text, line_of, line_told, more_printed, moved, noted, noted_left, nothing_run, one_ended, only_closed, opened, opened_as, owner, package_counted, package_ended, package_failed, package_left, package_of, package_over, package_started, packages_left, part_told, placed, printed, printed_if, quiet_told, ran, running_as, said, span_ended, started, string_printed, takes_failure, takes_heading, takes_json, takes_plain, takes_text, test_ended, test_of, tests_of, text_printed, texts_told, timed, told, told_of_build, without_build, without_heading, without_package, word_of}
 
 -- ---- names
 
@@ -362,13 +362,15 @@ test_stays ending test elapsed h =
     (kept_stays quiet))
 
 -- an end fails something exactly if it is counted as a failure
-ended_as : (f : Bool) (ending : Ending) (path test : List ℕ) (elapsed : Option (List ℕ)) (s : GoState) → Goes f s (counted ending path test s) → Goes f s (package_counted ending path s) →
+ended_as : (f : Bool) (ending : Ending) (path test : List ℕ) (elapsed : Option (List ℕ)) (s : GoState) → Goes f s (counted ending path test s) → ((t : GoState) → Goes f t (package_counted ending path t)) →
     Goes f s (ended ending path test elapsed s)
 ended_as f ending path test elapsed s of_test of_package =
     let at : GoState = counted ending path test s in
     let h : Held = held path test at in
-    goes_if (is_empty test) f s (package_ended ending path elapsed s) (test_ended ending test elapsed h)
-    (goes_stays f s (package_counted ending path s) (package_ended ending path elapsed s) of_package (package_stays ending path elapsed s))
+    let over : GoState = build_over path s in
+    goes_if (is_empty test) f s (package_ended ending path elapsed over) (test_ended ending test elapsed h)
+    (stays_goes f s over (package_ended ending path elapsed over) (record { failed = λ w. refl; named_too = λ w. w })
+    (goes_stays f over (package_counted ending path over) (package_ended ending path elapsed over) (of_package over) (package_stays ending path elapsed over)))
     (goes_stays f s at (test_ended ending test elapsed h) of_test
     (then_stays at h.state (test_ended ending test elapsed h) (held_stays path test at) (test_stays ending test elapsed h)))
 
@@ -393,6 +395,11 @@ above_by path test s false e =
 above_stays : (path test : List ℕ) (s : GoState) → Stays s (above_held path test s).state
 unfolding above_held
 above_stays path test s = above_by path test s (is_empty test || not (bytes_eq (held path test s).one.test test)) refl
+
+started_stays : (path : List ℕ) (s : GoState) → Stays s (package_started path s)
+started_stays path s =
+    let h : Held = started (held path [] s) in
+    then_stays s h.state (kept h) (held_stays path [] s) (kept_stays h)
 
 begun_stays : (path test : List ℕ) (h : Held) → Stays h.state (begun_in path test h)
 begun_stays path test h =
@@ -429,7 +436,7 @@ printed_stays kind path test text s =
 build_said_stays : (level : Level) (text : List ℕ) (h : Held) → Stays h.state (build_said level text h).state
 build_said_stays level text h =
     let line = without_line_end (without_heading text) in
-    held_if (is_skipped line) h.state h (said level line (opened h)) (same h.state) (said_stays level line h)
+    held_if (is_skipped line) h.state h (said (level_of_build level line) line (opened h)) (same h.state) (said_stays (level_of_build level line) line h)
 
 builds_said_stay : (level : Level) (texts : List (List ℕ)) (h : Held) → Stays h.state (builds_said level texts h).state
 builds_said_stay level [] h = same h.state
@@ -451,11 +458,21 @@ build_stays : (level : Level) (path : List ℕ) (s : GoState) → Stays s (build
 build_stays level path s =
     then_stays s (without_build path s) (build_told level path s) (record { failed = λ w. refl; named_too = λ w. w }) (build_by level (named path s.builds) (without_build path s))
 
+closed_stays : (span : Option Id) (h : Held) → Stays h.state (only_closed span h)
+closed_stays None h = same h.state
+closed_stays (Some id) h = record { failed = λ w. refl; named_too = λ w. w }
+
+last_stays : (build : Build) (s : GoState) → Stays s (build_last build s)
+last_stays build s =
+    let h : Held = holds (begun build.path []) s in
+    let all : Held = builds_said Warn build.texts h in
+    then_stays s all.state (build_last build s) (builds_said_stay Warn build.texts h) (closed_stays all.one.span all)
+
 builds_stay : (builds : List (List ℕ × Build)) (s : GoState) → Stays s (builds_told builds s)
 builds_stay [] s = same s
 builds_stay (one ∷ others) s =
-    let first : GoState = texts_told Warn one.1 s in
-    then_stays s first (builds_told others first) (texts_stay Warn one.1 s) (builds_stay others first)
+    let first : GoState = build_last one.1 s in
+    then_stays s first (builds_told others first) (last_stays one.1 s) (builds_stay others first)
 
 -- ---- lines
 
@@ -486,7 +503,7 @@ heading_is_calm (b ∷ rest) h = other_mark b _ _ h
 
 heading_by : (b : Bool) (rest line : List ℕ) (s : GoState) → begins (codes "# ") line ≡ b → Goes (begins (codes "FAIL\t") line) s (takes_heading (if b then Some rest else None) line s)
 heading_by true rest line s e =
-    let at : GoState = record s { building = up_to_space rest } in
+    let at : GoState = record s { building = built_after rest s.building } in
     let P : Bool → Type 0 = λ b. Goes b s at in
     subst P (sym (heading_is_calm line e)) (goes_of s at (record { failed = λ w. refl; named_too = λ w. w }))
 heading_by false rest line s e = failure_by (begins (codes "FAIL\t") line) (drop (length (codes "FAIL\t")) line) line s
@@ -549,14 +566,15 @@ moved_goes action path test elapsed s =
     (λ _. goes_choice (bytes_eq action (codes "pass") || bytes_eq action (codes "bench")) f s (ended Passed path test elapsed s) _
     (λ is. let no : f ≡ false = neither_fail action (codes "pass") (codes "bench") is refl refl in
     ended_as f Passed path test elapsed s (as_false f s (counted Passed path test s) no (record { failed = λ w. refl; named_too = λ w. w }))
-    (as_false f s (one_ended s) no (record { failed = λ w. refl; named_too = λ w. w })))
+    (λ t. as_false f t (one_ended t) no (record { failed = λ w. refl; named_too = λ w. w })))
     (λ _. goes_choice f f s (ended Failed path test elapsed s) _
     (λ is. ended_as f Failed path test elapsed s (as_true f s (failed_counted path test s) is (failed_test path test s))
-    (as_true f s (package_failed path (one_ended s)) is (failed_package path s)))
-    (λ none. goes_choice (bytes_eq action (codes "skip")) f s (ended Skipped path test elapsed s) s
+    (λ t. as_true f t (package_failed path (one_ended t)) is (failed_package path t)))
+    (λ none. goes_choice (bytes_eq action (codes "skip")) f s (ended Skipped path test elapsed s) _
     (λ _. ended_as f Skipped path test elapsed s (as_false f s (counted Skipped path test s) none (record { failed = λ w. refl; named_too = λ w. w }))
-    (as_false f s (one_ended s) none (record { failed = λ w. refl; named_too = λ w. w })))
-    (λ _. as_false f s s none (same s)))))
+    (λ t. as_false f t (one_ended t) none (record { failed = λ w. refl; named_too = λ w. w })))
+    (λ _. goes_choice (bytes_eq action (codes "start")) f s (package_started path s) s (λ _. as_false f s (package_started path s) none (started_stays path s))
+    (λ _. as_false f s s none (same s))))))
 
 acted_goes : (action path test : List ℕ) (value : Json) (s : GoState) → GoesIf (bytes_eq action (codes "fail")) s (acted action path test value s)
 acted_goes action path test value s =
@@ -613,14 +631,19 @@ left_by true one s e =
     goes_stays true s noted_too (finished Unfinished None (holds one noted_too)) (unfinished_by (is_empty one.test) one s e) (finished_stays Unfinished None (holds one noted_too))
 left_by false one s e = goes_of s s (same s)
 
+over_by : (b : Bool) (own : Running) (s : GoState) → own.has_begun ≡ b → is_empty own.test ≡ true →
+    Goes b s (if b then left_one Unfinished own s else only_closed own.span (holds own s))
+over_by true own s is e = let P : Bool → Type 0 = λ b. Goes b s (left_one Unfinished own s) in subst P is (left_by own.has_begun own s e)
+over_by false own s is e = goes_of s (only_closed own.span (holds own s)) (closed_stays own.span (holds own s))
+
 package_by : (tests : Tests) (s : GoState) (own : Option Running) → AreNamed tests → named [] tests ≡ own → Goes (has_begun own) s (package_left tests s)
 unfolding is_calm
 package_by tests s None h is =
     rw is (goes_of s (left_over Unfinished None [] (without [] tests) s) (left_over_stays Unfinished None [] (without [] tests) s (full_inner tests h) refl))
 package_by tests s (Some own) h is =
     let rest : GoState = left_over Unfinished own.span [] (without [] tests) s in
-    rw is (stays_goes own.has_begun s rest (left_one Unfinished own rest) (left_over_stays Unfinished own.span [] (without [] tests) s (full_inner tests h) refl)
-    (left_by own.has_begun own rest (package_named tests own h is)))
+    rw is (stays_goes own.has_begun s rest (package_over own rest) (left_over_stays Unfinished own.span [] (without [] tests) s (full_inner tests h) refl)
+    (over_by own.has_begun own rest refl (package_named tests own h is)))
 
 packages_go : (packages : List (List ℕ × Tests)) (s : GoState) → AllNamed packages → Goes (list_any package_runs packages) s (packages_left packages s)
 packages_go [] s h = goes_of s s (same s)

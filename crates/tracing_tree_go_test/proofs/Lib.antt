@@ -5,3 +5,4 @@ mod Worked
 pub mod Failing
 pub mod Passing
 pub mod OwnNames
+pub mod Laws

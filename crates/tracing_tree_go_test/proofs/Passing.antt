@@ -12,7 +12,7 @@ use Rattle.tracing_tree_go_test.specs.Texts.{is_frame, without_line_end}
 use Rattle.tracing_tree_go_test.specs.declared.go_test.running.Running.{Running}
 use Rattle.tracing_tree_go_test.specs.declared.go_test.tally.Ending.{Ending}
 use Rattle.tracing_tree_go_test.specs.declared.go_test.tally.Ending.TheVariants.{Passed}
-use Rattle.tracing_tree_go_test.specs.GoTest.{GoState, Held, Tests, all_left_over, counted, end_fields, ended, event_told, finished, framed, holds, left_one, left_over, level_of, level_of_line, line_of, line_told, noted, noted_left, opened, opened_as, package_counted, package_ended, part_told, placed, running_as, said, span_ended, tests_of, told, without_package, word_of}
+use Rattle.tracing_tree_go_test.specs.GoTest.{GoState, Held, Tests, all_left_over, counted, end_fields, ended, event_told, finished, framed, holds, left_one, left_over, level_of, level_of_line, line_of, line_told, noted, noted_left, opened, opened_as, package_counted, package_ended, part_told, placed, running_as, said, span_ended, tests_of, told, without_package, word_of, build_over}
 
 -- the tests that are counted as unfinished
 count : GoState → ℕ
@@ -80,7 +80,7 @@ over_same root earlier (test ∷ later) s =
 pub none_unfinished : (path : List ℕ) (elapsed : Option (List ℕ)) (s : GoState) → (ended Passed path [] elapsed s).tally.unfinished ≡ s.tally.unfinished
 unfolding count package_ended
 none_unfinished path elapsed s =
-    let at : GoState = package_counted Passed path s in
+    let at : GoState = package_counted Passed path (build_over path s) in
     let tests : Tests = tests_of path at in
     finished_same Passed elapsed (holds (running_as path [] tests) (all_left_over Passed path at))
     ∙ over_same (running_as path [] tests).span [] (without [] tests) (without_package path at)

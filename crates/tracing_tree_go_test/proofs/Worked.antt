@@ -2,7 +2,7 @@
 use Rattle.std.proofs.Common.{◌≡◌, ℕ, List, true, false, None, Some, [], ◌∷◌, codes, refl}
 use Rattle.json.specs.Json.{string, object, member, no_members}
 use Rattle.tracing_tree_go_test.specs.Failed.{FailedState, Untold, forgotten, is_inner, is_over, none_failed, outermost, released, verdict_of}
-use Rattle.tracing_tree_go_test.specs.GoTest.{GoState, Tests, above_held, begun, build_printed, build_told, failed_counted, go_lacks, held, kept, kind_named, left_as, left_over, level_of_text, more_names, no_counts, nothing_run, owner, package_counted, placed, printed, ran, takes_text, without_heading}
+use Rattle.tracing_tree_go_test.specs.GoTest.{GoState, Tests, above_held, all_ended, begun, build_printed, build_told, built_after, ended, failed_counted, go_lacks, held, kept, kind_named, left_as, left_over, level_of_build, level_of_text, more_names, no_counts, nothing_run, owner, package_counted, package_ended, package_started, placed, printed, ran, takes_text, without_heading}
 use Rattle.tracing_tree_go_test.specs.Texts.{coverage_in, is_cached, is_frame, is_frame_line, own_name, up_to_space}
 use Rattle.tracing_tree_go_test.specs.declared.go_test.running.Kind.TheVariants.{Plain, Frame, Failure}
 use Rattle.tracing_tree_go_test.specs.declared.go_test.tally.Ending.TheVariants.{Passed, Failed, Unfinished}
@@ -11,9 +11,9 @@ use Rattle.tracing_tree_go_test.specs.declared.failed.Verdict.{Verdict}
 use Rattle.tracing_tree_go_test.specs.declared.failed.Verdict.TheVariants.{Open, Good, Bad}
 use Rattle.tracing_tree_sources.specs.declared.notes.Lack.TheVariants.{Package}
 use Rattle.tracing_tree_context.specs.declared.context.Moment.{Moment}
-use Rattle.tracing_tree_text.specs.declared.style.Level.TheVariants.{Info, Error}
+use Rattle.tracing_tree_text.specs.declared.style.Level.TheVariants.{Info, Warn, Error}
 use Rattle.tracing_tree_spans.specs.Registry.Ids.{id_of}
-use Rattle.tracing_tree_sources.specs.Told.{event_call, message_field, span_call}
+use Rattle.tracing_tree_sources.specs.Told.{close_call, event_call, message_field, span_call}
 
 pub frame_of_its_own : is_frame (codes "TestSum") (codes "    --- PASS: TestSum (0.00s)") ≡ true
 unfolding is_frame
@@ -71,6 +71,12 @@ a_panic_among_lines = (refl, refl)
 
 pub ten_names_and_no_more : (more_names 9 (codes "p.A") (codes "p.B") ≡ codes "p.A p.B") × (more_names 10 (codes "p.A") (codes "p.B") ≡ codes "p.A")
 ten_names_and_no_more = (refl, refl)
+
+pub what_go_fetches : (level_of_build Error (codes "go: finding module for package x") ≡ Info) × (level_of_build Error (codes "go: x") ≡ Error)
+what_go_fetches = (refl, refl)
+
+pub a_heading_in_brackets_names_no_other_package : (built_after (codes "[example.com/a]") (codes "example.com/a") ≡ codes "example.com/a") × (built_after (codes "b [b.test]") (codes "example.com/a") ≡ codes "b")
+a_heading_in_brackets_names_no_other_package = (refl, refl)
 
 pub package_of_a_heading : up_to_space (codes "q [q.test]") ≡ codes "q"
 package_of_a_heading = refl
@@ -153,6 +159,40 @@ module _ (moment : Moment) where
       ≡ span_call moment (codes "p") [] None ∷ event_call moment Info (message_field (codes "note") ∷ []) (Some (id_of 1)) ∷ []
   unfolding above_held held kept
   a_line_that_isnt_json_is_told_in_the_last_span = refl
+
+  -- a build that fails, and what is printed after its package's end
+  abbrev failed_build : GoState
+  failed_build = takes_text (codes "bad") (takes_text (codes "# p") (nothing_run 1 moment))
+
+  pub after_its_package_a_line_is_no_builds : (takes_text (codes "make: x") (ended Failed (codes "p") [] None failed_build)).calls
+      ≡ span_call moment (codes "p") [] None ∷ event_call moment Error (message_field (codes "bad") ∷ []) (Some (id_of 1))
+      ∷ event_call moment Error (message_field (codes "fail") ∷ []) (Some (id_of 1)) ∷ close_call moment (id_of 1) None
+      ∷ event_call moment Info (message_field (codes "make: x") ∷ []) None ∷ []
+  unfolding held kept package_ended
+  after_its_package_a_line_is_no_builds = refl
+
+  pub of_another_package_they_go_on : (ended Failed (codes "q") [] None failed_build).building ≡ codes "p"
+  unfolding held kept package_ended
+  of_another_package_they_go_on = refl
+
+  pub a_package_that_started_and_has_no_end : (all_ended (package_started (codes "p") (nothing_run 1 moment))).calls
+      ≡ event_call moment Error (message_field (codes "unfinished p") ∷ []) None ∷ []
+  unfolding held kept
+  a_package_that_started_and_has_no_end = refl
+
+  pub has_failed_and_is_counted : (all_ended (package_started (codes "p") (nothing_run 1 moment))).tally
+      ≡ record no_counts { packages = 1; packages_failed = 1 }
+  unfolding held kept
+  has_failed_and_is_counted = refl
+
+  pub a_build_without_its_package_closes : (all_ended built).calls
+      ≡ span_call moment (codes "p") [] None ∷ event_call moment Warn (message_field (codes "x") ∷ []) (Some (id_of 1)) ∷ close_call moment (id_of 1) None ∷ []
+  a_build_without_its_package_closes = refl
+
+  pub so_does_one_among_other_lines : (all_ended failed_build).calls
+      ≡ span_call moment (codes "p") [] None ∷ event_call moment Error (message_field (codes "bad") ∷ []) (Some (id_of 1)) ∷ close_call moment (id_of 1) None ∷ []
+  unfolding held kept
+  so_does_one_among_other_lines = refl
 
   abbrev run_twice : GoState
   run_twice = ran (codes "p") (codes "TestA") (ran (codes "p") (codes "TestA") (nothing_run 1 moment))

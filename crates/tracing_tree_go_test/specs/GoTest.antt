@@ -14,7 +14,7 @@ use Rattle.tracing_tree_text.specs.declared.style.Level.TheVariants.{Info, Warn,
 use Rattle.tracing_tree_layer.specs.declared.call.Call.{Call}
 use Rattle.tracing_tree_lines.specs.Lines.Spelled.{is_skipped}
 use Rattle.tracing_tree_go_test.specs.Names.{named, put, without}
-use Rattle.tracing_tree_go_test.specs.Texts.{coverage_in, ends_line, ends_word, is_cached, is_frame, is_frame_line, is_package_frame, own_name, up_to_space, without_line_end}
+use Rattle.tracing_tree_go_test.specs.Texts.{coverage_in, ends_line, ends_word, is_cached, is_frame, is_frame_line, is_package_frame, is_progress, own_name, up_to_space, without_line_end}
 use Rattle.tracing_tree_sources.specs.Source.{Step}
 use Rattle.tracing_tree_sources.specs.Counts.{one_more}
 use Rattle.tracing_tree_sources.specs.Marks.{after_mark, begins, is_empty}
@@ -274,6 +274,11 @@ finished ending elapsed h =
     let last = part_told h in
     span_ended ending (end_fields elapsed last.one) last.one.span last
 
+-- its span closes, if it has one, and nothing is reported of an end
+abbrev pub only_closed : Option Id → Held → GoState
+only_closed None h = h.state
+only_closed (Some id) h = told h.one.above (close_call h.state.moment id h.one.above) h.state
+
 -- the whole name of a test, or with an empty name the path of its package
 abbrev pub name_at_first : List ℕ → List ℕ → List ℕ
 name_at_first path test = if is_empty test then path else test
@@ -466,11 +471,15 @@ abbrev pub without_heading : List ℕ → List ℕ
 without_heading text =
     if begins (codes "# ") text then drop (position_or_len (λ b. b == 10) text + 1) text else text
 
+-- what `go` says about what it fetches is no part of a failure
+abbrev pub level_of_build : Level → List ℕ → Level
+level_of_build level line = if is_progress line then Info else level
+
 -- reports a string that a build printed, unless nothing is left of it
 abbrev pub build_said : Level → List ℕ → Held → Held
 build_said level text h =
     let line = without_line_end (without_heading text) in
-    if is_skipped line then h else said level line (opened h)
+    if is_skipped line then h else said (level_of_build level line) line (opened h)
 
 abbrev pub builds_said : Level → List (List ℕ) → Held → Held
 builds_said level [] h = h
@@ -528,9 +537,14 @@ test_ended ending test elapsed h =
           (elapsed_fields elapsed) above.one.span above.state;
     })
 
+-- the build of this package prints no more lines
+abbrev pub build_over : List ℕ → GoState → GoState
+build_over path s =
+    record s { building = if bytes_eq s.building path then [] else s.building }
+
 abbrev pub ended : Ending → List ℕ → List ℕ → Option (List ℕ) → GoState → GoState
 ended ending path test elapsed s =
-    if is_empty test then package_ended ending path elapsed s
+    if is_empty test then package_ended ending path elapsed (build_over path s)
     else test_ended ending test elapsed (held path test (counted ending path test s))
 
 -- ---- lines
@@ -541,7 +555,7 @@ level_of_text line = if begins_trace line then Error else Info
 
 -- a line outside of builds: no build is known to print, or `go` says what it does
 abbrev pub is_aside : List ℕ → GoState → Bool
-is_aside line s = is_empty s.building || begins (codes "go: downloading ") line
+is_aside line s = is_empty s.building || is_progress line
 
 -- a line that a build prints, or any other line
 abbrev pub takes_plain : List ℕ → GoState → GoState
@@ -555,8 +569,12 @@ takes_failure (Some rest) line s =
     package_ended Failed (up_to_space rest) None (record s { building = [] })
 takes_failure None line s = takes_plain line s
 
+-- the package that a heading names; a name in brackets, as of `go vet`, names no other package
+abbrev pub built_after : List ℕ → List ℕ → List ℕ
+built_after rest building = if begins (codes "[") rest then building else up_to_space rest
+
 abbrev pub takes_heading : Option (List ℕ) → List ℕ → GoState → GoState
-takes_heading (Some rest) line s = record s { building = up_to_space rest }
+takes_heading (Some rest) line s = record s { building = built_after rest s.building }
 takes_heading None line s = takes_failure (after_mark (codes "FAIL\t") line) line s
 
 -- a line that isn't JSON: a failing build's, or any other output
@@ -597,6 +615,10 @@ abbrev pub build_printed_if : List ℕ → Option (List ℕ) → GoState → Opt
 build_printed_if path None s = None
 build_printed_if path (Some text) s = Some (build_printed path text s)
 
+-- a package starts
+abbrev pub package_started : List ℕ → GoState → GoState
+package_started path s = kept (started (held path [] s))
+
 -- a test or its package starts or ends; every other action does nothing
 abbrev pub moved : List ℕ → List ℕ → List ℕ → Option (List ℕ) → GoState → GoState
 moved action path test elapsed s =
@@ -605,6 +627,7 @@ moved action path test elapsed s =
     then ended Passed path test elapsed s
     else if bytes_eq action (codes "fail") then ended Failed path test elapsed s
     else if bytes_eq action (codes "skip") then ended Skipped path test elapsed s
+    else if bytes_eq action (codes "start") then package_started path s
     else s
 
 -- What a line does. What the package's build printed is an error if the build fails; if another
@@ -693,6 +716,11 @@ tally_call s =
     event_call s.moment (if has_failed s then Error else Info)
     (tally_fields s.tally ++ failing_fields s.tally s.failing) None
 
+-- a package ends unfinished; one of which only the build is known has no end
+abbrev pub package_over : Running → GoState → GoState
+package_over own s =
+    if own.has_begun then left_one Unfinished own s else only_closed own.span (holds own s)
+
 -- what still runs of a package ends unfinished, and the package after it
 abbrev pub package_left : Tests → GoState → GoState
 package_left tests s =
@@ -700,17 +728,23 @@ package_left tests s =
     (left_over Unfinished (span_in tests []) [] (without [] tests) s) where
       left_last : Option Running → GoState → GoState
       left_last None s = s
-      left_last (Some own) s = left_one Unfinished own s
+      left_last (Some own) s = package_over own s
 
 -- what runs of one package after the other ends unfinished
 abbrev pub packages_left : List (List ℕ × Tests) → GoState → GoState
 packages_left [] s = s
 packages_left (one ∷ others) s = packages_left others (package_left one.1 s)
 
--- reports what builds printed, one after the other
+-- reports the build output of a package that doesn't run, in a span of its own
+abbrev pub build_last : Build → GoState → GoState
+build_last build s =
+    let all : Held = builds_said Warn build.texts (holds (begun build.path []) s) in
+    only_closed all.one.span all
+
+-- reports what builds printed, one after the other, when no package runs
 abbrev pub builds_told : List (List ℕ × Build) → GoState → GoState
 builds_told [] s = s
-builds_told (one ∷ others) s = builds_told others (texts_told Warn one.1 s)
+builds_told (one ∷ others) s = builds_told others (build_last one.1 s)
 
 -- no package is running
 abbrev pub packages_ended : GoState → GoState

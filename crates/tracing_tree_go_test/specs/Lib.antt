@@ -3,3 +3,6 @@ pub mod Texts
 pub mod GoTest
 pub mod Failed
 pub mod Failures
+pub mod Printed
+pub mod Nesting
+pub mod Closing

@@ -27,6 +27,12 @@ ends_line text = ends_with (λ a b. a == b) text (codes "\n")
 abbrev pub without_line_end : List ℕ → List ℕ
 without_line_end text = if ends_line text then take (length text - 1) text else text
 
+-- a message of the command `go` about what it fetches
+abbrev pub is_progress : List ℕ → Bool
+is_progress line =
+    begins (codes "go: downloading ") line || begins (codes "go: finding ") line
+    || begins (codes "go: extracting ") line
+
 -- ---- how a package ended
 
 -- what comes after the first tab

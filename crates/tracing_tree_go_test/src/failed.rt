@@ -8,7 +8,7 @@ ghost use Rattle.tracing_tree_go_test.specs.Failed.{Knows, all_released, forgott
 ghost use Rattle.tracing_tree_go_test.specs.Names.{without};
 
 use crate::go_test::{GoTest, package_of, test_of};
-use crate::names::{Named, key};
+use crate::names::Named;
 use json::{Scratch, Value};
 use std::alloc::{AllocError, Global};
 use std::collections::BTreeSet;
@@ -195,7 +195,7 @@ impl Failed {
             verdict,
             line: Text::from_str(self.alloc, line)?,
         };
-        let mut untold = self.take_untold(path);
+        let mut untold = self.take_untold(path)?;
         add_line(self.alloc, &mut untold, outermost(test), one)?;
         self.put_untold(path, untold)
     }
@@ -204,11 +204,11 @@ impl Failed {
     fn forget(&mut self, path: &str, test: &str) -> Result<(), AllocError>
         ensures { OnOk result (self.new ≡ forgotten path.now test.now self.old) }
     {
-        let mut untold = self.take_untold(path);
+        let mut untold = self.take_untold(path)?;
         if test.is_empty() {
             return Ok(());
         }
-        drop(untold.take(test.as_bytes()));
+        drop(untold.take(test.as_bytes())?);
         self.put_untold(path, untold)
     }
 
@@ -216,30 +216,29 @@ impl Failed {
     fn tell(&mut self, path: &str, test: &str) -> Result<(), AllocError>
         ensures { OnOk result (self.new ≡ told_of path.now test.now self.old) }
     {
-        let mut untold = self.take_untold(path);
+        let mut untold = self.take_untold(path)?;
         if test.is_empty() {
             return release_package(&mut self.shown, self.alloc, path.as_bytes(), untold);
         }
-        let lines = take_lines(self.alloc, &mut untold, test);
+        let lines = take_lines(self.alloc, &mut untold, test)?;
         self.put_untold(path, untold)?;
         release(&mut self.shown, self.alloc, path.as_bytes(), lines)
     }
 
     // Takes out the held lines of a package.
-    fn take_untold(&mut self, path: &str) -> Named<Lines>
-        ensures untold { result ≡ untold_of path.now self.old }
-        ensures rest { self.new ≡ without_untold path.now self.old }
+    fn take_untold(&mut self, path: &str) -> Result<Named<Lines>, AllocError>
+        ensures untold { IfOk result (λ untold. untold ≡ untold_of path.now self.old) }
+        ensures rest { OnOk result (self.new ≡ without_untold path.now self.old) }
     {
-        let untold = self.packages.take(path.as_bytes());
-        untold.unwrap_or(Named::new(self.alloc))
+        let untold = self.packages.take(path.as_bytes())?;
+        Ok(untold.unwrap_or(Named::new(self.alloc)))
     }
 
     // Puts back the held lines of a package.
     fn put_untold(&mut self, path: &str, untold: Named<Lines>) -> Result<(), AllocError>
         ensures { OnOk result (self.new ≡ with_untold path.now untold self.old) }
     {
-        let path = key(self.alloc, path)?;
-        self.packages.put(path, untold)
+        self.packages.put(self.alloc, path.as_bytes(), untold)
     }
 }
 
@@ -284,12 +283,12 @@ impl Source for Failed {
 }
 
 // Takes out the lines of a top-level test, or the package's own lines if the name is empty.
-fn take_lines(alloc: Global, untold: &mut Named<Lines>, test: &str) -> Lines
-    ensures lines { result ≡ kept_in test.now untold.old }
-    ensures rest { untold.new ≡ without test.now untold.old }
+fn take_lines(alloc: Global, untold: &mut Named<Lines>, test: &str) -> Result<Lines, AllocError>
+    ensures lines { IfOk result (λ lines. lines ≡ kept_in test.now untold.old) }
+    ensures rest { OnOk result (untold.new ≡ without test.now untold.old) }
 {
-    let lines = untold.take(test.as_bytes());
-    lines.unwrap_or(Lines::new(alloc))
+    let lines = untold.take(test.as_bytes())?;
+    Ok(lines.unwrap_or(Lines::new(alloc)))
 }
 
 // Adds a line to those of a top-level test, or to the package's own lines if the name is empty.
@@ -301,9 +300,9 @@ fn add_line(
 ) -> Result<(), AllocError>
     ensures { OnOk result (untold.new ≡ with_line test.now one untold.old) }
 {
-    let mut lines = take_lines(alloc, untold, test);
+    let mut lines = take_lines(alloc, untold, test)?;
     lines.push(one)?;
-    untold.put(key(alloc, test)?, lines)
+    untold.put(alloc, test.as_bytes(), lines)
 }
 
 // Reports the held lines of packages that didn't end.
@@ -315,7 +314,7 @@ fn release_all(
     ensures { OnOk result (shown.new ≡ all_released packages shown.old) }
 {
     let mut packages = packages;
-    while let Some((path, untold)) = packages.take_first() {
+    while let Some((path, untold)) = packages.take_first()? {
         release_package(shown, alloc, path.as_slice(), untold)?;
     }
     Ok(())
@@ -331,7 +330,7 @@ fn release_package(
     ensures { OnOk result (shown.new ≡ package_released path.now untold shown.old) }
 {
     let mut untold = untold;
-    let own = take_lines(alloc, &mut untold, "");
+    let own = take_lines(alloc, &mut untold, "")?;
     release_tests(shown, alloc, path, untold)?;
     release(shown, alloc, path, own)
 }
@@ -345,7 +344,7 @@ fn release_tests(
     ensures { OnOk result (shown.new ≡ tests_released path.now tests shown.old) }
 {
     let mut tests = tests;
-    while let Some((_, lines)) = tests.take_first() {
+    while let Some((_, lines)) = tests.take_first()? {
         release(shown, alloc, path, lines)?;
     }
     Ok(())

@@ -3,7 +3,7 @@
 ghost use Rattle.std.specs.Prelude.{◌≡◌, ◌++◌, ◌∷◌, [], IfOk, OnOk, Option, None, Some, option_map};
 ghost use Rattle.tracing_tree_go_test.specs.Names.{without};
 ghost use Rattle.json.specs.Value.{value_view};
-ghost use Rattle.tracing_tree_go_test.specs.GoTest.{acted, build_printed_if, failed_counted, has_failed, is_aside, kind_in, level_of_text, moved, one_ended, package_counted, package_failed, packages_ended, printed_if, takes_plain, takes_value_as, test_ended, begun, counted, elapsed_in, ended, holds, kept, lack_in, nothing_run, package_ended, package_of, printed, ran, takes_text, takes_timed, takes_value, timed, test_of, above_held, all_ended, left_one, noted_left, package_left, packages_left, placed, runs, tally_call, left_over, held, running_as, tests_of, with_package, without_package};
+ghost use Rattle.tracing_tree_go_test.specs.GoTest.{acted, build_printed_if, failed_counted, has_failed, is_aside, kind_in, level_of_text, moved, one_ended, package_counted, package_failed, packages_ended, printed_if, takes_plain, takes_value_as, test_ended, begun, counted, elapsed_in, ended, holds, kept, lack_in, nothing_run, package_ended, package_of, printed, ran, takes_text, takes_timed, takes_value, timed, test_of, above_held, all_ended, left_one, noted_left, package_left, packages_left, placed, runs, tally_call, left_over, build_over, built_after, package_over, package_started, held, running_as, tests_of, with_package, without_package};
 
 mod builds;
 mod running;
@@ -11,7 +11,7 @@ mod tally;
 mod telling;
 mod text;
 
-use crate::names::{Named, key};
+use crate::names::Named;
 use builds::Build;
 use json::Value;
 use running::{Kind, Running, owner, span_in};
@@ -21,7 +21,7 @@ use std::mem;
 pub use tally::Tally;
 use tally::{Ending, Failing, more_names};
 use telling::elapsed_fields;
-use text::{is_package_frame, own_name, up_to_space};
+use text::{is_package_frame, is_progress, own_name, up_to_space};
 use tracing_tree_context::Id;
 use tracing_tree_layer::call::Call;
 use tracing_tree_lines::lines::is_skipped;
@@ -151,13 +151,25 @@ impl GoTest {
             return Ok(());
         }
         if let Some(rest) = after_mark(line, "# ") {
-            return self.set_building(up_to_space(rest));
+            return self.take_heading(rest);
         }
         if let Some(rest) = after_mark(line, "FAIL\t") {
             self.set_building("")?;
             return self.end_package(Ending::Failed, up_to_space(rest), None);
         }
         self.take_plain(line)
+    }
+
+    // Takes a line that names the package whose build prints the next lines. `go vet` writes a
+    // second one with the name in brackets.
+    fn take_heading(&mut self, rest: &str) -> Result<(), AllocError>
+        ensures { OnOk result (self.new
+            ≡ record self.old { building = built_after rest.now self.old.building }) }
+    {
+        if rest.as_bytes().starts_with("[".as_bytes()) {
+            return Ok(());
+        }
+        self.set_building(up_to_space(rest))
     }
 
     // Sets the package whose build prints the next lines. If the path is empty, there isn't one.
@@ -185,12 +197,12 @@ impl GoTest {
         self.keep(owner)
     }
 
-    // Returns whether no build is known to print, or the line is a download message of `go`.
+    // Returns whether no build is known to print, or the line is a message of `go` about what it
+    // fetches.
     fn is_aside(&self, line: &str) -> bool
         ensures { result ≡ is_aside line.now self.now }
     {
-        self.building.as_str().is_empty()
-            || line.as_bytes().starts_with("go: downloading ".as_bytes())
+        self.building.as_str().is_empty() || is_progress(line.as_bytes())
     }
 
     // Takes a line that is a JSON value. Returns whether it is known.
@@ -318,12 +330,23 @@ impl GoTest {
             self.end(Ending::Failed, path, test, elapsed)
         } else if action == "skip" {
             self.end(Ending::Skipped, path, test, elapsed)
+        } else if action == "start" {
+            self.start(path)
         } else {
             Ok(())
         }
     }
 
-    // Starts a test or a package.
+    // Starts a package.
+    fn start(&mut self, path: &str) -> Result<(), AllocError>
+        ensures { OnOk result (self.new ≡ package_started path.now self.old) }
+    {
+        let mut package = self.take_owner(path, "")?;
+        package.has_begun = true;
+        self.keep(package)
+    }
+
+    // Starts a test, and its package if that isn't running.
     fn run(&mut self, path: &str, test: &str) -> Result<(), AllocError>
         ensures { OnOk result (self.new ≡ ran path.now test.now self.old) }
     {
@@ -374,11 +397,22 @@ impl GoTest {
             (option_map (λ e. e.now) elapsed.entry) self.old) }
     {
         if test.is_empty() {
+            self.end_build(path)?;
             return self.end_package(ending, path, elapsed);
         }
         self.count(ending, path, test)?;
         let owner = self.take_owner(path, test)?;
         self.end_test(owner, ending, test, elapsed)
+    }
+
+    // Ends the build of a package, if it is the one that prints lines.
+    fn end_build(&mut self, path: &str) -> Result<(), AllocError>
+        ensures { OnOk result (self.new ≡ build_over path.now self.old) }
+    {
+        if self.building.as_str() == path {
+            return self.set_building("");
+        }
+        Ok(())
     }
 
     // Ends the test with this name, or a subtest that wasn't running.
@@ -413,7 +447,7 @@ impl GoTest {
             (option_map (λ e. e.now) elapsed.entry) self.old) }
     {
         self.count_package(ending, path)?;
-        let mut tests = self.take_package(path);
+        let mut tests = self.take_package(path)?;
         let package = self.take_running(&mut tests, path, "".as_bytes())?;
         self.leave_over(ending.of_left(), package.span, tests)?;
         self.finish(package, ending, elapsed)
@@ -430,7 +464,7 @@ impl GoTest {
         ensures { OnOk result (self.new ≡ left_over ending package_span [] tests self.old) }
     {
         let mut tests = tests;
-        while let Some(one) = tests.take_last() {
+        while let Some(one) = tests.take_last()? {
             self.leave_placed(ending, package_span, &tests, one)?;
         }
         Ok(())
@@ -494,7 +528,7 @@ impl GoTest {
         ensures { OnOk result (self.new ≡ packages_left packages self.old) }
     {
         let mut packages = packages;
-        while let Some((_, tests)) = packages.take_first() {
+        while let Some((_, tests)) = packages.take_first()? {
             self.leave_package(tests)?;
         }
         Ok(())
@@ -506,12 +540,22 @@ impl GoTest {
     {
         let mut tests = tests;
         let span = span_in(&tests, "".as_bytes());
-        let package = tests.take("".as_bytes());
+        let package = tests.take("".as_bytes())?;
         self.leave_over(Ending::Unfinished, span, tests)?;
         match package {
-            Some(package) => self.leave_one(Ending::Unfinished, package),
+            Some(package) => self.leave_own(package),
             None => Ok(()),
         }
+    }
+
+    // Ends a package as unfinished. If only its build is known, its span closes without an end.
+    fn leave_own(&mut self, own: Running) -> Result<(), AllocError>
+        ensures { OnOk result (self.new ≡ package_over own self.old) }
+    {
+        if own.has_begun {
+            return self.leave_one(Ending::Unfinished, own);
+        }
+        self.close_only(own)
     }
 
     // Returns the call with the counts of tests and packages, and the names of those that failed.
@@ -583,7 +627,7 @@ impl GoTest {
     fn take_owner(&mut self, path: &str, test: &str) -> Result<Running, AllocError>
         ensures { IfOk result (λ one. holds one self.new ≡ held path.now test.now self.old) }
     {
-        let mut tests = self.take_package(path);
+        let mut tests = self.take_package(path)?;
         let name = owner(&tests, test.as_bytes());
         let mut one = self.take_running(&mut tests, path, name)?;
         one.place(self.alloc, span_in(&tests, "".as_bytes()), &tests)?;
@@ -596,9 +640,9 @@ impl GoTest {
         ensures { OnOk result (self.new ≡ kept (holds one self.old)) }
     {
         let path = one.path.clone()?;
-        let name = key(self.alloc, one.test.as_str())?;
-        let mut tests = self.take_package(path.as_str());
-        tests.put(name, one)?;
+        let name = one.test.clone()?;
+        let mut tests = self.take_package(path.as_str())?;
+        tests.put(self.alloc, name.as_str().as_bytes(), one)?;
         self.put_package(path.as_str(), tests)
     }
 
@@ -606,17 +650,16 @@ impl GoTest {
     fn put_package(&mut self, path: &str, tests: Named<Running>) -> Result<(), AllocError>
         ensures { OnOk result (self.new ≡ with_package path.now tests self.old) }
     {
-        let path = key(self.alloc, path)?;
-        self.packages.put(path, tests)
+        self.packages.put(self.alloc, path.as_bytes(), tests)
     }
 
     // Takes out what is running in a package.
-    fn take_package(&mut self, path: &str) -> Named<Running>
-        ensures tests { result ≡ tests_of path.now self.old }
-        ensures rest { self.new ≡ without_package path.now self.old }
+    fn take_package(&mut self, path: &str) -> Result<Named<Running>, AllocError>
+        ensures tests { IfOk result (λ tests. tests ≡ tests_of path.now self.old) }
+        ensures rest { OnOk result (self.new ≡ without_package path.now self.old) }
     {
-        let tests = self.packages.take(path.as_bytes());
-        tests.unwrap_or(Named::new(self.alloc))
+        let tests = self.packages.take(path.as_bytes())?;
+        Ok(tests.unwrap_or(Named::new(self.alloc)))
     }
 
     // Takes out what is running under this name. If there is nothing, the package starts.
@@ -627,9 +670,9 @@ impl GoTest {
         name: &[u8],
     ) -> Result<Running, AllocError>
         ensures one { IfOk result (λ one. one ≡ running_as path.now name.now tests.old) }
-        ensures rest { tests.new ≡ without name.now tests.old }
+        ensures rest { OnOk result (tests.new ≡ without name.now tests.old) }
     {
-        match tests.take(name) {
+        match tests.take(name)? {
             Some(one) => Ok(one),
             None => Running::begun(self.alloc, path, ""),
         }

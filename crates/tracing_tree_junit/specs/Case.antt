@@ -6,7 +6,7 @@ use Rattle.tracing_tree_text.specs.declared.style.Level.TheVariants.{Trace, Debu
 use Rattle.tracing_tree_sources.specs.Told.{message_field, shown}
 use Rattle.tracing_tree_junit.specs.Element.{attribute_in, is_off}
 use Rattle.tracing_tree_junit.specs.Failure.{failure_rows}
-use Rattle.tracing_tree_junit.specs.Length.{length_text}
+use Rattle.tracing_tree_sources.specs.Length.{length_text}
 use Rattle.tracing_tree_junit.specs.Lines.{printed_rows, reason_of}
 use Rattle.tracing_tree_junit.specs.Seconds.{nanoseconds_of}
 use Rattle.tracing_tree_junit.specs.States.{CaseState, PartState, TagState}

@@ -21,7 +21,8 @@ pub record ReadDocument : Type 0 where
 abbrev pub at_end : JunitState → ReadDocument
 at_end s = record { state = s; is_cut = is_open s }
 
-abbrev pub read_next : Result (Option ReadStep) Unfinished → JunitState → (Reading → JunitState → ReadDocument) → ReadDocument
+abbrev pub read_next : Result (Option ReadStep) Unfinished → JunitState → (Reading → JunitState →
+    ReadDocument) → ReadDocument
 read_next (Ok (Some step)) s others = others step.after (taken step.token s)
 read_next (Ok None) s others = at_end s
 read_next (Err unfinished) s others = record { state = s; is_cut = true }
@@ -43,7 +44,8 @@ read_document selection next moment text =
 
 -- the document in its drawn form: what is open at its end closes
 abbrev pub document_state : Selection → ℕ → Moment → List ℕ → JunitState
-document_state selection next moment text = finished (read_document selection next moment text).state
+document_state selection next moment text = finished (read_document selection next moment
+    text).state
 
 abbrev pub document_calls : Selection → ℕ → Moment → List ℕ → List Call
 document_calls selection next moment text = (document_state selection next moment text).calls

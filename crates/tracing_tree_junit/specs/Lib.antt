@@ -3,7 +3,6 @@ pub mod Document
 pub mod Element
 pub mod Failure
 pub mod Junit
-pub mod Length
 pub mod Lines
 pub mod Plain
 pub mod Reading

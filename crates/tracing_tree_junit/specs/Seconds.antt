@@ -77,7 +77,8 @@ over_ten (suc power) number = over_ten power (number / 10)
 
 abbrev pub scaled_by : List ℕ → Option (List ℕ) → Option ℕ
 scaled_by number (Some digits) =
-    option_and_then (λ n. option_map (λ power. over_ten (min power 20) n) (whole_of digits)) (plain number)
+    option_and_then (λ n. option_map (λ power. over_ten (min power 20) n) (whole_of digits)) (plain
+    number)
 scaled_by number None = None
 
 -- the nanoseconds of a number over a power of ten, as `6.2e-05`

@@ -5,12 +5,12 @@ ghost use Rattle.tracing_tree_junit.specs.Case.{case_of, end_fields, event_field
 
 use crate::element::is_off;
 use crate::failure::push_failure;
-use crate::length::length_text;
 use crate::lines::{Row, push_lines, reason_of};
 use crate::seconds::nanoseconds_of;
 use crate::tag::{Part, Tag};
 use std::alloc::{AllocError, Global};
 use std::marker::Model;
+use tracing_tree_sources::length::length_text;
 use tracing_tree_sources::told::{message_field, shown};
 use tracing_tree_text::field::{Field, Fields};
 use tracing_tree_text::style::Level;

@@ -78,7 +78,8 @@ pub fn junit_calls(
 
 // Reads a document, and returns whether it ends early. Each token has a byte or more.
 fn read(junit: &mut Junit, text: &str) -> Result<bool, AllocError>
-    ensures { IfOk result (λ is_cut. read_within (length text.now) (document_start text.now) junit.old
+    ensures { IfOk result (λ is_cut. read_within (length text.now) (document_start text.now)
+        junit.old
         ≡ record { state = junit.new; is_cut = is_cut }) }
 {
     let mut reader = Reader::new(text);

@@ -8,7 +8,6 @@ mod case;
 pub mod document;
 mod element;
 mod failure;
-mod length;
 mod lines;
 mod plain;
 mod reading;

@@ -18,7 +18,8 @@ use tracing_tree_sources::{Notes, draw_source};
 use tracing_tree_time::{FormatTime, Moment};
 
 /// After lines and their end, tests have failed exactly if a line says that a test or a package
-/// failed, or a package was still running after the last line.
+/// failed, or a package was still running after the last line. A package runs from its first
+/// `start`, `run` or `output`.
 pub fn tests_fail_by_a_line_or_a_package_that_runs()
     ensures { (next : ℕ) (moment : Moment) (lines : List (List ℕ)) →
         has_failed (source_after go_takes go_ended (nothing_run next moment) lines)

@@ -12,6 +12,7 @@ pub mod difference;
 pub mod equal;
 pub mod failures;
 pub mod frames;
+pub mod go_tests;
 pub mod lines;
 pub mod reading_back;
 pub mod runs;

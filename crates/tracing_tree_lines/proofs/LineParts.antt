@@ -22,7 +22,7 @@ use Rattle.tracing_tree_lines.specs.Lines.Parts.{fields_data, readable_number, r
 use Rattle.tracing_tree_lines.specs.Lines.Borrowed.{data_of, HasNoFloat, RefusesFloat}
 use Rattle.tracing_tree_lines.specs.Lines.Spelled.{◌>>=◌, unless_null, read_or, whole_value, signed_value, id_value, parent_value, item_fields, fields_value, IsMomentIn, SpellsCall, context_in, id_in, attributes_in, record_in, event_in, call_named, object_call}
 use Rattle.tracing_tree_lines.specs.Lines.Values.{ValueSpells}
-use Rattle.tracing_tree_lines.specs.Lines.Steps.{MakesSpelled}
+use Rattle.tracing_tree_lines.specs.Lines.Steps.{Answering, MakesSpelled}
 use Rattle.tracing_tree_lines.proofs.MadeCalls.{spelled_as}
 use Rattle.tracing_tree_layer.specs.Layered.Seen.{Seen}
 use Rattle.tracing_tree_layer.specs.declared.call.Reply.{Reply}
@@ -370,9 +370,9 @@ floats_refused line p (Ok done) found none = without_float line p found none
 floats_refused line p (Err cause) found refused = refused
 
 -- the call of a line is that of its parts
-pub made_of_parts : (line : List ℕ) (p : Parts) (result : Result Reply LineCause) (old new : Seen) → HasParts line p → MakesSpelled (ValueSpells (parts_data p)) result old new
-    → MakesSpelled (SpellsCall line) result old new
-made_of_parts line p result old new h made =
-    spelled_as (ValueSpells (parts_data p)) (SpellsCall line) result old new
+pub made_of_parts : {S : Type 0} (Answered : Answering S) (line : List ℕ) (p : Parts) (result : Result Reply LineCause) (old new : S) → HasParts line p
+    → MakesSpelled Answered (ValueSpells (parts_data p)) result old new → MakesSpelled Answered (SpellsCall line) result old new
+made_of_parts Answered line p result old new h made =
+    spelled_as Answered (ValueSpells (parts_data p)) (SpellsCall line) result old new
     (λ call s. line_spells line h.value call h.text h.reads (value_spelled p h.value call h.no_float h.kept s))
     (λ call s. parts_spelled p h.value call h.kept (value_spells line h.value call h.reads s)) made

@@ -38,12 +38,12 @@ use Rattle.tracing_tree_lines.proofs.CallsMade.{none_made, made_once, accepted_m
 
 -- a line whose call was made
 pub made_line : (old new : Seen) (known left : Option (List ℕ)) (line : List ℕ) (reply : Reply) → TakesLine known left line → is_skipped line ≡ false →
-    MakesSpelled (SpellsCall line) (Ok reply) old new → JudgesLine known left (Ok Accepted) old new
+    MakesSpelled IsAnswered (SpellsCall line) (Ok reply) old new → JudgesLine known left (Ok Accepted) old new
 made_line old new known left line reply first judged made = (reply, record { line = line; first = first; judged = judged; made = made })
 
 -- a line whose call was not made
 pub unmade_line : (old new : Seen) (known left : Option (List ℕ)) (line : List ℕ) (cause : LineCause) → TakesLine known left line → is_skipped line ≡ false →
-    MakesSpelled (SpellsCall line) (Err cause) old new → JudgesLine known left (Err cause) old new
+    MakesSpelled IsAnswered (SpellsCall line) (Err cause) old new → JudgesLine known left (Err cause) old new
 unmade_line old new known left line NoSettings first judged made = absurd made
 unmade_line old new known left line NotACall first judged made = (record { line = line; first = first; nothing = (ap not judged, made.0) }, made.1)
 unmade_line old new known left line Read first judged made = absurd made

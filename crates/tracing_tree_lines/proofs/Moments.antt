@@ -12,9 +12,8 @@ use Rattle.jiff_core.specs.declared.timestamp.Timestamp.{Timestamp}
 use Rattle.tracing_tree_context.specs.declared.context.Context.{Context}
 use Rattle.tracing_tree_context.specs.declared.context.Moment.{Moment}
 use Rattle.tracing_tree_lines.specs.Lines.Values.{ValueSpells}
-use Rattle.tracing_tree_lines.specs.Lines.Steps.{MakesNamed, MakesSpelled}
+use Rattle.tracing_tree_lines.specs.Lines.Steps.{Answering, MakesNamed, MakesSpelled}
 use Rattle.tracing_tree_lines.proofs.MadeCalls.{spelled_as}
-use Rattle.tracing_tree_layer.specs.Layered.Seen.{Seen}
 use Rattle.tracing_tree_layer.specs.declared.call.Reply.{Reply}
 use Rattle.tracing_tree_lines.specs.Lines.CallKinds.{IsKindIn}
 use Rattle.tracing_tree_lines.specs.Lines.Spelled.{◌>>=◌, IsMomentIn, context_in, read_or, call_named, object_call}
@@ -57,11 +56,11 @@ pub reads_none : (value : Data) → ((moment : Moment) → IsMomentIn value mome
 reads_none value nothing call s = none-some call (sym (nothing s.moment s.timed) ∙ s.spelled)
 
 -- the call of a value is that with its word
-pub made_named : (value : Data) (context : Context) (word : List ℕ) (result : Result Reply LineCause) (old new : Seen) → has_float value ≡ false
+pub made_named : {S : Type 0} (Answered : Answering S) (value : Data) (context : Context) (word : List ℕ) (result : Result Reply LineCause) (old new : S) → has_float value ≡ false
     → IsMomentIn value context.moment → context_in value context.moment ≡ Some context → read_or None as_str (codes "call") value ≡ Some word
-    → MakesNamed word value context result old new → MakesSpelled (ValueSpells value) result old new
-made_named value context word result old new whole timed spelled named made =
+    → MakesNamed Answered word value context result old new → MakesSpelled Answered (ValueSpells value) result old new
+made_named Answered value context word result old new whole timed spelled named made =
     let at = object_call_at value context word spelled named in
-    spelled_as (λ call. call_named word value context ≡ Some call) (ValueSpells value) result old new
+    spelled_as Answered (λ call. call_named word value context ≡ Some call) (ValueSpells value) result old new
     (λ call is. record { no_float = whole; moment = context.moment; timed = timed; spelled = at ∙ is })
     (λ call s. sym at ∙ ap (object_call value) (same_moment value context.moment s.moment timed s.timed) ∙ s.spelled) made

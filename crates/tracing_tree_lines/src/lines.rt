@@ -23,11 +23,12 @@ ghost use Rattle.tracing_tree_lines.specs.Lines.SoFar.{counted, IsTextOf, RunsHe
 ghost use Rattle.tracing_tree_lines.specs.declared.lines.Judged.TheVariants.{End};
 ghost use Rattle.tracing_tree_lines.specs.Lines.Steps.{EndsLines, JudgesLine, ShowsAndJudges};
 
-use call::make_call;
+pub use call::make_call;
 pub use input::{LineInput, read_held};
 use json::{Invalid, Scratch};
 use read::{line_end, whole_lines};
 pub use read::{BLOCK, is_skipped, read_line};
+pub use settings::is_settings;
 use settings::{Setup, settings_of_line};
 use simdutf8::basic::from_utf8;
 use std::alloc::{AllocError, AllocFailed, Global};

@@ -43,7 +43,8 @@ pub record Used : Type 0 where
 -- what journald adds to each line, and what the syslog protocol does
 abbrev pub journal_keys : List (List ℕ)
 journal_keys =
-    codes "SYSLOG_FACILITY" ∷ codes "SYSLOG_PID" ∷ codes "SYSLOG_RAW" ∷ codes "SYSLOG_TIMESTAMP" ∷ []
+    codes "SYSLOG_FACILITY" ∷ codes "SYSLOG_PID" ∷ codes "SYSLOG_RAW" ∷ codes "SYSLOG_TIMESTAMP" ∷
+    []
 
 abbrev pub is_added : List ℕ → Bool
 is_added key = begins (codes "_") key || list_any (bytes_eq key) journal_keys

@@ -71,10 +71,12 @@ has_point path = nat_lt (position_or_len is_point path) (length path)
 abbrev pub inner_of : List ℕ → Json → Option (List ℕ × Json)
 inner_of path value =
     if has_point path
-    then option_map (λ inner. (after_first is_point path, inner)) (get (before_first is_point path) value)
+    then option_map (λ inner. (after_first is_point path, inner)) (get (before_first is_point path)
+    value)
     else None
 
-abbrev pub further : Option (List ℕ) → Option (List ℕ × Json) → (List ℕ → Json → Option (List ℕ)) → Option (List ℕ)
+abbrev pub further : Option (List ℕ) → Option (List ℕ × Json) → (List ℕ → Json → Option (List ℕ)) →
+    Option (List ℕ)
 further (Some word) inner others = Some word
 further None (Some inner) others = others inner.0 inner.1
 further None None others = None

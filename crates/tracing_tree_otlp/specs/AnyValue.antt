@@ -87,7 +87,8 @@ abbrev mutual
   pub values_json : Bool → Members → List ℕ
   values_json with_keys no_members = []
   values_json with_keys (member key value others) =
-      if bytes_eq key (codes "values") then array_json with_keys value else values_json with_keys others
+      if bytes_eq key (codes "values") then array_json with_keys value else values_json with_keys
+      others
 
   pub array_json : Bool → Json → List ℕ
   array_json with_keys null = []

@@ -2,30 +2,33 @@
 use Rattle.std.specs.Prelude.{ℕ, ◌-◌, ◌==◌, zero, suc, pos, ◌||◌, if◌then◌else◌, List, [], ◌∷◌, ◌++◌, length, Option, Some, None, codes, bytes_eq}
 use Rattle.tracing_tree_context.specs.declared.context.Id.{Id}
 use Rattle.tracing_tree_context.specs.declared.context.Moment.{Moment}
-use Rattle.tracing_tree_text.specs.Field.{rendered_field}
+use Rattle.tracing_tree_text.specs.Field.{rendered_field, whole_field}
 use Rattle.tracing_tree_text.specs.declared.field.Field.{Field}
+use Rattle.tracing_tree_text.specs.declared.style.Level.TheVariants.{Info}
 use Rattle.tracing_tree_spans.specs.Registry.Ids.{id_of}
 use Rattle.tracing_tree_layer.specs.declared.call.Call.{Call}
 use Rattle.tracing_tree_sources.specs.Counts.{one_more}
 use Rattle.tracing_tree_sources.specs.Marks.{is_empty}
 use Rattle.tracing_tree_sources.specs.Moments.{moment_at}
-use Rattle.tracing_tree_sources.specs.Told.{close_call, event_call, span_call}
-use Rattle.tracing_tree_otlp.specs.Length.{length_text}
+use Rattle.tracing_tree_sources.specs.Told.{close_call, event_call, message_field, span_call}
+use Rattle.tracing_tree_sources.specs.Length.{length_text}
+use Rattle.tracing_tree_otlp.specs.Cut.{sum_of}
 use Rattle.tracing_tree_otlp.specs.Read.{field_of}
 use Rattle.tracing_tree_otlp.specs.declared.draw.Frame.{Frame}
 use Rattle.tracing_tree_otlp.specs.declared.item.Item.{Item}
 use Rattle.tracing_tree_otlp.specs.declared.item.Note.{Note}
 use Rattle.tracing_tree_otlp.specs.declared.item.Shape.{Shape}
-use Rattle.tracing_tree_otlp.specs.declared.item.Shape.TheVariants.{Trace, Span as OfSpan, Note as OfNote}
+use Rattle.tracing_tree_otlp.specs.declared.item.Shape.TheVariants.{Trace, Span as OfSpan, Note as OfNote, LeftOut}
 use Rattle.tracing_tree_otlp.specs.declared.item.Span.{Span}
 use Rattle.tracing_tree_otlp.specs.declared.walk.Row.{Row}
 
--- The id of the next span, the moment of the last row, the open spans with the innermost first, and
--- the calls so far.
+-- The id of the next span, the moment of the last row, the open spans with the innermost first, how
+-- many spans were left out at the root, and the calls so far.
 pub record TreeState : Type 0 where
   pub next : ℕ
   pub moment : Moment
   pub frames : List Frame
+  pub left : ℕ
   pub calls : List Call
 
 -- ---- what is open
@@ -52,8 +55,27 @@ pushed frame s = record s { frames = frame ∷ s.frames }
 abbrev pub opened : List ℕ → List Field → ℕ → List ℕ → TreeState → TreeState
 opened name fields end service s =
     let above = id_on_top s.frames in
-    pushed (record { id = id_of s.next; above = above; end = end; service = service })
+    pushed (record { id = id_of s.next; above = above; end = end; service = service; left = 0 })
     (record (told (span_call s.moment name fields above) s) { next = one_more s.next })
+
+-- ---- spans that are left out
+
+-- these count as left out in the innermost span
+abbrev pub left_counted_in : List Frame → ℕ → TreeState → TreeState
+left_counted_in [] count s = record s { left = sum_of s.left count }
+left_counted_in (frame ∷ below) count s =
+    record s { frames = (record frame { left = sum_of frame.left count }) ∷ below }
+
+abbrev pub left_counted : ℕ → TreeState → TreeState
+left_counted count s = left_counted_in s.frames count s
+
+-- how many were left out, if any
+abbrev pub left_told : ℕ → Option Id → TreeState → TreeState
+left_told count above s =
+    if count == 0 then s
+    else told
+    (event_call s.moment Info
+    (message_field (codes "left out") ∷ whole_field (codes "spans") (pos count) ∷ []) above) s
 
 -- ---- rows
 
@@ -115,6 +137,7 @@ abbrev pub row_shown_as : Shape → Item → TreeState → TreeState
 row_shown_as (Trace id) item s = trace_shown id s
 row_shown_as (OfSpan span) item s = span_shown item.above item.time span s
 row_shown_as (OfNote note) item s = note_shown note s
+row_shown_as (LeftOut count) item s = left_counted count s
 
 abbrev pub row_shown : Item → TreeState → TreeState
 row_shown item s = row_shown_as item.shape item (at_time item.time s)
@@ -124,7 +147,8 @@ row_shown item s = row_shown_as item.shape item (at_time item.time s)
 -- A span closes at its end. One that hasn't ended, and a trace, close when their last row does.
 abbrev pub closed : Frame → TreeState → TreeState
 closed frame s =
-    let ended = at_time frame.end s in told (close_call ended.moment frame.id frame.above) ended
+    let ended = left_told frame.left (Some frame.id) (at_time frame.end s) in
+    told (close_call ended.moment frame.id frame.above) ended
 
 abbrev pub closed_as : List Frame → TreeState → TreeState
 closed_as [] s = s
@@ -150,8 +174,13 @@ rows_drawn [] s = s
 rows_drawn (row ∷ others) s = rows_drawn others (row_drawn row s)
 
 abbrev pub begun_tree : ℕ → Moment → TreeState
-begun_tree next moment = record { next = next; moment = moment; frames = []; calls = [] }
+begun_tree next moment =
+    record { next = next; moment = moment; frames = []; left = 0; calls = [] }
+
+-- all that is open closes, and what was left out at the root is counted last
+abbrev pub finished : TreeState → TreeState
+finished s = let closed = closed_to 0 s in left_told closed.left None closed
 
 -- the calls that draw rows
 abbrev pub calls_of_rows : ℕ → Moment → List Row → List Call
-calls_of_rows next moment rows = (closed_to 0 (rows_drawn rows (begun_tree next moment))).calls
+calls_of_rows next moment rows = (finished (rows_drawn rows (begun_tree next moment))).calls

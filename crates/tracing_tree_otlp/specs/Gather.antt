@@ -15,7 +15,7 @@ use Rattle.tracing_tree_otlp.specs.Read.{count_at, id_at, items_at, service_in}
 use Rattle.tracing_tree_otlp.specs.declared.item.Item.{Item}
 use Rattle.tracing_tree_otlp.specs.declared.item.Place.{Place}
 use Rattle.tracing_tree_otlp.specs.declared.item.Shape.{Shape}
-use Rattle.tracing_tree_otlp.specs.declared.item.Shape.TheVariants.{Trace, Span, Note}
+use Rattle.tracing_tree_otlp.specs.declared.item.Shape.TheVariants.{Trace, Span, Note, LeftOut}
 
 -- The number of the last line, the service whose resource was read last, the rows, the traces and
 -- spans that there are, and the lines of what was skipped.
@@ -36,11 +36,13 @@ abbrev pub rank_of : Shape → ℕ
 rank_of (Trace id) = 1
 rank_of (Span span) = 1
 rank_of (Note note) = 0
+rank_of (LeftOut count) = 0
 
 abbrev pub number_in : Shape → ℕ
 number_in (Trace id) = number_of id
 number_in (Span span) = number_of span.id
 number_in (Note note) = 0
+number_in (LeftOut count) = 0
 
 abbrev pub place_of : ℕ → Shape → ℕ → Place
 place_of order shape index =
@@ -76,7 +78,8 @@ trace_seen trace time s = trace_seen_as (kept_at (key_of trace []) s.known) trac
 abbrev pub links_taken : List ℕ → List ℕ → ℕ → Items → GatheredState → GatheredState
 links_taken trace span time no_items s = s
 links_taken trace span time (item value others) s =
-    links_taken trace span time others (added trace span 0 time (Note (link_note s.service value)) s)
+    links_taken trace span time others (added trace span 0 time (Note (link_note s.service value))
+    s)
 
 abbrev pub event_taken : List ℕ → List ℕ → Json → GatheredState → GatheredState
 event_taken trace span value s =
@@ -123,7 +126,8 @@ span_added trace id value s =
 
 abbrev pub span_taken : Json → GatheredState → GatheredState
 span_taken value s =
-    if is_empty (id_at (codes "traceId") value) || is_empty (id_at (codes "spanId") value) then lost s
+    if is_empty (id_at (codes "traceId") value) || is_empty (id_at (codes "spanId") value) then
+    lost s
     else span_added (id_at (codes "traceId") value) (id_at (codes "spanId") value) value s
 
 abbrev pub spans_taken : Items → GatheredState → GatheredState
@@ -151,7 +155,8 @@ logs_taken (item value others) s = logs_taken others (log_taken value s)
 
 abbrev pub scope_taken : Json → GatheredState → GatheredState
 scope_taken value s =
-    logs_taken (items_at (codes "logRecords") value) (spans_taken (items_at (codes "spans") value) s)
+    logs_taken (items_at (codes "logRecords") value) (spans_taken (items_at (codes "spans") value)
+    s)
 
 abbrev pub scopes_taken : Items → GatheredState → GatheredState
 scopes_taken no_items s = s
@@ -230,6 +235,7 @@ abbrev pub resolved_as : Shape → List (List ℕ × ℕ) → Item → Item
 resolved_as (Trace id) known row = timed (kept_at (key_of id []) known) row
 resolved_as (Span span) known row = held (kept_at (key_of row.trace row.above) known) row
 resolved_as (Note note) known row = held (kept_at (key_of row.trace row.above) known) row
+resolved_as (LeftOut count) known row = held (kept_at (key_of row.trace row.above) known) row
 
 -- A trace is a row at its earliest time. A row whose span is unknown is nested in the trace.
 abbrev pub resolved : List (List ℕ × ℕ) → Item → Item

@@ -4,8 +4,9 @@ pub mod Named
 pub mod Item
 pub mod Keyed
 pub mod Gather
-pub mod Length
 pub mod Walk
+pub mod Nested
+pub mod Cut
 pub mod Select
 pub mod Draw
 pub mod Otlp

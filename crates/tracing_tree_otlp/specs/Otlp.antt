@@ -45,8 +45,10 @@ DrawsUpTo next moment selection gathered refusal old new =
 
 -- what was gathered is drawn, or the drawing ends at a call that was refused, or nothing is drawn
 -- because memory ran out
-abbrev pub DrawsOrEnds : ℕ → Moment → Selection → GatheredState → Result ⊤ LineCause → Seen → Seen → Type 0
-DrawsOrEnds next moment selection gathered (Ok done) old new = DrawsAll next moment selection gathered old new
+abbrev pub DrawsOrEnds : ℕ → Moment → Selection → GatheredState → Result ⊤ LineCause → Seen → Seen
+    → Type 0
+DrawsOrEnds next moment selection gathered (Ok done) old new = DrawsAll next moment selection
+    gathered old new
 DrawsOrEnds next moment selection gathered (Err NoSettings) old new = ⊥
 DrawsOrEnds next moment selection gathered (Err NotACall) old new = ⊥
 DrawsOrEnds next moment selection gathered (Err Read) old new = ⊥
@@ -58,7 +60,8 @@ DrawsOrEnds next moment selection gathered (Err (Refused refusal)) old new =
 -- after a problem; or the drawing ends at a call that was refused.
 abbrev pub EndsRun : ℕ → Moment → Selection → GatheredState → LineCause → Seen → Seen → Type 0
 EndsRun next moment selection gathered NoSettings old new = ⊥
-EndsRun next moment selection gathered NotACall old new = (0 < length gathered.problems) × (new ≡ old)
+EndsRun next moment selection gathered NotACall old new = (0 < length gathered.problems) × (new ≡
+    old)
 EndsRun next moment selection gathered Read old new = ⊥
 EndsRun next moment selection gathered Memory old new = new ≡ old
 EndsRun next moment selection gathered (Refused refusal) old new =

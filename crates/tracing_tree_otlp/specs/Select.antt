@@ -1,17 +1,19 @@
 -- What is shown of an input.
-use Rattle.std.specs.Prelude.{ℕ, nat_le, nat_lt, min, Bool, true, false, not, ◌&&◌, ◌||◌, if◌then◌else◌, List, [], ◌∷◌, Option, Some, None, is_some, bytes_eq}
+use Rattle.std.specs.Prelude.{ℕ, nat_le, nat_lt, Bool, true, false, not, ◌&&◌, ◌||◌, if◌then◌else◌, List, [], ◌∷◌, Option, Some, None, is_some, bytes_eq}
 use Rattle.tracing_tree_text.specs.declared.style.Level.{Level}
 use Rattle.tracing_tree_text.specs.declared.style.Level.TheVariants.{Trace as OfTrace, Debug, Info, Warn, Error}
 use Rattle.tracing_tree_sources.specs.Levels.{rank}
 use Rattle.tracing_tree_sources.specs.Marks.{after_mark}
+use Rattle.tracing_tree_otlp.specs.Cut.{cut_from, no_cut}
+use Rattle.tracing_tree_otlp.specs.Nested.{contains, without_nested}
 use Rattle.tracing_tree_otlp.specs.declared.item.Note.{Note}
 use Rattle.tracing_tree_otlp.specs.declared.item.Shape.{Shape}
-use Rattle.tracing_tree_otlp.specs.declared.item.Shape.TheVariants.{Trace, Span, Note as OfNote}
+use Rattle.tracing_tree_otlp.specs.declared.item.Shape.TheVariants.{Trace, Span, Note as OfNote, LeftOut}
 use Rattle.tracing_tree_otlp.specs.declared.select.Selection.{Selection}
 use Rattle.tracing_tree_otlp.specs.declared.walk.Row.{Row}
 
 abbrev pub everything : Selection
-everything = record { service = None; trace = []; least = None; is_failed = false }
+everything = record { service = None; trace = []; least = None; is_failed = false; cut = no_cut }
 
 -- ---- what is selected
 
@@ -56,6 +58,7 @@ is_selected_as (Trace id) selection trace = false
 is_selected_as (Span span) selection trace =
     not (selects_events selection) && fits selection trace span.service
 is_selected_as (OfNote note) selection trace = note_is_selected selection trace note
+is_selected_as (LeftOut count) selection trace = false
 
 -- a span, an event or a log is selected
 abbrev pub is_selected : Selection → Row → Bool
@@ -63,63 +66,41 @@ is_selected selection row = is_selected_as row.item.shape selection row.item.tra
 
 -- ---- what is shown
 
--- A row at this depth, which comes before these rows, has a selected one in it. The rows in it are
--- those that follow it, up to the first that isn't deeper.
-abbrev pub contains : Selection → ℕ → List Row → Bool
-contains selection depth [] = false
-contains selection depth (row ∷ others) =
-    nat_lt depth row.depth && (is_selected selection row || contains selection depth others)
-
 abbrev pub is_around_as : Shape → Selection → Row → Bool
 is_around_as (Trace id) selection row = false
 is_around_as (Span span) selection row = false
 is_around_as (OfNote note) selection row =
     (selection.is_failed && nat_lt 0 row.depth) && note_fits selection row.item.trace note
+is_around_as (LeftOut count) selection row = false
 
--- under --failed, an event or a log that is shown if its span is
+-- under --failed, an event or a log that is with the selected rows if its span is
 abbrev pub is_around : Selection → Row → Bool
 is_around selection row = is_around_as row.item.shape selection row
 
--- a row is shown if it is selected, or if a row that is nested in it is
-abbrev pub is_shown : Selection → Row → List Row → Bool
-is_shown selection row others =
-    (is_selected selection row || contains selection row.depth others) || is_around selection row
+-- a row is selected, or a row that is nested in it is
+abbrev pub is_with_selected : Selection → Row → List Row → Bool
+is_with_selected selection row others =
+    (is_selected selection row || contains (is_selected selection) row.depth others)
+    || is_around selection row
 
--- the first row is deeper than this
-abbrev pub begins_deeper : ℕ → List Row → Bool
-begins_deeper depth [] = false
-begins_deeper depth (row ∷ others) = nat_lt depth row.depth
-
--- the rows after those that are nested in a row at this depth
-abbrev pub without_nested : ℕ → List Row → List Row
-without_nested depth [] = []
-without_nested depth (row ∷ others) =
-    if nat_lt depth row.depth then without_nested depth others else row ∷ others
-
--- a row before those that are shown after it, or what is left of these without it
+-- a row before those after it, or what is left of these without what is nested in it
 abbrev pub kept_with : Bool → Row → List Row → List Row
 kept_with is_kept row others =
     if is_kept then row ∷ others else without_nested row.depth others
 
--- The rows that are shown, of rows in the order in which they are drawn. What is nested in a row
--- that isn't shown isn't shown either.
+-- The selected rows, each with the rows that it is nested in. What is nested in a row that isn't
+-- among them isn't either.
+abbrev pub selected_of : Selection → List Row → List Row
+selected_of selection [] = []
+selected_of selection (row ∷ others) =
+    kept_with (is_with_selected selection row others) row (selected_of selection others)
+
+-- what is shown of rows in the order in which they are drawn: of the selected rows, those that
+-- --min and --depth don't leave out
 abbrev pub shown : Selection → List Row → List Row
-shown selection [] = []
-shown selection (row ∷ others) =
-    kept_with (is_shown selection row others) row (shown selection others)
+shown selection rows = cut_from selection.cut (selected_of selection rows)
 
--- ---- how far up a selected row is shown
-
-abbrev pub reach_with : Bool → ℕ → ℕ → ℕ
-reach_with selected depth reach = if selected then depth else min depth reach
-
--- whether a row is shown, by the reach of the rows after it
-abbrev pub is_shown_by : Selection → Row → Bool → ℕ → Bool
-is_shown_by selection row selected reach =
+-- whether a row is with the selected rows, by the reach of the rows after it
+abbrev pub is_with_selected_by : Selection → Row → Bool → ℕ → Bool
+is_with_selected_by selection row selected reach =
     (selected || nat_lt row.depth reach) || is_around selection row
-
--- Exactly the rows of a lower depth than this have a selected one of these rows in them.
-abbrev pub reach_of : Selection → List Row → ℕ
-reach_of selection [] = 0
-reach_of selection (row ∷ others) =
-    reach_with (is_selected selection row) row.depth (reach_of selection others)

@@ -3,7 +3,7 @@ use Rattle.std.specs.Prelude.{ℕ, ◌-◌, ◌*◌, ◌^◌, nat_lt, zero, suc,
 use Rattle.tracing_tree_otlp.specs.Keyed.{after_first, first_kept, head_of, kept_at, key_of, tail_of, time_of, trace_of, with_kept, without_kept}
 use Rattle.tracing_tree_otlp.specs.declared.item.Item.{Item}
 use Rattle.tracing_tree_otlp.specs.declared.item.Shape.{Shape}
-use Rattle.tracing_tree_otlp.specs.declared.item.Shape.TheVariants.{Trace, Span, Note}
+use Rattle.tracing_tree_otlp.specs.declared.item.Shape.TheVariants.{Trace, Span, Note, LeftOut}
 use Rattle.tracing_tree_otlp.specs.declared.walk.Row.{Row}
 
 -- The rows that aren't nested in an open span, the rows that are left in what is open with the
@@ -34,11 +34,13 @@ abbrev pub is_trace : Shape → Bool
 is_trace (Trace id) = true
 is_trace (Span span) = false
 is_trace (Note note) = false
+is_trace (LeftOut count) = false
 
 abbrev pub own_key_as : Shape → List ℕ → Option (List ℕ)
 own_key_as (Trace id) trace = Some (key_of id [])
 own_key_as (Span span) trace = Some (key_of trace span.id)
 own_key_as (Note note) trace = None
+own_key_as (LeftOut count) trace = None
 
 -- the key of the rows that are nested in a row
 abbrev pub own_key : Item → Option (List ℕ)

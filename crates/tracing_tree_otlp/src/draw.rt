@@ -1,12 +1,12 @@
 //! Rows in the order in which they are drawn, as calls.
 
 ghost use Rattle.std.specs.Prelude.{◌≡◌, ◌∷◌, ◌++◌, [], ◌-◌, IfOk, OnOk, Some, length, pos};
-ghost use Rattle.tracing_tree_otlp.specs.Draw.{at_time, begun_tree, calls_of_rows, closed, closed_one, closed_times, closed_to, field_if, id_on_top, kind_text, note_fields, note_shown, opened, parent_fields, row_drawn, row_shown, rows_drawn, service_fields, service_on_top, span_fields, span_shown, time_field, time_fields, trace_shown};
+ghost use Rattle.tracing_tree_otlp.specs.Draw.{at_time, begun_tree, calls_of_rows, closed, closed_one, closed_times, closed_to, field_if, finished, id_on_top, kind_text, left_counted, left_told, note_fields, note_shown, opened, parent_fields, row_drawn, row_shown, rows_drawn, service_fields, service_on_top, span_fields, span_shown, time_field, time_fields, trace_shown};
 ghost use Rattle.tracing_tree_sources.specs.Moments.{moment_at};
 
+use crate::cut::sum_of;
 use crate::item::{Item, Note, Shape, Span};
 use crate::keyed::Rows;
-use crate::length::length_text;
 use crate::read::field_of;
 use crate::walk::Row;
 use jiff::Timestamp;
@@ -14,8 +14,10 @@ use std::alloc::{AllocError, Global};
 use std::marker::Model;
 use tracing_tree_context::Id;
 use tracing_tree_layer::call::Call;
-use tracing_tree_sources::told::{close_call, event_call, span_call};
+use tracing_tree_sources::length::length_text;
+use tracing_tree_sources::told::{close_call, event_call, message_field, span_call};
 use tracing_tree_text::field::{Field, Fields};
+use tracing_tree_text::style::Level;
 use tracing_tree_text::text::Text;
 use tracing_tree_time::Moment;
 
@@ -27,6 +29,8 @@ pub(crate) struct Frame {
     // When it closes. It is 0 if it closes when its last row does.
     end: u64,
     service: Text,
+    // How many spans were left out in it.
+    left: u64,
 }
 
 // The calls so far, and what is open.
@@ -38,6 +42,8 @@ pub(crate) struct Tree {
     moment: Moment,
     // The outermost span first.
     frames: Vec<Frame>,
+    // How many spans were left out at the root.
+    left: u64,
     calls: Vec<Call>,
 }
 
@@ -51,6 +57,7 @@ impl Model for Tree {
       next = t.next;
       moment = t.moment;
       frames = reverse t.frames.items;
+      left = t.left;
       calls = t.calls.items;
     } };
 }
@@ -66,7 +73,7 @@ pub(crate) fn calls_of_rows(
 {
     let mut tree = Tree::new(alloc, next, moment);
     tree.draw(rows)?;
-    tree.close_to(0)?;
+    tree.finish()?;
     Ok(tree.into_calls())
 }
 
@@ -79,6 +86,7 @@ impl Tree {
             next,
             moment,
             frames: Vec::new(alloc),
+            left: 0,
             calls: Vec::new(alloc),
         }
     }
@@ -97,6 +105,14 @@ impl Tree {
             self.draw_row(row)?;
         }
         Ok(())
+    }
+
+    // Closes all that is open, and records how many spans were left out at the root.
+    fn finish(&mut self) -> Result<(), AllocError>
+        ensures { OnOk result (self.new ≡ finished self.old) }
+    {
+        self.close_to(0)?;
+        self.tell_left(self.left, None)
     }
 
     // Closes the spans that a row isn't nested in, and shows the row.
@@ -138,10 +154,36 @@ impl Tree {
         ensures { OnOk result (self.new ≡ closed frame self.old) }
     {
         self.go_to(frame.end);
+        self.tell_left(frame.left, Some(frame.id))?;
         Ok(
             self.calls
                 .push(close_call(self.moment, frame.id, frame.above))?,
         )
+    }
+
+    // Records how many spans were left out, if any.
+    fn tell_left(&mut self, count: u64, above: Option<Id>) -> Result<(), AllocError>
+        ensures { OnOk result (self.new ≡ left_told count above self.old) }
+    {
+        if count == 0 {
+            return Ok(());
+        }
+        let mut fields = Vec::with_capacity(self.alloc, 2)?;
+        fields.push(message_field(self.alloc, "left out")?)?;
+        fields.push(Field::whole(self.alloc, "spans", i128::from(count))?)?;
+        let fields = Fields::from(fields);
+        let call = event_call(self.alloc, self.moment, Level::Info, fields, above)?;
+        Ok(self.calls.push(call)?)
+    }
+
+    // Counts spans as left out in the innermost one.
+    fn count_left(&mut self, count: u64)
+        ensures { self.new ≡ left_counted count self.old }
+    {
+        match self.frames.as_mut_slice().last_mut() {
+            Some(frame) => frame.left = sum_of(frame.left, count),
+            None => self.left = sum_of(self.left, count),
+        }
     }
 
     // Goes on to a time, if it is known.
@@ -168,6 +210,10 @@ impl Tree {
             Shape::Trace(id) => self.show_trace(id.as_str()),
             Shape::Span(span) => self.show_span(above.as_str(), time, span),
             Shape::Note(note) => self.show_note(note),
+            Shape::LeftOut(count) => {
+                self.count_left(count);
+                Ok(())
+            }
         }
     }
 
@@ -253,6 +299,7 @@ impl Tree {
                 above,
                 end,
                 service,
+                left: 0,
             })?,
         )
     }

@@ -3,7 +3,7 @@
 ghost use Rattle.std.specs.Prelude.{◌≡◌, IfOk, OnOk, IsPermutation, IsSorted, codes, map, option_map};
 ghost use Rattle.std.specs.Str.Lines.{lines};
 ghost use Rattle.json.specs.Value.{value_view};
-ghost use Rattle.tracing_tree_otlp.specs.Gather.{added, end_taken, event_taken, events_taken, gathered_in, has_key, is_export, item_cmp, line_taken, lines_taken, links_taken, log_added, log_taken, logs_taken, lost, next_line, note_known, notes_taken, nothing_gathered, number_in, object_taken, of_service, place_of, rank_of, resolved, resource_taken, resources_taken, scope_taken, scopes_taken, span_added, span_taken, spans_taken, status_taken, trace_seen, value_taken};
+ghost use Rattle.tracing_tree_otlp.specs.Gather.{added, end_taken, event_taken, events_taken, gathered_in, has_key, held, is_export, item_cmp, line_taken, lines_taken, links_taken, log_added, log_taken, logs_taken, lost, next_line, note_known, notes_taken, nothing_gathered, number_in, object_taken, of_service, place_of, rank_of, resolved, resource_taken, resources_taken, scope_taken, scopes_taken, span_added, span_taken, spans_taken, status_taken, timed, trace_seen, value_taken};
 ghost use Rattle.tracing_tree_otlp.specs.Keyed.{key_of};
 ghost use Rattle.tracing_tree_otlp.specs.Read.{items_at};
 
@@ -431,7 +431,7 @@ fn rank_of(shape: &Shape) -> u64
 {
     match shape {
         Shape::Trace(_) | Shape::Span(_) => 1,
-        Shape::Note(_) => 0,
+        Shape::Note(_) | Shape::LeftOut(_) => 0,
     }
 }
 
@@ -441,7 +441,7 @@ fn number_in(shape: &Shape) -> u64
     match shape {
         Shape::Trace(id) => number_of(id.as_str().as_bytes()),
         Shape::Span(span) => number_of(span.id.as_str().as_bytes()),
-        Shape::Note(_) => 0,
+        Shape::Note(_) | Shape::LeftOut(_) => 0,
     }
 }
 
@@ -461,21 +461,37 @@ fn place_of(order: u64, shape: &Shape, index: usize) -> Place
 fn resolved(alloc: Global, known: &Known, item: Item) -> Result<Item, AllocError>
     ensures { IfOk result (λ row. row ≡ resolved known.now item) }
 {
-    let mut item = item;
     match &item.shape {
         Shape::Trace(id) => {
             let key = key_of(alloc, id.as_str(), "")?;
-            if let Some(time) = known.time_at(key.as_slice()) {
-                item.time = time;
-                item.place.time = time;
-            }
+            Ok(timed(known.time_at(key.as_slice()), item))
         }
-        Shape::Span(_) | Shape::Note(_) => {
+        Shape::Span(_) | Shape::Note(_) | Shape::LeftOut(_) => {
             let key = key_of(alloc, item.trace.as_str(), item.above.as_str())?;
-            if known.time_at(key.as_slice()).is_none() {
-                item.above = Text::from_str(alloc, "")?;
-            }
+            held(alloc, known.time_at(key.as_slice()), item)
         }
+    }
+}
+
+// Returns a row at this time, if it is known.
+fn timed(time: Option<u64>, item: Item) -> Item
+    ensures { result ≡ timed time item }
+{
+    let mut item = item;
+    if let Some(time) = time {
+        item.time = time;
+        item.place.time = time;
+    }
+    item
+}
+
+// Returns a row in its span if that is known, otherwise in its trace.
+fn held(alloc: Global, known: Option<u64>, item: Item) -> Result<Item, AllocError>
+    ensures { IfOk result (λ row. row ≡ held known item) }
+{
+    let mut item = item;
+    if known.is_none() {
+        item.above = Text::from_str(alloc, "")?;
     }
     Ok(item)
 }

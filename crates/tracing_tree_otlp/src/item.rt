@@ -44,6 +44,8 @@ pub(crate) enum Shape {
     Trace(Text),
     Span(Span),
     Note(Note),
+    // A row whose spans are left out, and how many these are.
+    LeftOut(u64),
 }
 
 // What decides the order of items in a span. Links come first and the failure last; an event or a
@@ -112,7 +114,8 @@ fn body_fields(alloc: Global, value: &Value<'_>) -> Result<Fields, AllocError>
 }
 
 fn message_of(alloc: Global, value: &Value<'_>) -> Result<Fields, AllocError>
-    ensures { IfOk result (λ fields. fields ≡ body_fields (get (codes "body") (value_view value.now))) }
+    ensures { IfOk result (λ fields. fields ≡ body_fields (get (codes "body") (value_view
+        value.now))) }
 {
     match value.get("body") {
         Some(body) => body_fields(alloc, body),

@@ -1,9 +1,11 @@
 //! What is kept by trace and span: the earliest time of each, and the rows nested in each.
 
 ghost use Rattle.std.specs.Prelude.{◌≡◌, ◌∷◌, [], IfOk, OnOk};
-ghost use Rattle.tracing_tree_otlp.specs.Select.{begins_deeper, without_nested};
+ghost use Rattle.tracing_tree_otlp.specs.Cut.{count_with};
+ghost use Rattle.tracing_tree_otlp.specs.Nested.{begins_deeper, without_nested};
 ghost use Rattle.tracing_tree_otlp.specs.Keyed.{after_first, first_kept, head_of, kept_at, key_of, tail_of, time_of, trace_of, with_kept, without_kept};
 
+use crate::cut::{count_as, sum_of};
 use crate::item::Item;
 use crate::walk::Row;
 use std::alloc::{AllocError, Global};
@@ -18,6 +20,15 @@ pub(crate) fn key_of(alloc: Global, trace: &str, span: &str) -> Result<Vec<u8>, 
     key.extend_from_slice(" ".as_bytes())?;
     key.extend_from_slice(span.as_bytes())?;
     Ok(key)
+}
+
+// Frees the space of elements that were taken, once it is most of it.
+pub(crate) fn trim<T>(items: &mut Vec<T>)
+    ensures { items.new.items ≡ items.old.items }
+{
+    if items.len() < items.capacity() / 2 {
+        items.shrink_to_fit();
+    }
 }
 
 // The traces and spans that there are. A trace has its earliest time.
@@ -83,10 +94,13 @@ impl Group {
         }
     }
 
-    // Puts a row before the others.
+    // Puts a row before the others. Most spans have few, so little space is kept for more.
     pub(crate) fn put(&mut self, item: Item) -> Result<(), AllocError>
         ensures { OnOk result (self.new ≡ item ∷ self.old) }
     {
+        if self.items.len() == self.items.capacity() {
+            self.items.reserve_exact(self.items.len() / 2 + 1)?;
+        }
         Ok(self.items.push(item)?)
     }
 
@@ -160,6 +174,29 @@ impl Rows {
         }
     }
 
+    // Drops the first rows that are deeper than this. Adds how many spans are left out with them.
+    pub(crate) fn count_nested(&mut self, depth: usize, count: u64) -> u64
+        ensures count { result ≡ count_with depth count self.old }
+        ensures rest { self.new ≡ without_nested depth self.old }
+    {
+        let mut count = count;
+        while self.begins_deeper(depth) {
+            if let Some(row) = self.rows.pop() {
+                count = sum_of(count, count_as(&row.item.shape));
+            }
+        }
+        count
+    }
+
+    // Returns the rows, the first first.
+    pub(crate) fn into_rows(self) -> Vec<Row>
+        ensures { result.items ≡ self }
+    {
+        let mut rows = self.rows;
+        rows.reverse();
+        rows
+    }
+
     fn begins_deeper(&self, depth: usize) -> bool
         ensures { result ≡ begins_deeper depth self.now }
     {
@@ -174,7 +211,9 @@ impl Rows {
         ensures row { result ≡ head_of self.old }
         ensures rest { self.new ≡ tail_of self.old }
     {
-        self.rows.pop()
+        let row = self.rows.pop();
+        trim(&mut self.rows);
+        row
     }
 }
 

@@ -6,11 +6,11 @@
 #![tactic(auto)]
 
 mod any;
+mod cut;
 mod draw;
 mod gather;
 mod item;
 mod keyed;
-mod length;
 mod named;
 pub mod otlp;
 mod read;

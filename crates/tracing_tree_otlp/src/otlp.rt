@@ -46,10 +46,12 @@ pub fn run_otlp<W: Output, FT: FormatTime, N: Notes>(
     layered: &mut Layered<W, FT>,
     notes: &mut N,
 ) -> SourceRun
-    ensures run { Changes (seen FT.FormatTime W.Output) (RunsOtlp next moment selection.now text.now result)
+    ensures run { Changes (seen FT.FormatTime W.Output) (RunsOtlp next moment selection.now
+        text.now result)
         layered.old layered.new }
     ensures noted { MatchOption result.fault
-        (AddsNotes (notes_of (gathered_in text.now).problems) (N.noted notes.old) (N.noted notes.new))
+        (AddsNotes (notes_of (gathered_in text.now).problems) (N.noted notes.old) (N.noted
+        notes.new))
         (λ _. ⊤) }
 {
     let Ok(gathered) = gathered_in(alloc, text) else {
@@ -94,7 +96,8 @@ pub fn otlp_calls<N: Notes>(
         × (result.unknown ≡ length (gathered_in (string_bytes text)).problems))
         (λ cause. EndsReading cause (gathered_in (string_bytes text))) }
     ensures noted { OnOk result.calls
-        (AddsNotes (notes_of (gathered_in (string_bytes text)).problems) (N.noted notes.old) (N.noted notes.new)) }
+        (AddsNotes (notes_of (gathered_in (string_bytes text)).problems) (N.noted notes.old)
+        (N.noted notes.new)) }
 {
     let Ok(gathered) = gathered_in(alloc, text.as_str()) else {
         return OtlpCalls {
@@ -118,7 +121,13 @@ pub fn otlp_calls<N: Notes>(
 }
 
 fn ended(unknown: u64, cause: LineCause) -> SourceRun
-    ensures { result ≡ record { unknown = unknown; fault = Some (record { line = 1; cause = cause }) } }
+    ensures { result ≡ record {
+      unknown = unknown;
+      fault = Some (record {
+        line = 1;
+        cause = cause;
+      });
+    } }
 {
     SourceRun {
         unknown,
@@ -130,7 +139,8 @@ fn ended(unknown: u64, cause: LineCause) -> SourceRun
 fn note_all<N: Notes>(problems: &[u64], notes: &mut N) -> Result<(), LineCause>
     ensures noted { OnOk result
         (AddsNotes (notes_of problems.now) (N.noted notes.old) (N.noted notes.new)) }
-    ensures ended { IfErr result (λ cause. (cause ≡ LineCause.NotACall) × (0 < length problems.now)) }
+    ensures ended { IfErr result (λ cause. (cause ≡ LineCause.NotACall) × (0 < length
+        problems.now)) }
 {
     for line in problems {
         skip(notes, *line, Ok(Lack::Object))?;
@@ -147,7 +157,8 @@ fn draw<W: Output, FT: FormatTime>(
     gathered: Gathered,
     layered: &mut Layered<W, FT>,
 ) -> Result<(), LineCause>
-    ensures { Changes (seen FT.FormatTime W.Output) (DrawsOrEnds next moment selection.now gathered result)
+    ensures { Changes (seen FT.FormatTime W.Output) (DrawsOrEnds next moment selection.now gathered
+        result)
         layered.old layered.new }
 {
     let Ok(calls) = calls_of(alloc, next, moment, selection, gathered) else {
@@ -171,6 +182,7 @@ fn calls_of(
 {
     let (items, known) = gathered.into_rows();
     let ordered = in_order(alloc, &known, items)?;
+    drop(known);
     let rows = shown(alloc, selection, rows_in_order(alloc, ordered)?)?;
     calls_of_rows(alloc, next, moment, rows)
 }

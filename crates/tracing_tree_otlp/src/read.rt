@@ -171,7 +171,7 @@ fn attribute_fields(
     ensures { IfOk result (λ fields. fields
         ≡ attribute_fields is_event (items_view attributes.now.items)) }
 {
-    let mut fields = Vec::new(alloc);
+    let mut fields = Vec::with_capacity(alloc, attributes.len())?;
     for attribute in attributes {
         fields.push(attribute_field(alloc, is_event, attribute)?)?;
     }

@@ -1,12 +1,14 @@
 //! The rows that are shown.
 
 ghost use Rattle.std.specs.Prelude.{◌≡◌, IfOk, OnOk};
-ghost use Rattle.tracing_tree_otlp.specs.Select.{everything, fits, is_around, is_at_least, is_error, is_of_service, is_of_trace, is_selected, is_shown_by, kept_with, note_fits, note_is_selected, reach_with, selects_events, shown};
+ghost use Rattle.tracing_tree_otlp.specs.Select.{everything, fits, is_around, is_at_least, is_error, is_of_service, is_of_trace, is_selected, is_with_selected_by, kept_with, note_fits, note_is_selected, selected_of, selects_events, shown};
 
+use crate::cut::{cut_from, no_cut, reach_with};
 use crate::item::{Note, Shape};
-use crate::keyed::Rows;
+use crate::keyed::{Rows, trim};
 use crate::walk::Row;
 use std::alloc::{AllocError, Global};
+use tracing_tree_sources::cut::Cut;
 use tracing_tree_sources::level::rank;
 use tracing_tree_sources::marks::after_mark;
 use tracing_tree_text::style::Level;
@@ -30,6 +32,10 @@ pub struct Selection {
     /// Only errors are selected: events and logs of the level ERROR, and failures. Other events
     /// and logs are shown if their span is.
     pub is_failed: bool,
+
+    /// Which of the selected spans are left out, with their events and logs. A span in which spans
+    /// are left out counts them. A span with one in it that isn't left out is shown.
+    pub cut: Cut,
 }
 
 impl Selection {
@@ -46,6 +52,7 @@ impl Selection {
             trace: Text::from_str(alloc, "")?,
             least: None,
             is_failed: false,
+            cut: no_cut(),
         })
     }
 }
@@ -117,6 +124,7 @@ fn is_selected(selection: &Selection, row: &Row) -> bool
             !selects_events(selection) && fits(selection, trace, span.service.as_str())
         }
         Shape::Note(note) => note_is_selected(selection, trace, note),
+        Shape::LeftOut(_) => false,
     }
 }
 
@@ -125,7 +133,7 @@ fn is_around(selection: &Selection, row: &Row) -> bool
     ensures { result ≡ is_around selection.now row.now }
 {
     match &row.item.shape {
-        Shape::Trace(_) | Shape::Span(_) => false,
+        Shape::Trace(_) | Shape::Span(_) | Shape::LeftOut(_) => false,
         Shape::Note(note) => {
             selection.is_failed
                 && row.depth > 0
@@ -134,25 +142,18 @@ fn is_around(selection: &Selection, row: &Row) -> bool
     }
 }
 
-// Returns the depth from which on a row before these has nothing selected in it, after one more row.
-fn reach_with(is_selected: bool, depth: usize, reach: usize) -> usize
-    ensures { result ≡ reach_with is_selected depth reach }
-{
-    if is_selected { depth } else { depth.min(reach) }
-}
-
-// Returns whether a row is shown, given the reach of the rows after it.
-fn is_shown_by(selection: &Selection, row: &Row, selected: bool, reach: usize) -> bool
-    ensures { result ≡ is_shown_by selection.now row.now selected reach }
+// Returns whether a row is with the selected ones, given the reach of the rows after it.
+fn is_with_selected_by(selection: &Selection, row: &Row, selected: bool, reach: usize) -> bool
+    ensures { result ≡ is_with_selected_by selection.now row.now selected reach }
 {
     selected || row.depth < reach || is_around(selection, row)
 }
 
 // Puts a row before those after it, or drops what is nested in it.
-fn keep(kept: &mut Rows, is_shown: bool, row: Row) -> Result<(), AllocError>
-    ensures { OnOk result (kept.new ≡ kept_with is_shown row kept.old) }
+fn keep(kept: &mut Rows, is_kept: bool, row: Row) -> Result<(), AllocError>
+    ensures { OnOk result (kept.new ≡ kept_with is_kept row kept.old) }
 {
-    if is_shown {
+    if is_kept {
         return kept.put(row);
     }
     kept.drop_nested(row.depth);
@@ -167,15 +168,23 @@ pub(crate) fn shown(
 ) -> Result<Rows, AllocError>
     ensures { IfOk result (λ kept. kept ≡ shown selection.now rows.items) }
 {
+    cut_from(alloc, selection.cut, selected_of(alloc, selection, rows)?)
+}
+
+// Returns the selected rows, each with those that it is nested in.
+fn selected_of(alloc: Global, selection: &Selection, rows: Vec<Row>) -> Result<Rows, AllocError>
+    ensures { IfOk result (λ kept. kept ≡ selected_of selection.now rows.items) }
+{
     let mut kept = Rows::new(alloc);
     let mut reach = 0;
     let mut rows = rows;
     while let Some(row) = rows.pop() {
         let selected = is_selected(selection, &row);
         let depth = row.depth;
-        let is_shown = is_shown_by(selection, &row, selected, reach);
-        keep(&mut kept, is_shown, row)?;
+        let is_kept = is_with_selected_by(selection, &row, selected, reach);
+        keep(&mut kept, is_kept, row)?;
         reach = reach_with(selected, depth, reach);
+        trim(&mut rows);
     }
     Ok(kept)
 }

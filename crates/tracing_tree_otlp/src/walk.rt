@@ -5,7 +5,7 @@ ghost use Rattle.tracing_tree_otlp.specs.Keyed.{key_of};
 ghost use Rattle.tracing_tree_otlp.specs.Walk.{after_item, begun_walk, entered, entered_at, grouped, is_trace, key_in, left, left_over, next_item, opened, own_key, put_first, row_added, rows_in_order, step_count, stepped, stepped_times, trace_item};
 
 use crate::item::{Item, Place, Shape};
-use crate::keyed::{Group, Groups, key_of};
+use crate::keyed::{Group, Groups, key_of, trim};
 use std::alloc::{AllocError, Global};
 use std::marker::Model;
 use tracing_tree_text::text::Text;
@@ -67,6 +67,7 @@ fn grouped(alloc: Global, items: Vec<Item>) -> Result<Groups, AllocError>
     let mut items = items;
     while let Some(item) = items.pop() {
         put_first(alloc, &mut groups, item)?;
+        trim(&mut items);
     }
     Ok(groups)
 }
@@ -92,7 +93,7 @@ fn is_trace(item: &Item) -> bool
 {
     match &item.shape {
         Shape::Trace(_) => true,
-        Shape::Span(_) | Shape::Note(_) => false,
+        Shape::Span(_) | Shape::Note(_) | Shape::LeftOut(_) => false,
     }
 }
 
@@ -103,7 +104,7 @@ fn own_key(alloc: Global, item: &Item) -> Result<Option<Vec<u8>>, AllocError>
     match &item.shape {
         Shape::Trace(id) => Ok(Some(key_of(alloc, id.as_str(), "")?)),
         Shape::Span(span) => Ok(Some(key_of(alloc, item.trace.as_str(), span.id.as_str())?)),
-        Shape::Note(_) => Ok(None),
+        Shape::Note(_) | Shape::LeftOut(_) => Ok(None),
     }
 }
 

@@ -99,8 +99,8 @@ line-joined form start end stamp rest =
 new_regrouped : (s i p n t f e : List ℕ) → ((s ++ (i ++ p)) ++ (n ++ t)) ++ (f ++ e) ≡ s ++ ((i ++ (p ++ (n ++ (t ++ f)))) ++ e)
 new_regrouped s i p n t f e = simp append_assoc
 
-event_regrouped : (s p l t f e : List ℕ) → ((s ++ (p ++ l)) ++ t) ++ (f ++ e) ≡ s ++ ((p ++ (l ++ (t ++ f))) ++ e)
-event_regrouped s p l t f e = simp append_assoc
+event_regrouped : (s p c l t f e : List ℕ) → (((s ++ (p ++ c)) ++ l) ++ t) ++ (f ++ e) ≡ s ++ ((p ++ (c ++ (l ++ (t ++ f)))) ++ e)
+event_regrouped s p c l t f e = simp append_assoc
 
 close_regrouped : (s i e : List ℕ) → (s ++ i) ++ e ≡ s ++ ((i ++ []) ++ e)
 close_regrouped s i e = simp (append_assoc, append-nil)
@@ -127,22 +127,24 @@ new-pushed r form stamp id parent name target fields out s t u new h k l m =
     (new_regrouped a (after_comma i) (after_comma p) (after_comma n) (after_comma g) (flat_map after_comma (field_parts form fields)) (line_end form)
     ∙ line-joined form (start_text form Kinds.New) (line_end form) stamp (i ∷ p ∷ n ∷ g ∷ field_parts form fields))
 
-pub event-pushed : {E : Type 0} (r : Result (Unit {0}) E) (form : LineForm) (stamp : Stamp) (parent : ℕ) (level : Level) (target : List ℕ) (fields : List Field) (out s t u new : List ℕ) →
+pub event-pushed : {E : Type 0} (r : Result (Unit {0}) E) (form : LineForm) (stamp : Stamp) (parent current : ℕ) (level : Level) (target : List ℕ) (fields : List Field) (out s t u v new : List ℕ) →
     s ≡ out ++ (start_text form Kinds.Event ++ flat_map after_comma (stamp_parts form stamp)) →
-    t ≡ s ++ (after_comma (named form (codes "parent") (decimal parent)) ++ after_comma (named form (codes "level") (level_text form level))) →
-    u ≡ t ++ after_comma (named form (codes "target") (quoted target)) →
-    OnOk r (new ≡ u ++ (flat_map after_comma (field_parts form fields) ++ line_end form)) →
-    OnOk r (new ≡ out ++ line_of form (Event stamp parent level target fields))
-event-pushed r form stamp parent level target fields out s t u new h k l m =
+    t ≡ s ++ (after_comma (named form (codes "parent") (decimal parent)) ++ after_comma (named form (codes "current") (decimal current))) →
+    u ≡ t ++ after_comma (named form (codes "level") (level_text form level)) →
+    v ≡ u ++ after_comma (named form (codes "target") (quoted target)) →
+    OnOk r (new ≡ v ++ (flat_map after_comma (field_parts form fields) ++ line_end form)) →
+    OnOk r (new ≡ out ++ line_of form (Event stamp parent current level target fields))
+event-pushed r form stamp parent current level target fields out s t u v new h k l m n =
     let a = start_text form Kinds.Event ++ flat_map after_comma (stamp_parts form stamp) in
     let p = named form (codes "parent") (decimal parent) in
-    let v = named form (codes "level") (level_text form level) in
+    let c = named form (codes "current") (decimal current) in
+    let d = named form (codes "level") (level_text form level) in
     let g = named form (codes "target") (quoted target) in
-    let b = after_comma p ++ after_comma v in
-    then_ok r out u new (a ++ b ++ after_comma g) (flat_map after_comma (field_parts form fields) ++ line_end form) (line_of form (Event stamp parent level target fields))
-    (twice out t u (a ++ b) (after_comma g) (twice out s t a b h k) l) m
-    (event_regrouped a (after_comma p) (after_comma v) (after_comma g) (flat_map after_comma (field_parts form fields)) (line_end form)
-    ∙ line-joined form (start_text form Kinds.Event) (line_end form) stamp (p ∷ v ∷ g ∷ field_parts form fields))
+    let b = after_comma p ++ after_comma c in
+    then_ok r out v new (a ++ b ++ after_comma d ++ after_comma g) (flat_map after_comma (field_parts form fields) ++ line_end form) (line_of form (Event stamp parent current level target fields))
+    (twice out u v (a ++ b ++ after_comma d) (after_comma g) (twice out t u (a ++ b) (after_comma d) (twice out s t a b h k) l) m) n
+    (event_regrouped a (after_comma p) (after_comma c) (after_comma d) (after_comma g) (flat_map after_comma (field_parts form fields)) (line_end form)
+    ∙ line-joined form (start_text form Kinds.Event) (line_end form) stamp (p ∷ c ∷ d ∷ g ∷ field_parts form fields))
 
 pub close-pushed : {E : Type 0} (r : Result (Unit {0}) E) (form : LineForm) (stamp : Stamp) (id : ℕ) (out s t new : List ℕ) →
     s ≡ out ++ (start_text form Kinds.Close ++ flat_map after_comma (stamp_parts form stamp)) →

@@ -155,10 +155,11 @@ parts_harmless form (New at id parent name target fields) =
     (with_key form (codes "name") _ _ (record { all = refl }) (quoted_harmless name)
     (with_key form (codes "target") _ _ (record { all = refl }) (quoted_harmless target) (fields_harmless form fields)))))
 parts_harmless form (Record id fields) = with_key form (codes "id") _ _ (record { all = refl }) (decimal_harmless id) (fields_harmless form fields)
-parts_harmless form (Event at parent level target fields) =
+parts_harmless form (Event at parent current level target fields) =
     stamp form at _ (with_key form (codes "parent") _ _ (record { all = refl }) (decimal_harmless parent)
+    (with_key form (codes "current") _ _ (record { all = refl }) (decimal_harmless current)
     (with_key form (codes "level") _ _ (record { all = refl }) (level_harmless form level)
-    (with_key form (codes "target") _ _ (record { all = refl }) (quoted_harmless target) (fields_harmless form fields))))
+    (with_key form (codes "target") _ _ (record { all = refl }) (quoted_harmless target) (fields_harmless form fields)))))
 parts_harmless form (Close at id) = stamp form at _ (with_key form (codes "id") _ _ (record { all = refl }) (decimal_harmless id) last_part)
 parts_harmless form End = last_part
 

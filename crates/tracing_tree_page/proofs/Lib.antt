@@ -1,4 +1,5 @@
 pub mod WorkedLines
+pub mod WorkedReading
 pub mod Harmless
 pub mod Kept
 pub mod Appended
@@ -7,3 +8,4 @@ pub mod Runs
 pub mod Prefixes
 pub mod Refusals
 pub mod ReadLines
+pub mod ReadFiles

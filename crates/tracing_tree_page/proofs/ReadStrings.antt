@@ -4,7 +4,7 @@ use Rattle.std.proofs.lemmas.List.{append_assoc}
 use Rattle.std.proofs.lemmas.Bool.{cases_Bool, eqb-true, or_cases, ne_eqb}
 use Rattle.std.specs.Fmt.{digit_glyph}
 use Rattle.tracing_tree_page.specs.Lines.{escaped, hex_pair}
-use Rattle.tracing_tree_page.specs.Strings.{Read, Plain, Gives, digit_of, follow, next, put, read_text}
+use Rattle.tracing_tree_page.specs.Strings.{Plain, Gives, digit_of, follow, next, put, read_text}
 
 glyph : (digit : ℕ) → digit < 16 → digit_of (digit_glyph false digit) ≡ digit
 glyph digit h = grind arith
@@ -63,9 +63,3 @@ read-text [] rest = refl
 read-text (byte ∷ text) rest =
     ap (read_text Plain) (append_assoc (escaped byte) (flat_map escaped text) (34 ∷ rest)) ∙ read-escaped byte (flat_map escaped text ++ 34 ∷ rest)
     ∙ ap (put byte) (read-text text rest)
-
--- Two strings in quotes that begin the same bytes are equal, and so is what comes after them.
-pub quoted-apart : (a b rest more : List ℕ) → flat_map escaped a ++ 34 ∷ rest ≡ flat_map escaped b ++ 34 ∷ more → (a ≡ b) × (rest ≡ more)
-quoted-apart a b rest more e =
-    let same : ◌≡◌ {A = Read} (Some (a, rest)) (Some (b, more)) = sym (read-text a rest) ∙ ap (read_text Plain) e ∙ read-text b more in
-    let both : ◌≡◌ {A = List ℕ × List ℕ} (a, rest) (b, more) = cc in (ap (λ (read : List ℕ × List ℕ). read.0) both, ap (λ (read : List ℕ × List ℕ). read.1) both)

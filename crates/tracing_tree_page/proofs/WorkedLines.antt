@@ -8,7 +8,7 @@ use Rattle.tracing_tree_page.specs.Steps.{Stamp, About, New, Record, Event, Clos
 use Rattle.tracing_tree_page.specs.Lines.{line_of, quoted}
 
 -- twelve seconds and a part on the monotonic clock, with the wall clock ahead
-abbrev at : ℕ → Stamp
+abbrev pub at : ℕ → Stamp
 at part = record {
   mono = 12_000_000_000 + part;
   ahead = pos 1_795_832_513_000_000_000;
@@ -17,7 +17,7 @@ at part = record {
 
 -- ---- as arrays
 
-about_server : line_of Arrays (About (codes "server.jsonl")) ≡ codes "[0,1,\"server.jsonl\"]\n"
+about_server : line_of Arrays (About (codes "server.jsonl")) ≡ codes "[0,2,\"server.jsonl\"]\n"
 about_server = refl
 
 new_server :
@@ -32,10 +32,15 @@ unfolding digits
 record_server = refl
 
 event_starting :
-    line_of Arrays (Event (at 345_690_000) 1 Info (codes "web") (record { name = codes "message"; value = codes "starting" } ∷ []))
-    ≡ codes "[3,12,345690000,1795832513,0,\"1:main\",1,2,\"web\",\"message\",\"starting\"]\n"
+    line_of Arrays (Event (at 345_690_000) 1 1 Info (codes "web") (record { name = codes "message"; value = codes "starting" } ∷ []))
+    ≡ codes "[3,12,345690000,1795832513,0,\"1:main\",1,1,2,\"web\",\"message\",\"starting\"]\n"
 unfolding digits
 event_starting = refl
+
+-- at the root, while span 1 is the current one
+event_at_root : line_of Arrays (Event (at 345_690_000) 0 1 Info (codes "web") []) ≡ codes "[3,12,345690000,1795832513,0,\"1:main\",0,1,2,\"web\"]\n"
+unfolding digits
+event_at_root = refl
 
 close_server : line_of Arrays (Close (at 400_000_000) 1) ≡ codes "[4,12,400000000,1795832513,0,\"1:main\",1]\n"
 unfolding digits
@@ -50,7 +55,7 @@ hostile = refl
 
 -- ---- as objects
 
-about_object : line_of Objects (About (codes "server.jsonl")) ≡ codes "{\"step\":\"about\",\"version\":1,\"title\":\"server.jsonl\"}\n"
+about_object : line_of Objects (About (codes "server.jsonl")) ≡ codes "{\"step\":\"about\",\"version\":2,\"title\":\"server.jsonl\"}\n"
 about_object = refl
 
 new_object :
@@ -65,8 +70,8 @@ unfolding digits
 record_object = refl
 
 event_object :
-    line_of Objects (Event (at 345_690_000) 1 Info (codes "web") (record { name = codes "message"; value = codes "starting" } ∷ []))
-    ≡ codes "{\"step\":\"event\",\"seconds\":12,\"nanos\":345690000,\"ahead_seconds\":1795832513,\"ahead_nanos\":0,\"thread\":\"1:main\",\"parent\":1,\"level\":\"info\",\"target\":\"web\",\"fields\":{\"message\":\"starting\"}}\n"
+    line_of Objects (Event (at 345_690_000) 1 1 Info (codes "web") (record { name = codes "message"; value = codes "starting" } ∷ []))
+    ≡ codes "{\"step\":\"event\",\"seconds\":12,\"nanos\":345690000,\"ahead_seconds\":1795832513,\"ahead_nanos\":0,\"thread\":\"1:main\",\"parent\":1,\"current\":1,\"level\":\"info\",\"target\":\"web\",\"fields\":{\"message\":\"starting\"}}\n"
 unfolding digits
 event_object = refl
 

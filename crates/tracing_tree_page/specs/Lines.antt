@@ -96,19 +96,19 @@ abbrev pub kind_of : Step → Kind
 kind_of (About title) = Kinds.About
 kind_of (New stamp id parent name target fields) = Kinds.New
 kind_of (Record id fields) = Kinds.Record
-kind_of (Event stamp parent level target fields) = Kinds.Event
+kind_of (Event stamp parent current level target fields) = Kinds.Event
 kind_of (Close stamp id) = Kinds.Close
 kind_of End = Kinds.End
 
--- the start of a line; that of the first line has the version of the format, 1
+-- the start of a line; that of the first line has the version of the format, 2
 abbrev pub start_text : LineForm → Kind → List ℕ
-start_text Arrays Kinds.About = codes "[0,1"
+start_text Arrays Kinds.About = codes "[0,2"
 start_text Arrays Kinds.New = codes "[1"
 start_text Arrays Kinds.Record = codes "[2"
 start_text Arrays Kinds.Event = codes "[3"
 start_text Arrays Kinds.Close = codes "[4"
 start_text Arrays Kinds.End = codes "[5"
-start_text Objects Kinds.About = codes "{\"step\":\"about\",\"version\":1"
+start_text Objects Kinds.About = codes "{\"step\":\"about\",\"version\":2"
 start_text Objects Kinds.New = codes "{\"step\":\"new\""
 start_text Objects Kinds.Record = codes "{\"step\":\"record\""
 start_text Objects Kinds.Event = codes "{\"step\":\"event\""
@@ -123,8 +123,9 @@ parts_of form (New stamp id parent name target fields) =
     ∷ named form (codes "parent") (decimal parent) ∷ named form (codes "name") (quoted name)
     ∷ named form (codes "target") (quoted target) ∷ field_parts form fields
 parts_of form (Record id fields) = named form (codes "id") (decimal id) ∷ field_parts form fields
-parts_of form (Event stamp parent level target fields) =
+parts_of form (Event stamp parent current level target fields) =
     stamp_parts form stamp ++ named form (codes "parent") (decimal parent)
+    ∷ named form (codes "current") (decimal current)
     ∷ named form (codes "level") (level_text form level)
     ∷ named form (codes "target") (quoted target) ∷ field_parts form fields
 parts_of form (Close stamp id) = stamp_parts form stamp ++ named form (codes "id") (decimal id) ∷ []

@@ -36,7 +36,8 @@ pub data Step : Type 0 where
   About : (title : List ℕ) → Step
   New : (stamp : Stamp) (id parent : ℕ) (name target : List ℕ) (fields : List Field) → Step
   Record : (id : ℕ) (fields : List Field) → Step
-  Event : (stamp : Stamp) (parent : ℕ) (level : Level) (target : List ℕ) (fields : List Field) → Step
+  Event : (stamp : Stamp) (parent current : ℕ) (level : Level) (target : List ℕ)
+      (fields : List Field) → Step
   Close : (stamp : Stamp) (id : ℕ) → Step
   End : Step
 
@@ -52,10 +53,11 @@ new_step context i attributes =
     New (stamp_of context) i.0 (number_of (named_parent attributes.parent context.current))
     attributes.name attributes.target attributes.fields
 
--- the event in this span
-abbrev pub event_step : Context → Option Id → Recorded.Event → Step
-event_step context parent event =
-    Event (stamp_of context) (number_of parent) event.level event.target event.fields
+-- the event in its parent, while this span is the current one
+abbrev pub event_step : Context → Option Id → Option Id → Recorded.Event → Step
+event_step context parent current event =
+    Event (stamp_of context) (number_of parent) (number_of current) event.level event.target
+    event.fields
 
 -- a record's call has no moment, and neither has its step
 abbrev pub record_step : Id → List Field → Step
@@ -69,16 +71,17 @@ abbrev pub record_steps : Bool → Id → List Field → List Step
 record_steps true i fields = record_step i fields ∷ []
 record_steps false i fields = []
 
--- What an accepted call does. An event is in its span if that is live, otherwise at the root; a
--- record of a span that isn't live does nothing; a close has one step for each span that closes,
--- the deepest first.
+-- What an accepted call does. An event is in its span if that is live, otherwise at the root, and
+-- its current span is named if that is live. A record of a span that isn't live does nothing. A
+-- close has one step for each span that closes, the deepest first.
 abbrev pub steps_of : Forest → Call → List Step
 steps_of forest (Calls.New attributes context) =
     new_step context (new_id forest) attributes ∷ []
 steps_of forest (Calls.Clone i) = []
 steps_of forest (Calls.Record i values) = record_steps (is_live forest i) i values.fields
 steps_of forest (Calls.Event event context) =
-    event_step context (if_live forest (named_parent event.parent context.current)) event ∷ []
+    event_step context (if_live forest (named_parent event.parent context.current))
+    (if_live forest context.current) event ∷ []
 steps_of forest (Calls.Close i context) = map (close_step context) (closing_of forest i)
 
 -- the live spans after an accepted call; fields that are recorded later are written, and not kept

@@ -79,11 +79,12 @@ forest_after_answer forest call (Err refusal) = forest
 -- One call. If it is accepted, the lines of its steps are written, and the live spans are those
 -- after it. If it is refused, the live spans are unchanged, and nothing is written, except a prefix
 -- of the lines if the output failed.
-pub record Answers (call : Call) (answer : Result Reply Refusal) (old new : SeenSteps) : Type 0 where
-  pub allowed : MayAnswer old call answer
-  pub form : new.form ≡ old.form
-  pub forest : new.forest ≡ forest_after_answer old.forest call answer
-  pub written : Writes (lines_of old.form (steps_of old.forest call)) answer old.writer new.writer
+pub record Answers (call : Call) (answer : Result Reply Refusal) (old new : SeenSteps) : Type 0
+  where
+    pub allowed : MayAnswer old call answer
+    pub form : new.form ≡ old.form
+    pub forest : new.forest ≡ forest_after_answer old.forest call answer
+    pub written : Writes (lines_of old.form (steps_of old.forest call)) answer old.writer new.writer
 
 -- Bytes that no call writes. If they can't be written, a prefix of them may be.
 pub record WritesBytes {A : Type 0} (bytes : List ℕ) (answer : Result A Refusal)

@@ -31,13 +31,13 @@ pub(crate) fn start_text(form: LineForm, kind: Kind) -> &'static str
     ensures { result.now ≡ start_text form kind }
 {
     match (form, kind) {
-        (LineForm::Arrays, Kind::About) => "[0,1",
+        (LineForm::Arrays, Kind::About) => "[0,2",
         (LineForm::Arrays, Kind::New) => "[1",
         (LineForm::Arrays, Kind::Record) => "[2",
         (LineForm::Arrays, Kind::Event) => "[3",
         (LineForm::Arrays, Kind::Close) => "[4",
         (LineForm::Arrays, Kind::End) => "[5",
-        (LineForm::Objects, Kind::About) => "{\"step\":\"about\",\"version\":1",
+        (LineForm::Objects, Kind::About) => "{\"step\":\"about\",\"version\":2",
         (LineForm::Objects, Kind::New) => "{\"step\":\"new\"",
         (LineForm::Objects, Kind::Record) => "{\"step\":\"record\"",
         (LineForm::Objects, Kind::Event) => "{\"step\":\"event\"",

@@ -3,7 +3,7 @@
 //! After an error, each of these may have appended a prefix of its line.
 
 ghost use Rattle.std.specs.Prelude.{◌≡◌, ◌++◌, OnOk, string_bytes, flat_map, codes, decimal};
-ghost use Rattle.tracing_tree_page.specs.Lines.{after_comma, field_parts, level_text, line_end, line_of, named, quoted, stamp_parts, start_text};
+ghost use Rattle.tracing_tree_page.specs.Lines.{after_comma, field_parts, line_end, line_of, named, quoted, stamp_parts, start_text};
 ghost use Rattle.tracing_tree_page.specs.Steps.{About, End, close_step, event_step, new_step, number_of, record_step, stamp_of};
 ghost use Rattle.tracing_tree_text.specs.Extended.{IsExtended};
 
@@ -13,7 +13,6 @@ use std::alloc::AllocError;
 use tracing_tree_context::{Context, Id};
 use tracing_tree_spans::registry::{Attributes, Event};
 use tracing_tree_text::field::Field;
-use tracing_tree_text::style::Level;
 
 // Appends the first line, with the title.
 pub(crate) fn push_about(out: &mut String, form: LineForm, title: &str) -> Result<(), AllocError>
@@ -75,20 +74,22 @@ pub(crate) fn push_record(
     push_end(out, form, fields)
 }
 
-// Appends the line of an event in this span.
+// Appends the line of an event with this parent and this current span.
 pub(crate) fn push_event(
     out: &mut String,
     form: LineForm,
     context: &Context,
     parent: Option<Id>,
+    current: Option<Id>,
     event: &Event,
 ) -> Result<(), AllocError>
-    ensures ok { let step = event_step context.now parent event.now in
+    ensures ok { let step = event_step context.now parent current event.now in
         OnOk result (string_bytes out.new ≡ string_bytes out.old ++ line_of form step) }
     ensures extended { IsExtended (string_bytes out.old) (string_bytes out.new) }
 {
     push_start(out, form, Kind::Event, context)?;
-    push_place(out, form, parent, event.level)?;
+    push_place(out, form, parent, current)?;
+    push_level(out, form, event.level)?;
     push_string(out, form, "target", event.target.as_str())?;
     push_end(out, form, event.fields.as_slice())
 }
@@ -117,7 +118,8 @@ fn push_start(
     context: &Context,
 ) -> Result<(), AllocError>
     ensures ok { let stamp = flat_map after_comma (stamp_parts form (stamp_of context.now)) in
-        OnOk result (string_bytes out.new ≡ string_bytes out.old ++ (start_text form kind ++ stamp)) }
+        OnOk result (string_bytes out.new ≡ string_bytes out.old ++ (start_text form kind ++
+        stamp)) }
     ensures extended { IsExtended (string_bytes out.old) (string_bytes out.new) }
 {
     out.push_str(start_text(form, kind))?;
@@ -146,20 +148,21 @@ fn push_names(out: &mut String, form: LineForm, name: &str, target: &str) -> Res
     push_string(out, form, "target", target)
 }
 
-// Appends the span of an event and its level.
+// Appends the parent of an event and the current span.
 fn push_place(
     out: &mut String,
     form: LineForm,
     parent: Option<Id>,
-    level: Level,
+    current: Option<Id>,
 ) -> Result<(), AllocError>
-    ensures ok { let first = after_comma (named form (codes "parent") (decimal (number_of parent))) in
-        let second = after_comma (named form (codes "level") (level_text form level)) in
+    ensures ok { let first = after_comma (named form (codes "parent") (decimal (number_of parent)))
+        in
+        let second = after_comma (named form (codes "current") (decimal (number_of current))) in
         OnOk result (string_bytes out.new ≡ string_bytes out.old ++ (first ++ second)) }
     ensures extended { IsExtended (string_bytes out.old) (string_bytes out.new) }
 {
     push_number(out, form, "parent", number_of(parent))?;
-    push_level(out, form, level)
+    push_number(out, form, "current", number_of(current))
 }
 
 // Appends the fields, which are the last parts, and the end of the line.

@@ -5,7 +5,7 @@ ghost use Rattle.tracing_tree_layer.specs.Layered.Answered.{Writes};
 ghost use Rattle.tracing_tree_layer.specs.Replies.{answer_as, cloned, closed, done, span};
 ghost use Rattle.tracing_tree_output.specs.Writers.{seen_writer};
 ghost use Rattle.tracing_tree_page.specs.Lines.{line_of};
-ghost use Rattle.tracing_tree_page.specs.Reading.{AreLinesReadBack, IsEachLineReadBack};
+ghost use Rattle.tracing_tree_page.specs.Reading.{AreCutLinesRead, AreLinesRead, AreLinesReadBack, IsEachLineRead, IsEachLineReadBack};
 ghost use Rattle.tracing_tree_page.specs.Runs.{EndsPage, RunsWritePrefixes};
 ghost use Rattle.tracing_tree_page.specs.Steps.{About, End, close_step};
 ghost use Rattle.tracing_tree_page.specs.Writing.{Answers, AreLinesHarmless, IsFree, WritesBytes, lines_of, seen_steps};
@@ -72,12 +72,15 @@ impl<W: Output> StepWriter<W> {
     ///
     /// `Memory` if an allocation fails, `Writer` if the output fails, `Failed` after that. After
     /// `Writer`, a prefix of these bytes may have been written.
-    #[tactic(auto, using(crate::proofs::Harmless::lines_are_harmless, crate::proofs::Prefixes::runs_write_prefixes, crate::proofs::ReadLines::line_read, crate::proofs::ReadLines::lines_read))]
+    #[tactic(auto, using(crate::proofs::Harmless::lines_are_harmless, crate::proofs::Prefixes::runs_write_prefixes, crate::proofs::ReadLines::step_read, crate::proofs::ReadFiles::lines_are_read, crate::proofs::ReadFiles::cut_lines_are_read, crate::proofs::ReadLines::line_read, crate::proofs::ReadLines::lines_read))]
     pub fn begin(&mut self, head: &str, title: &str) -> Result<(), Refusal>
         ensures written { WritesBytes (head.now ++ line_of self.old.form (About title.now)) result
             (seen_steps W.Output self.old) (seen_steps W.Output self.new) }
         ensures harmless { AreLinesHarmless }
         ensures prefixes { RunsWritePrefixes }
+        ensures read { IsEachLineRead }
+        ensures all_read { AreLinesRead }
+        ensures cut_read { AreCutLinesRead }
         ensures line_read { IsEachLineReadBack }
         ensures lines_read { AreLinesReadBack }
     {
@@ -210,8 +213,9 @@ impl<W: Output> Calls for StepWriter<W> {
         }
         let event = event.to_event(*self.closing.allocator())?;
         let parent = if_live(&self.registry, event.parent.named(context.current));
+        let current = if_live(&self.registry, context.current);
         self.text.clear();
-        push_event(&mut self.text, self.form, context, parent, &event)?;
+        push_event(&mut self.text, self.form, context, parent, current, &event)?;
         send(&mut self.text, &mut self.writer)
     }
 

@@ -53,7 +53,8 @@ at_mark mark line =
 abbrev pub split : Mark → List ℕ → Option (List ℕ × List ℕ)
 split mark line =
     if may_begin mark line
-    then option_map (λ parts. (trimmed mark parts.0, trim_start parts.1)) (at_mark (mark_char mark) line)
+    then option_map (λ parts. (trimmed mark parts.0, trim_start parts.1)) (at_mark (mark_char mark)
+    line)
     else None
 
 -- the prefix of a line that isn't JSON, and what comes after it
@@ -95,7 +96,8 @@ module _ {S : Type 0} where
     by_parts : Option (List ℕ × List ℕ) → Option (Step (Marked S))
     by_parts None = option_map (marked_step marked.mark) (takes marked.source line value)
     by_parts (Some parts) =
-        option_map (prefixed_step marked.mark parts.0) (takes marked.source parts.1 (document parts.1))
+        option_map (prefixed_step marked.mark parts.0) (takes marked.source parts.1 (document
+        parts.1))
 
   abbrev pub prefixed_ends : (S → List Call) → Marked S → List Call
   prefixed_ends ends marked = ends marked.source

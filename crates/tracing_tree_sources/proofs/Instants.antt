@@ -8,13 +8,13 @@ use Rattle.jiff_core.specs.Timestamp.{IsTimestampNanos}
 use Rattle.jiff_core.specs.declared.timestamp.Timestamp.{Timestamp}
 use Rattle.tracing_tree_sources.specs.Moments.{instant_at, into_range, moment_at, since_1970}
 
-same_instant : (a b : Timestamp) → a.nanosecond ≡ b.nanosecond → a ≡ b
+pub same_instant : (a b : Timestamp) → a.nanosecond ≡ b.nanosecond → a ≡ b
 same_instant a b e = λ i. record {
   nanosecond = e i;
   in_range = is_prop→PathP (λ j. IsTimestampNanos (e j)) (λ j. Prim.hlevel props) a.in_range b.in_range i;
 }
 
-in_place : (n : ℤ) → IsTimestampNanos n → into_range n ≡ n
+pub in_place : (n : ℤ) → IsTimestampNanos n → into_range n ≡ n
 in_place n (low, high) = omega (arith, ints, clamps)
 
 -- the moment of an instant

@@ -5,7 +5,9 @@ pub mod Noted
 pub mod Heard
 pub mod Counted
 pub mod Ended
+pub mod Escapes
 pub mod Instants
+pub mod LineCalls
 pub mod Marked
 pub mod Leveled
 mod Worked

@@ -51,6 +51,18 @@ pub a_call_is_of_lines_though_it_has_a_level :
     ≡ Some Lines
 a_call_is_of_lines_though_it_has_a_level = refl
 
+pub a_log_with_a_target_is_no_line_of_tracing :
+    format_of (Some (object (member (codes "level") (string (codes "INFO")) (member (codes "msg") (string (codes "x"))
+    (member (codes "target") (string (codes "y")) no_members)))))
+    ≡ Some Logs
+a_log_with_a_target_is_no_line_of_tracing = refl
+
+pub a_log_with_fields_beside_its_message_is_no_line_of_tracing :
+    format_of (Some (object (member (codes "level") (string (codes "INFO")) (member (codes "message") (string (codes "x"))
+    (member (codes "fields") (object no_members) no_members)))))
+    ≡ Some Logs
+a_log_with_fields_beside_its_message_is_no_line_of_tracing = refl
+
 -- ---- plain lines
 
 pub rust_panics : begins_trace (codes "thread 'main' (7) panicked at src/main.rs:2:5:") ≡ true
@@ -64,6 +76,21 @@ go_lists_a_goroutine = refl
 
 pub a_word_about_goroutines_is_no_trace : begins_trace (codes "goroutine leak [found]") ≡ false
 a_word_about_goroutines_is_no_trace = refl
+
+pub go_lists_a_goroutine_with_its_addresses : begins_trace (codes "goroutine 7 gp=0xc000007180 m=0 mp=0x55d8a0 [running]:") ≡ true
+go_lists_a_goroutine_with_its_addresses = refl
+
+pub java_throws : begins_trace (codes "java.lang.IllegalStateException: closed") ≡ true
+java_throws = refl
+
+pub java_throws_without_a_word : begins_trace (codes "java.lang.NullPointerException") ≡ true
+java_throws_without_a_word = refl
+
+pub a_word_about_an_exception_is_no_trace : begins_trace (codes "java.lang.NullPointerException is bad") ≡ false
+a_word_about_an_exception_is_no_trace = refl
+
+pub a_name_without_a_package_is_no_trace : begins_trace (codes "Error: x") ≡ false
+a_name_without_a_package_is_no_trace = refl
 
 pub a_carriage_return_is_left_out : without_return (codes "x\r") ≡ codes "x"
 a_carriage_return_is_left_out = refl

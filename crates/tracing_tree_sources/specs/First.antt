@@ -16,11 +16,16 @@ use Rattle.tracing_tree_sources.specs.declared.first.Detection.TheVariants.{Dete
 use Rattle.tracing_tree_sources.specs.declared.first.Format.{Format}
 use Rattle.tracing_tree_sources.specs.declared.first.Format.TheVariants.{Lines, GoTest, Tracing, Chrome, Logs, Otlp}
 
--- one of the five levels, and anything at one of two other keys
+-- the fields of an event, whose message is among them, or a target with the fields beside it
+abbrev pub has_event_of_tracing : Json → Bool
+has_event_of_tracing value =
+    if is_some (get (codes "fields") value) then is_none (get (codes "message") value)
+    else is_some (get (codes "target") value)
+
+-- one of the five levels, and an event as tracing-subscriber writes it: logs have a `msg`
 abbrev pub is_of_tracing : Json → Bool
 is_of_tracing value =
-    is_some (level_in value)
-    && (is_some (get (codes "fields") value) || is_some (get (codes "target") value))
+    is_some (level_in value) && is_none (get (codes "msg") value) && has_event_of_tracing value
 
 abbrev pub has_key_of_level : Json → Bool
 has_key_of_level value =
@@ -40,7 +45,8 @@ is_log value = has_key_of_level value && has_key_of_message value
 -- the keys of settings
 abbrev pub setting_keys : List (List ℕ)
 setting_keys =
-    codes "indent_amount" ∷ codes "wraparound" ∷ codes "ansi" ∷ codes "indent_lines" ∷ codes "targets"
+    codes "indent_amount" ∷ codes "wraparound" ∷ codes "ansi" ∷ codes "indent_lines" ∷ codes
+    "targets"
     ∷ codes "thread_ids" ∷ codes "thread_names" ∷ codes "verbose_entry" ∷ codes "verbose_exit"
     ∷ codes "span_retrace" ∷ codes "deferred_spans" ∷ codes "close_retrace" ∷ codes "span_modes"
     ∷ codes "bracketed_fields" ∷ codes "timer" ∷ []
@@ -76,7 +82,8 @@ spells_call value = among (text_at (codes "call") value) where
 -- an array at one of OTLP's keys
 abbrev pub is_of_otlp : Json → Bool
 is_of_otlp value =
-    is_some (array_at (codes "resourceSpans") value) || is_some (array_at (codes "resourceLogs") value)
+    is_some (array_at (codes "resourceSpans") value) || is_some (array_at (codes "resourceLogs")
+    value)
     || is_some (array_at (codes "resourceMetrics") value)
 
 abbrev pub format_of_value : Json → Option Format

@@ -47,7 +47,8 @@ module _ {S : Type 0} where
   }
 
   -- of a line that the source takes, what is shown of its calls; no other line is known
-  abbrev pub level_takes : (S → List ℕ → Option Json → Option (Step S)) → Leveled S → List ℕ → Option Json
+  abbrev pub level_takes : (S → List ℕ → Option Json → Option (Step S)) → Leveled S → List ℕ →
+      Option Json
       → Option (Step (Leveled S))
   level_takes takes leveled line value =
       option_map (shown_step leveled.least) (takes leveled.source line value)

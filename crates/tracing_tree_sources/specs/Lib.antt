@@ -15,4 +15,7 @@ pub mod Tallies
 pub mod LeveledCalls
 pub mod Traces
 pub mod Plain
+pub mod Recorder
+pub mod CallLines
 pub mod Columns
+pub mod Length

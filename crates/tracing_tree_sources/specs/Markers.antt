@@ -48,7 +48,8 @@ is_result mark line = follows is_numbered (after_mark mark line)
 -- TAP's version, a plan, a result, or the name of a subtest
 abbrev pub is_tap : List ℕ → Bool
 is_tap line =
-    is_version (codes "TAP version ") line || is_version (codes "KTAP version ") line || is_plan line
+    is_version (codes "TAP version ") line || is_version (codes "KTAP version ") line || is_plan
+    line
     || is_result (codes "ok ") line || is_result (codes "not ok ") line
     || begins (codes "# Subtest: ") line
 

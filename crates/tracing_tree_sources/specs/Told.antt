@@ -54,7 +54,9 @@ record_call id fields = Record id (record { fields = fields })
 
 -- a call on the thread of this name
 abbrev pub on_thread : List ℕ → Call → Call
-on_thread name (New attributes context) = New attributes (record context { thread_name = Some name })
+on_thread name (New attributes context) = New attributes (record context {
+  thread_name = Some name;
+})
 on_thread name (Event event context) = Event event (record context { thread_name = Some name })
 on_thread name (Close id context) = Close id (record context { thread_name = Some name })
 on_thread name (Clone id) = Clone id

@@ -88,8 +88,12 @@ pub(crate) fn is_among(text: &str, keys: &[&str]) -> bool
     false
 }
 
-// Returns a value as it is drawn.
-fn text_of(alloc: Global, value: &Value<'_>) -> Result<Text, AllocError>
+/// Returns a value as it is drawn: an array and an object as compact JSON.
+///
+/// # Errors
+///
+/// `AllocError` if an allocation fails.
+pub fn text_of(alloc: Global, value: &Value<'_>) -> Result<Text, AllocError>
     ensures { IfOk result (λ text. text ≡ text_of (value_view value.now)) }
 {
     match value {

@@ -3,7 +3,7 @@
 ghost use Rattle.std.specs.Prelude.{◌≡◌, IfOk, option_map};
 ghost use Rattle.json.specs.Json.{document};
 ghost use Rattle.json.specs.Value.{members_view, value_view};
-ghost use Rattle.tracing_tree_sources.specs.First.{are_settings, begins_list, begins_object, detects, ends_object, format_by, format_of, format_of_json, format_of_line, format_of_value, has_key_of_level, has_key_of_message, has_settings, holding, is_empty_object, is_full, is_log, is_of_otlp, is_of_tracing, is_setting, may_be_key, spells_call, spells_settings, without_mark};
+ghost use Rattle.tracing_tree_sources.specs.First.{are_settings, begins_list, begins_object, detects, ends_object, format_by, format_of, format_of_json, format_of_line, format_of_value, has_event_of_tracing, has_key_of_level, has_key_of_message, has_settings, holding, is_empty_object, is_full, is_log, is_of_otlp, is_of_tracing, is_setting, may_be_key, spells_call, spells_settings, without_mark};
 
 use crate::blanks::{after_blanks, first_byte};
 use crate::fields::is_among;
@@ -152,7 +152,7 @@ pub fn without_mark(line: &[u8]) -> &[u8]
 /// - An object that has a key, and only keys of settings, is a line of settings and calls. So is
 ///   one that names a call at `call`.
 /// - An object with one of the five levels at `level`, in capitals, and a value at `fields` or
-///   `target` is tracing's.
+///   `target` is tracing's, unless it has a `msg`, or a `message` beside `fields`.
 /// - An object with a key of levels (`level`, `severity`, `lvl`, `log.level`, `PRIORITY`) and a key
 ///   of messages (`msg`, `message`, `event`, `MESSAGE`) is a log.
 /// - Every other line determines nothing.
@@ -344,7 +344,18 @@ fn spells_call(value: &Value<'_>) -> bool
 fn is_of_tracing(value: &Value<'_>) -> bool
     ensures { result ≡ is_of_tracing (value_view value.now) }
 {
-    level_in(value).is_some() && (value.get("fields").is_some() || value.get("target").is_some())
+    level_in(value).is_some() && value.get("msg").is_none() && has_event_of_tracing(value)
+}
+
+// Returns whether a value has an event's fields, or a target and its fields beside it.
+fn has_event_of_tracing(value: &Value<'_>) -> bool
+    ensures { result ≡ has_event_of_tracing (value_view value.now) }
+{
+    if value.get("fields").is_some() {
+        value.get("message").is_none()
+    } else {
+        value.get("target").is_some()
+    }
 }
 
 // Returns whether a value has a key of levels and a key of messages, as the logs of services have.

@@ -52,6 +52,10 @@ pub enum Lack {
     #[error("\"dur\" must be a number of microseconds")]
     Duration,
 
+    /// The line isn't a call.
+    #[error("expected a JSON object with a call")]
+    Call,
+
     /// The input isn't a trace.
     #[error("not a trace: expected an array, or an object with an array at \"traceEvents\"")]
     Trace,

@@ -1,6 +1,8 @@
 //! The calls of a source. Each names its parent as its current span.
 
 ghost use Rattle.std.specs.Prelude.{◌≡◌, ◌++◌, IfOk, OnOk, [], ◌∷◌, map, string_bytes};
+ghost use Rattle.std.specs.List.{list_any};
+ghost use Rattle.std.specs.Str.{chars};
 ghost use Rattle.tracing_tree_sources.specs.Told.{all_on_thread, close_call, context_at, event_call, is_escaped, message_field, on_thread, record_call, shown, shown_char, span_call};
 
 use std::alloc::{AllocError, Global};
@@ -54,7 +56,30 @@ fn push_shown(out: &mut String, c: char) -> Result<(), AllocError>
 /// # Errors
 ///
 /// `AllocError` if an allocation fails.
+#[tactic(auto, using(crate::proofs::Escapes::without_escapes))]
 pub fn shown(alloc: Global, text: &str) -> Result<Text, AllocError>
+    ensures { IfOk result (λ made. made ≡ shown text.now) }
+{
+    if has_escaped(text) {
+        with_escapes(alloc, text)
+    } else {
+        Text::from_str(alloc, text)
+    }
+}
+
+// Returns whether a character of a string is shown as an escape.
+fn has_escaped(text: &str) -> bool
+    ensures { result ≡ list_any is_escaped (chars text.now) }
+{
+    for c in text.chars() {
+        if is_escaped(c) {
+            return true;
+        }
+    }
+    false
+}
+
+fn with_escapes(alloc: Global, text: &str) -> Result<Text, AllocError>
     ensures { IfOk result (λ made. made ≡ shown text.now) }
 {
     let mut out = String::new(alloc);

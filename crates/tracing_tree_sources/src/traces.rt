@@ -2,7 +2,7 @@
 
 ghost use Rattle.std.specs.Prelude.{◌≡◌, IfOk};
 ghost use Rattle.tracing_tree_sources.specs.Marks.{begins};
-ghost use Rattle.tracing_tree_sources.specs.Traces.{after_digits, begins_goroutine, begins_rust_panic, begins_trace, holds_mark, is_digit, plain_event, plain_level, without_return};
+ghost use Rattle.tracing_tree_sources.specs.Traces.{after_digits, after_name, begins_exception, begins_goroutine, begins_rust_panic, begins_trace, begins_with_words, describes_goroutine, holds_mark, is_digit, is_of_name, names_exception, plain_event, plain_level, without_return};
 
 use crate::marks::after_mark;
 use crate::told::{event_call, message_field};
@@ -65,8 +65,18 @@ pub fn begins_trace(line: &str) -> bool
 {
     begins_rust_panic(line)
         || begins_goroutine(line)
-        || begins("panic: ", line)
+        || begins_exception(line.as_bytes())
+        || begins_with_words(line)
+}
+
+// Returns whether a line starts with the words before a panic, a fault or a stack trace.
+fn begins_with_words(line: &str) -> bool
+    ensures { result ≡ begins_with_words line.now }
+{
+    begins("panic: ", line)
         || begins("fatal error: ", line)
+        || begins("SIGSEGV: ", line)
+        || begins("stack backtrace:", line)
         || begins("Traceback (most recent call last):", line)
         || begins("Exception in thread \"", line)
 }
@@ -92,9 +102,54 @@ fn begins_goroutine(line: &str) -> bool
     ensures { result ≡ begins_goroutine line.now }
 {
     match after_mark(line, "goroutine ") {
-        Some(rest) => after_digits(rest.as_bytes()).starts_with(" [".as_bytes()),
+        Some(rest) => describes_goroutine(after_digits(rest.as_bytes())),
         None => false,
     }
+}
+
+// Returns whether the state of a goroutine follows, or first its addresses.
+fn describes_goroutine(rest: &[u8]) -> bool
+    ensures { result ≡ describes_goroutine rest.now }
+{
+    rest.starts_with(" [".as_bytes()) || rest.starts_with(" gp=0x".as_bytes())
+}
+
+// Java: java.lang.IllegalStateException: closed
+fn begins_exception(line: &[u8]) -> bool
+    ensures { result ≡ begins_exception line.now }
+{
+    let rest = after_name(line);
+    let name = &line[..line.len().saturating_sub(rest.len())];
+    names_exception(name) && (rest.is_empty() || rest.starts_with(":".as_bytes()))
+}
+
+// Returns whether a name is an exception's in a package.
+fn names_exception(name: &[u8]) -> bool
+    ensures { result ≡ names_exception name.now }
+{
+    holds_mark(".".as_bytes(), name)
+        && (name.ends_with("Exception".as_bytes()) || name.ends_with("Error".as_bytes()))
+}
+
+// Returns what follows the name at the start.
+fn after_name(text: &[u8]) -> &[u8]
+    ensures { result.now ≡ after_name text.now }
+{
+    let mut rest = text;
+    while let [byte, others @ ..] = rest {
+        if !is_of_name(*byte) {
+            break;
+        }
+        rest = others;
+    }
+    rest
+}
+
+// Returns whether a byte may be part of a class's name with its package.
+fn is_of_name(byte: u8) -> bool
+    ensures { result ≡ is_of_name byte }
+{
+    matches!(byte, b'0'..=b'9' | b'A'..=b'Z' | b'a'..=b'z' | b'.' | b'_' | b'$')
 }
 
 // Returns what follows the decimal digits at the start.

@@ -4,9 +4,9 @@
 use super::seen::{START, Skipped, drawn, heard};
 use std::alloc::{AllocError, Global};
 use std::test::*;
-use tracing_tree_chrome::{Cut, run_trace};
+use tracing_tree_chrome::{Leaves, run_trace};
 use tracing_tree_go_test::GoTest;
-use tracing_tree_sources::Source;
+use tracing_tree_sources::{Cut, Source};
 use tracing_tree_tracing::Tracing;
 
 // What an input has many of.
@@ -138,13 +138,22 @@ fn is_whole<S: Source>(alloc: Global, source: &mut S, input: &str) -> Result<boo
 
 fn is_trace(alloc: Global, text: &str) -> Result<bool, AllocError> {
     let cut = Cut {
-        least: 0,
+        min_time: 0,
         depth: None,
     };
     let mut notes = Skipped::new(alloc);
     let mut layered = drawn(alloc)?;
-    let run = run_trace(alloc, 1, START, cut, text, &mut *layered, &mut notes);
-    Ok(run.fault.is_none() && notes.lines.is_empty())
+    let made = run_trace(
+        alloc,
+        1,
+        START,
+        cut,
+        Leaves::Rows,
+        text,
+        &mut *layered,
+        &mut notes,
+    );
+    Ok(made.run.fault.is_none() && notes.lines.is_empty())
 }
 
 // Returns whether runs of each size reach the end of their input.

@@ -3,8 +3,8 @@
 use super::seen::{START, Skipped, drawn};
 use std::alloc::{AllocError, Global};
 use std::test::*;
-use tracing_tree_chrome::{Cut, run_trace};
-use tracing_tree_sources::Lack;
+use tracing_tree_chrome::{Leaves, run_trace};
+use tracing_tree_sources::{Cut, Lack};
 
 const WHOLE: &str = "[{\"ph\":\"i\",\"ts\":1,\"name\":\"x\"},{},{\"ph\":\"B\"}]";
 
@@ -30,11 +30,20 @@ fn skipped_elements_are_noted_by_their_numbers(rt: HostRuntime) -> Result<(), Fa
 
 fn noted(alloc: Global, text: &str) -> Result<Box<Skipped>, AllocError> {
     let cut = Cut {
-        least: 0,
+        min_time: 0,
         depth: None,
     };
     let mut notes = Box::new(alloc, Skipped::new(alloc))?;
     let mut layered = drawn(alloc)?;
-    let _run = run_trace(alloc, 1, START, cut, text, &mut *layered, &mut *notes);
+    let _made = run_trace(
+        alloc,
+        1,
+        START,
+        cut,
+        Leaves::Rows,
+        text,
+        &mut *layered,
+        &mut *notes,
+    );
     Ok(notes)
 }

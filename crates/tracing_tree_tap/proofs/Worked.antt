@@ -9,7 +9,8 @@ use Rattle.tracing_tree_spans.specs.Registry.Ids.{id_of}
 use Rattle.tracing_tree_text.specs.declared.style.Level.TheVariants.{Error, Info}
 use Rattle.tracing_tree_sources.specs.Told.{close_call, event_call, message_field, span_call}
 use Rattle.tracing_tree_tap.specs.declared.line.Kind.TheVariants.{Passing, Failing, Plan, Heading, Frame, Output}
-use Rattle.tracing_tree_tap.specs.Length.{length_text, milliseconds}
+use Rattle.tracing_tree_sources.specs.Length.{length_text}
+use Rattle.tracing_tree_tap.specs.Length.{milliseconds}
 use Rattle.tracing_tree_tap.specs.Line.{directive_of, is_count, is_file, kind_of, plan_reason, verdict_level, verdict_time}
 use Rattle.tracing_tree_tap.specs.Strings.{same_word, unescaped}
 use Rattle.tracing_tree_tap.specs.Tally.{has_failed}

@@ -86,7 +86,8 @@ plan_reason text = reason_in_note (tail_from (after_word (rest_after (codes "1..
 -- ---- comments
 
 abbrev pub comment_of : List ℕ → List ℕ
-comment_of text = unwrap_or (after_mark (codes " ") (rest_after (codes "#") text)) (rest_after (codes "#") text)
+comment_of text = unwrap_or (after_mark (codes " ") (rest_after (codes "#") text)) (rest_after
+    (codes "#") text)
 
 -- the words with which a reporter's summary counts
 abbrev pub is_reporters : List ℕ → Bool

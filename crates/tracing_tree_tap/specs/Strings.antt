@@ -13,7 +13,8 @@ rest_after mark text = unwrap_or (after_mark mark text) []
 -- what comes before this mark at the end
 abbrev pub before_mark : List ℕ → List ℕ → Option (List ℕ)
 before_mark mark text =
-    if ends_with (λ a b. a == b) text mark then Some (take (length text - length mark) text) else None
+    if ends_with (λ a b. a == b) text mark then Some (take (length text - length mark) text) else
+    None
 
 abbrev pub without_end : List ℕ → List ℕ → List ℕ
 without_end mark text = unwrap_or (before_mark mark text) text

@@ -33,7 +33,7 @@ use Rattle.tracing_tree_tap.specs.declared.tap.results.Mark.{Mark}
 use Rattle.tracing_tree_tap.specs.declared.tap.subtests.Heading.{Heading}
 use Rattle.tracing_tree_tap.specs.declared.tap.subtests.Subtest.{Subtest}
 use Rattle.tracing_tree_tap.specs.declared.tap.waiting.Waiting.{Waiting}
-use Rattle.tracing_tree_tap.specs.Length.{length_text}
+use Rattle.tracing_tree_sources.specs.Length.{length_text}
 use Rattle.tracing_tree_tap.specs.Line.{begins_inside, begins_summary, comment_of, ends_summary, is_braced, is_count, is_failed_summary, is_file, is_stamp, kind_of, name_of_file, number_of, plan_reason, planned, tail_of_file, unbraced, verdict_level, verdict_time}
 use Rattle.tracing_tree_tap.specs.Queue.{QueueState, added, empty_queue, is_held}
 use Rattle.tracing_tree_tap.specs.Strings.{first_part, rest_after, unescaped, without_end, without_leading, without_margin}

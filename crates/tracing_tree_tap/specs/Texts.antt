@@ -8,7 +8,8 @@ use Rattle.tracing_tree_sources.specs.Told.{shown}
 use Rattle.tracing_tree_tap.specs.declared.line.Directive.{Directive}
 use Rattle.tracing_tree_tap.specs.declared.line.Directive.TheVariants.{Absent, Skip, Todo, Time}
 use Rattle.tracing_tree_tap.specs.declared.tally.Verdict.{Verdict}
-use Rattle.tracing_tree_tap.specs.Length.{length_text, milliseconds}
+use Rattle.tracing_tree_sources.specs.Length.{length_text}
+use Rattle.tracing_tree_tap.specs.Length.{milliseconds}
 use Rattle.tracing_tree_tap.specs.Line.{described, directive_of, elapsed_of, label_part, reason_of, tail_of}
 use Rattle.tracing_tree_tap.specs.Strings.{without_leading}
 use Rattle.tracing_tree_tap.specs.Tally.{word_of}

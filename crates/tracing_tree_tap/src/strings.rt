@@ -167,7 +167,8 @@ fn past_escape(is_escaped: bool, c: char) -> bool
 }
 
 fn push_char(out: &mut String, is_escaped: bool, c: char) -> Result<(), AllocError>
-    ensures { OnOk result (string_bytes out.new ≡ string_bytes out.old ++ unescaped_char is_escaped c) }
+    ensures { OnOk result (string_bytes out.new ≡ string_bytes out.old ++ unescaped_char is_escaped
+        c) }
 {
     if is_escaped {
         return push_escaped(out, c);

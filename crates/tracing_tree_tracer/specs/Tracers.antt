@@ -133,7 +133,8 @@ module _ {C N : Type 0} (answers : Call → Result Reply Refusal → C → C →
   abbrev pub IsTold : Level → List ℕ → List Field → Result (Unit {0}) TraceFault
       → TracerView C N → TracerView C N → Type 0
   IsTold level message fields answer old new =
-      Leaves (MadeAt answers (tells old.clock) (event_call old.teller old.spans level message fields))
+      Leaves (MadeAt answers (tells old.clock) (event_call old.teller old.spans level message
+      fields))
       (tells old.clock None) old.spans (reply_as done answer) old new
 
   -- this span, which is the current one, was closed, if there is one

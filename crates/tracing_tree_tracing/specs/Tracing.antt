@@ -1,5 +1,5 @@
 -- Lines of Rust's tracing: what each line of tracing-subscriber's JSON format means.
-use Rattle.std.specs.Prelude.{ℕ, ◌-◌, ◌&&◌, ◌||◌, nat_lt, Bool, true, false, not, if◌then◌else◌, List, [], ◌∷◌, ◌++◌, length, map, reverse, find, position, remove, Option, Some, None, is_some, option_map, bytes_eq, codes}
+use Rattle.std.specs.Prelude.{ℕ, ◌-◌, ◌&&◌, ◌||◌, nat_lt, Bool, true, false, not, if◌then◌else◌, List, [], ◌∷◌, ◌++◌, flat_map, length, map, reverse, find, position, remove, Option, Some, None, is_some, option_map, bytes_eq, codes}
 use Rattle.std.specs.List.{list_any}
 use Rattle.json.specs.Find.{as_object}
 use Rattle.json.specs.Json.{Json}
@@ -10,6 +10,7 @@ use Rattle.tracing_tree_text.specs.declared.field.Field.{Field}
 use Rattle.tracing_tree_text.specs.Equal.{field_eq}
 use Rattle.tracing_tree_text.specs.declared.style.Level.{Level}
 use Rattle.tracing_tree_layer.specs.declared.call.Call.{Call}
+use Rattle.tracing_tree_layer.specs.declared.call.Call.TheVariants.{Record as CallRecord}
 use Rattle.tracing_tree_lines.specs.Lines.Spelled.{is_skipped}
 use Rattle.tracing_tree_sources.specs.Source.{Step}
 use Rattle.tracing_tree_sources.specs.declared.notes.Lack.{Lack}
@@ -172,7 +173,10 @@ pub record Parting : Type 0 where
 abbrev pub parted_one : Live → List Id → TracingState → Parting
 parted_one one gone s =
     if goes_with one gone
-    then record { gone = gone ++ one.id ∷ []; state = told (close_call s.moment one.id one.above) s }
+    then record {
+      gone = gone ++ one.id ∷ [];
+      state = told (close_call s.moment one.id one.above) s;
+    }
     else record { gone = gone; state = record s { live = s.live ++ one ∷ [] } }
 
 abbrev pub parted : List Live → List Id → TracingState → TracingState
@@ -297,7 +301,8 @@ abbrev pub ended_if : Level → List Field → Option Id → TracingState → Tr
 ended_if level fields (Some id) s = ended level fields id s
 ended_if level fields None s = s
 
-abbrev pub close_of : Level → List Field → Option Listed → List ℕ → Option Id → TracingState → TracingState
+abbrev pub close_of : Level → List Field → Option Listed → List ℕ → Option Id → TracingState →
+    TracingState
 close_of level fields (Some listed) thread above s =
     let place = closing thread listed above s in
     ended_if level fields place.at place.state
@@ -317,8 +322,20 @@ new_told value above s = new_of (span_in value) (thread_in value) above s
 
 -- ---- lines
 
+-- the fields that a call records of this span
+abbrev pub recorded_of : Option Id → Call → List Field
+recorded_of (Some at) (CallRecord id record_of_it) =
+    if same_id id at then record_of_it.fields else []
+recorded_of at call = []
+
+abbrev pub recorded_in : Option Id → List Call → List Field
+recorded_in at calls = flat_map (recorded_of at) calls
+
+-- An event's last fields are those that its line records of the span: what a log shows of a span
+-- for the first time isn't lost if no line closes the span.
 abbrev pub acted_as : Kind → Level → List Field → Json → Place → TracingState
-acted_as Event level fields value place = event_told level fields place.at place.state
+acted_as Event level fields value place =
+    event_told level (fields ++ recorded_in place.at place.state.calls) place.at place.state
 acted_as New level fields value place = new_told value place.at place.state
 acted_as Enter level fields value place = place.state
 acted_as Exit level fields value place = place.state
@@ -348,7 +365,8 @@ placed value s = record s {
 }
 
 abbrev pub takes_value : Json → TracingState → Option (Step TracingState)
-takes_value value s = option_map (λ level. handed_out (acted level value (placed value s))) (level_in value)
+takes_value value s = option_map (λ level. handed_out (acted level value (placed value s)))
+    (level_in value)
 
 -- a line that isn't a JSON object is an event in the last span of the line before it
 abbrev pub plain_told : List ℕ → TracingState → TracingState

@@ -44,7 +44,8 @@ thread_in value =
 abbrev pub bare_thread : List ℕ → List ℕ
 bare_thread text = inside (after_mark (codes "ThreadId(") text) where
   inside : Option (List ℕ) → List ℕ
-  inside (Some rest) = if ends_with (λ a b. a == b) rest (codes ")") then take (length rest - 1) rest else text
+  inside (Some rest) = if ends_with (λ a b. a == b) rest (codes ")") then take (length rest - 1)
+      rest else text
   inside None = text
 
 -- how a thread is shown: its number and its name, as far as the line has them
@@ -56,7 +57,8 @@ thread_label None None = None
 
 -- how the thread of a line is shown
 abbrev pub label_in : Json → Option (List ℕ)
-label_in value = thread_label (text_at (codes "threadId") value) (text_at (codes "threadName") value)
+label_in value = thread_label (text_at (codes "threadId") value) (text_at (codes "threadName")
+    value)
 
 -- ---- spans
 

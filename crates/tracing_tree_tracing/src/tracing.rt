@@ -4,7 +4,7 @@ ghost use Rattle.std.specs.Prelude.{◌≡◌, ◌++◌, ◌∷◌, [], IfOk, No
 ghost use Rattle.json.specs.Value.{value_view};
 ghost use Rattle.std.specs.List.{list_any};
 ghost use Rattle.tracing_tree_spans.specs.Registry.Ids.{same_id};
-ghost use Rattle.tracing_tree_tracing.specs.Tracing.{acted, anywhere, begun, child, child_of_thread, close_told, closed, closing, ended, event_told, found, goes_with, if_live, if_unknown, is_child, is_child_of_thread, is_in, is_known, is_untold, late_in, late_of, learned, located, met, new_told, nothing_open, opened, parent_found, parted, parted_one, placed, plain_told, reached, same_above, span_of, spared, stepped, unknown_in, untold_from, with_late, with_untold};
+ghost use Rattle.tracing_tree_tracing.specs.Tracing.{acted, anywhere, begun, child, child_of_thread, close_told, closed, closing, ended, event_told, found, goes_with, if_live, if_unknown, is_child, is_child_of_thread, is_in, is_known, is_untold, late_in, late_of, learned, located, met, new_told, nothing_open, opened, parent_found, parted, parted_one, placed, plain_told, reached, recorded_in, recorded_of, same_above, span_of, spared, stepped, unknown_in, untold_from, with_late, with_untold};
 
 mod line;
 
@@ -126,7 +126,7 @@ impl Tracing {
         let at = self.locate(kind, value)?;
         self.at = at;
         match kind {
-            Kind::Event => self.push_event(level, fields, at),
+            Kind::Event => self.tell_event(level, fields, at),
             Kind::Enter | Kind::Exit => Ok(()),
             Kind::New => self.open_named(value, at),
             Kind::Close => self.close_told(level, fields, value, at),
@@ -136,7 +136,11 @@ impl Tracing {
     // Finds the span of a line: its parent, if it names one, otherwise the last of its spans. Opens
     // spans that aren't live.
     fn locate(&mut self, kind: Kind, value: &Value<'_>) -> Result<Option<Id>, AllocError>
-        ensures { IfOk result (λ at. located kind (value_view value.now) self.old ≡ record { at = at; state = self.new }) }
+        ensures { IfOk result (λ at. located kind (value_view value.now) self.old ≡ record {
+          at =
+              at;
+          state = self.new;
+        }) }
     {
         let path = path_in(self.alloc, kind, value)?;
         let at = self.reach(path, thread_in(value))?;
@@ -148,7 +152,11 @@ impl Tracing {
 
     // Returns the newest span that may be the one of this entry. Opens a root if there isn't one.
     fn find_parent(&mut self, listed: Listed, thread: &str) -> Result<Id, AllocError>
-        ensures { IfOk result (λ id. parent_found thread.now listed self.old ≡ record { at = Some id; state = self.new }) }
+        ensures { IfOk result (λ id. parent_found thread.now listed self.old ≡ record {
+          at = Some
+              id;
+          state = self.new;
+        }) }
     {
         let id = anywhere(self.live.as_slice(), &listed);
         self.meet(id, &listed)?;
@@ -161,7 +169,8 @@ impl Tracing {
     // Returns the last of these spans, following them from the root on. Opens those that aren't
     // live.
     fn reach(&mut self, path: Vec<Listed>, thread: &str) -> Result<Option<Id>, AllocError>
-        ensures { IfOk result (λ at. reached (length path.items) thread.now path.items None self.old ≡ record { at = at; state = self.new }) }
+        ensures { IfOk result (λ at. reached (length path.items) thread.now path.items None
+            self.old ≡ record { at = at; state = self.new }) }
     {
         let depth = path.len();
         let mut at = None;
@@ -179,7 +188,11 @@ impl Tracing {
         thread: &str,
         above: Option<Id>,
     ) -> Result<Id, AllocError>
-        ensures { IfOk result (λ id. stepped depth thread.now listed above self.old ≡ record { at = Some id; state = self.new }) }
+        ensures { IfOk result (λ id. stepped depth thread.now listed above self.old ≡ record {
+          at =
+              Some id;
+          state = self.new;
+        }) }
     {
         let id = child(self.live.as_slice(), above, &listed);
         self.meet(id, &listed)?;
@@ -223,7 +236,11 @@ impl Tracing {
         thread: &str,
         above: Option<Id>,
     ) -> Result<Id, AllocError>
-        ensures { IfOk result (λ id. begun depth thread.now listed above self.old ≡ record { at = Some id; state = self.new }) }
+        ensures { IfOk result (λ id. begun depth thread.now listed above self.old ≡ record {
+          at =
+              Some id;
+          state = self.new;
+        }) }
     {
         self.spare(depth);
         self.open(false, listed, thread, above)
@@ -250,7 +267,11 @@ impl Tracing {
         thread: &str,
         above: Option<Id>,
     ) -> Result<Id, AllocError>
-        ensures { IfOk result (λ id. opened is_told thread.now listed above self.old ≡ record { at = Some id; state = self.new }) }
+        ensures { IfOk result (λ id. opened is_told thread.now listed above self.old ≡ record {
+          at
+              = Some id;
+          state = self.new;
+        }) }
     {
         let fields = listed.fields.clone()?;
         let call = span_call(self.alloc, self.moment, listed.name.as_str(), fields, above)?;
@@ -267,6 +288,17 @@ impl Tracing {
         })?;
         self.next = self.next.saturating_add(1);
         Ok(id)
+    }
+
+    // Records the event of a line in its span. What the line records of that span comes last among
+    // its fields.
+    fn tell_event(&mut self, level: Level, fields: Fields, at: Option<Id>) -> Result<(), AllocError>
+        ensures { OnOk result (self.new
+            ≡ event_told level (fields ++ recorded_in at self.old.calls) at self.old) }
+    {
+        let mut fields = fields;
+        fields.append(recorded_in(self.alloc, at, self.calls.as_slice())?)?;
+        self.push_event(level, fields, at)
     }
 
     // Records an event in this span.
@@ -300,7 +332,8 @@ impl Tracing {
         value: &Value<'_>,
         above: Option<Id>,
     ) -> Result<(), AllocError>
-        ensures { OnOk result (self.new ≡ close_told level fields (value_view value.now) above self.old) }
+        ensures { OnOk result (self.new ≡ close_told level fields (value_view value.now) above
+            self.old) }
     {
         match span_in(self.alloc, value)? {
             Some(listed) => {
@@ -317,7 +350,11 @@ impl Tracing {
     // Returns the span of this entry, whose close is reported: the one in the parent `above`,
     // otherwise one elsewhere. Opens it if it isn't live.
     fn closing(&mut self, listed: Listed, thread: &str, above: Option<Id>) -> Result<Id, AllocError>
-        ensures { IfOk result (λ id. closing thread.now listed above self.old ≡ record { at = Some id; state = self.new }) }
+        ensures { IfOk result (λ id. closing thread.now listed above self.old ≡ record {
+          at = Some
+              id;
+          state = self.new;
+        }) }
     {
         let id = found(self.live.as_slice(), above, &listed);
         self.meet(id, &listed)?;
@@ -382,7 +419,11 @@ impl Tracing {
 
     // Closes a span if it is one of these or nested in one. Otherwise keeps it.
     fn part_one(&mut self, one: Live, gone: &mut Vec<Id>) -> Result<(), AllocError>
-        ensures { OnOk result (parted_one one gone.old.items self.old ≡ record { gone = gone.new.items; state = self.new }) }
+        ensures { OnOk result (parted_one one gone.old.items self.old ≡ record {
+          gone =
+              gone.new.items;
+          state = self.new;
+        }) }
     {
         if !goes_with(&one, gone.as_slice()) {
             return Ok(self.live.push(one)?);
@@ -575,6 +616,28 @@ fn is_known(one: &Live, field: &Field) -> bool
     ensures { result ≡ is_known one.now field.now }
 {
     one.first.fields.as_slice().contains(field) || one.late.as_slice().contains(field)
+}
+
+// Returns the fields that these calls record of this span.
+fn recorded_in(alloc: Global, at: Option<Id>, calls: &[Call]) -> Result<Fields, AllocError>
+    ensures { IfOk result (λ fields. fields ≡ recorded_in at calls.now) }
+{
+    let mut fields = Fields::new(alloc);
+    let mut rest = calls;
+    while let [call, others @ ..] = rest {
+        append_recorded(&mut fields, at, call)?;
+        rest = others;
+    }
+    Ok(fields)
+}
+
+fn append_recorded(fields: &mut Fields, at: Option<Id>, call: &Call) -> Result<(), AllocError>
+    ensures { OnOk result (fields.new ≡ fields.old ++ recorded_of at call.now) }
+{
+    match (at, call) {
+        (Some(at), Call::Record(id, record)) if *id == at => fields.append(record.fields.clone()?),
+        _ => Ok(()),
+    }
 }
 
 // Returns the fields of a span that were recorded late.

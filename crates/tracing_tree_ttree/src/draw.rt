@@ -5,16 +5,17 @@ use crate::junit::draw_junit;
 use crate::options::{Options, name_of};
 use crate::otlp::draw_otlp;
 use crate::output::Flush;
-use crate::page::{write_input, write_trace};
+use crate::page::{write_call_lines, write_input, write_trace};
 use crate::report::{
-    Origin, Status, out_of_memory, refuse_format, refuse_gzip, refuse_lines, refuse_option, report,
+    Origin, Status, out_of_memory, refuse_format, refuse_gzip, refuse_option, report,
 };
-use crate::tree::{clock, draw_calls, draw_input, draw_trace, some_moment};
+use crate::shown::Subject;
+use crate::tree::{draw_calls, draw_input, draw_trace, some_moment};
 use std::alloc::AllocError;
 use std::io;
 use std::io::{BufReader, Read, Write};
 use tracing_tree::lines::BLOCK;
-use tracing_tree::time::Clock;
+use tracing_tree_adapters::Mapped;
 use tracing_tree_go_test::{Failed, GoTest};
 use tracing_tree_logs::Logs;
 use tracing_tree_prefix::{Mark, Prefixed};
@@ -90,21 +91,11 @@ fn refusal(
         return Some(refuse_option(rt, origin, option, name_of(format)));
     }
     if options.form.is_none() {
-        return None;
+        options.title?;
+        return Some(refuse_option(rt, origin, "title", "a drawing"));
     }
-    if let Some(option) = options.without_drawing() {
-        return Some(refuse_option(rt, origin, option, "--html and --json"));
-    }
-    match format {
-        Format::Lines => Some(refuse_lines(rt, origin)),
-        Format::GoTest
-        | Format::Tracing
-        | Format::Chrome
-        | Format::Logs
-        | Format::Otlp
-        | Format::Junit
-        | Format::Tap => None,
-    }
+    let option = options.without_drawing()?;
+    Some(refuse_option(rt, origin, option, "--html and --json"))
 }
 
 // Shows the input, whose format is known.
@@ -123,12 +114,26 @@ fn draw_format<R: AllocGlobal + Eprint + Print, I: Read + Drop>(
         Format::Tap => draw_tap(rt, origin, head.whole().chain(lines), head.mark, options),
         Format::Lines => {
             let before = draw_preamble(rt, origin, head, options)?;
-            Ok(before.worse(draw_calls(rt, origin, head, lines, options)?))
+            Ok(before.worse(show_calls(rt, origin, head, lines, options)?))
         }
         Format::Chrome | Format::Otlp | Format::Junit => {
             let before = draw_preamble(rt, origin, head, options)?;
             Ok(before.worse(draw_document(rt, origin, format, head, lines, options)?))
         }
+    }
+}
+
+// Shows lines of settings and calls.
+fn show_calls<R: AllocGlobal + Eprint + Print, I: Read + Drop>(
+    rt: &R,
+    origin: Origin<'_>,
+    head: &Head,
+    lines: BufReader<I>,
+    options: &Options<'_>,
+) -> Result<Status, AllocError> {
+    match options.form {
+        None => draw_calls(rt, origin, head, lines, options),
+        Some(form) => write_call_lines(rt, origin, head, lines, form, options),
     }
 }
 
@@ -173,15 +178,16 @@ fn draw_preamble<R: AllocGlobal + Eprint + Print>(
         return Ok(Status::Success);
     }
     let plain = ThreadColumns::new(Plain::new(some_moment()), options.has_threads());
-    let mut source = AtLeast::new(plain, options.min_level());
-    draw_input(
+    let source = AtLeast::new(plain, options.min_level());
+    let (status, _source) = draw_input(
         rt,
         origin,
         head.preamble(),
-        &mut source,
-        Clock::None,
+        source,
+        Subject::Preamble,
         options,
-    )
+    )?;
+    Ok(status)
 }
 
 // Shows the lines of Go's tests. The status is 1 also if one failed.
@@ -196,8 +202,8 @@ fn draw_tests<R: AllocGlobal + Eprint + Print, I: Read + Drop>(
         return draw_failed(rt, origin, input, mark, options);
     }
     let tests = GoTest::new(rt.alloc(), 1, some_moment())?;
-    let mut source = AtLeast::new(Prefixed::new(tests, mark), options.min_level());
-    let status = draw_lines(rt, origin, input, &mut source, options)?;
+    let source = AtLeast::new(Prefixed::new(tests, mark), options.min_level());
+    let (status, source) = draw_lines(rt, origin, input, source, options)?;
     Ok(with_tests(status, source.into_source().into_source().has_failed()))
 }
 
@@ -210,8 +216,8 @@ fn draw_failed<R: AllocGlobal + Eprint + Print, I: Read + Drop>(
     options: &Options<'_>,
 ) -> Result<Status, AllocError> {
     let failed = Failed::new(rt.alloc(), 1, some_moment())?;
-    let mut source = AtLeast::new(Prefixed::new(failed, mark), options.min_level());
-    let status = draw_lines(rt, origin, input, &mut source, options)?;
+    let source = AtLeast::new(Prefixed::new(failed, mark), options.min_level());
+    let (status, source) = draw_lines(rt, origin, input, source, options)?;
     Ok(with_tests(status, source.into_source().into_source().has_failed()))
 }
 
@@ -234,8 +240,10 @@ fn draw_tracing<R: AllocGlobal + Eprint + Print, I: Read + Drop>(
 ) -> Result<Status, AllocError> {
     let tracing = Tracing::new(rt.alloc(), 1, some_moment());
     let columns = ThreadColumns::new(tracing, options.has_threads());
-    let mut source = AtLeast::new(Prefixed::new(columns, mark), options.min_level());
-    draw_lines(rt, origin, input, &mut source, options)
+    let further = Mapped::new(columns, options.line_fields(rt.alloc())?);
+    let source = AtLeast::new(Prefixed::new(further, mark), options.min_level());
+    let (status, _source) = draw_lines(rt, origin, input, source, options)?;
+    Ok(status)
 }
 
 // Shows the lines of a service's JSON logs.
@@ -250,8 +258,9 @@ fn draw_logs<R: AllocGlobal + Eprint + Print, I: Read + Drop>(
         Some(key) => Logs::grouped_by(rt.alloc(), key, 1, some_moment()),
         None => Logs::new(rt.alloc(), 1, some_moment()),
     };
-    let mut source = AtLeast::new(Prefixed::new(logs, mark), options.min_level());
-    draw_lines(rt, origin, input, &mut source, options)
+    let source = AtLeast::new(Prefixed::new(logs, mark), options.min_level());
+    let (status, _source) = draw_lines(rt, origin, input, source, options)?;
+    Ok(status)
 }
 
 // Shows the lines of TAP. The status is 1 also if a test failed.
@@ -267,23 +276,25 @@ fn draw_tap<R: AllocGlobal + Eprint + Print, I: Read + Drop>(
     } else {
         Tap::new(rt.alloc(), 1, some_moment())?
     };
-    let mut source = AtLeast::new(Prefixed::new(tap, mark), options.min_level());
-    let status = draw_lines(rt, origin, input, &mut source, options)?;
+    let source = AtLeast::new(Prefixed::new(tap, mark), options.min_level());
+    let (status, source) = draw_lines(rt, origin, input, source, options)?;
     Ok(with_tests(status, source.into_source().into_source().has_failed()))
 }
 
-// Shows the lines of a source.
-fn draw_lines<R: AllocGlobal + Eprint + Print, I: Read + Drop, S: Source>(
+// Shows the lines of a source, and returns the source afterwards.
+fn draw_lines<R: AllocGlobal + Eprint + Print, I: Read + Drop, S: Source + Drop>(
     rt: &R,
     origin: Origin<'_>,
     input: I,
-    source: &mut S,
+    source: S,
     options: &Options<'_>,
-) -> Result<Status, AllocError> {
-    match options.form {
-        None => draw_input(rt, origin, input, source, clock(options.is_timed), options),
-        Some(form) => write_input(rt, origin, input, source, form, options),
-    }
+) -> Result<(Status, S), AllocError> {
+    let Some(form) = options.form else {
+        return draw_input(rt, origin, input, source, Subject::Lines, options);
+    };
+    let mut source = source;
+    let status = write_input(rt, origin, input, &mut source, form, options)?;
+    Ok((status, source))
 }
 
 // Shows a document, which is read whole first.
@@ -317,7 +328,7 @@ fn draw_document<R: AllocGlobal + Eprint + Print, I: Read + Drop>(
     };
     match (format, options.form) {
         (Format::Junit, _) => draw_junit(rt, origin, head, text, options),
-        (_, None) => draw_trace(rt, origin, text, options),
+        (_, None) => draw_trace(rt, origin, bytes.as_slice(), text, options),
         (_, Some(form)) => write_trace(rt, origin, head, text, form, options),
     }
 }

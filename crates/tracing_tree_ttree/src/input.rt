@@ -38,8 +38,8 @@ pub struct Head {
 }
 
 impl Head {
-    // Reads lines until one determines the format. If an option names it, only the first line is
-    // read.
+    // Reads lines until one determines the format. If an option names it, lines are read until one
+    // determines whether lines have prefixes, or only the first if the format has no prefixes.
     pub fn read<R: Read>(
         alloc: Global,
         lines: &mut BufReader<R>,
@@ -99,11 +99,16 @@ impl Head {
         }
         let line = without_line_end(line);
         let prefixed = prefixed_format(alloc, line)?;
+        let detection = detector.take(alloc, line)?;
         if let Some(format) = named {
             self.mark = prefixed.map(|(_, mark): (Format, Mark)| -> Mark { mark });
+            let is_held = detection == Detection::Held && prefixed.is_none();
+            if is_held && has_prefixes(format) {
+                return Ok(None);
+            }
             return Ok(Some(Detected::Format(format)));
         }
-        match (detector.take(alloc, line)?, prefixed) {
+        match (detection, prefixed) {
             (Detection::Determined(format), _) => {
                 self.begin(format, place, number);
                 Ok(Some(Detected::Format(format)))

@@ -5,11 +5,12 @@ use crate::options::Options;
 use crate::output::output;
 use crate::page::write_read;
 use crate::report::{Origin, Reporter, Status, Unit, report_run};
-use crate::tree::{layered, some_moment};
+use crate::shown::{Subject, shown_calls};
+use crate::summary::print_summary;
+use crate::tree::{fault_of_document, layered, some_moment};
 use std::alloc::AllocError;
 use std::io;
-use tracing_tree::lines::{LineCause, LineFault};
-use tracing_tree::time::Clock;
+use tracing_tree::lines::LineCause;
 use tracing_tree_chrome::TraceCalls;
 use tracing_tree_junit::{JunitCalls, Selection, junit_calls};
 use tracing_tree_sources::run::make;
@@ -78,21 +79,21 @@ fn show<R: AllocGlobal + Eprint + Print>(
         let read = TraceCalls {
             calls: Ok(calls),
             unknown: 0,
+            undrawn: 0,
         };
         return write_read(rt, origin, head, read, form, &reporter, options);
     }
     let alloc = rt.alloc();
-    let writer = output(alloc, io::writer(rt), options.width)?;
+    let (calls, summary) = shown_calls(alloc, calls, Subject::Document, options)?;
+    let writer = output(alloc, io::writer(rt), options.shaping())?;
     let config = options.config().with_deferred_spans(true);
-    let layered = layered(alloc, config, Clock::None, writer);
+    let layered = layered(alloc, config, writer);
     let mut receiver = CallsAtLeast::new(layered, options.min_level());
     let fault = match make(calls, &mut receiver) {
         Ok(()) => None,
-        Err(refusal) => Some(LineFault {
-            line: 1,
-            cause: LineCause::Refused(refusal),
-        }),
+        Err(refusal) => Some(fault_of_document(LineCause::Refused(refusal))),
     };
     let run = SourceRun { unknown: 0, fault };
-    Ok(report_run(&run, receiver.into_receiver(), &reporter))
+    let status = report_run(&run, receiver.into_receiver(), &reporter);
+    Ok(status.worse(print_summary(rt, origin, status, summary)?))
 }

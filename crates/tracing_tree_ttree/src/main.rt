@@ -9,8 +9,9 @@ mod otlp;
 mod output;
 mod page;
 mod report;
+mod shown;
+mod summary;
 mod tree;
-mod width;
 
 use clap::Error;
 use clap::error::ErrorKind;

@@ -8,10 +8,11 @@ use std::alloc::{AllocError, Global};
 use tracing_tree::format::Config;
 use tracing_tree::style::Level;
 use tracing_tree::text::Text;
-use tracing_tree_chrome::Cut;
+use tracing_tree_adapters::{LineFields, Member, Precision};
 use tracing_tree_otlp::Selection;
 use tracing_tree_page::LineForm;
-use tracing_tree_sources::Format;
+use tracing_tree_sources::{Cut, Format};
+use tracing_tree_terminal::Shaping;
 
 // What `--help` says of the first line.
 const DETECTION: &str =
@@ -40,8 +41,17 @@ pub struct Options<'a> {
     // Which spans of a trace aren't drawn.
     pub cut: Cut,
 
-    // Whether events show when they happened.
-    pub is_timed: bool,
+    // How exactly rows show when they happened. Without it, they don't.
+    pub times: Option<Precision>,
+
+    // Whether long arrays and objects are shown whole.
+    pub is_full: bool,
+
+    // The members of tracing's lines that events show too.
+    fields: Option<Vec<&'a str>>,
+
+    // Whether counts, the slowest spans and the first errors follow the drawing.
+    pub has_summary: bool,
 
     // Without it, a tree is drawn.
     pub form: Option<LineForm>,
@@ -74,21 +84,26 @@ pub struct Style {
     is_retraced: bool,
 }
 
-// The options that not every format has.
-const OPTIONS: [&str; 13] = [
+// The options that not every format, or not every output, has.
+const OPTIONS: [&str; 18] = [
     "amount",
     "color",
     "depth",
     "failed",
+    "fields",
+    "full",
     "group",
     "level",
     "min",
     "no-lines",
     "no-retrace",
     "service",
+    "summary",
     "threads",
     "times",
+    "title",
     "trace",
+    "width",
 ];
 
 // The options that select what is shown of OTLP.
@@ -103,10 +118,24 @@ impl<'a> Options<'a> {
             .with_indent_lines(style.has_lines)
             .with_indent_amount(style.amount)
             .with_bracketed_fields(false)
-            .with_thread_names(style.has_threads)
+            .with_thread_names(style.has_threads || self.times.is_some())
             .with_span_retrace(style.is_retraced)
             .with_close_retrace(style.is_retraced)
-            .with_deferred_spans(self.min_level.is_some())
+            .with_deferred_spans(self.is_deferred())
+    }
+
+    // Returns what is done to each line of the drawing. Without colours, no control character is
+    // written.
+    pub fn shaping(&self) -> Shaping {
+        Shaping {
+            width: self.width,
+            is_escaped: !self.style.is_coloured,
+        }
+    }
+
+    // Returns whether a span is drawn only once an event happens in it.
+    pub fn is_deferred(&self) -> bool {
+        self.min_level.is_some()
     }
 
     // Returns whether rows begin with their threads.
@@ -117,6 +146,21 @@ impl<'a> Options<'a> {
     // Events below this level aren't shown.
     pub fn min_level(&self) -> Level {
         self.min_level.unwrap_or(Level::Trace)
+    }
+
+    // Returns what --fields shows of tracing's lines.
+    pub fn line_fields(&self, alloc: Global) -> Result<Option<LineFields>, AllocError> {
+        let Some(words) = &self.fields else {
+            return Ok(None);
+        };
+        let mut members = Vec::new(alloc);
+        for word in words.iter().copied() {
+            members.push(Member {
+                key: Text::from_str(alloc, key_of(word))?,
+                name: Text::from_str(alloc, word)?,
+            })?;
+        }
+        Ok(Some(LineFields::new(alloc, members)))
     }
 
     // Returns what is shown of OTLP.
@@ -131,6 +175,7 @@ impl<'a> Options<'a> {
             trace: Text::from(trace),
             least: self.min_level,
             is_failed: self.is_failed,
+            cut: self.cut,
         })
     }
 
@@ -173,7 +218,8 @@ fn is_option_of(format: Format, option: &str) -> bool {
         ),
         "group" => format == Format::Logs,
         "service" | "trace" => format == Format::Otlp,
-        "min" | "depth" => format == Format::Chrome,
+        "min" | "depth" => matches!(format, Format::Chrome | Format::Otlp),
+        "fields" => format == Format::Tracing,
         "level" => matches!(
             format,
             Format::GoTest
@@ -185,6 +231,7 @@ fn is_option_of(format: Format, option: &str) -> bool {
         ),
         "threads" => format == Format::Tracing,
         "times" => !matches!(format, Format::Lines | Format::Junit | Format::Tap),
+        "title" | "width" => true,
         _ => format != Format::Lines,
     }
 }
@@ -193,7 +240,15 @@ fn is_option_of(format: Format, option: &str) -> bool {
 fn is_option_of_drawing(option: &str) -> bool {
     matches!(
         option,
-        "amount" | "color" | "no-lines" | "no-retrace" | "threads" | "times"
+        "amount"
+            | "color"
+            | "full"
+            | "no-lines"
+            | "no-retrace"
+            | "summary"
+            | "threads"
+            | "times"
+            | "width"
     )
 }
 
@@ -220,10 +275,13 @@ pub fn parse<'a>(
         service: matches.get_str("service"),
         trace: matches.get_str("trace"),
         cut: Cut {
-            least: shortest(alloc, matches.get_str("min"))?,
+            min_time: shortest(alloc, matches.get_str("min"))?,
             depth: matches.get_one::<usize>("depth"),
         },
-        is_timed: matches.get_flag("times"),
+        times: matches.get_str("times").map(precision_of),
+        is_full: matches.get_flag("full"),
+        fields: words(alloc, &matches, "fields")?,
+        has_summary: matches.get_flag("summary"),
         form: form(alloc, &matches, files.len())?,
         title: matches.get_str("title"),
         from: format(matches.get_str("from")),
@@ -263,6 +321,22 @@ fn files<'a>(alloc: Global, matches: &ArgMatches<'a>) -> Result<Vec<&'a str>, Al
     Ok(files)
 }
 
+// Returns the values of an option, if it is given.
+fn words<'a>(
+    alloc: Global,
+    matches: &ArgMatches<'a>,
+    option: &str,
+) -> Result<Option<Vec<&'a str>>, AllocError> {
+    let Some(values) = matches.get_strs(option) else {
+        return Ok(None);
+    };
+    let mut words = Vec::new(alloc);
+    for value in values {
+        words.push(*value)?;
+    }
+    Ok(Some(words))
+}
+
 // Returns the given options, of those that only some formats have.
 fn given<'a>(alloc: Global, matches: &ArgMatches<'a>) -> Result<Vec<&'a str>, AllocError> {
     let mut given = Vec::new(alloc);
@@ -275,20 +349,41 @@ fn given<'a>(alloc: Global, matches: &ArgMatches<'a>) -> Result<Vec<&'a str>, Al
 }
 
 fn command<'a>(alloc: Global) -> Result<Command<'a>, AllocError> {
-    Command::new(alloc, "ttree")
+    let command = Command::new(alloc, "ttree")
         .version("0.1.0")
         .about("Draws another tool's output as a tree")
         .after_help(DETECTION)
         .arg(from_option(alloc))?
         .arg(color_option(alloc))?
-        .arg(amount_option(alloc))?
+        .arg(amount_option(alloc))?;
+    let command = with_selection(alloc, command)?;
+    let command = with_forms(alloc, command)?;
+    with_rows(alloc, command)?
+        .arg(flag(alloc, "strict", "Ends at the first line that can't be read"))?
+        .arg(width_option(alloc))?
+        .arg(
+            Arg::new(alloc, "file")
+                .value_name("FILE")
+                .num_args(0..)
+                .help("The inputs, one drawn after another; standard input without any, and for -"),
+        )
+}
+
+// Adds the options that select what is shown.
+fn with_selection<'a>(alloc: Global, command: Command<'a>) -> Result<Command<'a>, AllocError> {
+    command
         .arg(level_option(alloc))?
         .arg(failed_option(alloc))?
         .arg(group_option(alloc))?
         .arg(service_option(alloc))?
         .arg(trace_option(alloc))?
         .arg(min_option(alloc))?
-        .arg(depth_option(alloc))?
+        .arg(depth_option(alloc))
+}
+
+// Adds the options for what is written in place of the drawing.
+fn with_forms<'a>(alloc: Global, command: Command<'a>) -> Result<Command<'a>, AllocError> {
+    command
         .arg(flag(
             alloc,
             "html",
@@ -299,7 +394,12 @@ fn command<'a>(alloc: Global) -> Result<Command<'a>, AllocError> {
             alloc,
             "json",
             "Writes a line of JSON for each new span, event and close, in place of the drawing",
-        ))?
+        ))
+}
+
+// Adds the options for what a row shows, and for the summary.
+fn with_rows<'a>(alloc: Global, command: Command<'a>) -> Result<Command<'a>, AllocError> {
+    command
         .arg(flag(alloc, "no-lines", "Indents without lines"))?
         .arg(flag(
             alloc,
@@ -307,19 +407,18 @@ fn command<'a>(alloc: Global) -> Result<Command<'a>, AllocError> {
             "Shows no path again where the drawing comes back from another branch",
         ))?
         .arg(flag(alloc, "threads", "Shows the thread of each row, of tracing"))?
+        .arg(times_option(alloc))?
         .arg(flag(
             alloc,
-            "times",
-            "Shows when each event happened, and how long after its span opened",
+            "full",
+            "Shows arrays and objects whole, also beyond 200 characters",
         ))?
-        .arg(flag(alloc, "strict", "Ends at the first line that can't be read"))?
-        .arg(width_option(alloc))?
-        .arg(
-            Arg::new(alloc, "file")
-                .value_name("FILE")
-                .num_args(0..)
-                .help("The inputs, one drawn after another; standard input without any, and for -"),
-        )
+        .arg(fields_option(alloc))?
+        .arg(flag(
+            alloc,
+            "summary",
+            "Counts spans, events and errors after the drawing, and lists the slowest spans and the first errors",
+        ))
 }
 
 fn from_option<'a>(alloc: Global) -> Arg<'a> {
@@ -398,7 +497,7 @@ fn group_option<'a>(alloc: Global) -> Arg<'a> {
 
 fn min_option<'a>(alloc: Global) -> Arg<'a> {
     Arg::new(alloc, "min").long("min").value_name("TIME").help(
-        "Leaves out the spans of a trace that took less than this, such as 5ms or 1.5s",
+        "Leaves out the spans that took less than this, such as 5ms or 1.5s; chrome and otlp",
     )
 }
 
@@ -406,8 +505,29 @@ fn depth_option<'a>(alloc: Global) -> Arg<'a> {
     Arg::new(alloc, "depth")
         .long("depth")
         .value_name("N")
-        .help("Leaves out the spans of a trace below N levels")
+        .help("Leaves out the spans below N levels; chrome and otlp")
         .value_parser(value_parser!(usize))
+}
+
+fn times_option<'a>(alloc: Global) -> Arg<'a> {
+    Arg::new(alloc, "times")
+        .long("times")
+        .value_name("UNIT")
+        .num_args(0..=1)
+        .require_equals(true)
+        .default_missing_value("us")
+        .help(
+            "Begins each row with its time, in ms, us or ns, and how long after the first known time of its span it is",
+        )
+        .value_parser(&["ms", "us", "ns"][..])
+}
+
+fn fields_option<'a>(alloc: Global) -> Arg<'a> {
+    Arg::new(alloc, "fields")
+        .long("fields")
+        .value_name("KEYS")
+        .value_delimiter(',')
+        .help("Shows these members of each line too, such as target,file,line; tracing alone")
 }
 
 fn width_option<'a>(alloc: Global) -> Arg<'a> {
@@ -493,6 +613,24 @@ fn format(name: Option<&str>) -> Option<Format> {
         "tap" => Some(Format::Tap),
         "tracing" => Some(Format::Tracing),
         _ => Some(Format::GoTest),
+    }
+}
+
+// Returns how exactly times are shown, by its unit.
+fn precision_of(unit: &str) -> Precision {
+    match unit {
+        "ms" => Precision::Milliseconds,
+        "ns" => Precision::Nanoseconds,
+        _ => Precision::Microseconds,
+    }
+}
+
+// Returns the key that a word of --fields names in a line of tracing.
+fn key_of(word: &str) -> &str {
+    match word {
+        "file" => "filename",
+        "line" => "line_number",
+        _ => word,
     }
 }
 

@@ -2,20 +2,18 @@
 
 use crate::input::{Head, read_through, whole_characters};
 use crate::options::Options;
-use crate::output::output;
 use crate::page::write_read;
-use crate::report::{Origin, Reporter, Status, Unit, report_run};
-use crate::tree::{clock, layered, some_moment};
+use crate::report::{Origin, Reporter, Status, Unit};
+use crate::shown::Subject;
+use crate::tree::{draw_read, some_moment};
 use std::alloc::{AllocError, Global};
-use std::io;
 use std::io::BufReader;
 use std::str::from_utf8;
 use tracing_tree::call::Call;
-use tracing_tree::lines::{BLOCK, LineCause, LineFault};
+use tracing_tree::lines::{BLOCK, LineCause};
 use tracing_tree_chrome::TraceCalls;
 use tracing_tree_otlp::{OtlpCalls, otlp_calls};
-use tracing_tree_sources::run::make;
-use tracing_tree_sources::{Lack, Notes, SourceRun};
+use tracing_tree_sources::{Lack, Notes};
 
 // Shows traces and logs of OTLP. Lines that aren't UTF-8 are skipped.
 pub fn draw_otlp<R: AllocGlobal + Eprint + Print>(
@@ -117,24 +115,23 @@ fn show<R: AllocGlobal + Eprint + Print>(
             let _ = eprintln!(rt; "{origin}nothing is selected by {selecting}");
         }
     }
-    if let Some(form) = options.form {
-        let read = TraceCalls { calls, unknown };
-        return write_read(rt, origin, head, read, form, &reporter, options);
-    }
-    let writer = output(alloc, io::writer(rt), options.width)?;
-    let config = options.config().with_deferred_spans(false);
-    let mut layered = layered(alloc, config, clock(options.is_timed), writer);
-    let run = match calls {
-        Ok(calls) => match make(calls, &mut layered) {
-            Ok(()) => SourceRun {
-                unknown,
-                fault: None,
-            },
-            Err(refusal) => ended(unknown, LineCause::Refused(refusal)),
-        },
-        Err(cause) => ended(unknown, cause),
+    let read = TraceCalls {
+        calls,
+        unknown,
+        undrawn: 0,
     };
-    Ok(report_run(&run, layered, &reporter))
+    match options.form {
+        Some(form) => write_read(rt, origin, head, read, form, &reporter, options),
+        None => draw_read(
+            rt,
+            origin,
+            read,
+            Subject::Document,
+            None,
+            &reporter,
+            options,
+        ),
+    }
 }
 
 // Returns whether there is nothing to draw.
@@ -142,12 +139,5 @@ fn is_nothing(calls: &Result<Vec<Call>, LineCause>) -> bool {
     match calls {
         Ok(calls) => calls.is_empty(),
         Err(_) => false,
-    }
-}
-
-fn ended(unknown: u64, cause: LineCause) -> SourceRun {
-    SourceRun {
-        unknown,
-        fault: Some(LineFault { line: 1, cause }),
     }
 }

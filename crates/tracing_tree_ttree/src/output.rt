@@ -1,23 +1,29 @@
 //! Standard output.
 
-use crate::width::Narrow;
 use std::alloc::{AllocError, Global};
 use std::io;
 use std::io::{BufWriter, ErrorKind, Write};
 use tracing_tree::format::Wrap;
 use tracing_tree::lines::BLOCK;
+use tracing_tree_terminal::{Shaped, Shaping};
 
 // Standard output, as the drawings write to it.
-pub type Output<W> = Narrow<BufWriter<Pipe<W>>>;
+pub type Output<W> = Shaped<BufWriter<Pipe<W>>>;
 
-// Returns an output whose lines are cut at this many columns, if there is a number and it isn't 0.
+// What is done to the lines of a page, or of JSON: nothing.
+pub const UNCHANGED: Shaping = Shaping {
+    width: None,
+    is_escaped: false,
+};
+
+// Returns an output whose lines are shaped.
 pub fn output<W: Write + Drop>(
     alloc: Global,
     writer: W,
-    width: Option<usize>,
+    shaping: Shaping,
 ) -> Result<Output<W>, AllocError> {
     match BufWriter::with_capacity(alloc, BLOCK, Pipe::new(writer)) {
-        Ok(writer) => Ok(Narrow::new(alloc, writer, width)),
+        Ok(writer) => Ok(Shaped::new(alloc, writer, shaping)),
         Err(_) => Err(AllocError),
     }
 }

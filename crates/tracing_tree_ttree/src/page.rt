@@ -2,18 +2,19 @@
 
 use crate::input::Head;
 use crate::options::Options;
-use crate::output::{Output, output};
-use crate::report::{Origin, Reporter, Status, Unit, report_written};
-use crate::tree::some_moment;
-use std::alloc::AllocError;
+use crate::output::{Flush, Output, UNCHANGED, output};
+use crate::report::{Origin, Reporter, Status, Unit, report, report_undrawn, report_written};
+use crate::tree::{after_lines, first_line, read_trace, some_moment};
+use std::alloc::{AllocError, Global};
 use std::io;
-use std::io::{BufReader, Read, Write};
+use std::io::{BufReader, Printer, Read, Write};
+use std::str::from_utf8;
 use tracing_tree::format::Wrap;
-use tracing_tree::lines::{BLOCK, LineCause, LineFault};
-use tracing_tree_chrome::{TraceCalls, trace_calls};
+use tracing_tree::lines::{BLOCK, LineCause, LineFault, is_settings};
+use tracing_tree_chrome::{Leaves, TraceCalls};
 use tracing_tree_page::{LineForm, StepWriter};
 use tracing_tree_sources::run::make;
-use tracing_tree_sources::{AtLeast, Plain, Source, SourceRun, run_source};
+use tracing_tree_sources::{AtLeast, CallLines, Plain, Source, SourceRun, run_source};
 use tracing_tree_viewer::{HEAD, TAIL};
 
 // What writes the lines.
@@ -32,7 +33,7 @@ pub fn write_input<R: AllocGlobal + Eprint + Print, I: Read + Drop, S: Source>(
     let Ok(mut lines) = BufReader::with_capacity(alloc, BLOCK, input) else {
         return Err(AllocError);
     };
-    let writer = Wrap::new(output(alloc, io::writer(rt), None)?);
+    let writer = Wrap::new(output(alloc, io::writer(rt), UNCHANGED)?);
     let mut steps = StepWriter::new(alloc, form, writer);
     let mut reporter = Reporter::new(rt, origin, Unit::Line, options.is_strict);
     let run = match steps.begin(before_data(form), title(origin, options)) {
@@ -40,6 +41,51 @@ pub fn write_input<R: AllocGlobal + Eprint + Print, I: Read + Drop, S: Source>(
         Err(refusal) => ended(0, LineCause::Refused(refusal)),
     };
     Ok(finish(run, steps, form, &reporter))
+}
+
+// Writes lines of settings and calls, and the lines before them first. A line that isn't a call
+// ends the page, as it ends the drawing.
+pub fn write_call_lines<R: AllocGlobal + Eprint + Print, I: Read + Drop>(
+    rt: &R,
+    origin: Origin<'_>,
+    head: &Head,
+    lines: BufReader<I>,
+    form: LineForm,
+    options: &Options<'_>,
+) -> Result<Status, AllocError> {
+    let alloc = rt.alloc();
+    let (settings, calls) = first_line(head.body());
+    let lines_before = head.lines_before.saturating_add(1);
+    if !are_settings(alloc, settings)? {
+        let fault = Some(LineFault {
+            line: lines_before,
+            cause: LineCause::Settings,
+        });
+        return Ok(report(rt, origin, &fault, Flush::Done));
+    }
+    let Ok(mut lines) = BufReader::with_capacity(alloc, BLOCK, calls.chain(lines)) else {
+        return Err(AllocError);
+    };
+    let mut reporter = Reporter::new(rt, origin, Unit::Line, true);
+    reporter.lines_before = lines_before;
+    let (mut steps, begun) = begin(rt, origin, head, form, options)?;
+    let run = match begun {
+        None => {
+            let mut source = CallLines::new(alloc);
+            run_source(alloc, &mut source, &mut lines, &mut steps, &mut reporter)
+        }
+        Some(cause) => ended(0, cause),
+    };
+    let fault = after_lines(run.fault, lines_before);
+    Ok(finish(SourceRun { fault, ..run }, steps, form, &reporter))
+}
+
+// Returns whether this line has settings.
+fn are_settings(alloc: Global, line: &[u8]) -> Result<bool, AllocError> {
+    match from_utf8(line) {
+        Ok(line) => is_settings(alloc, line),
+        Err(_) => Ok(false),
+    }
 }
 
 // Writes a trace, and the lines before it first.
@@ -52,15 +98,11 @@ pub fn write_trace<R: AllocGlobal + Eprint + Print>(
     options: &Options<'_>,
 ) -> Result<Status, AllocError> {
     let mut reporter = Reporter::new(rt, origin, Unit::Element, options.is_strict);
-    let read = trace_calls(
-        rt.alloc(),
-        1,
-        some_moment(),
-        options.cut,
-        text,
-        &mut reporter,
-    );
-    write_read(rt, origin, head, read, form, &reporter, options)
+    let read = read_trace(rt.alloc(), Leaves::Spans, text, options, &mut reporter);
+    let undrawn = read.undrawn;
+    let status = write_read(rt, origin, head, read, form, &reporter, options)?;
+    report_undrawn(rt, origin, undrawn, status);
+    Ok(status)
 }
 
 // Writes what was read of a whole document, and the lines before it first.
@@ -73,18 +115,30 @@ pub fn write_read<R: AllocGlobal + Eprint + Print>(
     reporter: &Reporter<'_, R>,
     options: &Options<'_>,
 ) -> Result<Status, AllocError> {
-    let alloc = rt.alloc();
-    let writer = Wrap::new(output(alloc, io::writer(rt), None)?);
-    let mut steps = StepWriter::new(alloc, form, writer);
-    let begun = match steps.begin(before_data(form), title(origin, options)) {
-        Ok(()) => write_preamble(rt, origin, head, &mut steps, options)?,
-        Err(refusal) => Some(LineCause::Refused(refusal)),
-    };
+    let (mut steps, begun) = begin(rt, origin, head, form, options)?;
     let run = match begun {
         None => write_calls(read, &mut steps),
         Some(cause) => ended(read.unknown, cause),
     };
     Ok(finish(run, steps, form, reporter))
+}
+
+// Begins a page with the lines before those of the format. Returns what ended that early, too.
+fn begin<'a, R: AllocGlobal + Eprint + Print>(
+    rt: &'a R,
+    origin: Origin<'_>,
+    head: &Head,
+    form: LineForm,
+    options: &Options<'_>,
+) -> Result<(Steps<Printer<'a, R>>, Option<LineCause>), AllocError> {
+    let alloc = rt.alloc();
+    let writer = Wrap::new(output(alloc, io::writer(rt), UNCHANGED)?);
+    let mut steps = StepWriter::new(alloc, form, writer);
+    let begun = match steps.begin(before_data(form), title(origin, options)) {
+        Ok(()) => write_preamble(rt, origin, head, &mut steps, options)?,
+        Err(refusal) => Some(LineCause::Refused(refusal)),
+    };
+    Ok((steps, begun))
 }
 
 // Writes the lines before a trace: each is an event at the root. Returns what ended that early.
@@ -110,7 +164,11 @@ fn write_preamble<R: AllocGlobal + Eprint, W: Write + Drop>(
 
 // Writes the calls of a trace.
 fn write_calls<W: Write + Drop>(read: TraceCalls, steps: &mut Steps<W>) -> SourceRun {
-    let TraceCalls { unknown, calls } = read;
+    let TraceCalls {
+        unknown,
+        calls,
+        undrawn: _,
+    } = read;
     let calls = match calls {
         Ok(calls) => calls,
         Err(cause) => return ended(unknown, cause),

@@ -7,7 +7,6 @@ use std::process::ExitCode;
 use tracing_tree::format::{Refusal, Wrap};
 use tracing_tree::layered::Layered;
 use tracing_tree::lines::{LineCause, LineFault};
-use tracing_tree::time::Clock;
 use tracing_tree_sources::{Lack, Notes, SourceRun};
 
 // What `ttree` says if no line determines the format.
@@ -65,10 +64,24 @@ pub struct Origin<'a> {
 
 impl fmt::Display for Origin<'_> {
     fn fmt<W: fmt::Write>(&self, f: &mut fmt::Formatter<W>) -> fmt::Result {
-        match self.file {
-            Some(file) => write!(f, "ttree: {file}: "),
-            None => write!(f, "ttree: "),
+        f.write_str("ttree: ")?;
+        let Some(file) = self.file else {
+            return Ok(());
+        };
+        for c in file.chars() {
+            write_escaped(f, c)?;
         }
+        f.write_str(": ")
+    }
+}
+
+// Writes a character of a file's name, a control character as an escape.
+fn write_escaped<W: fmt::Write>(f: &mut fmt::Formatter<W>, c: char) -> fmt::Result {
+    if c < ' ' || '\u{7f}' <= c && c <= '\u{9f}' {
+        let code = u32::from(c);
+        write!(f, "\\u{{{code:x}}}")
+    } else {
+        f.write_char(c)
     }
 }
 
@@ -113,12 +126,6 @@ pub fn refuse_option(
     Status::Usage
 }
 
-// Reports that lines of settings and calls are only drawn.
-pub fn refuse_lines(rt: &impl Eprint, origin: Origin<'_>) -> Status {
-    let _ = eprintln!(rt; "{origin}--html and --json don't take lines of settings and calls yet");
-    Status::Usage
-}
-
 // Reports that no line determines the format of the input.
 pub fn refuse_format(rt: &impl Eprint, origin: Origin<'_>) -> Status {
     let _ = eprintln!(rt; "{origin}{FORMATS}");
@@ -149,21 +156,24 @@ pub fn report(
 }
 
 // Reports how the output of a run without a fault ended.
-fn report_flush(rt: &impl Eprint, origin: Origin<'_>, flush: Flush) -> Status {
+pub fn report_flush(rt: &impl Eprint, origin: Origin<'_>, flush: Flush) -> Status {
     match flush {
         Flush::Done => Status::Success,
         Flush::Closed => Status::Closed,
-        Flush::Failed => {
-            let _ = eprintln!(rt; "{origin}the output can't be written");
-            Status::Failure
-        }
+        Flush::Failed => report_unwritten(rt, origin),
     }
+}
+
+// Reports that the output can't be written.
+pub fn report_unwritten(rt: &impl Eprint, origin: Origin<'_>) -> Status {
+    let _ = eprintln!(rt; "{origin}the output can't be written");
+    Status::Failure
 }
 
 // Reports how the run of a source or a trace ended. It succeeds only if nothing was skipped.
 pub fn report_run<R: Eprint, W: Write + Drop>(
     run: &SourceRun,
-    layered: Layered<Wrap<Output<W>>, Clock<'static>>,
+    layered: Layered<Wrap<Output<W>>, ()>,
     reporter: &Reporter<'_, R>,
 ) -> Status {
     let (_registry, layer) = layered.into_parts();
@@ -182,6 +192,24 @@ pub fn report_written<R: Eprint, W: Write + Drop>(
         return Status::Failure;
     }
     status
+}
+
+// Reports what ended the reading of a document before its first call.
+pub fn report_unread<R: Eprint>(cause: LineCause, reporter: &Reporter<'_, R>) -> Status {
+    reporter.report_count();
+    reporter.report_end(Some(LineFault { line: 1, cause }), Flush::Done)
+}
+
+// Reports how many elements of a trace have no row, if there are any.
+pub fn report_undrawn(rt: &impl Eprint, origin: Origin<'_>, undrawn: u64, status: Status) {
+    if status == Status::Closed {
+        return;
+    }
+    let _ = match undrawn {
+        0 => Ok(()),
+        1 => eprintln!(rt; "{origin}1 counter, flow or other element has no row"),
+        count => eprintln!(rt; "{origin}{count} counters, flows and other elements have no row"),
+    };
 }
 
 // What an input consists of.
@@ -229,6 +257,8 @@ pub struct Reporter<'a, R> {
     is_strict: bool,
     // How many lines of the input come before those that are numbered.
     pub lines_before: u64,
+    // Whether the input isn't a trace at all.
+    pub is_no_trace: bool,
     count: u64,
 }
 
@@ -237,6 +267,7 @@ impl<R: Eprint> Notes for Reporter<'_, R> {
         let origin = self.origin;
         let unit = self.unit;
         if lack == Lack::Trace {
+            self.is_no_trace = true;
             let _ = eprintln!(self.rt; "{origin}{lack}");
             return !self.is_strict;
         }
@@ -262,6 +293,7 @@ impl<'a, R: Eprint> Reporter<'a, R> {
             unit,
             is_strict,
             lines_before: 0,
+            is_no_trace: false,
             count: 0,
         }
     }

@@ -45,4 +45,5 @@ after_mark mark text =
 -- a string without this mark at its end
 abbrev pub without_end : List ℕ → List ℕ → Option (List ℕ)
 without_end mark text =
-    if ends_with (λ a b. a == b) text mark then Some (take (length text - length mark) text) else None
+    if ends_with (λ a b. a == b) text mark then Some (take (length text - length mark) text) else
+    None

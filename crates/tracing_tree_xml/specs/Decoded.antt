@@ -63,7 +63,8 @@ ended_or_written text name None = (codes "&", text)
 -- what a reference means, whose `&` comes before this string, and what comes after it
 abbrev pub reference : List ℕ → List ℕ × List ℕ
 reference text =
-    ended_or_written text (piece Reference text) (after_mark (codes ";") (after_piece Reference text))
+    ended_or_written text (piece Reference text) (after_mark (codes ";") (after_piece Reference
+    text))
 
 -- a line end is a space in an attribute
 abbrev pub line_end : Until → List ℕ
@@ -103,7 +104,8 @@ decoded_then until text others =
 abbrev pub decoded_within : ℕ → Until → List ℕ → List ℕ
 decoded_within zero until text = []
 decoded_within (suc turns) until text =
-    if length text == 0 then [] else decoded_then until text (λ rest. decoded_within turns until rest)
+    if length text == 0 then [] else decoded_then until text (λ rest. decoded_within turns until
+    rest)
 
 -- What a string means. Each turn reads a byte or more.
 abbrev pub decoded : Until → List ℕ → List ℕ

@@ -78,7 +78,8 @@ tag_step rest =
 -- ---- what is skipped
 
 -- a construct continues inside unless the part ended with its mark
-abbrev pub part_step : Place → Place → Unfinished → Bool → Option (List ℕ) → Result ReadStep Unfinished
+abbrev pub part_step : Place → Place → Unfinished → Bool → Option (List ℕ) → Result ReadStep
+    Unfinished
 part_step inside outside unfinished ends after =
     step_after skipped (if ends then outside else inside) unfinished after
 
@@ -122,7 +123,8 @@ doctype_end_or mark None = subset_or_literal mark (after_mark (codes "[") mark)
 -- a document type declaration ends with `>`, after its internal subset in brackets
 abbrev pub doctype_step : List ℕ → Result ReadStep Unfinished
 doctype_step rest =
-    doctype_end_or (after_piece DoctypeMark rest) (after_mark (codes ">") (after_piece DoctypeMark rest))
+    doctype_end_or (after_piece DoctypeMark rest) (after_mark (codes ">") (after_piece DoctypeMark
+    rest))
 
 abbrev pub markup_or_literal : List ℕ → Option (List ℕ) → Result ReadStep Unfinished
 markup_or_literal mark (Some rest) = Ok (step skipped Subset rest)
@@ -139,7 +141,8 @@ subset_end_or mark None = comment_or_markup mark (after_mark (codes "<!--") mark
 -- the internal subset ends at a `]` outside of literals and comments
 abbrev pub subset_step : List ℕ → Result ReadStep Unfinished
 subset_step rest =
-    subset_end_or (after_piece SubsetMark rest) (after_mark (codes "]") (after_piece SubsetMark rest))
+    subset_end_or (after_piece SubsetMark rest) (after_mark (codes "]") (after_piece SubsetMark
+    rest))
 
 -- ---- CDATA
 
@@ -253,8 +256,10 @@ next_plain_step r = if is_at_end r then Ok None else some_step (plain_step_in r.
 -- ---- what is read
 
 -- a reader returned this, and is at what comes after it
-abbrev pub Reads : Result (Option ReadStep) Unfinished → Reading → Result (Option Token) Unfinished → Reading → Type 0
-Reads (Ok (Some step)) old (Ok (Some token)) new = (token_view token ≡ step.token) × (new ≡ step.after)
+abbrev pub Reads : Result (Option ReadStep) Unfinished → Reading → Result (Option Token) Unfinished
+    → Reading → Type 0
+Reads (Ok (Some step)) old (Ok (Some token)) new = (token_view token ≡ step.token) × (new ≡
+    step.after)
 Reads (Ok None) old (Ok None) new = new ≡ old
 Reads (Err unfinished) old (Err error) new = (error ≡ unfinished) × (new ≡ old)
 Reads (Ok (Some step)) old (Ok None) new = ⊥

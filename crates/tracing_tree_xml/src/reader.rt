@@ -241,7 +241,13 @@ fn plain_step(text: &str) -> Step<'_>
 }
 
 fn step_to<'a>(token: Token<'a>, place: Place, rest: &'a str) -> Step<'a>
-    ensures { result ≡ record { token = token_view token.entry; after = record { place = place; rest = rest.now } } }
+    ensures { result ≡ record {
+      token = token_view token.entry;
+      after = record {
+        place = place;
+        rest = rest.now;
+      };
+    } }
 {
     Step {
         token,

@@ -2,12 +2,12 @@
 
 ghost use Rattle.std.specs.Prelude.{◌≡◌, ◌++◌, ◌∷◌, [], IfOk, OnOk};
 ghost use Rattle.tracing_tree_go_test.specs.Names.{named};
-ghost use Rattle.tracing_tree_go_test.specs.GoTest.{build_of, build_printed, build_said, build_told, builds_said, builds_told, holds, more_built, texts_told, told_of_build, with_build, without_build, without_heading};
+ghost use Rattle.tracing_tree_go_test.specs.GoTest.{begun, build_last, build_of, build_printed, build_said, build_told, builds_said, builds_told, holds, level_of_build, more_built, only_closed, texts_told, told_of_build, with_build, without_build, without_heading};
 
 use super::GoTest;
 use super::running::Running;
-use super::text::without_line_end;
-use crate::names::{Named, key};
+use super::text::{is_progress, without_line_end};
+use crate::names::Named;
 use std::alloc::{AllocError, Global};
 use std::marker::Model;
 use tracing_tree_lines::lines::is_skipped;
@@ -90,7 +90,7 @@ impl GoTest {
         ensures build { IfOk result (λ build. build ≡ build_of path.now self.old) }
         ensures rest { OnOk result (self.new ≡ without_build path.now self.old) }
     {
-        match self.builds.take(path.as_bytes()) {
+        match self.builds.take(path.as_bytes())? {
             Some(build) => Ok(build),
             None => Build::new(self.alloc, path),
         }
@@ -100,37 +100,55 @@ impl GoTest {
     fn put_build(&mut self, path: &str, build: Build) -> Result<(), AllocError>
         ensures { OnOk result (self.new ≡ with_build path.now build self.old) }
     {
-        let path = key(self.alloc, path)?;
-        self.builds.put(path, build)
+        self.builds.put(self.alloc, path.as_bytes(), build)
     }
 
     // Reports the output of a package's build, in its package.
     pub(super) fn tell_build(&mut self, level: Level, path: &str) -> Result<(), AllocError>
         ensures { OnOk result (self.new ≡ build_told level path.now self.old) }
     {
-        match self.take_known_build(path) {
+        match self.take_known_build(path)? {
             Some(build) => self.tell_texts(level, &build),
             None => Ok(()),
         }
     }
 
     // Takes out the output of a build, if there is any.
-    fn take_known_build(&mut self, path: &str) -> Option<Build>
-        ensures build { result ≡ named path.now self.old.builds }
-        ensures rest { self.new ≡ without_build path.now self.old }
+    fn take_known_build(&mut self, path: &str) -> Result<Option<Build>, AllocError>
+        ensures build { IfOk result (λ build. build ≡ named path.now self.old.builds) }
+        ensures rest { OnOk result (self.new ≡ without_build path.now self.old) }
     {
         self.builds.take(path.as_bytes())
     }
 
-    // Reports the output of each of these builds.
+    // Reports the output of each of these builds, when no package is running.
     pub(super) fn tell_builds(&mut self, builds: Named<Build>) -> Result<(), AllocError>
         ensures { OnOk result (self.new ≡ builds_told builds self.old) }
     {
         let mut builds = builds;
-        while let Some((_, build)) = builds.take_first() {
-            self.tell_texts(Level::Warn, &build)?;
+        while let Some((_, build)) = builds.take_first()? {
+            self.tell_last(&build)?;
         }
         Ok(())
+    }
+
+    // Reports the output of a build in a span that closes after it.
+    fn tell_last(&mut self, build: &Build) -> Result<(), AllocError>
+        ensures { OnOk result (self.new ≡ build_last build.now self.old) }
+    {
+        let mut owner = Running::begun(self.alloc, build.path.as_str(), "")?;
+        self.say_texts(Level::Warn, &mut owner, build.texts.as_slice())?;
+        self.close_only(owner)
+    }
+
+    // Closes a span without an end, if there is one.
+    pub(super) fn close_only(&mut self, one: Running) -> Result<(), AllocError>
+        ensures { OnOk result (self.new ≡ only_closed one.span (holds one self.old)) }
+    {
+        match one.span {
+            Some(id) => self.push_close(id, one.above),
+            None => Ok(()),
+        }
     }
 
     // Reports the output of a build in its package.
@@ -169,7 +187,18 @@ impl GoTest {
             return Ok(());
         }
         self.open(owner)?;
-        self.push_event(level, line, owner.span)
+        self.push_event(level_of_build(level, line), line, owner.span)
+    }
+}
+
+// Returns the level of a line: what `go` says about what it fetches is no part of a failure.
+fn level_of_build(level: Level, line: &str) -> Level
+    ensures { result ≡ level_of_build level line.now }
+{
+    if is_progress(line.as_bytes()) {
+        Level::Info
+    } else {
+        level
     }
 }
 

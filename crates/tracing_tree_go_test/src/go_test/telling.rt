@@ -1,6 +1,7 @@
 //! Reports a test or a package: its lines, its span and its end.
 
 ghost use Rattle.std.specs.Prelude.{◌≡◌, ◌++◌, ◌∷◌, [], IfOk, OnOk, option_map};
+ghost use Rattle.tracing_tree_sources.specs.Told.{close_call};
 ghost use Rattle.tracing_tree_go_test.specs.GoTest.{cached_fields, coverage_fields, elapsed_fields, event_told, finished, frame_printed, framed, holds, level_of_line, line_of, line_told, opened, part_told, quiet_told, span_ended, string_printed, text_printed, told};
 
 use super::GoTest;
@@ -133,11 +134,18 @@ impl GoTest {
         match one.span {
             Some(id) => {
                 self.push_fields(ending.level(), ending.word(), rest, Some(id))?;
-                let call = close_call(self.moment, id, one.above);
-                self.push(one.above, call)
+                self.push_close(id, one.above)
             }
             None => self.push_quiet(ending, one.name.as_str(), rest, one.above),
         }
+    }
+
+    // Closes a span in its parent.
+    pub(super) fn push_close(&mut self, id: Id, above: Option<Id>) -> Result<(), AllocError>
+        ensures { OnOk result (self.new
+            ≡ told above (close_call self.old.moment id above) self.old) }
+    {
+        self.push(above, close_call(self.moment, id, above))
     }
 
     // Reports the end of a test that printed nothing.

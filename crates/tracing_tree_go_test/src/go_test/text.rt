@@ -1,7 +1,7 @@
 //! Names of Go's tests, lines that are only frames, and lines about a package's end.
 
 ghost use Rattle.std.specs.Prelude.{◌≡◌, option_map};
-ghost use Rattle.tracing_tree_go_test.specs.Texts.{after_path, after_tab, coverage_in, coverage_of, ends_line, ends_word, frames, is_cached, is_end_frame, is_frame, is_frame_line, is_name_frame, is_package_frame, is_step_frame, is_summary, is_test_frame, own_name, percent, up_to_space, without_line_end, without_spaces};
+ghost use Rattle.tracing_tree_go_test.specs.Texts.{after_path, after_tab, coverage_in, coverage_of, ends_line, ends_word, frames, is_cached, is_end_frame, is_frame, is_frame_line, is_name_frame, is_package_frame, is_progress, is_step_frame, is_summary, is_test_frame, own_name, percent, up_to_space, without_line_end, without_spaces};
 
 use tracing_tree_sources::marks::after_mark;
 
@@ -39,6 +39,15 @@ pub(super) fn own_name<'t>(outer: &str, test: &'t str) -> &'t str
         Some(own) => own,
         None => test,
     }
+}
+
+// Returns whether a line is a message of the command `go` about what it fetches.
+pub(super) fn is_progress(line: &[u8]) -> bool
+    ensures { result ≡ is_progress line.now }
+{
+    line.starts_with("go: downloading ".as_bytes())
+        || line.starts_with("go: finding ".as_bytes())
+        || line.starts_with("go: extracting ".as_bytes())
 }
 
 pub(super) fn ends_line(bytes: &[u8]) -> bool

@@ -95,11 +95,13 @@ listed_data Listed.Other = boolean false
 -- ---- the values at the keys of calls
 
 -- an object with these values at the keys of calls
-abbrev pub keyed : (call i name level target parent fields current thread thread_name mono wall : Data) → Members
+abbrev pub keyed : (call i name level target parent fields current thread thread_name mono wall :
+    Data) → Members
 keyed call i name level target parent fields current thread thread_name mono wall =
     member (codes "call") call (member (codes "id") i (member (codes "name") name
     (member (codes "level") level (member (codes "target") target (member (codes "parent") parent
-    (member (codes "fields") fields (member (codes "current") current (member (codes "thread") thread
+    (member (codes "fields") fields (member (codes "current") current (member (codes "thread")
+    thread
     (member (codes "thread_name") thread_name (member (codes "mono") mono
     (member (codes "wall") wall no_members)))))))))))
 

@@ -172,6 +172,10 @@ unnamed_settings = (record default_settings { ansi = false }, no_timer)
 abbrev pub object_settings : Data → Option Asked
 object_settings value = as_object value >>= (λ members. with_members members unnamed_settings)
 
+-- the line, which is UTF-8, encodes settings
+abbrev pub is_settings : List ℕ → Bool
+is_settings line = is_some (read line >>= object_settings)
+
 -- the first line is UTF-8, and encodes these settings and this timer
 abbrev pub SpellsSettings : List ℕ → Settings → Timer → Type 0
 SpellsSettings line settings timer =

@@ -17,25 +17,34 @@ use Rattle.tracing_tree_lines.specs.declared.lines.LineCause.{LineCause}
 use Rattle.tracing_tree_lines.specs.declared.lines.LineCause.TheVariants.{Settings as NoSettings, NotACall, Read, Memory, Refused}
 use Rattle.tracing_tree_lines.specs.declared.lines.LineFault.{LineFault}
 
+-- the answers that a call may get, and the effect of each on a receiver
+abbrev pub Answering : Type 0 → Type 1
+Answering S = Call → Result Reply Refusal → S → S → Type 0
+
 -- an encoded call got this answer
-pub record Answers (Spells : Call → Type 0) (answer : Result Reply Refusal) (old new : Seen)
-    : Type 0 where
+pub record Answers {S : Type 0} (Answered : Answering S) (Spells : Call → Type 0)
+    (answer : Result Reply Refusal) (old new : S) : Type 0 where
   pub call : Call
   pub spelled : Spells call
-  pub answered : IsAnswered call answer old new
+  pub answered : Answered call answer old new
 
 -- the encoded call was made; if no call is encoded, or memory ran out before, nothing has changed
-abbrev pub MakesSpelled : (Call → Type 0) → Result Reply LineCause → Seen → Seen → Type 0
-MakesSpelled Spells (Ok reply) old new = Answers Spells (Ok reply) old new
-MakesSpelled Spells (Err NoSettings) old new = ⊥
-MakesSpelled Spells (Err NotACall) old new = ((call : Call) → ¬ Spells call) × (new ≡ old)
-MakesSpelled Spells (Err Read) old new = ⊥
-MakesSpelled Spells (Err Memory) old new = new ≡ old
-MakesSpelled Spells (Err (Refused refusal)) old new = Answers Spells (Err refusal) old new
+abbrev pub MakesSpelled : {S : Type 0} → Answering S → (Call → Type 0) → Result Reply LineCause
+    → S → S → Type 0
+MakesSpelled Answered Spells (Ok reply) old new = Answers Answered Spells (Ok reply) old new
+MakesSpelled Answered Spells (Err NoSettings) old new = ⊥
+MakesSpelled Answered Spells (Err NotACall) old new =
+    ((call : Call) → ¬ Spells call) × (new ≡ old)
+MakesSpelled Answered Spells (Err Read) old new = ⊥
+MakesSpelled Answered Spells (Err Memory) old new = new ≡ old
+MakesSpelled Answered Spells (Err (Refused refusal)) old new =
+    Answers Answered Spells (Err refusal) old new
 
 -- the same of the call with this word
-abbrev pub MakesNamed : List ℕ → Data → Context → Result Reply LineCause → Seen → Seen → Type 0
-MakesNamed word value context = MakesSpelled (λ call. call_named word value context ≡ Some call)
+abbrev pub MakesNamed : {S : Type 0} → Answering S → List ℕ → Data → Context
+    → Result Reply LineCause → S → S → Type 0
+MakesNamed Answered word value context =
+    MakesSpelled Answered (λ call. call_named word value context ≡ Some call)
 
 -- the first line of the input encodes a call, and the call got this answer
 pub record MakesCall (known left : Option (List ℕ)) (answer : Result Reply Refusal)
@@ -43,7 +52,7 @@ pub record MakesCall (known left : Option (List ℕ)) (answer : Result Reply Ref
   pub line : List ℕ
   pub first : TakesLine known left line
   pub judged : is_skipped line ≡ false
-  pub made : Answers (SpellsCall line) answer old new
+  pub made : Answers IsAnswered (SpellsCall line) answer old new
 
 -- the first line of the input is skipped
 pub record SkipsLine (known left : Option (List ℕ)) : Type 0 where

@@ -4,7 +4,6 @@ ghost use Rattle.std.specs.Prelude.{◌≡◌, [], Some, codes, option_and_then,
 ghost use Rattle.serde_json.specs.Find.{as_str};
 ghost use Rattle.tracing_tree_lines.specs.Lines.Parts.{part_data, parts_data};
 ghost use Rattle.tracing_tree_context.specs.declared.context.Context.{Context};
-ghost use Rattle.tracing_tree_layer.specs.Layer.Layers.{seen, Changes};
 ghost use Rattle.tracing_tree_lines.specs.Lines.Values.{IsReadAs, ValueSpells};
 ghost use Rattle.tracing_tree_lines.specs.Lines.CallKinds.{word_of, IsKindIn};
 ghost use Rattle.tracing_tree_lines.specs.Lines.Spelled.{attributes_in, event_in, fields_value, id_in, parent_value, read_or, SpellsCall};
@@ -21,44 +20,47 @@ use std::alloc::{AllocError, Global};
 use tracing_tree_context::{Context, Id};
 use tracing_tree_layer::call::{Call, Reply};
 use tracing_tree_layer::calls::Calls;
-use tracing_tree_layer::layered::Layered;
 use tracing_tree_layer::told::{EventTexts, FieldTexts};
-use tracing_tree_output::Output;
 use tracing_tree_spans::registry::{Attributes, Parent, Record};
 use tracing_tree_text::field::Fields;
 use tracing_tree_text::style::Level;
 use tracing_tree_text::text::Text;
-use tracing_tree_time::FormatTime;
 
-// Makes the call of a line. `NotACall` if the line isn't one, `Memory` if an allocation fails
-// before the call.
-pub(super) fn make_call<W: Output, FT: FormatTime>(
+/// Makes the call of a line on a receiver, and returns its reply.
+///
+/// # Errors
+///
+/// - `NotACall` if the line isn't a call.
+/// - `Memory` if an allocation fails before the call is made.
+/// - `Refused` if the receiver refuses the call.
+///
+/// Nothing has changed after `NotACall` and `Memory`.
+pub fn make_call<C: Calls>(
     alloc: Global,
     line: &str,
     scratch: &mut Scratch,
-    layered: &mut Layered<W, FT>,
+    receiver: &mut C,
 ) -> Result<Reply, LineCause>
-    ensures { Changes (seen FT.FormatTime W.Output) (MakesSpelled (SpellsCall line.now) result)
-        layered.old layered.new }
+    ensures { MakesSpelled C.answers (SpellsCall line.now) result receiver.old receiver.new }
 {
     let mut parts = Parts::new();
     read_object(alloc, line, scratch, &mut parts)?;
     refuse_floats(alloc, line.as_bytes(), &parts)?;
-    make_call_of(alloc, &parts, layered)
+    make_call_of(alloc, &parts, receiver)
 }
 
 // Makes the call that the parts of a line encode.
-fn make_call_of<W: Output, FT: FormatTime>(
+fn make_call_of<C: Calls>(
     alloc: Global,
     parts: &Parts<'_>,
-    layered: &mut Layered<W, FT>,
+    receiver: &mut C,
 ) -> Result<Reply, LineCause>
-    ensures { Changes (seen FT.FormatTime W.Output)
-        (MakesSpelled (ValueSpells (parts_data parts.now)) result) layered.old layered.new }
+    ensures { MakesSpelled C.answers (ValueSpells (parts_data parts.now)) result
+        receiver.old receiver.new }
 {
     let context = context_in(alloc, parts)?;
     let kind = kind_in(parts).ok_or(LineCause::NotACall)?;
-    make_call_of_kind(alloc, kind, parts, &context, layered)
+    make_call_of_kind(alloc, kind, parts, &context, receiver)
 }
 
 // The kinds of calls.
@@ -87,32 +89,31 @@ fn kind_in(parts: &Parts<'_>) -> Option<Kind>
 
 // Makes the call of this kind.
 #[inline(always)]
-fn make_call_of_kind<W: Output, FT: FormatTime>(
+fn make_call_of_kind<C: Calls>(
     alloc: Global,
     kind: Kind,
     parts: &Parts<'_>,
     context: &Context,
-    layered: &mut Layered<W, FT>,
+    receiver: &mut C,
 ) -> Result<Reply, LineCause>
-    ensures { Changes (seen FT.FormatTime W.Output)
-        (MakesNamed (word_of kind) (parts_data parts.now) context.now result)
-        layered.old layered.new }
+    ensures { MakesNamed C.answers (word_of kind) (parts_data parts.now) context.now result
+        receiver.old receiver.new }
 {
     match kind {
         Kind::New => {
             let attributes = attributes_in(alloc, parts)?;
-            Ok(Reply::Span(layered.new_span(attributes, context)?))
+            Ok(Reply::Span(receiver.new_span(attributes, context)?))
         }
-        Kind::Clone => make_clone(parts, layered),
-        Kind::Record => make_record(alloc, parts, layered),
+        Kind::Clone => make_clone(parts, receiver),
+        Kind::Record => make_record(alloc, parts, receiver),
         Kind::Event => {
             let event = event_in(parts).ok_or(LineCause::NotACall)?;
-            layered.event(&event, context)?;
+            receiver.event(&event, context)?;
             Ok(Reply::Done)
         }
         Kind::Close => {
             let id = id_in(parts).ok_or(LineCause::NotACall)?;
-            Ok(Reply::Closed(layered.close(id, context)?))
+            Ok(Reply::Closed(receiver.close(id, context)?))
         }
     }
 }
@@ -120,32 +121,27 @@ fn make_call_of_kind<W: Output, FT: FormatTime>(
 // Makes a new handle of a span. Clones and records are rare. As separate functions, they keep their
 // values out of the caller's frame, which is zeroed for each line.
 #[inline(never)]
-fn make_clone<W: Output, FT: FormatTime>(
-    parts: &Parts<'_>,
-    layered: &mut Layered<W, FT>,
-) -> Result<Reply, LineCause>
-    ensures { (context : Context) → Changes (seen FT.FormatTime W.Output)
-        (MakesNamed (codes "clone") (parts_data parts.now) context result)
-        layered.old layered.new }
+fn make_clone<C: Calls>(parts: &Parts<'_>, receiver: &mut C) -> Result<Reply, LineCause>
+    ensures { (context : Context) → MakesNamed C.answers (codes "clone") (parts_data parts.now)
+        context result receiver.old receiver.new }
 {
     let id = id_in(parts).ok_or(LineCause::NotACall)?;
-    Ok(layered.call(Call::Clone(id))?)
+    Ok(receiver.call(Call::Clone(id))?)
 }
 
 // Records fields of a span.
 #[inline(never)]
-fn make_record<W: Output, FT: FormatTime>(
+fn make_record<C: Calls>(
     alloc: Global,
     parts: &Parts<'_>,
-    layered: &mut Layered<W, FT>,
+    receiver: &mut C,
 ) -> Result<Reply, LineCause>
-    ensures { (context : Context) → Changes (seen FT.FormatTime W.Output)
-        (MakesNamed (codes "record") (parts_data parts.now) context result)
-        layered.old layered.new }
+    ensures { (context : Context) → MakesNamed C.answers (codes "record") (parts_data parts.now)
+        context result receiver.old receiver.new }
 {
     let id = id_in(parts).ok_or(LineCause::NotACall)?;
     let fields = copied(alloc, fields_in(parts).ok_or(LineCause::NotACall)?)?;
-    Ok(layered.call(Call::Record(id, Record { fields }))?)
+    Ok(receiver.call(Call::Record(id, Record { fields }))?)
 }
 
 // Reads the attributes of a new span. `NotACall` if they are invalid, `Memory` if an allocation

@@ -2,16 +2,16 @@
 
 mod timer;
 
-ghost use Rattle.std.specs.Prelude.{◌≡◌, ◌<◌, IfSome, option_map};
+ghost use Rattle.std.specs.Prelude.{◌≡◌, ◌<◌, IfOk, IfSome, option_map};
 ghost use Rattle.serde_json.specs.View.{view};
 ghost use Rattle.tracing_tree_time.specs.Clock.{clock_timer};
 ghost use Rattle.tracing_tree_lines.specs.Lines.Values.{asked_of, asked_timer, ReadsFirst};
-ghost use Rattle.tracing_tree_lines.specs.Lines.Spelled.{object_settings, positive_value, unnamed_settings, with_member, with_setting};
+ghost use Rattle.tracing_tree_lines.specs.Lines.Spelled.{is_settings, object_settings, positive_value, unnamed_settings, with_member, with_setting};
 
 use super::LineCause;
 use super::value::unless_null;
 use serde_json::Value;
-use std::alloc::Global;
+use std::alloc::{AllocError, Global};
 use std::marker::Model;
 use timer::{Timer, timer_value};
 use tracing_tree_drawing::format::Config;
@@ -105,6 +105,22 @@ pub(super) fn settings_of_line(alloc: Global, line: &[u8]) -> Result<Setup, Line
         Ok(value) => settings_of(&value).ok_or(LineCause::Settings),
         Err(error) if error.is_memory() => Err(LineCause::Memory),
         Err(_) => Err(LineCause::Settings),
+    }
+}
+
+/// Returns whether a line is valid settings.
+///
+/// # Errors
+///
+/// `AllocError` if an allocation fails.
+#[tactic(auto, using(crate::proofs::SpelledLines::no_settings))]
+pub fn is_settings(alloc: Global, line: &str) -> Result<bool, AllocError>
+    ensures { IfOk result (λ found. found ≡ is_settings line.now) }
+{
+    match settings_of_line(alloc, line.as_bytes()) {
+        Ok(_) => Ok(true),
+        Err(LineCause::Settings) => Ok(false),
+        Err(_) => Err(AllocError),
     }
 }
 

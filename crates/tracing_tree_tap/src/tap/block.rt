@@ -6,9 +6,10 @@ ghost use Rattle.tracing_tree_tap.specs.Texts.{begins_block, duration_of};
 
 use super::Tap;
 use super::waiting::Waiting;
-use crate::length::{length_text, milliseconds};
+use crate::length::milliseconds;
 use crate::strings::{column_of, first_part, without_leading};
 use std::alloc::AllocError;
+use tracing_tree_sources::length::length_text;
 use tracing_tree_sources::marks::after_mark;
 use tracing_tree_text::style::Level;
 use tracing_tree_text::text::Text;

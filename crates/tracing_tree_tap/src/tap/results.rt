@@ -7,7 +7,6 @@ ghost use Rattle.tracing_tree_tap.specs.Texts.{label_of, leaf_label, length_if, 
 use super::subtests::Subtest;
 use super::waiting::{Waiting, end_fields};
 use super::{Mode, Tap};
-use crate::length::length_text;
 use crate::line::{
     Directive, described, directive_of, elapsed_of, number_of, parts_of, plan_reason, planned,
     reason_of,
@@ -18,6 +17,7 @@ use crate::tally::Verdict;
 use std::alloc::{AllocError, Global};
 use std::mem;
 use tracing_tree_context::Id;
+use tracing_tree_sources::length::length_text;
 use tracing_tree_text::style::Level;
 use tracing_tree_text::text::Text;
 

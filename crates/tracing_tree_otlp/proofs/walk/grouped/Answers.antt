@@ -1,4 +1,4 @@
-use Rattle.std.proofs.Common.{rules, ◌≡◌, List, [], ◌∷◌, ◌++◌, ap, ◌∙◌, append_assoc}
+use Rattle.std.proofs.Common.{rules, ◌≡◌, List, [], ◌∷◌, ◌++◌, ap, ◌∙◌, append_assoc, sym}
 use Rattle.tracing_tree_otlp.specs.Walk.{put_first}
 use Rattle.tracing_tree_otlp.specs.declared.item.Item.{Item}
 use Rattle.tracing_tree_otlp.proofs.walk.grouped.Goals as goal
@@ -9,6 +9,7 @@ loop-item-preserved c =
     let item = c.in-Some.item in
     let popped : c.loop-item.items.items ≡ c.pop.new.self.items ++ item ∷ [] = search rules in (
       item ∷ done,
-      split ∙ ap (λ (l : List Item). l ++ done) popped ∙ append_assoc c.pop.new.self.items (item ∷ []) done,
+      split ∙ ap (λ (l : List Item). l ++ done) popped ∙ append_assoc c.pop.new.self.items (item ∷ []) done
+          ∙ ap (λ (l : List Item). l ++ item ∷ done) (sym c.trim.ensures),
       c.in_ok-put_first.ensures ∙ ap (put_first item) same,
     )

@@ -3,8 +3,8 @@ use Rattle.tracing_tree_go_test.specs.GoTest.{packages_left}
 use Rattle.tracing_tree_go_test.proofs.go_test.GoTest.leave_packages.Given as goal
 
 -- the later packages are left
-abbrev pub invariant-loop-tests : goal.invariant-loop-tests
-invariant-loop-tests l = packages_left l.fn.packages l.fn.self ≡ packages_left l.packages l.self
+abbrev pub invariant-loop-packages : goal.invariant-loop-packages
+invariant-loop-packages l = packages_left l.fn.packages l.fn.self ≡ packages_left l.packages l.self
 
-abbrev pub decreases-loop-tests : goal.decreases-loop-tests
-decreases-loop-tests l = length l.packages
+abbrev pub decreases-loop-packages : goal.decreases-loop-packages
+decreases-loop-packages l = length l.packages

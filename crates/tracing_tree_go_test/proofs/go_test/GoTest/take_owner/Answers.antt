@@ -8,8 +8,8 @@ unfolding held
 returns c =
     let path = c.args.path.now in
     let test = c.args.test.now in
-    let tests = c.take_package-tests.result in
-    let left = c.take_package-tests.new.self in
+    let tests = c.in_ok-tests.tests in
+    let left = c.take_package.new.self in
     let name = c.owner-name.result.now in
     let is : name ≡ owner tests test = c.owner-name.ensures ∙ ap (owner tests) c.as_bytes.ensures.value in
     let rest : c.take_running.new.tests ≡ without name tests = c.in_ok-one.ensures.rest in
@@ -23,4 +23,4 @@ returns c =
     let others : Tests = without name tests in
     holds (placed (span_in others []) others (running_as path name tests)) (with_package path others s) in
     (λ i. holds (one i) (others i)) ∙ ap (λ name. at tests name left) is
-    ∙ (λ i. at (c.take_package-tests.ensures.tests i) (owner (c.take_package-tests.ensures.tests i) test) (c.take_package-tests.ensures.rest i))
+    ∙ (λ i. at (c.in_ok-tests.ensures.tests i) (owner (c.in_ok-tests.ensures.tests i) test) (c.in_ok-tests.ensures.rest i))

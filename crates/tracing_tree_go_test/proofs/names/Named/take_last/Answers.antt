@@ -1,8 +1,14 @@
-use Rattle.std.proofs.Common.{[], ◌∷◌, sym, ap, ◌∙◌}
-use Rattle.tracing_tree_go_test.specs.Names.{by_bytes}
+use Rattle.std.proofs.Common.{[], ◌∷◌, ◌++◌, sym, ap, ◌∙◌}
+use Rattle.tracing_tree_go_test.specs.Names.{by_bytes, with_recent}
 use Rattle.tracing_tree_go_test.proofs.NamedLists.{appended}
 use Rattle.tracing_tree_go_test.proofs.names.Named.take_last.Goals as goal
 
-pub returns-clause-one : goal.returns-clause-one
-returns-clause-one g c =
-    (c.in_ok-one.field-0-0.items, sym c.self.view_is ∙ ap by_bytes c.in_ok-one.ensures.removal ∙ appended c.pop_last.new.self.entries ((c.in_ok-one.field-0-0, c.in_ok-one.one) ∷ []))
+pub returns-in-Some-clause-one : goal.returns-in-Some-clause-one
+returns-in-Some-clause-one g c =
+    let name = c.in-Some.field-0-0 in
+    let left = c.pop_last.new.self.entries in (
+      name.items,
+      sym c.self.view_is ∙ sym c.in_ok-settle.ensures.entries ∙ ap by_bytes c.in-Some.ensures.removal
+          ∙ appended left ((name, c.in-Some.one) ∷ [])
+          ∙ ap (λ recent. with_recent recent (by_bytes left) ++ (name.items, c.in-Some.one) ∷ []) (sym c.in_ok-settle.ensures.recent),
+    )

@@ -1,4 +1,4 @@
-use Rattle.std.proofs.Common.{refl, subst}
+use Rattle.std.proofs.Common.{subst}
 use Rattle.tracing_tree_layer.specs.declared.call.Call.{Call}
 use Rattle.tracing_tree_lines.specs.Lines.Parts.{HasParts}
 use Rattle.tracing_tree_lines.specs.Lines.Spelled.{SpellsCall}
@@ -14,12 +14,9 @@ returns-in_err-refuse_floats g c =
     let cause = c.in_err-refuse_floats.field-0.0 in
     let refused = fault_is c.from_residual-in_err-refuse_floats.result cause c.from_residual-in_err-refuse_floats.ensures.0 c.from_residual-in_err-refuse_floats.ensures.1 in
     let failed = subst (λ line. IsUnlessMemory NotACall ((call : Call) → ¬ SpellsCall line call) cause) c.as_bytes.ensures.value c.in_err-refuse_floats.ensures in
-    rw refused (record { changed = unread (SpellsCall c.args.line.now) cause _ failed; fixed = refl })
+    rw refused (unread g.C.Calls.answers (SpellsCall c.args.line.now) cause _ failed)
 
 pub returns : goal.returns
 returns g c =
     let parts = subst (λ line. HasParts line c.read_object.new.parts) c.as_bytes.ensures.value c.in_ok-refuse_floats.ensures in
-    record {
-      changed = made_of_parts c.args.line.now c.read_object.new.parts c.make_call_of.result _ _ parts c.make_call_of.ensures.changed;
-      fixed = c.make_call_of.ensures.fixed;
-    }
+    made_of_parts g.C.Calls.answers c.args.line.now c.read_object.new.parts c.make_call_of.result _ _ parts c.make_call_of.ensures

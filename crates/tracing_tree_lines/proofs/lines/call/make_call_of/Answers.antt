@@ -17,7 +17,7 @@ returns-in_err-context g c =
     let value = parts_data c.args.parts.now in
     let cause = c.in_err-context.field-0.0 in
     let refused = fault_is c.from_residual.result cause c.from_residual.ensures.0 c.from_residual.ensures.1 in
-    rw refused (record { changed = unread (ValueSpells value) cause _ (no_context value cause c.in_err-context.ensures); fixed = refl })
+    rw refused (unread g.C.Calls.answers (ValueSpells value) cause _ (no_context value cause c.in_err-context.ensures))
 
 pub returns-in_err-kind : goal.returns-in_err-kind
 returns-in_err-kind g c =
@@ -25,7 +25,7 @@ returns-in_err-kind g c =
     let none : c.kind_in.result ≡ None = search rules in
     let unnamed = rw none at c.kind_in.ensures in
     let refused : c.from_residual-in_err-kind.result ≡ Err NotACall = search rules in
-    rw refused (record { changed = (reads_none value (λ moment timed. no_kind value moment unnamed), refl); fixed = refl })
+    rw refused (reads_none value (λ moment timed. no_kind value moment unnamed), refl)
 
 pub returns : goal.returns
 returns g c =
@@ -33,9 +33,5 @@ returns g c =
     let some : c.kind_in.result ≡ Some c.in_ok-kind.kind = search rules in
     let word : read_or None as_str (codes "call") value ≡ Some (word_of c.in_ok-kind.kind) = rw some at c.kind_in.ensures in
     let context = c.in_ok-context.ensures in
-    let made = c.make_call_of_kind.ensures in
-    record {
-      changed = made_named value c.in_ok-context.context (word_of c.in_ok-kind.kind) c.make_call_of_kind.result _ _ (no_float_parts c.args.parts.now)
-          context.0 context.1 word made.changed;
-      fixed = made.fixed;
-    }
+    made_named g.C.Calls.answers value c.in_ok-context.context (word_of c.in_ok-kind.kind) c.make_call_of_kind.result _ _ (no_float_parts c.args.parts.now)
+    context.0 context.1 word c.make_call_of_kind.ensures

@@ -1,5 +1,5 @@
 use Rattle.std.proofs.Common.{◌≡◌, length}
-use Rattle.tracing_tree_otlp.specs.Select.{without_nested}
+use Rattle.tracing_tree_otlp.specs.Nested.{without_nested}
 use Rattle.tracing_tree_otlp.proofs.keyed.Rows.drop_nested.Given as goal
 
 -- the others are left to be judged

@@ -1,0 +1,4 @@
+pub mod LongValues
+pub mod LinedSpans
+pub mod ShownMoments
+mod Worked

@@ -1,0 +1,5 @@
+pub mod PlainLines
+pub mod WorkedLines
+pub mod Taken
+pub mod Fitted
+pub mod Written

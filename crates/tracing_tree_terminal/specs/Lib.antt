@@ -1,0 +1,4 @@
+pub mod Plain
+pub mod Columns
+pub mod Lines
+pub mod Writing
