@@ -4,7 +4,10 @@ use Rattle.std.proofs.lemmas.List.Concat.{flat_map-append}
 use Rattle.std.proofs.lemmas.Str.{encodes-append}
 use Rattle.std.proofs.lemmas.List.{append-nil, append_assoc}
 use Rattle.std.specs.Fmt.{digit_glyph, digits, digits_onto, decimal}
-use Rattle.tracing_tree_page.specs.Lines.{escaped}
+use Rattle.std.specs.List.{list_any}
+use Rattle.std.specs.Prelude.{nat_lt, ◌==◌, ◌||◌, if◌then◌else◌, codes}
+use Rattle.std.proofs.lemmas.Bool.{true≢false}
+use Rattle.tracing_tree_page.specs.Lines.{escaped, hex_pair, is_escaped}
 use lib.Utf8.{encode, encodes, next}
 
 -- no byte of them is escaped
@@ -73,3 +76,25 @@ one-more-char start mid new cs c h k =
     ap (flat_map escaped) (encodes-append cs (c ∷ []) ∙ ap (λ text. encodes cs ++ text) (append-nil (encode c))) ∙ flat_map-append escaped (encodes cs) (encode c) in
     k ∙ ap (λ text. text ++ flat_map escaped (encode c)) h ∙ append_assoc start (flat_map escaped (encodes cs)) (flat_map escaped (encode c))
     ∙ ap (λ text. start ++ text) (sym grown)
+
+-- ---- strings without a byte that is escaped
+
+plain_kept : (text : List ℕ) → list_any is_escaped text ≡ false → AreKept text
+plain_kept [] none = record { same = refl }
+plain_kept (byte ∷ text) none = by (byte == 34) refl (byte == 92) refl (byte == 60) refl (nat_lt byte 32) refl none (plain_kept text) where
+  by : (a : Bool) → (byte == 34) ≡ a → (b : Bool) → (byte == 92) ≡ b → (c : Bool) → (byte == 60) ≡ c → (d : Bool) → nat_lt byte 32 ≡ d
+      → ((a || (b || (c || d))) || list_any is_escaped text) ≡ false → (list_any is_escaped text ≡ false → AreKept text) → AreKept (byte ∷ text)
+  by true _ b _ c _ d _ none others = absurd (true≢false none)
+  by false _ true _ c _ d _ none others = absurd (true≢false none)
+  by false _ false _ true _ d _ none others = absurd (true≢false none)
+  by false _ false _ false _ true _ none others = absurd (true≢false none)
+  by false is_a false is_b false is_c false is_d none others =
+      one_more byte text
+      (ap (λ (here : Bool). if here || (byte == 92) then 92 ∷ byte ∷ [] else (if nat_lt byte 32 || (byte == 60) then codes "\\u00" ++ hex_pair byte else byte ∷ [])) is_a
+      ∙ ap (λ (here : Bool). if here then 92 ∷ byte ∷ [] else (if nat_lt byte 32 || (byte == 60) then codes "\\u00" ++ hex_pair byte else byte ∷ [])) is_b
+      ∙ ap (λ (here : Bool). if here || (byte == 60) then codes "\\u00" ++ hex_pair byte else byte ∷ []) is_d
+      ∙ ap (λ (here : Bool). if here then codes "\\u00" ++ hex_pair byte else byte ∷ []) is_c)
+      (others none)
+
+pub unescaped : (text : List ℕ) → list_any is_escaped text ≡ false → flat_map escaped text ≡ text
+unescaped text none = (plain_kept text none).same

@@ -18,6 +18,10 @@ use Rattle.tracing_tree_page.specs.Steps.{Stamp, Step, About, New, Record, Event
 abbrev pub hex_pair : ℕ → List ℕ
 hex_pair byte = digit_glyph false (byte / 16) ∷ digit_glyph false (byte % 16) ∷ []
 
+-- a byte that is an escape between quotes
+abbrev pub is_escaped : ℕ → Bool
+is_escaped byte = (byte == 34) || ((byte == 92) || ((byte == 60) || nat_lt byte 32))
+
 -- a byte of a string between quotes
 abbrev pub escaped : ℕ → List ℕ
 escaped byte =

@@ -2,7 +2,8 @@
 
 ghost use Rattle.std.specs.Prelude.{◌≡◌, ◌++◌, ◌∷◌, [], ◌<◌, false, codes, OnOk, string_bytes, encode_utf8, flat_map};
 ghost use Rattle.std.specs.Fmt.{digit_glyph};
-ghost use Rattle.tracing_tree_page.specs.Lines.{escaped, hex_pair, quoted};
+ghost use Rattle.std.specs.List.{list_any};
+ghost use Rattle.tracing_tree_page.specs.Lines.{escaped, hex_pair, is_escaped, quoted};
 ghost use Rattle.tracing_tree_text.specs.Extended.{IsExtended};
 
 use std::alloc::AllocError;
@@ -18,7 +19,40 @@ pub(crate) fn push_quoted(out: &mut String, text: &str) -> Result<(), AllocError
 }
 
 // Appends a string as it appears between quotes.
+#[tactic(auto, using(crate::proofs::Kept::unescaped))]
 pub(crate) fn push_escaped(out: &mut String, text: &str) -> Result<(), AllocError>
+    ensures ok { OnOk result
+        (string_bytes out.new ≡ string_bytes out.old ++ flat_map escaped text.now) }
+    ensures extended { IsExtended (string_bytes out.old) (string_bytes out.new) }
+{
+    if has_escaped(text) {
+        push_with_escapes(out, text)
+    } else {
+        out.push_str(text)
+    }
+}
+
+// Returns whether a byte of a string is escaped between quotes.
+fn has_escaped(text: &str) -> bool
+    ensures { result ≡ list_any is_escaped text.now }
+{
+    let mut rest = text.as_bytes();
+    while let [byte, others @ ..] = rest {
+        if is_escaped(*byte) {
+            return true;
+        }
+        rest = others;
+    }
+    false
+}
+
+fn is_escaped(byte: u8) -> bool
+    ensures { result ≡ is_escaped byte }
+{
+    byte == b'"' || byte == b'\\' || byte == b'<' || byte < b' '
+}
+
+fn push_with_escapes(out: &mut String, text: &str) -> Result<(), AllocError>
     ensures ok { OnOk result
         (string_bytes out.new ≡ string_bytes out.old ++ flat_map escaped text.now) }
     ensures extended { IsExtended (string_bytes out.old) (string_bytes out.new) }

@@ -22,7 +22,7 @@ use tracing_tree_layer::call::{Call, Reply};
 use tracing_tree_layer::calls::Calls;
 use tracing_tree_layer::told::ToldEvent;
 use tracing_tree_output::{Output, write_whole};
-use tracing_tree_spans::registry::{Attributes, LookupSpan, Record, Registry};
+use tracing_tree_spans::registry::{Attributes, Event, LookupSpan, Record, Registry};
 
 /// A receiver of calls that writes a line for each step: for a new span, for fields that are
 /// recorded later, for an event, and for each span that closes.
@@ -115,6 +115,21 @@ impl<W: Output> StepWriter<W> {
         send(&mut self.text, &mut self.writer)
     }
 
+    // Writes the line of an event.
+    fn write_event(&mut self, event: &Event, context: &Context) -> Result<(), Refusal>
+        ensures { Answers (Call.Event event.now context.now) (answer_as done result)
+            (seen_steps W.Output self.old) (seen_steps W.Output self.new) }
+    {
+        if self.writer.faults() > 0 {
+            return Err(Refusal::Failed);
+        }
+        let parent = if_live(&self.registry, event.parent.named(context.current));
+        let current = if_live(&self.registry, context.current);
+        self.text.clear();
+        push_event(&mut self.text, self.form, context, parent, current, event)?;
+        send(&mut self.text, &mut self.writer)
+    }
+
     /// Returns the output, which has all that was written.
     pub fn writer(&self) -> &W
         ensures { result.now ≡ self.now.writer }
@@ -156,7 +171,7 @@ impl<W: Output> Calls for StepWriter<W> {
                 Ok(Reply::Done)
             }
             Call::Event(event, context) => {
-                self.event(&event, &context)?;
+                self.write_event(&event, &context)?;
                 Ok(Reply::Done)
             }
             Call::Close(id, context) => Ok(Reply::Closed(self.close(id, &context)?)),
@@ -212,11 +227,7 @@ impl<W: Output> Calls for StepWriter<W> {
             return Err(Refusal::Failed);
         }
         let event = event.to_event(*self.closing.allocator())?;
-        let parent = if_live(&self.registry, event.parent.named(context.current));
-        let current = if_live(&self.registry, context.current);
-        self.text.clear();
-        push_event(&mut self.text, self.form, context, parent, current, &event)?;
-        send(&mut self.text, &mut self.writer)
+        self.write_event(&event, context)
     }
 
     #[tactic(auto, using(crate::proofs::Refusals::close_refused, crate::proofs::Refusals::closes_some))]

@@ -1,6 +1,6 @@
 use Rattle.std.proofs.Common.{◌≡◌, ◌++◌, flat_map, string_bytes}
 use Rattle.tracing_tree_page.specs.Lines.{escaped}
-use Rattle.tracing_tree_page.proofs.string.push_escaped.Given as goal
+use Rattle.tracing_tree_page.proofs.string.push_with_escapes.Given as goal
 use lib.Utf8.{encodes}
 
 -- the characters so far
