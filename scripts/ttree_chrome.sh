@@ -207,9 +207,9 @@ END
     count 'with --json on a leaf' want 'ttree: 2 counters, flows and other elements have no row' 0
 }
 
-# What has no row is counted, but metadata isn't.
+# What has no row is counted, an end without a start too, but metadata isn't.
 run_undrawn_of_traces() {
-    trace_of 'on elements without a row' -- 0 'ttree: 8 counters, flows and other elements have no row' << 'END'
+    trace_of 'on elements without a row' -- 0 'ttree: 9 counters, flows and other elements have no row' << 'END'
 [{"ph":"C","ts":1,"name":"memory","args":{"bytes":7}},{"ph":"s","id":1},{"ph":"t","id":1},{"ph":"f","id":1},{"ph":"N"},{"ph":"O"},{"ph":"D"},{"ph":"?"},
  {"ph":"M","name":"process_labels"},{"ph":"M","name":"process_name","args":{"name":"p"}},{"ph":"E","ts":3},{"ph":"i","ts":4,"name":"row"}]
 --

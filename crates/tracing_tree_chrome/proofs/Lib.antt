@@ -7,4 +7,5 @@ pub mod Hearing
 pub mod Noting
 mod Worked
 mod WorkedLeaves
+mod WorkedEnds
 mod KeyLists

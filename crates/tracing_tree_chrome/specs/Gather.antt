@@ -102,14 +102,18 @@ drawn one s = record s { items = s.items ++ one ∷ [] }
 abbrev pub began : Placed → ℕ → GatheredState → GatheredState
 began one index s = record s { begun = s.begun ++ item_of one last_time Unended index ∷ [] }
 
+-- an element that has no row
+abbrev pub undrawn_one : GatheredState → GatheredState
+undrawn_one s = record s { undrawn = one_more s.undrawn }
+
 abbrev pub ended_one : Option Item → ℕ → Placed → ℕ → GatheredState → GatheredState
 ended_one (Some one) at last index s =
     drawn (whole one last index) (record s { begun = take at s.begun ++ drop (at + 1) s.begun })
-ended_one None at last index s = s
+ended_one None at last index s = undrawn_one s
 
 abbrev pub ended_at : Option ℕ → Placed → ℕ → GatheredState → GatheredState
 ended_at (Some at) last index s = ended_one (slice_get s.begun at) at last index s
-ended_at None last index s = s
+ended_at None last index s = undrawn_one s
 
 -- the span of the lane that began last ends
 abbrev pub ended : Placed → ℕ → GatheredState → GatheredState
@@ -185,7 +189,7 @@ gathered_as (ProcessName owner text) index s =
 gathered_as (ThreadName owner text) index s =
     thread_named (lane_of owner s.strings) text (owned owner s)
 gathered_as Metadata index s = s
-gathered_as Undrawn index s = record s { undrawn = one_more s.undrawn }
+gathered_as Undrawn index s = undrawn_one s
 
 -- one more element
 abbrev pub gathered_one : Element → GatheredState → GatheredState

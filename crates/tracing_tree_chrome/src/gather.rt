@@ -1,7 +1,7 @@
 //! Collects the elements of a trace.
 
 ghost use Rattle.std.specs.Prelude.{◌≡◌, ◌∷◌, ◌++◌, [], ◌<◌, length, IfOk, IfSome, OnOk, IsPermutation, IsSorted};
-ghost use Rattle.tracing_tree_chrome.specs.Gather.{began, drawn, ended, gathered_one, happened, item_cmp, item_of, lane_of, last_in, none_later, nothing_gathered, on_track, owned, placed, process_named, process_of, same_lane, thread_named, tracked, tracked_as, whole};
+ghost use Rattle.tracing_tree_chrome.specs.Gather.{began, drawn, ended, gathered_one, happened, item_cmp, item_of, lane_of, last_in, none_later, nothing_gathered, on_track, owned, placed, process_named, process_of, same_lane, thread_named, tracked, tracked_as, undrawn_one, whole};
 
 use crate::element::{Element, Entry, Owner, Track};
 use crate::keys::Keys;
@@ -160,7 +160,7 @@ impl Gathered {
             Element::ThreadName(owner, text) => self.name_thread(owner, text),
             Element::Metadata => Ok(()),
             Element::Undrawn => {
-                self.undrawn = self.undrawn.saturating_add(1);
+                self.count_undrawn();
                 Ok(())
             }
         }
@@ -255,8 +255,8 @@ impl Gathered {
         Ok(self.begun.push(item)?)
     }
 
-    // Ends the lane's span that began last, with the element at `index`. Does nothing if the lane
-    // has no open span.
+    // Ends the lane's span that began last, with the element at `index`. If the lane has no open
+    // span, the element has no row.
     fn end(&mut self, one: Placed, index: u64) -> Result<(), AllocError>
         ensures { OnOk result (self.new ≡ ended one index self.old) }
     {
@@ -265,8 +265,18 @@ impl Gathered {
                 let begun = self.begun.remove(at);
                 Ok(self.items.push(whole(begun, one, index)?)?)
             }
-            None => Ok(()),
+            None => {
+                self.count_undrawn();
+                Ok(())
+            }
         }
+    }
+
+    // Counts an element that has no row.
+    fn count_undrawn(&mut self)
+        ensures { self.new ≡ undrawn_one self.old }
+    {
+        self.undrawn = self.undrawn.saturating_add(1);
     }
 
     // Adds an event.
