@@ -137,6 +137,7 @@ run_log_lines() {
     log_of 'on groups of a log' << 'END_OF_LINES'
 {"level":"info","msg":"a","trace_id":"x"}
 {"level":"info","msg":"b","request_id":"x"}
+{"level":"info","msg":"h","reqId":"req-1"}
 {"level":"info","msg":"c","traceId":"x","requestId":"y"}
 {"level":"info","msg":"d","trace.id":"","correlation_id":7}
 panic: e
@@ -147,6 +148,8 @@ g
 ├─ INFO a
 ┐request id=x
 ├─ INFO b
+┐request id=req-1
+├─ INFO h
 ┐trace id=x
 ├─ INFO c, requestId=y
 ┐request id=7

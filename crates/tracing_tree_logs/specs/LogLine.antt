@@ -34,7 +34,7 @@ trace_keys = codes "trace_id" ∷ codes "traceId" ∷ codes "trace.id" ∷ []
 abbrev pub group_keys : List (List ℕ)
 group_keys =
     codes "trace_id" ∷ codes "traceId" ∷ codes "trace.id" ∷ codes "request_id" ∷ codes "requestId"
-    ∷ codes "req_id" ∷ codes "correlation_id" ∷ []
+    ∷ codes "req_id" ∷ codes "reqId" ∷ codes "correlation_id" ∷ []
 
 -- ---- words
 

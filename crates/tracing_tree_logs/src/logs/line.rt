@@ -31,13 +31,14 @@ const MESSAGE_KEYS: [&str; 4] = ["msg", "message", "event", "MESSAGE"];
 const TRACE_KEYS: [&str; 3] = ["trace_id", "traceId", "trace.id"];
 
 // A trace counts before a request.
-const GROUP_KEYS: [&str; 7] = [
+const GROUP_KEYS: [&str; 8] = [
     "trace_id",
     "traceId",
     "trace.id",
     "request_id",
     "requestId",
     "req_id",
+    "reqId",
     "correlation_id",
 ];
 
