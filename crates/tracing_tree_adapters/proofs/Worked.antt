@@ -43,6 +43,9 @@ pub elapsed : elapsed_column (Some 104_000) ≡ codes "  104.000" ++ micro_unit 
 unfolding digits chars
 elapsed = refl
 
+pub a_day_and_more : elapsed_column (Some 104_000_000_000_000) ≡ codes " 104000.000s "
+a_day_and_more = refl
+
 pub no_time : elapsed_column None ≡ codes "            "
 no_time = refl
 

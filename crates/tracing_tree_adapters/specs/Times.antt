@@ -85,10 +85,11 @@ uptime_column precision nanoseconds =
     replicate (6 - length seconds) 32 ++ seconds ++ codes "."
     ++ fraction precision (nanoseconds % 1_000_000_000)
 
--- a length of time, right-aligned
+-- a length of time, right-aligned, with a space before it and after it
 abbrev pub elapsed_column : Option ℕ → List ℕ
 elapsed_column (Some elapsed) =
-    replicate (columns_left 11 (chars (length_text elapsed))) 32 ++ length_text elapsed ++ codes " "
+    codes " " ++ replicate (columns_left 10 (chars (length_text elapsed))) 32
+    ++ length_text elapsed ++ codes " "
 elapsed_column None = replicate 12 32
 
 -- ---- the time of a row

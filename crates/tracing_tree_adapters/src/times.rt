@@ -415,7 +415,8 @@ fn push_elapsed(alloc: Global, out: &mut String, elapsed: Option<u64>) -> Result
         return push_spaces(out, 12);
     };
     let text = length_text(alloc, elapsed)?;
-    push_spaces(out, columns_left(11, text.as_str()))?;
+    out.push_str(" ")?;
+    push_spaces(out, columns_left(10, text.as_str()))?;
     out.push_str(text.as_str())?;
     out.push_str(" ")
 }

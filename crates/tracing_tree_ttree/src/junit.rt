@@ -13,8 +13,9 @@ use std::io;
 use tracing_tree::lines::LineCause;
 use tracing_tree_chrome::TraceCalls;
 use tracing_tree_junit::{JunitCalls, Selection, junit_calls};
+use tracing_tree_sources::SourceRun;
+use tracing_tree_sources::level::is_shown;
 use tracing_tree_sources::run::make;
-use tracing_tree_sources::{CallsAtLeast, SourceRun};
 
 // Shows a document of JUnit XML. The status is 1 also if a case failed, if the document ends early,
 // or if there is no report.
@@ -69,11 +70,12 @@ fn show<R: AllocGlobal + Eprint + Print>(
     options: &Options<'_>,
 ) -> Result<Status, AllocError> {
     let JunitCalls {
-        calls,
+        mut calls,
         tally: _,
         is_cut: _,
         is_report: _,
     } = junit;
+    calls.retain(|call| is_shown(options.min_level(), call));
     let reporter = Reporter::new(rt, origin, Unit::Element, options.is_strict);
     if let Some(form) = options.form {
         let read = TraceCalls {
@@ -87,13 +89,12 @@ fn show<R: AllocGlobal + Eprint + Print>(
     let (calls, summary) = shown_calls(alloc, calls, Subject::Document, options)?;
     let writer = output(alloc, io::writer(rt), options.shaping())?;
     let config = options.config().with_deferred_spans(true);
-    let layered = layered(alloc, config, writer);
-    let mut receiver = CallsAtLeast::new(layered, options.min_level());
-    let fault = match make(calls, &mut receiver) {
+    let mut layered = layered(alloc, config, writer);
+    let fault = match make(calls, &mut layered) {
         Ok(()) => None,
         Err(refusal) => Some(fault_of_document(LineCause::Refused(refusal))),
     };
     let run = SourceRun { unknown: 0, fault };
-    let status = report_run(&run, receiver.into_receiver(), &reporter);
+    let status = report_run(&run, layered, &reporter);
     Ok(status.worse(print_summary(rt, origin, status, summary)?))
 }
