@@ -17,7 +17,7 @@ The programs are compiled in the same way (scripts/unproved.py), and these scrip
   `make install` on a copy.
 
 scripts/messages.py compares what targets and scripts say if a tool is missing. The docs and the
-viewer are compared with their sources. None of this shows that a function does only
+viewer are compared with their sources, and each edit of must-fail/ must apply. None of this shows that a function does only
 what its contract says: `make gate` does, and runs tests, cases and programs again as they are
 proved and built.
 
@@ -54,6 +54,7 @@ DOCS = (
     ("sizes of the claims", "scripts/claim.py", "--check"),
     ("examples of the docs", "scripts/examples.py"),
     ("the viewer's text", "viewer/build.py", "--check"),
+    ("the places of the edits", "scripts/edit_texts.py"),
 )
 
 # The number of steps that have ended, and of all steps.
