@@ -31,6 +31,7 @@ files() {
 644 LICENSE-APACHE share/doc/tracing_tree/LICENSE-APACHE
 644 LICENSE-MIT share/doc/tracing_tree/LICENSE-MIT
 644 docs/README.md share/doc/tracing_tree/docs/README.md
+644 docs/manual/c.md share/doc/tracing_tree/docs/manual/c.md
 644 docs/manual/chrome-traces.md share/doc/tracing_tree/docs/manual/chrome-traces.md
 644 docs/manual/go-test.md share/doc/tracing_tree/docs/manual/go-test.md
 644 docs/manual/json-lines.md share/doc/tracing_tree/docs/manual/json-lines.md
@@ -40,7 +41,10 @@ files() {
 644 docs/manual/pages.md share/doc/tracing_tree/docs/manual/pages.md
 644 docs/manual/read-back.md share/doc/tracing_tree/docs/manual/read-back.md
 644 docs/manual/rust-json.md share/doc/tracing_tree/docs/manual/rust-json.md
+644 docs/manual/rust.md share/doc/tracing_tree/docs/manual/rust.md
+644 docs/manual/service.md share/doc/tracing_tree/docs/manual/service.md
 644 docs/manual/tap.md share/doc/tracing_tree/docs/manual/tap.md
+644 docs/manual/threads.md share/doc/tracing_tree/docs/manual/threads.md
 644 docs/manual/ttree.md share/doc/tracing_tree/docs/manual/ttree.md
 644 docs/ARCHITECTURE.md share/doc/tracing_tree/docs/ARCHITECTURE.md
 644 docs/DECISIONS.md share/doc/tracing_tree/docs/DECISIONS.md
@@ -49,6 +53,7 @@ files() {
 644 docs/MODEL.md share/doc/tracing_tree/docs/MODEL.md
 644 docs/PAGE.md share/doc/tracing_tree/docs/PAGE.md
 644 docs/PROVED.md share/doc/tracing_tree/docs/PROVED.md
+644 docs/reference/glossary.md share/doc/tracing_tree/docs/reference/glossary.md
 644 docs/tree.svg share/doc/tracing_tree/docs/tree.svg
 644 bindings/README.md share/doc/tracing_tree/bindings/README.md
 FILES
@@ -69,7 +74,8 @@ FILES
 }
 
 # Folders that are removed if they are empty. The others may have been there before.
-FOLDERS='share/doc/tracing_tree/docs/manual share/doc/tracing_tree/docs share/doc/tracing_tree/bindings
+FOLDERS='share/doc/tracing_tree/docs/manual share/doc/tracing_tree/docs/reference
+share/doc/tracing_tree/docs share/doc/tracing_tree/bindings
 share/doc/tracing_tree'
 
 # The quotes keep a prefix with spaces one word. pkg-config quotes pcfiledir itself.

@@ -222,6 +222,12 @@ def check_completions(name, program):
 
 # ---- installing
 
+def pages():
+    """Returns the files of docs/, without the man pages."""
+    found = [os.path.relpath(f"{at}/{it}", TOP) for at, _, names in os.walk(f"{TOP}/docs") for it in names]
+    return [it for it in found if not it.startswith("docs/man/")]
+
+
 def install_places():
     """Returns the file that must be installed at each place below the prefix, by its folder."""
     files = {f"bin/{it}": f"bin/{it}" for it in NAMES}
@@ -235,9 +241,8 @@ def install_places():
             "": ("zsh/site-functions", file),
         }[ending]
         files[f"share/{folder}/{installed}"] = f"completions/{file}"
-    for file in (*TEXTS, *(f"{folder}/{it}" for folder in ("docs", "docs/manual") for it in os.listdir(f"{TOP}/{folder}"))):
-        if os.path.isfile(f"{TOP}/{file}"):
-            files[f"{DOCS}/{file}"] = file
+    for file in (*TEXTS, *pages()):
+        files[f"{DOCS}/{file}"] = file
     return files | {f"{DOCS}/bindings/README.md": "bindings/README.md"}
 
 
