@@ -10,15 +10,15 @@ of `ttree --json`. `--only` selects tests, and `--keep` is a folder for the page
 tests, `--measure` prints sizes and times, and `--shots` writes screenshots, both in Chromium. A
 browser that isn't installed is left out. The last line is 'pages in browsers: N of M runs ended as
 they must'."""
-import argparse, io, json, os, random, subprocess, sys, tempfile, time
+import argparse, io, json, os, random, re, subprocess, sys, tempfile, time
 import pages
 import build
 from browser import Browser, find_browser
 from firefox import Firefox, find_firefox
-from inputs import HOSTILE, SECOND, SlowServer, deep, hostile, page_of, service, wide
+from inputs import HOSTILE, SECOND, STEP, SlowServer, deep, hostile, jobs, page_of, parts_of, service, wide
 
 # Tests of the viewer's layout on small screens need the emulation that only Chromium has.
-IN_FIREFOX = ["samples", "server", "current", "random", "folds_when_big", "hostile", "texts", "zooms", "loading", "loading_without_times", "cut", "clocks", "map", "tall", "shapes"]
+IN_FIREFOX = ["samples", "server", "current", "random", "folds_when_big", "hostile", "texts", "zooms", "loading", "loading_without_times", "loading_selection", "loading_search", "cut", "clocks", "map", "tall", "shapes"]
 IN_CHROMIUM = [*IN_FIREFOX, "sizes"]
 
 def length_text(ns):
@@ -86,6 +86,29 @@ class Tests:
         self.browser.until("!document.getElementById('found').textContent.endsWith('…')")
         self.settle()
         return self.run("document.getElementById('found').textContent")
+
+    def until_quiet(self, text):
+        """Waits until the text hasn't changed for half a second."""
+        self.run(f"(async () => {{ for (let before, same = 0; same < 10; before = {text}) {{ await new Promise(done => setTimeout(done, 50)); same = before === {text} ? same + 1 : 0; }} }})()")
+
+    def open_first(self, parts, spans, fragment=""):
+        """Opens a page from a server that has sent the first part, and waits for its spans."""
+        server = SlowServer(parts)
+        server.send(0)
+        self.browser.open()
+        self.browser.go(server.url + fragment)
+        self.browser.until(f"document.getElementById('counts') && document.getElementById('counts').innerText.startsWith('{spans}')")
+        self.settle()
+        return server
+
+    def drag_over(self, element):
+        """Selects an element's text with the mouse."""
+        left, right, y = self.run(f"(() => {{ const box = {element}.getBoundingClientRect(); return [box.left, box.right, (box.top + box.bottom) / 2] }})()")
+        self.browser.mouse("mousePressed", left + 0.5, y, buttons=1)
+        self.browser.mouse("mouseMoved", (left + right) / 2, y, buttons=1)
+        self.browser.mouse("mouseMoved", right + 3, y, buttons=1)
+        self.browser.mouse("mouseReleased", right + 3, y)
+        self.settle()
 
     def rows(self):
         return self.run("[...document.querySelectorAll('.row:not([hidden])')].sort((a, b) => a.getBoundingClientRect().top - b.getBoundingClientRect().top).map(it => it.querySelector('.tree').innerText.replace(/\\s+/g, ' ').trim())")
@@ -390,47 +413,22 @@ class Tests:
     def loading(self):
         """Checks what one does while a page loads: it must stay. The page comes from a server that
         sends its parts when the test says so."""
-        parts, out, step = [], io.BytesIO(), 1_000_000
-        made = pages.Calls(out.write)
-
-        def cut():
-            parts.append(out.getvalue())
-            out.seek(0), out.truncate()
-
-        def jobs(first, last):
-            for at in range(first, last):
-                made.take({"call": "new", "name": f"job{at}", "current": 1, "mono": at * step})
-                made.take({"call": "event", "level": "INFO", "fields": [["message", f"note {at}"]], "current": at + 3, "mono": at * step + 10})
-                made.take({"call": "close", "id": at + 3, "mono": at * step + step // 2})
-
-        out.write(build.head().encode() + pages.about("loading"))
-        made.take({"call": "new", "name": "root", "mono": 0})
-        made.take({"call": "new", "name": "early", "current": 1, "mono": 10})
-        for at in range(5):
-            made.take({"call": "event", "level": "INFO", "fields": [["message", f"first {at}"]], "current": 2, "mono": 20 + at})
-        jobs(0, 60)
+        parts, write, cut = parts_of("loading")
+        jobs(write, range(60))
         cut()
-        jobs(60, 400)
+        jobs(write, range(60, 400))
         for at in range(3):
-            made.take({"call": "event", "level": "INFO", "fields": [["message", f"late {at}"]], "current": 2, "mono": 400 * step + at})
+            write({"call": "event", "level": "INFO", "fields": [["message", f"late {at}"]], "current": 2, "mono": 400 * STEP + at})
         cut()
-        made.take({"call": "event", "level": "INFO", "fields": [["message", "last"]], "current": 2, "mono": 400 * step + 40})
-        made.take({"call": "close", "id": 2, "mono": 400 * step + 50})
-        made.take({"call": "close", "id": 1, "mono": 400 * step + 100})
-        out.write(pages.end() + build.tail().encode())
-        cut()
+        write({"call": "event", "level": "INFO", "fields": [["message", "last"]], "current": 2, "mono": 400 * STEP + 40})
+        write({"call": "close", "id": 2, "mono": 400 * STEP + 50})
+        write({"call": "close", "id": 1, "mono": 400 * STEP + 100})
+        cut(pages.end() + build.tail().encode())
         axis = lambda: self.run("document.getElementById('axis').innerText")
         row = lambda name: self.run(f"(() => {{ const row = [...document.querySelectorAll('.row:not([hidden])')].find(it => it.querySelector('.name')?.textContent === '{name}'); return row ? Math.round(row.getBoundingClientRect().top) : null; }})()")
         is_read = "document.body.classList.contains('is-read')"
 
-        def open_first(fragment=""):
-            server = SlowServer(parts)
-            server.send(0)
-            self.browser.open()
-            self.browser.go(server.url + fragment)
-            self.browser.until("document.getElementById('counts') && document.getElementById('counts').innerText.startsWith('62')")
-            self.settle()
-            return server
+        open_first = lambda fragment="": self.open_first(parts, 62, fragment)
 
         def end(server, name):
             server.send(2)
@@ -517,6 +515,89 @@ class Tests:
         end(server, "focus")
         self.check("loading: it still has the focus", self.run(focused)[0] == "slowest", self.run(focused))
         self.end_page("loading: focus")
+        server.end()
+
+    def loading_selection(self):
+        """Checks that a selection of text stays while a page loads: in one row, over several rows, and
+        in the details. Rows come above it, errors and another thread come, and its span closes."""
+        parts, write, cut = parts_of("selection")
+        jobs(write, range(60))
+        cut()
+        write({"call": "event", "level": "ERROR", "fields": [["message", "broken"]], "current": 2, "mono": 60 * STEP, "thread": 2})
+        jobs(write, range(60, 400))
+        cut()
+        write({"call": "close", "id": 2, "mono": 400 * STEP + 50})
+        write({"call": "close", "id": 1, "mono": 400 * STEP + 100})
+        cut(pages.end() + build.tail().encode())
+        selection = lambda: self.run("String(getSelection())")
+        rows = "[...document.querySelectorAll('.row:not([hidden])')]"
+        message = lambda text: f"{rows}.find(it => it.querySelector('.message')?.textContent === '{text}').querySelector('.message')"
+
+        def select_over(first, last):
+            self.run(f"getSelection().setBaseAndExtent({message(first)}.firstChild, 0, {message(last)}.lastChild, {len(last)})")
+
+        def more(part):
+            server.send(part)
+            self.browser.until("document.body.classList.contains('is-read')" if part == 2 else "document.getElementById('counts').innerText.startsWith('402')")
+            self.settle()
+
+        for name, select, want in (("a row", lambda: self.drag_over(message("note 8")), "note 8"), ("three rows", lambda: select_over("note 8", "note 10"), "note 8 note 9 note 10")):
+            server = self.open_first(parts, 62)
+            self.run("scroller.scrollTop = 23 * 24 + 5")
+            self.settle()
+            self.check(f"selection: {name}: the elements are in the order of the rows", self.run(f"{rows}.every((it, at, all) => !at || it.getBoundingClientRect().top > all[at - 1].getBoundingClientRect().top)"))
+            select()
+            texts = lambda: " ".join(re.findall(r"note \d+", selection()))
+            self.check(f"selection: {name}: it is selected", texts() == want, selection())
+            more(1)
+            self.check(f"selection: {name}: it stays when more has come", texts() == want, selection())
+            more(2)
+            self.check(f"selection: {name}: it stays when all has come", texts() == want, selection())
+            self.run("scroller.scrollTop += 48")
+            self.settle()
+            self.check(f"selection: {name}: it stays while its rows are in sight", texts() == want, selection())
+            self.end_page(f"selection: {name}")
+            server.end()
+
+        server = self.open_first(parts, 62, "#call-4")
+        self.run("getSelection().selectAllChildren(document.querySelector('#details .text'))")
+        more(1), more(2)
+        self.check("selection: in the details, it stays", selection().strip() == "first 1", selection())
+        self.end_page("selection: details")
+        server.end()
+
+    def loading_search(self):
+        """Checks a search while a page loads: its match stays, and those of later lines are added."""
+        parts, write, cut = parts_of("search")
+        jobs(write, range(60))
+        cut()
+        write({"call": "event", "level": "INFO", "fields": [["message", "an early note"]], "current": 2, "mono": 60 * STEP})
+        jobs(write, range(60, 400))
+        cut()
+        jobs(write, range(400, 20_000))
+        cut(pages.end() + build.tail().encode())
+        found = "document.getElementById('found').textContent"
+        server = self.open_first(parts, 62)
+        self.check("search: what has come is found", self.search("note") == "1 of 60", self.run(found))
+        self.press("Enter", "Enter")
+        self.check("search: the third match", self.run(found) == "3 of 60" and self.selected() == "INFO note 2", (self.run(found), self.selected()))
+        server.send(1)
+        self.browser.until("document.getElementById('counts').innerText.startsWith('402')")
+        self.until_quiet(found)
+        self.check("search: later matches are added, also one before it", self.run(found) == "4 of 401", self.run(found))
+        self.run(f"window.told = [], new MutationObserver(() => told.push({found})).observe(document.getElementById('found'), {{ childList: true }}), 0")
+        server.send(2)
+        self.browser.until("document.body.classList.contains('is-read')")
+        self.until_quiet(found)
+        told = self.run("told")
+        self.check("search: it never starts over", told[-1:] == ["4 of 20,001"] and all(it.startswith("4 of ") for it in told), told[-9:])
+        self.check("search: its match is selected", self.selected() == "INFO note 2", self.selected())
+        self.press("Enter")
+        self.check("search: on from there", self.run(found) == "5 of 20,001" and self.selected() == "INFO note 3", (self.run(found), self.selected()))
+        self.press("Escape", "5")
+        self.check("search: filters leave no match", self.search("note") == "none", self.run(found))
+        self.press("Escape", "1")
+        self.end_page("search")
         server.end()
 
     def loading_without_times(self):

@@ -51,12 +51,13 @@ addEventListener("keydown", (event) => {
   act();
 });
 
+const isNewQuery = () => find("search").value !== search.query;
 find("search").addEventListener("input", () => {
   clearTimeout(startSearch.timer);
-  startSearch.timer = setTimeout(() => startSearch(find("search").value), 80);
+  startSearch.timer = setTimeout(() => isNewQuery() && startSearch(find("search").value), 80);
 });
 find("search").addEventListener("keydown", (event) => {
-  if (event.key === "Enter") event.preventDefault(), search.isDone && goToMatch(event.shiftKey ? -1 : 1);
+  if (event.key === "Enter") event.preventDefault(), isNewQuery() ? startSearch(event.target.value) : goToMatch(event.shiftKey ? -1 : 1);
   if (event.key === "Escape") event.target.value = "", startSearch(""), scroller.focus();
   if (event.key === "ArrowDown") event.preventDefault(), scroller.focus();
 });
@@ -65,10 +66,7 @@ find("level").addEventListener("change", (event) => setFilter({ level: Number(ev
 find("thread").addEventListener("change", (event) => setFilter({ thread: Number(event.target.value) }));
 find("help").addEventListener("click", () => find("help").close());
 
-const rowAt = (event) => {
-  const element = event.target.closest(".row"), one = element && pool.find((it) => it.element === element);
-  return one && one.row !== NONE ? run.rows[one.row] : NONE;
-};
+const rowAt = (event) => owners.get(event.target.closest(".row"))?.node ?? NONE;
 scroller.addEventListener("click", (event) => {
   const node = rowAt(event);
   if (node === NONE || wasDrag || String(getSelection())) return;

@@ -8,7 +8,7 @@ const KINDS = {
   past: Int32Array, kept: Uint8Array, match: Uint8Array, order: Int32Array, rows: Int32Array,
 };
 const run = {
-  size: 0, placed: 0, room: 0, spans: 0, calls: 0, damaged: 0, firstRoot: NONE, lastRoot: NONE, isWhole: false, isRead: false, title: "",
+  size: 0, placed: 0, placedEnd: 0, room: 0, spans: 0, calls: 0, damaged: 0, firstRoot: NONE, lastRoot: NONE, isWhole: false, isRead: false, title: "",
   least: Infinity, most: -Infinity, second: null, levels: [0, 0, 0, 0, 0], unfinished: 0, errorPlaces: [], deepest: 0, autoDepth: 0,
   isTimed: false, laterFold: AUTO,
 };
