@@ -18,7 +18,7 @@ from firefox import Firefox, find_firefox
 from inputs import HOSTILE, SECOND, STEP, SlowServer, deep, hostile, jobs, page_of, parts_of, service, wide
 
 # Tests of the viewer's layout on small screens need the emulation that only Chromium has.
-IN_FIREFOX = ["samples", "server", "current", "random", "folds_when_big", "hostile", "texts", "zooms", "loading", "loading_without_times", "loading_selection", "loading_search", "cut", "clocks", "map", "tall", "shapes"]
+IN_FIREFOX = ["samples", "server", "current", "overview", "keys", "contrast", "random", "folds_when_big", "hostile", "texts", "zooms", "loading", "loading_without_times", "loading_selection", "loading_search", "cut", "clocks", "map", "tall", "shapes"]
 IN_CHROMIUM = [*IN_FIREFOX, "sizes"]
 
 def length_text(ns):
@@ -258,6 +258,93 @@ class Tests:
         self.check("current: the link selects the span", self.selected().startswith("worker") and self.fragment() == "#span-3", self.selected())
         self.check("current: a search finds fields", self.search("at the root") == "1 of 1" and self.search("t,2") == "none")
         self.end_page("current")
+
+    def overview(self):
+        """Checks the counts and the lists of the overview on pages of tests."""
+        event = lambda text, level="INFO", **more: {"call": "event", "level": level, "fields": [["message", text], *more.pop("fields", [])], **more}
+        totals = {"call": "event", "level": "ERROR", "fields": [["passed", "1"], ["failed", "2"]]}
+        calls = [{"call": "new", "name": "package"}, {"call": "new", "name": "TestOuter", "current": 1}, {"call": "new", "name": "inner", "current": 2},
+            event("setting up", current=3), event("a_test.go:6: got 1, and not the long text that was expected of it, which goes on to the end of its line", current=3), event("fail", "ERROR", current=3),
+            {"call": "close", "id": 3}, event("fail", "ERROR", current=2), {"call": "close", "id": 2}, {"call": "new", "name": "TestOther", "current": 1},
+            event("failed", "ERROR", current=4, fields=[["message", "too late"]]), event("exit", "WARN", current=4), {"call": "close", "id": 4}, event("fail", "ERROR", current=1), {"call": "close", "id": 1}, totals]
+        listed = lambda name: self.run(f"[...document.querySelectorAll('#{name} button')].map(it => [it.querySelector('.what').textContent, it.querySelector('.detail').textContent])")
+        self.show("overview", page_of(lambda take: [take(it) for it in calls]))
+        self.check("overview: the line of totals is no error", self.run("[document.getElementById('verdict').textContent, document.getElementById('next-error').textContent]") == ["4 errors"] * 2, self.run("document.getElementById('verdict').textContent"))
+        self.check("overview: all events are counted", self.run("document.getElementById('counts').innerText").split() == ["4", "spans", "8", "events", "1", "warning"], self.run("document.getElementById('counts').innerText"))
+        self.check("overview: first errors say why, in the innermost spans", listed("errors") == [["inner", calls[4]["fields"][0][1]], ["TestOther", "failed: too late"]], listed("errors"))
+        self.check("overview: a short name isn't cut", self.run("(name => name.scrollWidth <= name.offsetWidth)(document.querySelector('#errors .what'))"))
+        self.check("overview: without times, the errors have the width", self.run("document.getElementById('errors-box').offsetWidth") > 800, self.run("document.getElementById('errors-box').offsetWidth"))
+        self.press("E")
+        self.check("overview: E goes to the last error, and not to the totals", self.selected() == "ERROR fail", self.selected())
+        self.end_page("overview")
+        self.show("overview", page_of(lambda take: take(totals)))
+        self.check("overview: totals without another error are one", self.run("document.getElementById('verdict').textContent") == "1 error")
+        self.end_page("overview: totals")
+        spans = [("Total Source", [["count", "2"], ["avg ms", "9"]], 50), ("Total of an order", [], 40), ("Source", [["detail", "x" * 100]], 30)]
+        calls = [it for at, (name, fields, length) in enumerate(spans) for it in ({"call": "new", "name": name, "fields": fields, "mono": 0}, {"call": "close", "id": at + 1, "mono": length * 1_123_456_789})]
+        self.show("overview", page_of(lambda take: [take(it) for it in calls]), width=1024)
+        self.check("overview: sums of Clang aren't slow spans", listed("slowest") == [["Total of an order", ""], ["Source", f"detail={'x' * 73}…"]], listed("slowest"))
+        self.check("overview: the time isn't broken", self.run("document.querySelector('#verdict small').getClientRects().length") == 1)
+        self.end_page("overview: sums")
+
+    def keys(self):
+        """Checks keys after a click on a button, and keys without a selected row."""
+        data = page_of(lambda take: service(take, 2000, 2))
+        self.show("keys", data)
+        for key in "dz":
+            self.press(key)
+            self.check(f"keys: {key} without a selected row says so", self.run("[...document.querySelectorAll('#notice.is-shown')].map(it => it.textContent).join()") == "No row is selected")
+            self.run("document.getElementById('notice').classList.remove('is-shown')")
+        self.run("document.getElementById('next-error').focus(), document.getElementById('next-error').click()")
+        self.settle()
+        self.press("ArrowUp", "ArrowDown")
+        self.check("keys: arrows go on from a clicked button", self.selected().startswith("ERROR") and self.run("document.activeElement.id") == "scroller", self.selected())
+        self.run("document.getElementById('fold').focus()")
+        self.press("Enter")
+        self.check("keys: Enter presses a button", len(self.rows()) == 1, len(self.rows()))
+        self.press("e", "d")
+        self.run("document.querySelector('#details .crumb').focus()")
+        before = self.selected()
+        self.press("ArrowDown")
+        self.check("keys: arrows in the details don't move the selection", self.selected() == before)
+        self.end_page("keys")
+
+    def contrast(self):
+        """Checks that strings can be read: their contrast is at least 4.5, also where the background of a
+        row changes."""
+        calls = [{"call": "new", "name": "root", "mono": 0, "fields": [["port", "80"]]}, *[{"call": "event", "level": level, "fields": [["message", f"note {level}"], ["key", "value"]], "current": 1, "mono": at} for at, level in enumerate(pages.LEVELS)],
+            {"call": "new", "name": "inner", "current": 1, "mono": 5, "thread": 2}, {"call": "close", "id": 2, "mono": 70}, {"call": "close", "id": 1, "mono": 99}]
+        weakest = """(() => {
+            const pen = Object.assign(document.createElement('canvas'), { width: 1, height: 1 }).getContext('2d', { willReadFrequently: true });
+            const over = (colours) => { pen.clearRect(0, 0, 1, 1); for (const it of colours) pen.fillStyle = it, pen.fillRect(0, 0, 1, 1); return pen.getImageData(0, 0, 1, 1).data; };
+            const light = ([...rgb]) => rgb.slice(0, 3).map(it => it / 255).map(it => it <= 0.04045 ? it / 12.92 : ((it + 0.055) / 1.055) ** 2.4).reduce((sum, it, at) => sum + it * [0.2126, 0.7152, 0.0722][at], 0);
+            const told = [], walker = document.createTreeWalker(document.body, NodeFilter.SHOW_TEXT);
+            for (let text; (text = walker.nextNode());) {
+              const element = text.parentElement, behind = [];
+              if (!text.data.trim() || !element.checkVisibility({ visibilityProperty: true, opacityProperty: true }) || element.closest('script, style, xmp, option, #notice, #cursor')) continue;
+              for (let it = element; it; it = it.parentElement) behind.unshift(getComputedStyle(it).backgroundColor);
+              const [one, other] = [over(behind), over([...behind, getComputedStyle(element).color])].map(light), contrast = (Math.max(one, other) + 0.05) / (Math.min(one, other) + 0.05);
+              if (contrast < 4.5) told.push(`${contrast.toFixed(2)} ${text.data.slice(0, 20)} (${element.className || element.tagName}, ${element.closest('.row')?.className || element.parentElement.className})`);
+            }
+            return told;
+          })()"""
+        for is_dark in (False, True):
+            self.show("contrast", page_of(lambda take: [take(it) for it in calls]), dark=is_dark)
+            name = f"contrast: {'dark' if is_dark else 'light'}"
+            told = self.run(weakest)
+            self.check(f"{name}: strings can be read", not told, told)
+            self.search("note")
+            told = self.run(weakest)
+            self.check(f"{name}: also those that match", not told, told)
+            self.press("Escape", "d")
+            for row in range(8):
+                told = self.run(weakest)
+                self.check(f"{name}: also if row {row} is selected", not told, told)
+                self.press("ArrowDown")
+            self.press("5")
+            told = self.run(weakest)
+            self.check(f"{name}: also with a filter", not told, told)
+            self.end_page(name)
 
     def folds_when_big(self):
         data = page_of(lambda take: service(take, 5000, 2))

@@ -71,7 +71,7 @@ function currentOf(node, call) {
 }
 
 function linkTo(span) {
-  const link = make("button", "crumb", inRow(nameOf(span)).slice(0, 80) || "(no name)");
+  const link = make("button", "crumb", cut(inRow(nameOf(span)), 80) || "(no name)");
   link.addEventListener("click", () => select(span));
   return link;
 }

@@ -192,7 +192,7 @@ function mark(element, text) {
 function paintPath(row) {
   const node = shownRows ? run.rows[clamp(row, 0, shownRows - 1)] : NONE;
   const path = node === NONE ? [] : spansAround(node, 6);
-  setText(find("path"), path.length ? path.map((it) => inRow(nameOf(it)).slice(0, 60)).join(" › ") : "Span");
+  setText(find("path"), path.length ? path.map((it) => cut(inRow(nameOf(it)), 60)).join(" › ") : "Span");
   find("path").classList.toggle("is-path", path.length > 0);
 }
 
