@@ -104,10 +104,10 @@ class Tests:
     def drag_over(self, element):
         """Selects an element's text with the mouse."""
         left, right, y = self.run(f"(() => {{ const box = {element}.getBoundingClientRect(); return [box.left, box.right, (box.top + box.bottom) / 2] }})()")
-        self.browser.mouse("mousePressed", left + 0.5, y, buttons=1)
+        self.browser.mouse("mousePressed", left + 2, y, buttons=1)
         self.browser.mouse("mouseMoved", (left + right) / 2, y, buttons=1)
-        self.browser.mouse("mouseMoved", right + 3, y, buttons=1)
-        self.browser.mouse("mouseReleased", right + 3, y)
+        self.browser.mouse("mouseMoved", right - 1, y, buttons=1)
+        self.browser.mouse("mouseReleased", right - 1, y)
         self.settle()
 
     def rows(self):
@@ -160,12 +160,23 @@ class Tests:
                 continue
             self.show(name, made.stdout, height=6000)
             self.check(f"{name}: title", self.run("document.getElementById('title').textContent") == name)
+            want = self.summary(path)
+            if want:
+                got = self.run("['spans', 'events', 'error', 'warnings'].map(what => Number((document.getElementById('verdict').textContent + ' ' + [...document.querySelectorAll('#counts div')].map(it => it.textContent).join(' ')).match(`([\\d,]+) ?${what.replace(/s$/, '')}`)?.[1].replace(',', '') ?? 0))")
+                self.check(f"{name}: counts are those of the summary", got == want, (got, want))
             self.check(f"{name}: no damage", not self.run("document.querySelector('#counts').innerText.includes('damaged')"))
             self.press("+")
             want = self.tree(path)
             got = self.page_rows()
             self.check(f"{name}: rows are those of the drawing", got == want[:len(got)] and len(got) >= min(len(want), 200), next(((one, other) for one, other in zip(got, want) if one != other), (len(got), len(want))))
             self.end_page(name)
+
+    def summary(self, path):
+        """Returns the numbers of spans, events, errors and warnings of `ttree --summary`, if the format
+        has one."""
+        made = subprocess.run([self.ttree, "--summary", path], stdout=subprocess.PIPE, stderr=subprocess.DEVNULL, check=False)
+        counts = re.findall(r"^spans (\d+), events (\d+), errors (\d+), warnings (\d+)", made.stdout.decode(), re.M)
+        return [int(it) for it in counts[-1]] if counts else None
 
     def tree(self, path):
         """Returns the depth and the name or level of each span and event, in the order of the tree,
