@@ -162,7 +162,7 @@ class Tests:
             self.check(f"{name}: title", self.run("document.getElementById('title').textContent") == name)
             want = self.summary(path)
             if want:
-                got = self.run("['spans', 'events', 'error', 'warnings'].map(what => Number((document.getElementById('verdict').textContent + ' ' + [...document.querySelectorAll('#counts div')].map(it => it.textContent).join(' ')).match(`([\\d,]+) ?${what.replace(/s$/, '')}`)?.[1].replace(',', '') ?? 0))")
+                got = self.run("['spans', 'events', 'error', 'warnings'].map(what => Number((document.getElementById('verdict').textContent + ' ' + [...document.querySelectorAll('#counts div')].map(it => it.textContent).join(' ')).match(`([0-9,]+) ?${what.replace(/s$/, '')}`)?.[1].replace(',', '') ?? 0))")
                 self.check(f"{name}: counts are those of the summary", got == want, (got, want))
             self.check(f"{name}: no damage", not self.run("document.querySelector('#counts').innerText.includes('damaged')"))
             self.press("+")
@@ -795,6 +795,9 @@ class Tests:
         self.show("sizes", page_of(lambda take: take({"call": "event", "level": "INFO", "fields": [["message", "long " * 40]]})), width=390, height=844, mobile=True)
         self.check("390 by 844: without times, a row has all of the width", self.run("document.querySelector('.row:not([hidden]) .tree').offsetWidth") > 370)
         self.end_page("390 by 844")
+        self.show("sizes", page_of(lambda take: take({"call": "event", "level": "ERROR", "fields": [["message", "long " * 40]]})), width=390, height=844, mobile=True)
+        self.check("390 by 844: without times, the errors have all of the width", self.run("(box => box.left < 20 && box.right > 370)(document.getElementById('errors-box').getBoundingClientRect())"))
+        self.end_page("390 by 844: errors")
 
     def cut(self):
         with open(os.path.join(self.repo, "examples", "server.jsonl"), encoding="utf-8") as file:
