@@ -1,7 +1,7 @@
 // Search: a pattern over the lines as they are written finds candidates, and their strings decide.
 
-// `end` is where the lines begin that aren't searched yet.
-const search = { query: "", found: [], count: 0, end: 0, run: 0, isDone: true };
+// `end` is where the lines begin that aren't searched yet. `isNew` holds until there is a match.
+const search = { query: "", found: [], count: 0, end: 0, run: 0, isDone: true, isNew: false };
 
 function nodeOfLine(at) {
   let low = 0, high = run.size - 1;
@@ -41,7 +41,7 @@ function* matches(query) {
 }
 
 function startSearch(query) {
-  Object.assign(search, { query, found: [], count: 0, end: 0, run: search.run + 1, isDone: true });
+  Object.assign(search, { query, found: [], count: 0, end: 0, run: search.run + 1, isDone: true, isNew: true });
   run.match.fill(0, 0, run.size);
   isStale = true;
   wantPaint();
@@ -70,12 +70,12 @@ function continueSearch() {
 }
 
 function endSearch() {
-  const isFirst = !search.found.length;
   search.isDone = true;
   placeMatches();
   isStale = true;
   wantPaint();
-  if (isFirst && search.found.length && document.activeElement === find("search") && !run.match[selected]) goToMatch(1);
+  if (search.isNew && search.found.length && document.activeElement === find("search") && !run.match[selected]) goToMatch(1);
+  search.isNew &&= !search.found.length;
 }
 
 // Computes the places of the matches that the filters leave, in the order of the tree.
@@ -87,10 +87,9 @@ function placeMatches() {
 }
 
 function showFound() {
-  const count = search.found.length, here = selected === NONE ? -1 : search.found.indexOf(run.place[selected]);
-  const none = search.isDone ? "none" : `${search.count.toLocaleString("en")}…`;
-  find("found").textContent = !search.query ? "" : !count ? none : here >= 0 ? `${(here + 1).toLocaleString("en")} of ${count.toLocaleString("en")}` : count.toLocaleString("en");
-  document.body.classList.toggle("is-searching", Boolean(search.query));
+  const { query, found, count, isDone } = search, here = selected === NONE ? -1 : found.indexOf(run.place[selected]), all = found.length.toLocaleString("en");
+  find("found").textContent = !query ? "" : here >= 0 ? `${(here + 1).toLocaleString("en")} of ${all}` : !isDone ? `${count.toLocaleString("en")}…` : found.length ? all : "none";
+  document.body.classList.toggle("is-searching", Boolean(query));
 }
 
 function goToMatch(step) {
