@@ -15,8 +15,8 @@ function select(node, shouldScroll = true) {
 
 const fragmentOf = (node) => isSpan(node) ? `#span-${run.id[node]}` : `#call-${run.opened[node]}`;
 
-function goToFragment() {
-  const [, kind, number] = location.hash.match(/^#(span|call)-(\d+)$/) || [];
+function goToFragment(fragment = location.hash) {
+  const [, kind, number] = fragment.match(/^#(span|call)-(\d+)$/) || [];
   for (let node = 0; kind && node < run.placed; node++) {
     if (isSpan(node) !== (kind === "span") || Number(number) !== (isSpan(node) ? run.id : run.opened)[node]) continue;
     if (node !== selected) select(node), showDetails(true);

@@ -86,7 +86,8 @@ document.querySelector(".table").addEventListener("pointerleave", () => find("cu
 dragsRange(scroller, () => view);
 dragsRange(find("axis"), () => view);
 dragsRange(find("map"), whole, resetView);
-addEventListener("hashchange", goToFragment);
+// The address may name the selected row again by now.
+addEventListener("hashchange", (event) => goToFragment(new URL(event.newURL).hash));
 matchMedia("(prefers-color-scheme: dark)").addEventListener("change", paintMap);
 
 function measure() {
