@@ -3,6 +3,8 @@ import http.server, io, random, threading
 import build, pages
 
 SECOND = 10 ** 9
+# The time from one job to the next.
+STEP = 1_000_000
 HOSTILE = ["</script><script>alert(1)</script>", "</xmp><script>alert(2)</script>", "</XMP >", "<!--", "<!--<script>", "<script", "</SCRIPT >", "]]>", "&lt;b&gt;", "<img src=x onerror=alert(1)>", "\u2028\u2029", "\x1b[31mred\x1b[0m", "a\0b", "\ufeffx",
            "\u202egnp.exe", "'\"`\\", "\\u003c", "${alert(1)}", "javascript:alert(1)", "[5]\n</script>", "é→𝄞\U0010ffff", "\r\n", "\ud7ff\ue000", "__proto__", "constructor", "{{script}}", "</plaintext></template></style>"]
 
@@ -71,6 +73,32 @@ def service(take, calls, failures=7):
         take({"call": "close", "id": request, **at(thread)})
         span, made = span + 2, made + 7
     take({"call": "close", "id": 1, **at()})
+
+
+def parts_of(title):
+    """Starts a page that is sent in parts: a span with a span and five events in it. Returns the list
+    of the parts, a function that takes a call, and one that ends a part."""
+    parts, out = [], io.BytesIO()
+    take = pages.Calls(out.write).take
+
+    def cut(end=b""):
+        parts.append(out.getvalue() + end)
+        out.seek(0), out.truncate()
+
+    out.write(build.head().encode() + pages.about(title))
+    take({"call": "new", "name": "root", "mono": 0})
+    take({"call": "new", "name": "early", "current": 1, "mono": 10})
+    for at in range(5):
+        take({"call": "event", "level": "INFO", "fields": [["message", f"first {at}"]], "current": 2, "mono": 20 + at})
+    return parts, take, cut
+
+
+def jobs(take, numbers):
+    """Makes spans in the first one, with an event in each."""
+    for at in numbers:
+        take({"call": "new", "name": f"job{at}", "current": 1, "mono": at * STEP})
+        take({"call": "event", "level": "INFO", "fields": [["message", f"note {at}"]], "current": at + 3, "mono": at * STEP + 10})
+        take({"call": "close", "id": at + 3, "mono": at * STEP + STEP // 2})
 
 
 class SlowServer:

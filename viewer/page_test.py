@@ -10,15 +10,15 @@ of `ttree --json`. `--only` selects tests, and `--keep` is a folder for the page
 tests, `--measure` prints sizes and times, and `--shots` writes screenshots, both in Chromium. A
 browser that isn't installed is left out. The last line is 'pages in browsers: N of M runs ended as
 they must'."""
-import argparse, io, json, os, random, subprocess, sys, tempfile, time
+import argparse, io, json, os, random, re, subprocess, sys, tempfile, time
 import pages
 import build
 from browser import Browser, find_browser
 from firefox import Firefox, find_firefox
-from inputs import HOSTILE, SECOND, SlowServer, deep, hostile, page_of, service, wide
+from inputs import HOSTILE, SECOND, STEP, SlowServer, deep, hostile, jobs, page_of, parts_of, service, wide
 
 # Tests of the viewer's layout on small screens need the emulation that only Chromium has.
-IN_FIREFOX = ["samples", "server", "current", "random", "folds_when_big", "hostile", "texts", "zooms", "loading", "loading_without_times", "cut", "clocks", "map", "tall", "shapes"]
+IN_FIREFOX = ["samples", "server", "current", "overview", "keys", "contrast", "random", "folds_when_big", "hostile", "texts", "zooms", "loading", "loading_without_times", "loading_selection", "loading_search", "cut", "clocks", "map", "tall", "shapes"]
 IN_CHROMIUM = [*IN_FIREFOX, "sizes"]
 
 def length_text(ns):
@@ -87,6 +87,29 @@ class Tests:
         self.settle()
         return self.run("document.getElementById('found').textContent")
 
+    def until_quiet(self, text):
+        """Waits until the text hasn't changed for half a second."""
+        self.run(f"(async () => {{ for (let before, same = 0; same < 10; before = {text}) {{ await new Promise(done => setTimeout(done, 50)); same = before === {text} ? same + 1 : 0; }} }})()")
+
+    def open_first(self, parts, spans, fragment=""):
+        """Opens a page from a server that has sent the first part, and waits for its spans."""
+        server = SlowServer(parts)
+        server.send(0)
+        self.browser.open()
+        self.browser.go(server.url + fragment)
+        self.browser.until(f"document.getElementById('counts') && document.getElementById('counts').innerText.startsWith('{spans}')")
+        self.settle()
+        return server
+
+    def drag_over(self, element):
+        """Selects an element's text with the mouse."""
+        left, right, y = self.run(f"(() => {{ const box = {element}.getBoundingClientRect(); return [box.left, box.right, (box.top + box.bottom) / 2] }})()")
+        self.browser.mouse("mousePressed", left + 2, y, buttons=1)
+        self.browser.mouse("mouseMoved", (left + right) / 2, y, buttons=1)
+        self.browser.mouse("mouseMoved", right - 1, y, buttons=1)
+        self.browser.mouse("mouseReleased", right - 1, y)
+        self.settle()
+
     def rows(self):
         return self.run("[...document.querySelectorAll('.row:not([hidden])')].sort((a, b) => a.getBoundingClientRect().top - b.getBoundingClientRect().top).map(it => it.querySelector('.tree').innerText.replace(/\\s+/g, ' ').trim())")
 
@@ -137,12 +160,23 @@ class Tests:
                 continue
             self.show(name, made.stdout, height=6000)
             self.check(f"{name}: title", self.run("document.getElementById('title').textContent") == name)
+            want = self.summary(path)
+            if want:
+                got = self.run("['spans', 'events', 'error', 'warnings'].map(what => Number((document.getElementById('verdict').textContent + ' ' + [...document.querySelectorAll('#counts div')].map(it => it.textContent).join(' ')).match(`([0-9,]+) ?${what.replace(/s$/, '')}`)?.[1].replace(',', '') ?? 0))")
+                self.check(f"{name}: counts are those of the summary", got == want, (got, want))
             self.check(f"{name}: no damage", not self.run("document.querySelector('#counts').innerText.includes('damaged')"))
             self.press("+")
             want = self.tree(path)
             got = self.page_rows()
             self.check(f"{name}: rows are those of the drawing", got == want[:len(got)] and len(got) >= min(len(want), 200), next(((one, other) for one, other in zip(got, want) if one != other), (len(got), len(want))))
             self.end_page(name)
+
+    def summary(self, path):
+        """Returns the numbers of spans, events, errors and warnings of `ttree --summary`, if the format
+        has one."""
+        made = subprocess.run([self.ttree, "--summary", path], stdout=subprocess.PIPE, stderr=subprocess.DEVNULL, check=False)
+        counts = re.findall(r"^spans (\d+), events (\d+), errors (\d+), warnings (\d+)", made.stdout.decode(), re.M)
+        return [int(it) for it in counts[-1]] if counts else None
 
     def tree(self, path):
         """Returns the depth and the name or level of each span and event, in the order of the tree,
@@ -229,12 +263,102 @@ class Tests:
             self.follow(f"#call-{call}")
             got = self.run(facts)
             self.check(f"current: details of {text!r}", self.selected() == f"INFO {text}" and got.get("Current span") == want and got.get("Target") == "t", (self.selected(), got))
+        self.run("dispatchEvent(new HashChangeEvent('hashchange', { newURL: location.href.replace(/#.*/, '#call-4') })), 0")
+        self.settle()
+        self.check("current: a link is followed, also if the address has changed since", self.selected() == "INFO moved", self.selected())
         self.follow("#call-4")
         self.run("document.querySelector('#details dd .crumb').click()")
         self.settle()
         self.check("current: the link selects the span", self.selected().startswith("worker") and self.fragment() == "#span-3", self.selected())
         self.check("current: a search finds fields", self.search("at the root") == "1 of 1" and self.search("t,2") == "none")
         self.end_page("current")
+
+    def overview(self):
+        """Checks the counts and the lists of the overview on pages of tests."""
+        event = lambda text, level="INFO", **more: {"call": "event", "level": level, "fields": [["message", text], *more.pop("fields", [])], **more}
+        totals = {"call": "event", "level": "ERROR", "fields": [["passed", "1"], ["failed", "2"]]}
+        calls = [{"call": "new", "name": "package"}, {"call": "new", "name": "TestOuter", "current": 1}, {"call": "new", "name": "inner", "current": 2},
+            event("setting up", current=3), event("a_test.go:6: got 1, and not the long text that was expected of it, which goes on to the end of its line", current=3), event("fail", "ERROR", current=3),
+            {"call": "close", "id": 3}, event("fail", "ERROR", current=2), {"call": "close", "id": 2}, {"call": "new", "name": "TestOther", "current": 1},
+            event("failed", "ERROR", current=4, fields=[["message", "too late"]]), event("exit", "WARN", current=4), {"call": "close", "id": 4}, event("fail", "ERROR", current=1), {"call": "close", "id": 1}, totals]
+        listed = lambda name: self.run(f"[...document.querySelectorAll('#{name} button')].map(it => [it.querySelector('.what').textContent, it.querySelector('.detail').textContent])")
+        self.show("overview", page_of(lambda take: [take(it) for it in calls]))
+        self.check("overview: the line of totals is no error", self.run("[document.getElementById('verdict').textContent, document.getElementById('next-error').textContent]") == ["4 errors"] * 2, self.run("document.getElementById('verdict').textContent"))
+        self.check("overview: all events are counted", self.run("document.getElementById('counts').innerText").split() == ["4", "spans", "8", "events", "1", "warning"], self.run("document.getElementById('counts').innerText"))
+        self.check("overview: first errors say why, in the innermost spans", listed("errors") == [["inner", calls[4]["fields"][0][1]], ["TestOther", "failed: too late"]], listed("errors"))
+        self.check("overview: a short name isn't cut", self.run("(name => name.scrollWidth <= name.offsetWidth)(document.querySelector('#errors .what'))"))
+        self.check("overview: without times, the errors have the width", self.run("document.getElementById('errors-box').offsetWidth") > 800, self.run("document.getElementById('errors-box').offsetWidth"))
+        self.press("E")
+        self.check("overview: E goes to the last error, and not to the totals", self.selected() == "ERROR fail", self.selected())
+        self.end_page("overview")
+        self.show("overview", page_of(lambda take: take(totals)))
+        self.check("overview: totals without another error are one", self.run("document.getElementById('verdict').textContent") == "1 error")
+        self.end_page("overview: totals")
+        spans = [("Total Source", [["count", "2"], ["avg ms", "9"]], 50), ("Total of an order", [], 40), ("Source", [["detail", "x" * 100]], 30)]
+        calls = [it for at, (name, fields, length) in enumerate(spans) for it in ({"call": "new", "name": name, "fields": fields, "mono": 0}, {"call": "close", "id": at + 1, "mono": length * 1_123_456_789})]
+        self.show("overview", page_of(lambda take: [take(it) for it in calls]), width=1024)
+        self.check("overview: sums of Clang aren't slow spans", listed("slowest") == [["Total of an order", ""], ["Source", f"detail={'x' * 73}…"]], listed("slowest"))
+        self.check("overview: the time isn't broken", self.run("document.querySelector('#verdict small').getClientRects().length") == 1)
+        self.end_page("overview: sums")
+
+    def keys(self):
+        """Checks keys after a click on a button, and keys without a selected row."""
+        data = page_of(lambda take: service(take, 2000, 2))
+        self.show("keys", data)
+        for key in "dz":
+            self.press(key)
+            self.check(f"keys: {key} without a selected row says so", self.run("[...document.querySelectorAll('#notice.is-shown')].map(it => it.textContent).join()") == "No row is selected")
+            self.run("document.getElementById('notice').classList.remove('is-shown')")
+        self.run("document.getElementById('next-error').focus(), document.getElementById('next-error').click()")
+        self.settle()
+        self.press("ArrowUp", "ArrowDown")
+        self.check("keys: arrows go on from a clicked button", self.selected().startswith("ERROR") and self.run("document.activeElement.id") == "scroller", self.selected())
+        self.run("document.getElementById('fold').focus()")
+        self.press("Enter")
+        self.check("keys: Enter presses a button", len(self.rows()) == 1, len(self.rows()))
+        self.press("e", "d")
+        self.run("document.querySelector('#details .crumb').focus()")
+        before = self.selected()
+        self.press("ArrowDown")
+        self.check("keys: arrows in the details don't move the selection", self.selected() == before)
+        self.end_page("keys")
+
+    def contrast(self):
+        """Checks that strings can be read: their contrast is at least 4.5, also where the background of a
+        row changes."""
+        calls = [{"call": "new", "name": "root", "mono": 0, "fields": [["port", "80"]]}, *[{"call": "event", "level": level, "fields": [["message", f"note {level}"], ["key", "value"]], "current": 1, "mono": at} for at, level in enumerate(pages.LEVELS)],
+            {"call": "new", "name": "inner", "current": 1, "mono": 5, "thread": 2}, {"call": "close", "id": 2, "mono": 70}, {"call": "close", "id": 1, "mono": 99}]
+        weakest = """(() => {
+            const pen = Object.assign(document.createElement('canvas'), { width: 1, height: 1 }).getContext('2d', { willReadFrequently: true });
+            const over = (colours) => { pen.clearRect(0, 0, 1, 1); for (const it of colours) pen.fillStyle = it, pen.fillRect(0, 0, 1, 1); return pen.getImageData(0, 0, 1, 1).data; };
+            const light = ([...rgb]) => rgb.slice(0, 3).map(it => it / 255).map(it => it <= 0.04045 ? it / 12.92 : ((it + 0.055) / 1.055) ** 2.4).reduce((sum, it, at) => sum + it * [0.2126, 0.7152, 0.0722][at], 0);
+            const told = [], walker = document.createTreeWalker(document.body, NodeFilter.SHOW_TEXT);
+            for (let text; (text = walker.nextNode());) {
+              const element = text.parentElement, behind = [];
+              if (!text.data.trim() || !element.checkVisibility({ visibilityProperty: true, opacityProperty: true }) || element.closest('script, style, xmp, option, #notice, #cursor')) continue;
+              for (let it = element; it; it = it.parentElement) behind.unshift(getComputedStyle(it).backgroundColor);
+              const [one, other] = [over(behind), over([...behind, getComputedStyle(element).color])].map(light), contrast = (Math.max(one, other) + 0.05) / (Math.min(one, other) + 0.05);
+              if (contrast < 4.5) told.push(`${contrast.toFixed(2)} ${text.data.slice(0, 20)} (${element.className || element.tagName}, ${element.closest('.row')?.className || element.parentElement.className})`);
+            }
+            return told;
+          })()"""
+        for is_dark in (False, True):
+            self.show("contrast", page_of(lambda take: [take(it) for it in calls]), dark=is_dark)
+            name = f"contrast: {'dark' if is_dark else 'light'}"
+            told = self.run(weakest)
+            self.check(f"{name}: strings can be read", not told, told)
+            self.search("note")
+            told = self.run(weakest)
+            self.check(f"{name}: also those that match", not told, told)
+            self.press("Escape", "d")
+            for row in range(8):
+                told = self.run(weakest)
+                self.check(f"{name}: also if row {row} is selected", not told, told)
+                self.press("ArrowDown")
+            self.press("5")
+            told = self.run(weakest)
+            self.check(f"{name}: also with a filter", not told, told)
+            self.end_page(name)
 
     def folds_when_big(self):
         data = page_of(lambda take: service(take, 5000, 2))
@@ -390,47 +514,22 @@ class Tests:
     def loading(self):
         """Checks what one does while a page loads: it must stay. The page comes from a server that
         sends its parts when the test says so."""
-        parts, out, step = [], io.BytesIO(), 1_000_000
-        made = pages.Calls(out.write)
-
-        def cut():
-            parts.append(out.getvalue())
-            out.seek(0), out.truncate()
-
-        def jobs(first, last):
-            for at in range(first, last):
-                made.take({"call": "new", "name": f"job{at}", "current": 1, "mono": at * step})
-                made.take({"call": "event", "level": "INFO", "fields": [["message", f"note {at}"]], "current": at + 3, "mono": at * step + 10})
-                made.take({"call": "close", "id": at + 3, "mono": at * step + step // 2})
-
-        out.write(build.head().encode() + pages.about("loading"))
-        made.take({"call": "new", "name": "root", "mono": 0})
-        made.take({"call": "new", "name": "early", "current": 1, "mono": 10})
-        for at in range(5):
-            made.take({"call": "event", "level": "INFO", "fields": [["message", f"first {at}"]], "current": 2, "mono": 20 + at})
-        jobs(0, 60)
+        parts, write, cut = parts_of("loading")
+        jobs(write, range(60))
         cut()
-        jobs(60, 400)
+        jobs(write, range(60, 400))
         for at in range(3):
-            made.take({"call": "event", "level": "INFO", "fields": [["message", f"late {at}"]], "current": 2, "mono": 400 * step + at})
+            write({"call": "event", "level": "INFO", "fields": [["message", f"late {at}"]], "current": 2, "mono": 400 * STEP + at})
         cut()
-        made.take({"call": "event", "level": "INFO", "fields": [["message", "last"]], "current": 2, "mono": 400 * step + 40})
-        made.take({"call": "close", "id": 2, "mono": 400 * step + 50})
-        made.take({"call": "close", "id": 1, "mono": 400 * step + 100})
-        out.write(pages.end() + build.tail().encode())
-        cut()
+        write({"call": "event", "level": "INFO", "fields": [["message", "last"]], "current": 2, "mono": 400 * STEP + 40})
+        write({"call": "close", "id": 2, "mono": 400 * STEP + 50})
+        write({"call": "close", "id": 1, "mono": 400 * STEP + 100})
+        cut(pages.end() + build.tail().encode())
         axis = lambda: self.run("document.getElementById('axis').innerText")
         row = lambda name: self.run(f"(() => {{ const row = [...document.querySelectorAll('.row:not([hidden])')].find(it => it.querySelector('.name')?.textContent === '{name}'); return row ? Math.round(row.getBoundingClientRect().top) : null; }})()")
         is_read = "document.body.classList.contains('is-read')"
 
-        def open_first(fragment=""):
-            server = SlowServer(parts)
-            server.send(0)
-            self.browser.open()
-            self.browser.go(server.url + fragment)
-            self.browser.until("document.getElementById('counts') && document.getElementById('counts').innerText.startsWith('62')")
-            self.settle()
-            return server
+        open_first = lambda fragment="": self.open_first(parts, 62, fragment)
 
         def end(server, name):
             server.send(2)
@@ -517,6 +616,89 @@ class Tests:
         end(server, "focus")
         self.check("loading: it still has the focus", self.run(focused)[0] == "slowest", self.run(focused))
         self.end_page("loading: focus")
+        server.end()
+
+    def loading_selection(self):
+        """Checks that a selection of text stays while a page loads: in one row, over several rows, and
+        in the details. Rows come above it, errors and another thread come, and its span closes."""
+        parts, write, cut = parts_of("selection")
+        jobs(write, range(60))
+        cut()
+        write({"call": "event", "level": "ERROR", "fields": [["message", "broken"]], "current": 2, "mono": 60 * STEP, "thread": 2})
+        jobs(write, range(60, 400))
+        cut()
+        write({"call": "close", "id": 2, "mono": 400 * STEP + 50})
+        write({"call": "close", "id": 1, "mono": 400 * STEP + 100})
+        cut(pages.end() + build.tail().encode())
+        selection = lambda: self.run("String(getSelection())")
+        rows = "[...document.querySelectorAll('.row:not([hidden])')]"
+        message = lambda text: f"{rows}.find(it => it.querySelector('.message')?.textContent === '{text}').querySelector('.message')"
+
+        def select_over(first, last):
+            self.run(f"getSelection().setBaseAndExtent({message(first)}.firstChild, 0, {message(last)}.lastChild, {len(last)})")
+
+        def more(part):
+            server.send(part)
+            self.browser.until("document.body.classList.contains('is-read')" if part == 2 else "document.getElementById('counts').innerText.startsWith('402')")
+            self.settle()
+
+        for name, select, want in (("a row", lambda: self.drag_over(message("note 8")), "note 8"), ("three rows", lambda: select_over("note 8", "note 10"), "note 8 note 9 note 10")):
+            server = self.open_first(parts, 62)
+            self.run("scroller.scrollTop = 23 * 24 + 5")
+            self.settle()
+            self.check(f"selection: {name}: the elements are in the order of the rows", self.run(f"{rows}.every((it, at, all) => !at || it.getBoundingClientRect().top > all[at - 1].getBoundingClientRect().top)"))
+            select()
+            texts = lambda: " ".join(re.findall(r"note \d+", selection()))
+            self.check(f"selection: {name}: it is selected", texts() == want, selection())
+            more(1)
+            self.check(f"selection: {name}: it stays when more has come", texts() == want, selection())
+            more(2)
+            self.check(f"selection: {name}: it stays when all has come", texts() == want, selection())
+            self.run("scroller.scrollTop += 48")
+            self.settle()
+            self.check(f"selection: {name}: it stays while its rows are in sight", texts() == want, selection())
+            self.end_page(f"selection: {name}")
+            server.end()
+
+        server = self.open_first(parts, 62, "#call-4")
+        self.run("getSelection().selectAllChildren(document.querySelector('#details .text'))")
+        more(1), more(2)
+        self.check("selection: in the details, it stays", selection().strip() == "first 1", selection())
+        self.end_page("selection: details")
+        server.end()
+
+    def loading_search(self):
+        """Checks a search while a page loads: its match stays, and those of later lines are added."""
+        parts, write, cut = parts_of("search")
+        jobs(write, range(60))
+        cut()
+        write({"call": "event", "level": "INFO", "fields": [["message", "an early note"]], "current": 2, "mono": 60 * STEP})
+        jobs(write, range(60, 400))
+        cut()
+        jobs(write, range(400, 20_000))
+        cut(pages.end() + build.tail().encode())
+        found = "document.getElementById('found').textContent"
+        server = self.open_first(parts, 62)
+        self.check("search: what has come is found", self.search("note") == "1 of 60", self.run(found))
+        self.press("Enter", "Enter")
+        self.check("search: the third match", self.run(found) == "3 of 60" and self.selected() == "INFO note 2", (self.run(found), self.selected()))
+        server.send(1)
+        self.browser.until("document.getElementById('counts').innerText.startsWith('402')")
+        self.until_quiet(found)
+        self.check("search: later matches are added, also one before it", self.run(found) == "4 of 401", self.run(found))
+        self.run(f"window.told = [], new MutationObserver(() => told.push({found})).observe(document.getElementById('found'), {{ childList: true }}), 0")
+        server.send(2)
+        self.browser.until("document.body.classList.contains('is-read')")
+        self.until_quiet(found)
+        told = self.run("told")
+        self.check("search: it never starts over", told[-1:] == ["4 of 20,001"] and all(it.startswith("4 of ") for it in told), told[-9:])
+        self.check("search: its match is selected", self.selected() == "INFO note 2", self.selected())
+        self.press("Enter")
+        self.check("search: on from there", self.run(found) == "5 of 20,001" and self.selected() == "INFO note 3", (self.run(found), self.selected()))
+        self.press("Escape", "5")
+        self.check("search: filters leave no match", self.search("note") == "none", self.run(found))
+        self.press("Escape", "1")
+        self.end_page("search")
         server.end()
 
     def loading_without_times(self):
@@ -616,6 +798,9 @@ class Tests:
         self.show("sizes", page_of(lambda take: take({"call": "event", "level": "INFO", "fields": [["message", "long " * 40]]})), width=390, height=844, mobile=True)
         self.check("390 by 844: without times, a row has all of the width", self.run("document.querySelector('.row:not([hidden]) .tree').offsetWidth") > 370)
         self.end_page("390 by 844")
+        self.show("sizes", page_of(lambda take: take({"call": "event", "level": "ERROR", "fields": [["message", "long " * 40]]})), width=390, height=844, mobile=True)
+        self.check("390 by 844: without times, the errors have all of the width", self.run("(box => box.left < 20 && box.right > 370)(document.getElementById('errors-box').getBoundingClientRect())"))
+        self.end_page("390 by 844: errors")
 
     def cut(self):
         with open(os.path.join(self.repo, "examples", "server.jsonl"), encoding="utf-8") as file:

@@ -27,3 +27,17 @@ function repaint(element, paint) {
   element.querySelectorAll("button")[at]?.focus({ preventScroll: true });
 }
 
+
+// Replaces the children that have changed. The others stay, and so does a selection of text in them.
+function replaceChanged(element, children) {
+  for (const [at, child] of children.entries()) {
+    const before = element.childNodes[at];
+    if (!before) element.append(child);
+    else if (!before.isEqualNode(child)) before.replaceWith(child);
+  }
+  while (element.childNodes.length > children.length) element.lastChild.remove();
+}
+
+function setText(element, text) {
+  if (element.textContent !== text) element.textContent = text;
+}

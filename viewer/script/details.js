@@ -15,8 +15,8 @@ function select(node, shouldScroll = true) {
 
 const fragmentOf = (node) => isSpan(node) ? `#span-${run.id[node]}` : `#call-${run.opened[node]}`;
 
-function goToFragment() {
-  const [, kind, number] = location.hash.match(/^#(span|call)-(\d+)$/) || [];
+function goToFragment(fragment = location.hash) {
+  const [, kind, number] = fragment.match(/^#(span|call)-(\d+)$/) || [];
   for (let node = 0; kind && node < run.placed; node++) {
     if (isSpan(node) !== (kind === "span") || Number(number) !== (isSpan(node) ? run.id : run.opened)[node]) continue;
     if (node !== selected) select(node), showDetails(true);
@@ -33,21 +33,23 @@ function showDetails(isShown) {
   if (isRow(selected)) scrollToRow(rowOf(selected));
 }
 
-function paintDetails() {
-  const panel = find("details"), node = selected;
-  panel.replaceChildren();
-  if (node === NONE) return;
+const paintDetails = () => find("details").replaceChildren(...partsOfDetails(selected));
+
+// Paints the details again when all has been read. What hasn't changed stays, also a selection of text.
+const repaintDetails = () => repaint(find("details"), () => replaceChanged(find("details"), partsOfDetails(selected)));
+
+function partsOfDetails(node) {
+  if (node === NONE) return [];
   const call = callAt(run.at[node]), span = isSpan(node), fields = fieldsOf(node, 1000), head = make("div", "details-head");
   const close = make("button", "icon", "×");
   close.title = "Close (d)", close.ariaLabel = "Close details";
   close.addEventListener("click", () => showDetails(false));
   head.append(make("span", `kind ${span && run.worst[node] < WARN ? "" : LEVELS[run.worst[node]].toLowerCase()}`, span ? "Span" : LEVELS[run.level[node]]), copyButton(), close);
-  panel.append(head);
-  const message = span ? call[8] || "(no name)" : fields.filter(([name]) => name === "message").map(([, value]) => value).join("\n");
-  if (message) panel.append(make("pre", "text", whole100k(message)));
+  const parts = [head], message = span ? call[8] || "(no name)" : fields.filter(([name]) => name === "message").map(([, value]) => value).join("\n");
+  if (message) parts.push(make("pre", "text", whole100k(message)));
   const path = make("nav", "crumbs");
   path.append(...spansAround(node, 12).map(linkTo));
-  if (path.firstChild) panel.append(path);
+  if (path.firstChild) parts.push(path);
   const parent = run.parent[node], current = span ? NONE : currentOf(node, call), facts = [];
   if (span && hasTimes()) facts.push(["Time", `${lengthText(lengthOf(node))}${isUnfinished(node) ? " so far" : ""}`], ["Own time", `${lengthText(run.own[node])}`]);
   if (hasTimes()) facts.push([span ? "Begins at" : "Happens at", sinceText(from(node) - run.least)]);
@@ -58,7 +60,7 @@ function paintDetails() {
   if (current !== NONE) facts.push(["Current span", linkTo(current)]);
   if (call[9]) facts.push(["Target", call[9]]);
   const shownFields = fields.filter(([name]) => name !== "message" || span);
-  panel.append(table("Fields", shownFields), table("", facts));
+  return [...parts, table("Fields", shownFields), table("", facts)];
 }
 
 // The current span of an event, if that isn't its parent.
@@ -69,7 +71,7 @@ function currentOf(node, call) {
 }
 
 function linkTo(span) {
-  const link = make("button", "crumb", inRow(nameOf(span)).slice(0, 80) || "(no name)");
+  const link = make("button", "crumb", cut(inRow(nameOf(span)), 80) || "(no name)");
   link.addEventListener("click", () => select(span));
   return link;
 }

@@ -71,8 +71,19 @@ function foldAll(isNowOpen) {
 
 // Has a node stay a row, also when more calls have been read or other filters are set.
 function reveal(node) {
-  for (let above = run.parent[node]; above !== NONE; above = run.parent[above]) run.fold[above] = OPEN;
+  openAround(node);
   if (!isRow(node)) flatten();
+}
+
+function openAround(node) {
+  for (let above = run.parent[node]; above !== NONE; above = run.parent[above]) run.fold[above] = OPEN;
+}
+
+// Has the rows with a selection of text stay rows.
+function holdSelection() {
+  const chosen = getSelection();
+  if (chosen.isCollapsed) return;
+  for (const [node, one] of inSight) if (chosen.containsNode(one.element, true)) openAround(node);
 }
 
 function setFilter(change) {
@@ -80,8 +91,8 @@ function setFilter(change) {
   find("failed").setAttribute("aria-pressed", filter.failed);
   find("level").value = filter.level;
   keep();
+  placeMatches();
   flatten();
   scrollToRow(selected === NONE ? 0 : rowOf(selected));
-  startSearch(find("search").value);
 }
 

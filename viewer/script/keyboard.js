@@ -3,7 +3,7 @@
 const KEYS = [
   ["↑ ↓", "row above, row below"], ["← →", "fold or parent, unfold or first child"], ["Enter", "fold or unfold a span, details of an event"], ["Home End", "first row, last row"],
   ["/", "search"], ["n N", "next match, the one before"], ["e E", "next error, the one before"], ["f", "only what failed"], ["1 … 5", "least level, from trace to error"],
-  ["z", "zoom to the span"], ["0", "all of the time"], ["d", "details"], ["+ −", "unfold all, fold all"], ["?", "these keys"],
+  ["z", "zoom to the span"], ["0", "all of the time"], ["d", "details"], ["Esc", "close the details or the search"], ["+ −", "unfold all, fold all"], ["?", "these keys"],
 ];
 
 function step(rows) {
@@ -29,6 +29,8 @@ function goOutward() {
   else if (run.parent[selected] !== NONE) select(run.parent[selected]);
 }
 
+const hasSelected = () => selected !== NONE || notify("No row is selected");
+
 const page = () => Math.max(1, Math.floor(scroller.clientHeight / rowHeight) - 2);
 const treeKeys = {
   ArrowDown: () => step(1), ArrowUp: () => step(-1), PageDown: () => step(page()), PageUp: () => step(-page()), Home: () => step(-run.size), End: () => step(run.size),
@@ -36,27 +38,30 @@ const treeKeys = {
 };
 const pageKeys = {
   "/": () => (find("search").focus(), find("search").select()), n: () => goToMatch(1), N: () => goToMatch(-1), e: () => goToError(1), E: () => goToError(-1),
-  f: () => setFilter({ failed: !filter.failed }), z: () => selected !== NONE && zoomTo(selected), 0: resetView, d: () => showDetails(find("details").hidden), "?": () => find("help").showModal(),
+  f: () => setFilter({ failed: !filter.failed }), z: () => hasSelected() && zoomTo(selected), 0: resetView, d: () => hasSelected() && showDetails(find("details").hidden), "?": () => find("help").showModal(),
   "+": () => foldAll(true), "-": () => foldAll(false), Escape: () => find("details").hidden ? resetView() : showDetails(false),
   1: () => setFilter({ level: 0 }), 2: () => setFilter({ level: 1 }), 3: () => setFilter({ level: 2 }), 4: () => setFilter({ level: 3 }), 5: () => setFilter({ level: 4 }),
 };
 
 addEventListener("keydown", (event) => {
   const target = event.target instanceof Element ? event.target : document.body, isInTree = target === scroller || target === document.body;
+  // A button that was clicked has the focus. It needs Enter and Space, and the details scroll.
+  const isOfButton = !target.closest("#details") && event.key !== "Enter" && event.key !== " ";
   if (event.ctrlKey || event.metaKey || event.altKey || find("help").open || target.closest("input, select")) return;
-  const act = (isInTree && treeKeys[event.key]) || (Object.hasOwn(pageKeys, event.key) && pageKeys[event.key]);
+  const act = ((isInTree || isOfButton) && treeKeys[event.key]) || (Object.hasOwn(pageKeys, event.key) && pageKeys[event.key]);
   if (!act) return;
   event.preventDefault();
   if (!target.closest("#details")) scroller.focus({ preventScroll: true });
   act();
 });
 
+const isNewQuery = () => find("search").value !== search.query;
 find("search").addEventListener("input", () => {
   clearTimeout(startSearch.timer);
-  startSearch.timer = setTimeout(() => startSearch(find("search").value), 80);
+  startSearch.timer = setTimeout(() => isNewQuery() && startSearch(find("search").value), 80);
 });
 find("search").addEventListener("keydown", (event) => {
-  if (event.key === "Enter") event.preventDefault(), search.isDone && goToMatch(event.shiftKey ? -1 : 1);
+  if (event.key === "Enter") event.preventDefault(), isNewQuery() ? startSearch(event.target.value) : goToMatch(event.shiftKey ? -1 : 1);
   if (event.key === "Escape") event.target.value = "", startSearch(""), scroller.focus();
   if (event.key === "ArrowDown") event.preventDefault(), scroller.focus();
 });
@@ -65,10 +70,7 @@ find("level").addEventListener("change", (event) => setFilter({ level: Number(ev
 find("thread").addEventListener("change", (event) => setFilter({ thread: Number(event.target.value) }));
 find("help").addEventListener("click", () => find("help").close());
 
-const rowAt = (event) => {
-  const element = event.target.closest(".row"), one = element && pool.find((it) => it.element === element);
-  return one && one.row !== NONE ? run.rows[one.row] : NONE;
-};
+const rowAt = (event) => owners.get(event.target.closest(".row"))?.node ?? NONE;
 scroller.addEventListener("click", (event) => {
   const node = rowAt(event);
   if (node === NONE || wasDrag || String(getSelection())) return;
@@ -84,7 +86,8 @@ document.querySelector(".table").addEventListener("pointerleave", () => find("cu
 dragsRange(scroller, () => view);
 dragsRange(find("axis"), () => view);
 dragsRange(find("map"), whole, resetView);
-addEventListener("hashchange", goToFragment);
+// The address may name the selected row again by now.
+addEventListener("hashchange", (event) => goToFragment(new URL(event.newURL).hash));
 matchMedia("(prefers-color-scheme: dark)").addEventListener("change", paintMap);
 
 function measure() {

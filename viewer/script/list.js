@@ -1,7 +1,10 @@
 // The list: only the visible rows have elements.
 
 const scroller = find("scroller"), sizer = find("sizer"), rowsBox = find("rows"), nothing = find("nothing");
-const pool = [];
+// All elements of rows, and each by its element.
+const pool = [], owners = new Map();
+// The element of each node in sight.
+let inSight = new Map();
 let rowHeight = 24, offset = 0, lastTop = 0, isPaintWanted = false, isStale = false;
 
 const wholeHeight = () => shownRows * rowHeight;
@@ -61,42 +64,55 @@ function wantPaint() {
 
 function makeRow() {
   const element = make("div", "row");
+  element.id = `row-${pool.length}`;
   element.setAttribute("role", "treeitem");
   const parts = { tree: make("div", "tree"), count: make("div", "count"), self: make("div", "self"), time: make("div", "time"), lane: make("div", "lane"), track: make("div", "track"), bar: make("div", "bar") };
   parts.lane.append(parts.track);
   parts.track.append(parts.bar);
   element.append(parts.tree, parts.count, parts.self, parts.time, parts.lane);
-  return { element, parts, row: NONE };
+  const one = { element, parts, node: NONE };
+  pool.push(one);
+  owners.set(element, one);
+  return one;
 }
 
 function paint() {
   isPaintWanted = false;
   const top = clamp(pixel(), 0, Math.max(0, wholeHeight() - 1)), height = scroller.clientHeight;
   const first = Math.max(0, Math.floor(top / rowHeight) - 8), last = Math.min(shownRows, Math.ceil((top + height) / rowHeight) + 8);
-  const wanted = Math.ceil(height / rowHeight) + 20;
-  while (pool.length < wanted) {
-    const one = makeRow();
-    pool.push(one);
-    rowsBox.append(one.element);
-    isStale = true;
-  }
   fitIndent(first, last);
-  const used = new Set();
-  for (let row = first; row < last; row++) {
-    const one = pool[row % pool.length];
-    used.add(one);
-    if (isStale || one.row !== row) paintRow(one, row);
+  for (const [at, one] of placeElements(first, last).entries()) {
+    const row = first + at, node = run.rows[row];
+    if (isStale || one.node !== node) paintRow(one, node);
     one.element.style.transform = `translateY(${row * rowHeight - offset}px)`;
-  }
-  for (const one of pool) {
-    if (used.has(one)) continue;
-    one.element.hidden = true;
-    one.row = NONE;
   }
   isStale = false;
   paintPath(Math.floor(top / rowHeight));
-  const active = isRow(selected) ? pool[rowOf(selected) % pool.length] : null;
-  active && active.row === rowOf(selected) ? scroller.setAttribute("aria-activedescendant", active.element.id) : scroller.removeAttribute("aria-activedescendant");
+  const active = inSight.get(selected);
+  active ? scroller.setAttribute("aria-activedescendant", active.element.id) : scroller.removeAttribute("aria-activedescendant");
+}
+
+// Returns the element of each of these rows, and hides the others. A node that stays in sight keeps
+// its element, and so a selection of text in it. The elements are in the order of the rows, so that a
+// selection over several rows is that of the rows between.
+function placeElements(first, last) {
+  const before = inSight, spare = new Set(pool), ones = [];
+  inSight = new Map();
+  for (let row = first; row < last; row++) spare.delete(before.get(run.rows[row]));
+  const isSpare = (element) => spare.has(owners.get(element));
+  let next = rowsBox.firstChild;
+  for (let row = first; row < last; row++) {
+    const node = run.rows[row], staying = before.get(node);
+    while (staying && isSpare(next)) next = next.nextSibling;
+    const one = staying ?? (isSpare(next) ? owners.get(next) : spare.values().next().value ?? makeRow());
+    spare.delete(one);
+    if (next === one.element) next = next.nextSibling;
+    else rowsBox.insertBefore(one.element, next);
+    inSight.set(node, one);
+    ones.push(one);
+  }
+  for (const one of spare) one.element.hidden = true, one.node = NONE;
+  return ones;
 }
 
 // If the visible rows are too deep for the width, their indentation counts from a deeper level and is
@@ -115,12 +131,12 @@ function fitIndent(first, last) {
   rowsBox.classList.toggle("is-tight", indent < 10);
 }
 
-function paintRow(one, row) {
-  const { element, parts } = one, node = run.rows[row], span = isSpan(node), worst = run.worst[node];
-  const canFold = span && run.firstChild[node] !== NONE;
-  one.row = row;
+function paintRow(one, node) {
+  const { element, parts } = one, span = isSpan(node), worst = run.worst[node];
+  const canFold = span && run.firstChild[node] !== NONE, inTree = treeParts(node, span, canFold, worst);
+  one.node === node ? replaceChanged(parts.tree, inTree) : parts.tree.replaceChildren(...inTree);
+  one.node = node;
   element.hidden = false;
-  element.id = `row-${row % pool.length}`;
   element.className = `row ${span ? "span" : "event"} ${LEVELS[worst].toLowerCase()}${run.direct[node] === ERROR ? " direct" : ""}${node === selected ? " selected" : ""}${run.match[node] ? " match" : ""}`;
   element.setAttribute("aria-level", run.depth[node] + 1);
   element.setAttribute("aria-posinset", run.ordinal[node]);
@@ -128,10 +144,9 @@ function paintRow(one, row) {
   element.setAttribute("aria-selected", node === selected);
   canFold ? element.setAttribute("aria-expanded", isOpen(node)) : element.removeAttribute("aria-expanded");
   parts.tree.style.setProperty("--depth", clamp(run.depth[node] - rowsBox.base, 0, 100));
-  parts.tree.replaceChildren(...treeParts(node, span, canFold, worst));
-  parts.count.textContent = span && run.events[node] ? run.events[node].toLocaleString("en") : "";
-  parts.self.textContent = span && hasTimes() && run.own[node] < lengthOf(node) ? lengthText(run.own[node]) : "";
-  parts.time.textContent = !hasTimes() ? "" : span ? lengthText(lengthOf(node)) : sinceText(from(node) - (run.parent[node] === NONE ? run.least : from(run.parent[node])));
+  setText(parts.count, span && run.events[node] ? run.events[node].toLocaleString("en") : "");
+  setText(parts.self, span && hasTimes() && run.own[node] < lengthOf(node) ? lengthText(run.own[node]) : "");
+  setText(parts.time, !hasTimes() ? "" : span ? lengthText(lengthOf(node)) : sinceText(from(node) - (run.parent[node] === NONE ? run.least : from(run.parent[node]))));
   paintBar(parts.bar, node, span);
 }
 
@@ -177,7 +192,7 @@ function mark(element, text) {
 function paintPath(row) {
   const node = shownRows ? run.rows[clamp(row, 0, shownRows - 1)] : NONE;
   const path = node === NONE ? [] : spansAround(node, 6);
-  find("path").textContent = path.length ? path.map((it) => inRow(nameOf(it)).slice(0, 60)).join(" › ") : "Span";
+  setText(find("path"), path.length ? path.map((it) => cut(inRow(nameOf(it)), 60)).join(" › ") : "Span");
   find("path").classList.toggle("is-path", path.length > 0);
 }
 

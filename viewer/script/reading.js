@@ -24,7 +24,7 @@ const pause = (time = 0) => new Promise((done) => setTimeout(done, time));
 // Computes and paints what depends on all nodes so far. Each step is a task of its own if the ones
 // before took long. What is shown fits together between any two.
 const STEPS = [
-  () => (sumUp(), growView()), computeOwnTimes, computeAutoDepth, () => (orderNodes(), placeMatches()), keep, flattenInPlace, () => selected === NONE && goToFragment(), paintOverview,
+  () => (sumUp(), growView()), computeOwnTimes, () => (holdSelection(), computeAutoDepth()), keep, () => (orderNodes(), run.placedEnd = read, placeMatches()), flattenInPlace, () => selected === NONE && goToFragment(), continueSearch, paintOverview,
   () => (find("map").hidden = !run.spans, measure()),
 ];
 
@@ -62,8 +62,7 @@ async function finish() {
     find("thread").append(new Option(threadText(at), at));
   }
   find("thread").hidden = threadNames.length < 2;
-  if (search.query) startSearch(search.query);
-  if (!find("details").hidden) repaint(find("details"), paintDetails);
+  if (!find("details").hidden) repaintDetails();
   document.body.classList.add("is-read");
 }
 

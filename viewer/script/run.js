@@ -8,9 +8,9 @@ const KINDS = {
   past: Int32Array, kept: Uint8Array, match: Uint8Array, order: Int32Array, rows: Int32Array,
 };
 const run = {
-  size: 0, placed: 0, room: 0, spans: 0, calls: 0, damaged: 0, firstRoot: NONE, lastRoot: NONE, isWhole: false, isRead: false, title: "",
+  size: 0, placed: 0, placedEnd: 0, room: 0, spans: 0, calls: 0, damaged: 0, firstRoot: NONE, lastRoot: NONE, isWhole: false, isRead: false, title: "",
   least: Infinity, most: -Infinity, second: null, levels: [0, 0, 0, 0, 0], unfinished: 0, errorPlaces: [], deepest: 0, autoDepth: 0,
-  isTimed: false, laterFold: AUTO,
+  isTimed: false, laterFold: AUTO, totals: new Set(),
 };
 const live = new Map(), threads = new Map(), threadNames = [], records = new Map(), recordOwners = new Map();
 
@@ -92,9 +92,17 @@ function addCall(call, at) {
     run.spans++;
   } else {
     const level = clamp(call[8] | 0, 0, ERROR);
-    addNode(level, at, call, time);
+    const node = addNode(level, at, call, time);
     run.levels[level]++;
+    if (level === ERROR && isTotals(call)) run.totals.add(node);
   }
+}
+
+// The line that ends a run of tests counts them. It is no error of its own.
+function isTotals(call) {
+  if (call[6] !== 0) return false;
+  const names = call.filter((_, at) => at >= 10 && at % 2 === 0);
+  return names.includes("passed") && names.includes("failed") && !names.includes("message");
 }
 
 // A close may come without a time of its own.
@@ -197,10 +205,11 @@ function computeAutoDepth() {
 // Computes the order of the tree. Nodes that come later have no place in it until the next time.
 function orderNodes() {
   const { parent, level, firstChild, nextSibling, order, place, past } = run;
+  const isError = (node) => level[node] === ERROR && (!run.totals.has(node) || run.totals.size === run.levels[ERROR]);
   run.errorPlaces = [];
   let next = 0;
   for (let node = run.firstRoot; node !== NONE;) {
-    if (level[node] === ERROR) run.errorPlaces.push(next);
+    if (isError(node)) run.errorPlaces.push(next);
     place[node] = next;
     order[next++] = node;
     if (firstChild[node] !== NONE) {

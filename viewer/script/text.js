@@ -3,6 +3,7 @@
 
 const UNSEEN = /[\u0000-\u0008\u000b-\u001f\u007f-\u009f\u061c\u200e\u200f\u2028-\u202e\u2066-\u2069\ufeff]/g;
 const shown = (text) => text.replace(UNSEEN, (it) => `\\u{${it.charCodeAt(0).toString(16)}}`);
+const cut = (text, most) => text.length > most ? `${text.slice(0, most)}…` : text;
 const inRow = (text) => shown(text.slice(0, LONGEST)).replace(/\n/g, " ⏎ ") + (text.length > LONGEST ? " …" : "");
 
 function fieldsOf(node, most = Infinity) {
@@ -19,8 +20,8 @@ function fieldsOf(node, most = Infinity) {
 const nameOf = (node) => callAt(run.at[node])[8];
 
 function messageOf(node) {
-  const fields = fieldsOf(node, 40), message = fields.find(([name]) => name === "message");
-  return message ? message[1] : fields.map((it) => it.join("=")).join(" ");
+  const fields = fieldsOf(node, 40), messages = fields.filter(([name]) => name === "message").map(([, value]) => value);
+  return messages.length ? messages.join(": ") : fields.map((it) => it.join("=")).join(" ");
 }
 
 // The nearest ancestors of a node, the outermost first.
