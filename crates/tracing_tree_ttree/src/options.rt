@@ -466,7 +466,9 @@ fn level_option<'a>(alloc: Global) -> Arg<'a> {
     Arg::new(alloc, "level")
         .long("level")
         .value_name("LEVEL")
-        .help("Draws only events of this level and above, and spans only where one happens in them; of go-test also the lines that a failed test printed")
+        .help(
+            "Draws only events of this level and above, and spans only where one happens in them; of go-test also the lines that a failed test printed",
+        )
         .value_parser(&["trace", "debug", "info", "warn", "error"][..])
 }
 
