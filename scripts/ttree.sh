@@ -378,15 +378,35 @@ run_levels() {
 ┐example.com/fail/ok 
 └─┐TestSum 
   └─┐#00 
+    ├─ INFO adding 0    ok_test.go:6: two
+    ├─ INFO         lines
+    ├─ INFO     ok_test.go:6: 0
     ├─ ERROR fail, elapsed=0
   ┌─┘
   ├─ ERROR fail, elapsed=0
 ┌─┘
+├─ INFO exit status 1
 ├─ ERROR fail, elapsed=0.003
 ┘
 ┐example.com/fail/panics 
 └─┐TestSecond 
   └─┐inner 
+    ├─ INFO panic: runtime error: index out of range [3] with length 0 [recovered]
+    ├─ INFO 	panic: runtime error: index out of range [3] with length 0
+    ├─ INFO goroutine 8 [running]:
+    ├─ INFO testing.tRunner.func1.2({0x518a00, 0xc00001a078})
+    ├─ INFO 	go/src/testing/testing.go:1396 +0x24e
+    ├─ INFO testing.tRunner.func1()
+    ├─ INFO 	go/src/testing/testing.go:1399 +0x39f
+    ├─ INFO panic({0x518a00, 0xc00001a078})
+    ├─ INFO 	go/src/runtime/panic.go:884 +0x212
+    ├─ INFO example.com/fail/panics.TestSecond.func1(0x0?)
+    ├─ INFO 	panics/p_test.go:4 +0x1a
+    ├─ INFO testing.tRunner(0xc000118000, 0x52f398)
+    ├─ INFO 	go/src/testing/testing.go:1446 +0x10b
+    ├─ INFO created by testing.(*T).Run
+    ├─ INFO 	go/src/testing/testing.go:1493 +0x35f
+    ├─ INFO exit status 2
     ├─ ERROR fail, elapsed=0
   ┌─┘
   ├─ ERROR fail, elapsed=0
@@ -414,7 +434,7 @@ END_OF_LINES
 ├─ WARN skip TestC
 ┘
 END_OF_TREE
-    level_of trace "$room/calm" 0 << 'END_OF_TREE'
+    cat > "$room/all" << 'END_OF_TREE'
 ┐p 
 └─┐TestA 
   ├─ INFO one
@@ -429,10 +449,95 @@ END_OF_TREE
 ┘
 INFO passed=1, failed=0, skipped=2, unfinished=0, packages=1, packages_failed=0
 END_OF_TREE
+    level_of trace "$room/calm" 0 < "$room/all"
+    level_of info "$room/calm" 0 < "$room/all"
     level_of error "$room/calm" 0 < "$room/none"
+    level_of error "$top/examples/go-std.jsonl" 0 < "$room/none"
     { cat "$room/calm"; echo '[1]'; } > "$room/unknown"
     level_of error "$room/unknown" 1 'ttree: line 9: "Action" must be a string, skipped
 ttree: 1 line skipped' < "$room/none"
+    run_failed_lines
+}
+
+# The lines of failed tests, which --level keeps.
+run_failed_lines() {
+    cat > "$room/parallel" << 'END_OF_LINES'
+{"Action":"run","Package":"p","Test":"TestA"}
+{"Action":"run","Package":"p","Test":"TestB"}
+{"Action":"output","Package":"p","Test":"TestA","Output":"a1\n"}
+{"Action":"output","Package":"p","Test":"TestB","Output":"b1\n"}
+{"Action":"output","Package":"p","Test":"TestA","Output":"a2\n"}
+{"Action":"pass","Package":"p","Test":"TestQuiet","Elapsed":0}
+{"Action":"output","Package":"p","Test":"TestB","Output":"b2\n"}
+{"Action":"pass","Package":"p","Test":"TestB","Elapsed":0}
+{"Action":"output","Package":"p","Output":"log of p\n"}
+{"Action":"fail","Package":"p","Test":"TestA","Elapsed":0}
+{"Action":"output","Package":"p","Output":"exit status 1\n"}
+{"Action":"fail","Package":"p","Elapsed":0.2}
+END_OF_LINES
+    level_of error "$room/parallel" 1 << 'END_OF_TREE'
+┐p 
+└─┐TestA 
+  ├─ INFO a1
+  ├─ INFO a2
+  ├─ ERROR fail, elapsed=0
+┌─┘
+├─ INFO log of p
+├─ INFO exit status 1
+├─ ERROR fail, elapsed=0.2
+┘
+ERROR passed=2, failed=1, skipped=0, unfinished=0, packages=1, packages_failed=1, failed_packages=p, failed_tests=p.TestA
+END_OF_TREE
+    cat > "$room/panic" << 'END_OF_LINES'
+{"Action":"run","Package":"p","Test":"TestA"}
+{"Action":"output","Package":"p","Test":"TestA","Output":"before\n"}
+{"Action":"run","Package":"p","Test":"TestA/x"}
+{"Action":"output","Package":"p","Test":"TestA/x","Output":"x prints\n"}
+panic: boom
+main.go:3
+{"Action":"fail","Package":"p","Test":"TestA/x","Elapsed":0}
+{"Action":"run","Package":"p","Test":"TestA/y"}
+{"Action":"output","Package":"p","Test":"TestA/y","Output":"y prints\n"}
+{"Action":"pass","Package":"p","Test":"TestA/y","Elapsed":0}
+{"Action":"fail","Package":"p","Test":"TestA","Elapsed":0}
+{"Action":"run","Package":"p","Test":"TestB"}
+{"Action":"output","Package":"p","Test":"TestB","Output":"b\n"}
+END_OF_LINES
+    level_of warn "$room/panic" 1 << 'END_OF_TREE'
+┐p 
+└─┐TestA 
+  └─┐x 
+    ├─ INFO x prints
+    ├─ ERROR panic: boom
+    ├─ INFO main.go:3
+    ├─ ERROR fail, elapsed=0
+  ┌─┘
+  ├─ INFO before
+  ├─ ERROR fail, elapsed=0
+┌─┘
+└─┐TestB 
+  ├─ INFO b
+  ├─ ERROR unfinished
+┌─┘
+├─ ERROR unfinished
+┘
+ERROR passed=1, failed=2, skipped=0, unfinished=1, packages=1, packages_failed=1, failed_packages=p, failed_tests=p.TestA/x p.TestA
+END_OF_TREE
+    local at=2026-11-24T02:31
+    printf '%s {"Action":"%s","Package":"p"%s}\n' "$at:18Z" run ',"Test":"TestA"' \
+        "$at:19Z" output ',"Test":"TestA","Output":"a\n"' \
+        "$at:20Z" pass ',"Test":"TestB","Elapsed":0' "$at:21Z" fail ',"Test":"TestA","Elapsed":0' \
+        "$at:22Z" fail ',"Elapsed":0' > "$room/timed"
+    level_of error "$room/timed" 1 << 'END_OF_TREE'
+┐p 
+└─┐TestA 
+  ├─ INFO a, prefix=2026-11-24T02:31:19Z
+  ├─ ERROR fail, elapsed=0, prefix=2026-11-24T02:31:21Z
+┌─┘
+├─ ERROR fail, elapsed=0, prefix=2026-11-24T02:31:22Z
+┘
+ERROR passed=1, failed=1, skipped=0, unfinished=0, packages=1, packages_failed=1, failed_packages=p, failed_tests=p.TestA
+END_OF_TREE
 }
 
 # Counts the run with --failed on this file, like `level_of`. Each tree was written by hand from
@@ -517,6 +622,8 @@ END_OF_TREE
 ┐sample 
 └─┐TestAdd 
   └─┐large 
+    ├─ INFO     a_test.go:3: big
+    ├─ INFO     a_test.go:3: wrong sum
     ├─ ERROR fail, elapsed=0
   ┌─┘
   ├─ ERROR fail, elapsed=0

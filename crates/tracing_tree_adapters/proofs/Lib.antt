@@ -2,3 +2,5 @@ pub mod LongValues
 pub mod LinedSpans
 pub mod ShownMoments
 mod Worked
+mod WorkedFailures
+mod ShownFailures

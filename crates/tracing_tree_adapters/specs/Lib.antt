@@ -4,3 +4,4 @@ pub mod Times
 pub mod Short
 pub mod OneRow
 pub mod LineFields
+pub mod Failures

@@ -3,16 +3,19 @@
 //! A [`Mapping`] makes calls of calls, and [`Mapped`] is a source whose calls go through one.
 //! [`TimeColumns`] begins each row with columns for its time, [`ShortValues`] cuts long arrays and
 //! objects, [`OneRow`] keeps each span in one row, and [`LineFields`] shows further members of a
-//! line's JSON object at its events.
+//! line's JSON object at its events. [`FailureLines`] leaves out the events below a level, except
+//! the lines of failed tests.
 #![tactic(auto)]
 
 mod column;
+pub mod failures;
 pub mod line_fields;
 pub mod mapping;
 pub mod one_row;
 pub mod short;
 pub mod times;
 
+pub use failures::FailureLines;
 pub use line_fields::{LineFields, Member};
 pub use mapping::{Mapped, Mapping, Then};
 pub use one_row::OneRow;

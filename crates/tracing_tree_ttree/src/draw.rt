@@ -202,9 +202,13 @@ fn draw_tests<R: AllocGlobal + Eprint + Print, I: Read + Drop>(
         return draw_failed(rt, origin, input, mark, options);
     }
     let tests = GoTest::new(rt.alloc(), 1, some_moment())?;
-    let source = AtLeast::new(Prefixed::new(tests, mark), options.min_level());
+    let source = Mapped::new(
+        Prefixed::new(tests, mark),
+        options.failure_lines(rt.alloc()),
+    );
     let (status, source) = draw_lines(rt, origin, input, source, options)?;
-    Ok(with_tests(status, source.into_source().into_source().has_failed()))
+    let (source, _lines) = source.into_parts();
+    Ok(with_tests(status, source.into_source().has_failed()))
 }
 
 // Shows what failed of Go's tests.
@@ -216,9 +220,13 @@ fn draw_failed<R: AllocGlobal + Eprint + Print, I: Read + Drop>(
     options: &Options<'_>,
 ) -> Result<Status, AllocError> {
     let failed = Failed::new(rt.alloc(), 1, some_moment())?;
-    let source = AtLeast::new(Prefixed::new(failed, mark), options.min_level());
+    let source = Mapped::new(
+        Prefixed::new(failed, mark),
+        options.failure_lines(rt.alloc()),
+    );
     let (status, source) = draw_lines(rt, origin, input, source, options)?;
-    Ok(with_tests(status, source.into_source().into_source().has_failed()))
+    let (source, _lines) = source.into_parts();
+    Ok(with_tests(status, source.into_source().has_failed()))
 }
 
 // Returns the status of a run of tests, given whether one has failed.

@@ -8,7 +8,7 @@ use std::alloc::{AllocError, Global};
 use tracing_tree::format::Config;
 use tracing_tree::style::Level;
 use tracing_tree::text::Text;
-use tracing_tree_adapters::{LineFields, Member, Precision};
+use tracing_tree_adapters::{FailureLines, LineFields, Member, Precision};
 use tracing_tree_otlp::Selection;
 use tracing_tree_page::LineForm;
 use tracing_tree_sources::{Cut, Format};
@@ -146,6 +146,13 @@ impl<'a> Options<'a> {
     // Events below this level aren't shown.
     pub fn min_level(&self) -> Level {
         self.min_level.unwrap_or(Level::Trace)
+    }
+
+    // Returns what --level shows of tests: events of this level and above, and the lines of a failed
+    // test. None if it shows all.
+    pub fn failure_lines(&self, alloc: Global) -> Option<FailureLines> {
+        let least = self.min_level?;
+        Some(FailureLines::new(alloc, least))
     }
 
     // Returns what --fields shows of tracing's lines.
@@ -459,7 +466,9 @@ fn level_option<'a>(alloc: Global) -> Arg<'a> {
     Arg::new(alloc, "level")
         .long("level")
         .value_name("LEVEL")
-        .help("Draws only events of this level and above, and spans only where one happens in them")
+        .help(
+            "Draws only events of this level and above, and spans only where one happens in them; of go-test also the lines that a failed test printed",
+        )
         .value_parser(&["trace", "debug", "info", "warn", "error"][..])
 }
 
