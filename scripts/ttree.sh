@@ -24,6 +24,7 @@ trap 'rm -rf "$room"' EXIT
 . "$top/scripts/ttree_tap.sh"
 . "$top/scripts/ttree_otlp.sh"
 . "$top/scripts/ttree_chrome.sh"
+. "$top/scripts/ttree_prefixes.sh"
 runs=0
 right=0
 
@@ -1350,6 +1351,7 @@ run_junit
 run_tap
 run_otlp
 run_detection
+run_prefixes
 run_spans_of_traces
 run_times_of_traces
 run_strings_of_traces

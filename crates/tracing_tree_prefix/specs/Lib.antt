@@ -1,1 +1,3 @@
+pub mod Color
+pub mod Mark
 pub mod Prefix

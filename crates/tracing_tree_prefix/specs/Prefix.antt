@@ -1,61 +1,18 @@
 -- Lines that begin with a prefix.
-use Rattle.std.specs.Prelude.{ℕ, ◌+◌, ◌==◌, ◌&&◌, nat_le, Bool, true, false, if◌then◌else◌, List, [], ◌∷◌, ◌++◌, map, take, drop, Option, Some, None, option_map, codes}
-use Rattle.std.specs.List.{position}
-use Rattle.std.specs.Str.{trim_end, trim_start}
+use Rattle.std.specs.Prelude.{ℕ, List, [], ◌∷◌, ◌++◌, map, Option, Some, None, option_map, codes}
 use Rattle.json.specs.Json.{Json, document}
 use Rattle.tracing_tree_text.specs.declared.field.Field.{Field}
 use Rattle.tracing_tree_layer.specs.declared.call.Call.{Call}
 use Rattle.tracing_tree_layer.specs.declared.call.Call.TheVariants.{New, Clone, Record, Event, Close}
-use Rattle.tracing_tree_sources.specs.Marks.{after_mark}
 use Rattle.tracing_tree_sources.specs.Source.{Step}
 use Rattle.tracing_tree_sources.specs.Told.{shown}
-use Rattle.tracing_tree_prefix.specs.declared.prefix.Mark.{Mark}
-use Rattle.tracing_tree_prefix.specs.declared.prefix.Mark.TheVariants.{Bar, Bracket, Time}
+use Rattle.tracing_tree_prefix.specs.Mark.{split}
+use Rattle.tracing_tree_prefix.specs.declared.mark.Mark.{Mark}
 
 -- a source, and the mark at which prefixes end, if lines have prefixes
 pub record Marked (S : Type 0) : Type 0 where
   pub source : S
   pub mark : Option Mark
-
-abbrev pub mark_char : Mark → ℕ
-mark_char Bar = 124
-mark_char Bracket = 93
-mark_char Time = 32
-
-abbrev pub begins_with_digit : List ℕ → Bool
-begins_with_digit [] = false
-begins_with_digit (byte ∷ rest) = nat_le 48 byte && nat_le byte 57
-
--- a time begins with a digit
-abbrev pub may_begin : Mark → List ℕ → Bool
-may_begin Bar line = true
-may_begin Bracket line = true
-may_begin Time line = begins_with_digit line
-
-abbrev pub without_bracket : List ℕ → List ℕ
-without_bracket prefix = after (after_mark (codes "[") prefix) where
-  after : Option (List ℕ) → List ℕ
-  after (Some rest) = rest
-  after None = prefix
-
--- a prefix without the blanks at its end, or without the bracket at its front
-abbrev pub trimmed : Mark → List ℕ → List ℕ
-trimmed Bar prefix = trim_end prefix
-trimmed Bracket prefix = without_bracket prefix
-trimmed Time prefix = trim_end prefix
-
--- a line at its first mark: what comes before it and after it
-abbrev pub at_mark : ℕ → List ℕ → Option (List ℕ × List ℕ)
-at_mark mark line =
-    option_map (λ at. (take at line, drop (at + 1) line)) (position (λ byte. byte == mark) line)
-
--- a line is split at its first mark, without the blanks there
-abbrev pub split : Mark → List ℕ → Option (List ℕ × List ℕ)
-split mark line =
-    if may_begin mark line
-    then option_map (λ parts. (trimmed mark parts.0, trim_start parts.1)) (at_mark (mark_char mark)
-    line)
-    else None
 
 -- the prefix of a line that isn't JSON, and what comes after it
 abbrev pub parts_of : Option Mark → List ℕ → Option Json → Option (List ℕ × List ℕ)

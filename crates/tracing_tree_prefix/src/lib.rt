@@ -1,8 +1,12 @@
-//! Lines that begin with a prefix, as `docker compose` and `kubectl` write them.
+//! Lines that begin with a prefix, such as the name of a service or a time.
 //!
-//! [`Prefixed`] is a source over the source of what comes after the prefixes.
+//! A [`Mark`] says what a prefix is. [`Prefixed`] is a source over the source of what comes after
+//! the prefixes.
 #![tactic(auto)]
 
+mod color;
+pub mod mark;
 pub mod prefix;
 
-pub use prefix::{Mark, Prefixed};
+pub use mark::Mark;
+pub use prefix::Prefixed;

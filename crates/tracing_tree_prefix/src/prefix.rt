@@ -1,85 +1,22 @@
 //! A source of lines with prefixes.
 
-ghost use Rattle.std.specs.Prelude.{◌≡◌, ◌<◌, IfOk, map, option_map};
+ghost use Rattle.std.specs.Prelude.{◌≡◌, IfOk, map, option_map};
 ghost use Rattle.json.specs.Json.{document};
 ghost use Rattle.json.specs.Value.{value_view};
 ghost use Rattle.tracing_tree_sources.specs.Source.{Tells};
-ghost use Rattle.tracing_tree_prefix.specs.Prefix.{at_mark, mark_char, may_begin, parts_of, prefix_field, prefixed_step, split, trimmed, with_prefix, without_bracket};
+ghost use Rattle.tracing_tree_prefix.specs.Prefix.{parts_of, prefix_field, prefixed_step, with_prefix};
 
+use crate::mark::Mark;
 use json::{Scratch, Value};
 use std::alloc::{AllocError, Global};
 use std::marker::Model;
 use tracing_tree_layer::call::Call;
-use tracing_tree_sources::marks::after_mark;
 use tracing_tree_sources::notes::Lack;
 use tracing_tree_sources::source::Source;
 use tracing_tree_sources::told::shown;
 use tracing_tree_sources::values::value_of;
 use tracing_tree_text::field::{Field, Fields};
 use tracing_tree_text::text::Text;
-
-/// What a prefix ends at: the first such character of the line.
-#[derive(Clone, Copy, Debug, PartialEq, Eq)]
-pub enum Mark {
-    /// `|`, as `docker compose logs` writes it.
-    Bar,
-
-    /// `]`, as `kubectl logs --prefix` writes it.
-    Bracket,
-
-    /// The blank after a time, as `kubectl logs --timestamps` writes it: the line begins with a
-    /// digit.
-    Time,
-}
-
-impl Mark {
-    /// Returns the character.
-    pub fn as_char(self) -> char
-        ensures char { result ≡ mark_char self }
-        ensures ascii { result < 128 }
-    {
-        match self {
-            Mark::Bar => '|',
-            Mark::Bracket => ']',
-            Mark::Time => ' ',
-        }
-    }
-
-    /// Returns the prefix of a line, and what comes after it, both without blanks at the mark. A
-    /// prefix in brackets is returned without them. None if the line has no such prefix.
-    pub fn split<'a>(self, line: &'a str) -> Option<(&'a str, &'a str)>
-        ensures { option_map (λ parts. (parts.0.now, parts.1.now)) result ≡ split self line.now }
-    {
-        if !self.may_begin(line) {
-            return None;
-        }
-        match at_mark(line, self.as_char()) {
-            Some((prefix, rest)) => Some((self.trimmed(prefix), rest.trim_start())),
-            None => None,
-        }
-    }
-
-    // Returns a prefix without the blanks at its end, or without the bracket at its front.
-    fn trimmed<'a>(self, prefix: &'a str) -> &'a str
-        ensures { result.now ≡ trimmed self prefix.now }
-    {
-        match self {
-            Mark::Bracket => without_bracket(prefix),
-            Mark::Bar | Mark::Time => prefix.trim_end(),
-        }
-    }
-
-    // Returns whether a prefix may begin as this line does.
-    fn may_begin(self, line: &str) -> bool
-        ensures { result ≡ may_begin self line.now }
-    {
-        match (self, line.as_bytes()) {
-            (Mark::Bar | Mark::Bracket, _) => true,
-            (Mark::Time, [first, ..]) => matches!(*first, b'0'..=b'9'),
-            (Mark::Time, []) => false,
-        }
-    }
-}
 
 /// A source whose lines may start with a prefix.
 ///
@@ -168,23 +105,6 @@ impl<S: Source> Source for Prefixed<S> {
 
     fn end(&mut self, alloc: Global) -> Result<Vec<Call>, AllocError> {
         self.source.end(alloc)
-    }
-}
-
-// Returns a line at its first mark: what comes before it and after it.
-fn at_mark(line: &str, mark: char) -> Option<(&str, &str)>
-    requires { mark < 128 }
-    ensures { option_map (λ parts. (parts.0.now, parts.1.now)) result ≡ at_mark mark line.now }
-{
-    line.split_once(mark)
-}
-
-fn without_bracket(prefix: &str) -> &str
-    ensures { result.now ≡ without_bracket prefix.now }
-{
-    match after_mark(prefix, "[") {
-        Some(rest) => rest,
-        None => prefix,
     }
 }
 

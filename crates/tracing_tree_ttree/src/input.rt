@@ -101,10 +101,11 @@ impl Head {
         let prefixed = prefixed_format(alloc, line)?;
         let detection = detector.take(alloc, line)?;
         if let Some(format) = named {
-            self.mark = prefixed.map(|(_, mark): (Format, Mark)| -> Mark { mark });
-            let is_held = detection == Detection::Held && prefixed.is_none();
-            if is_held && has_prefixes(format) {
-                return Ok(None);
+            if has_prefixes(format) {
+                self.mark = prefixed.map(|(_, mark): (Format, Mark)| -> Mark { mark });
+                if detection == Detection::Held && prefixed.is_none() {
+                    return Ok(None);
+                }
             }
             return Ok(Some(Detected::Format(format)));
         }
@@ -193,8 +194,18 @@ pub fn read_through<R: Read>(
     }
 }
 
-// The marks, in the order of the attempts.
-const MARKS: [Mark; 3] = [Mark::Bar, Mark::Bracket, Mark::Time];
+// The marks, in the order of the attempts. A job's step may have spaces, and a name before a colon
+// may be the second word of its line, so these come before the marks at spaces.
+const MARKS: [Mark; 8] = [
+    Mark::Bar,
+    Mark::Bracket,
+    Mark::Job,
+    Mark::Time,
+    Mark::Tab,
+    Mark::Colon,
+    Mark::DateTime,
+    Mark::Pod,
+];
 
 // Returns the format of a line that has a prefix before an object, and the mark of the prefix.
 fn prefixed_format(alloc: Global, line: &[u8]) -> Result<Option<(Format, Mark)>, AllocError> {
@@ -214,6 +225,9 @@ fn format_after(alloc: Global, mark: Mark, line: &str) -> Result<Option<Format>,
     let Some((_, rest)) = mark.split(line) else {
         return Ok(None);
     };
+    if !rest.starts_with('{') {
+        return Ok(None);
+    }
     match format_of_line(alloc, rest.as_bytes())? {
         Some(format) if has_prefixes(format) => Ok(Some(format)),
         _ => Ok(None),
