@@ -3,4 +3,4 @@ pub mod LinedSpans
 pub mod ShownMoments
 mod Worked
 mod WorkedFailures
-mod ShownFailures
+pub mod ShownFailures

@@ -1,5 +1,5 @@
 -- Events from a level on, and the lines of what failed.
-use Rattle.std.specs.Prelude.{ℕ, nat_le, if◌then◌else◌, Bool, true, false, List, [], ◌∷◌, ◌++◌, Option, Some, None, unwrap_or, bytes_eq, codes}
+use Rattle.std.specs.Prelude.{◌≡◌, ℕ, nat_le, if◌then◌else◌, Bool, true, false, List, [], ◌∷◌, ◌++◌, Option, Some, None, unwrap_or, bytes_eq, codes}
 use Rattle.std.specs.BTreeMap.{insert_entry, is_at}
 use Rattle.std.specs.List.{list_any}
 use Rattle.std.specs.Map.{lookup, remove_entry}
@@ -9,7 +9,7 @@ use Rattle.tracing_tree_context.specs.declared.context.Context.{Context}
 use Rattle.tracing_tree_context.specs.declared.context.Id.{Id}
 use Rattle.tracing_tree_layer.specs.declared.call.Call.{Call}
 use Rattle.tracing_tree_layer.specs.declared.call.Call.TheVariants.{New, Clone, Record, Event, Close}
-use Rattle.tracing_tree_sources.specs.Levels.{rank}
+use Rattle.tracing_tree_sources.specs.Levels.{rank, shown_calls}
 use Rattle.tracing_tree_spans.specs.declared.registry.Event.{Event as EventParts}
 use Rattle.tracing_tree_text.specs.declared.field.Field.{Field}
 use Rattle.tracing_tree_text.specs.declared.style.Level.{Level}
@@ -107,6 +107,13 @@ all_kept (call ∷ others) s =
     let first = kept call s in
     let rest = all_kept others first.state in
     record { calls = first.calls ++ rest.calls; mapping = rest.mapping }
+
+-- Whatever spans hold, the calls that aren't events below the level are all made, in their order.
+-- What is made besides are lines of what failed.
+abbrev pub KeepsShown : Level → Type 0
+KeepsShown least =
+    (calls : List Call)
+    → shown_calls least (all_kept calls (no_lines least)).calls ≡ shown_calls least calls
 
 abbrev pub makes_kept : FailuresState → Option Json → List Call → Made FailuresState
 makes_kept s value calls = all_kept calls s

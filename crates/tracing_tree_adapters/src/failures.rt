@@ -1,7 +1,7 @@
 //! Events from a level on, and the lines of what failed.
 
 ghost use Rattle.std.specs.Prelude.{◌≡◌, ◌++◌, IfOk, OnOk};
-ghost use Rattle.tracing_tree_adapters.specs.Failures.{all_kept, event_kept, is_end, is_failure, kept, lines_in, lines_of, no_lines, with_line_in, without_lines, without_lines_in};
+ghost use Rattle.tracing_tree_adapters.specs.Failures.{KeepsShown, all_kept, event_kept, is_end, is_failure, kept, lines_in, lines_of, no_lines, with_line_in, without_lines, without_lines_in};
 
 use crate::mapping::Mapping;
 use json::Value;
@@ -70,8 +70,10 @@ impl Mapping for FailureLines {
 
 impl FailureLines {
     /// Leaves out the events below this level.
+    #[tactic(auto, using(crate::proofs::ShownFailures::shown))]
     pub fn new(alloc: Global, least: Level) -> FailureLines
-        ensures { result ≡ no_lines least }
+        ensures empty { result ≡ no_lines least }
+        ensures others { KeepsShown least }
     {
         FailureLines {
             alloc,
