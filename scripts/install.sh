@@ -47,12 +47,31 @@ files() {
 644 docs/manual/threads.md share/doc/tracing_tree/docs/manual/threads.md
 644 docs/manual/ttree.md share/doc/tracing_tree/docs/manual/ttree.md
 644 docs/ARCHITECTURE.md share/doc/tracing_tree/docs/ARCHITECTURE.md
-644 docs/DECISIONS.md share/doc/tracing_tree/docs/DECISIONS.md
 644 docs/DIFFERENCES.md share/doc/tracing_tree/docs/DIFFERENCES.md
 644 docs/FORMATS.md share/doc/tracing_tree/docs/FORMATS.md
 644 docs/MODEL.md share/doc/tracing_tree/docs/MODEL.md
 644 docs/PAGE.md share/doc/tracing_tree/docs/PAGE.md
 644 docs/PROVED.md share/doc/tracing_tree/docs/PROVED.md
+644 docs/design/decisions/README.md share/doc/tracing_tree/docs/design/decisions/README.md
+644 docs/design/decisions/c.md share/doc/tracing_tree/docs/design/decisions/c.md
+644 docs/design/decisions/chrome.md share/doc/tracing_tree/docs/design/decisions/chrome.md
+644 docs/design/decisions/clocks.md share/doc/tracing_tree/docs/design/decisions/clocks.md
+644 docs/design/decisions/crates.md share/doc/tracing_tree/docs/design/decisions/crates.md
+644 docs/design/decisions/drawing.md share/doc/tracing_tree/docs/design/decisions/drawing.md
+644 docs/design/decisions/edits.md share/doc/tracing_tree/docs/design/decisions/edits.md
+644 docs/design/decisions/formats.md share/doc/tracing_tree/docs/design/decisions/formats.md
+644 docs/design/decisions/go-test.md share/doc/tracing_tree/docs/design/decisions/go-test.md
+644 docs/design/decisions/junit.md share/doc/tracing_tree/docs/design/decisions/junit.md
+644 docs/design/decisions/lines.md share/doc/tracing_tree/docs/design/decisions/lines.md
+644 docs/design/decisions/logs.md share/doc/tracing_tree/docs/design/decisions/logs.md
+644 docs/design/decisions/memory.md share/doc/tracing_tree/docs/design/decisions/memory.md
+644 docs/design/decisions/otlp.md share/doc/tracing_tree/docs/design/decisions/otlp.md
+644 docs/design/decisions/pages.md share/doc/tracing_tree/docs/design/decisions/pages.md
+644 docs/design/decisions/registry.md share/doc/tracing_tree/docs/design/decisions/registry.md
+644 docs/design/decisions/rows.md share/doc/tracing_tree/docs/design/decisions/rows.md
+644 docs/design/decisions/tap.md share/doc/tracing_tree/docs/design/decisions/tap.md
+644 docs/design/decisions/threads.md share/doc/tracing_tree/docs/design/decisions/threads.md
+644 docs/design/decisions/tracer.md share/doc/tracing_tree/docs/design/decisions/tracer.md
 644 docs/reference/glossary.md share/doc/tracing_tree/docs/reference/glossary.md
 644 docs/tree.svg share/doc/tracing_tree/docs/tree.svg
 644 bindings/README.md share/doc/tracing_tree/bindings/README.md
@@ -75,6 +94,7 @@ FILES
 
 # Folders that are removed if they are empty. The others may have been there before.
 FOLDERS='share/doc/tracing_tree/docs/manual share/doc/tracing_tree/docs/reference
+share/doc/tracing_tree/docs/design/decisions share/doc/tracing_tree/docs/design
 share/doc/tracing_tree/docs share/doc/tracing_tree/bindings
 share/doc/tracing_tree'
 
