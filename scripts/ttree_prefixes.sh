@@ -51,7 +51,7 @@ INFO ${tab}in main
 END
 }
 
-# Names before a colon. A panic without a name has none.
+# Names before a colon. A panic without a name has no prefix.
 run_prefixes_at_colons() {
     reads 'names before a colon' tracing 'web:dev: > next dev' "web:dev: $event" \
         'api:dev: Local: a' "$event" 'panic: x' ': y' 'z:' <<END

@@ -77,7 +77,7 @@ def service(take, calls, failures=7):
 
 def parts_of(title):
     """Starts a page that is sent in parts: a span with a span and five events in it. Returns the list
-    of the parts, a function that takes a call, and one that ends a part."""
+    of the parts, a function that takes a call, and another that ends a part."""
     parts, out = [], io.BytesIO()
     take = pages.Calls(out.write).take
 

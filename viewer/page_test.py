@@ -88,7 +88,7 @@ class Tests:
         return self.run("document.getElementById('found').textContent")
 
     def until_quiet(self, text):
-        """Waits until the text hasn't changed for half a second."""
+        """Waits until the content hasn't changed for half a second."""
         self.run(f"(async () => {{ for (let before, same = 0; same < 10; before = {text}) {{ await new Promise(done => setTimeout(done, 50)); same = before === {text} ? same + 1 : 0; }} }})()")
 
     def open_first(self, parts, spans, fragment=""):
@@ -102,7 +102,7 @@ class Tests:
         return server
 
     def drag_over(self, element):
-        """Selects an element's text with the mouse."""
+        """Selects an element's content with the mouse."""
         left, right, y = self.run(f"(() => {{ const box = {element}.getBoundingClientRect(); return [box.left, box.right, (box.top + box.bottom) / 2] }})()")
         self.browser.mouse("mousePressed", left + 2, y, buttons=1)
         self.browser.mouse("mouseMoved", (left + right) / 2, y, buttons=1)
@@ -619,7 +619,7 @@ class Tests:
         server.end()
 
     def loading_selection(self):
-        """Checks that a selection of text stays while a page loads: in one row, over several rows, and
+        """Checks that a selection stays while a page loads: in one row, over several rows, and
         in the details. Rows come above it, errors and another thread come, and its span closes."""
         parts, write, cut = parts_of("selection")
         jobs(write, range(60))
