@@ -48,7 +48,7 @@ END
 ┘
 INFO c, time=1.000ms
 END
-    trace_of 'on begins and ends' << 'END'
+    trace_of 'on begins and ends' -- 0 'ttree: 1 counter, flow or other element has no row' << 'END'
 [{"ph":"B","ts":1,"pid":7,"name":"x"},{"ph":"B","ts":2,"pid":7,"name":"y","args":{"q":1}},{"ph":"E","ts":2.5,"pid":8},
  {"ph":"E","ts":3,"pid":7,"args":{"r":"ok"}},{"ph":"i","ts":5,"pid":7,"name":"mark","args":{"s":"p"}},{"ph":"I","ts":6,"pid":7,"name":"old"}]
 --
@@ -72,7 +72,7 @@ INFO after a
 INFO c, time=0.000μs
 INFO d, time=0.000μs
 END
-    trace_of 'on long times' << 'END'
+    trace_of 'on long times' -- 0 'ttree: 1 counter, flow or other element has no row' << 'END'
 [{"ph":"X","ts":0,"dur":61234567.8919,"name":"a\u001b[31m","args":{"b\u0007":[1],"c":{}}},{"ph":"E","ts":1,"name":"none"}]
 --
 INFO a\u{1b}[31m, time=61.234s, b\u{7}=[1], c={}
@@ -250,7 +250,8 @@ run_tracks_of_traces() {
 ┘
 END
     trace_of 'on asynchronous elements of older traces and with other ids' -- 1 'ttree: element 8: "ts" must be a number of microseconds, skipped
-ttree: 1 element skipped' << 'END'
+ttree: 1 element skipped
+ttree: 1 counter, flow or other element has no row' << 'END'
 [{"ph":"S","ts":1,"pid":1,"cat":"c","id":7,"name":"old"},{"ph":"T","ts":2,"pid":1,"cat":"c","id":7,"name":"step"},
  {"ph":"b","ts":3,"pid":1,"cat":"c","id2":{"local":"7"},"name":"inner"},{"ph":"b","ts":4,"pid":1,"cat":"c","scope":"s","id":"7","name":"scoped"},
  {"ph":"b","ts":5,"pid":2,"cat":"c","id":7,"name":"other"},{"ph":"F","ts":6,"pid":1,"cat":"c","id":7,"name":"old"},

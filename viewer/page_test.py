@@ -10,7 +10,7 @@ of `ttree --json`. `--only` selects tests, and `--keep` is a folder for the page
 tests, `--measure` prints sizes and times, and `--shots` writes screenshots, both in Chromium. A
 browser that isn't installed is left out. The last line is 'pages in browsers: N of M runs ended as
 they must'."""
-import argparse, io, json, os, random, re, subprocess, sys, tempfile, time
+import argparse, json, os, random, re, subprocess, sys, tempfile, time
 import pages
 import build
 from browser import Browser, find_browser
