@@ -44,6 +44,7 @@ unfolding digits chars
 elapsed = refl
 
 pub a_day_and_more : elapsed_column (Some 104_000_000_000_000) ≡ codes " 104000.000s "
+unfolding digits chars
 a_day_and_more = refl
 
 pub no_time : elapsed_column None ≡ codes "            "
