@@ -1171,6 +1171,45 @@ run_closed() {
     done
 }
 
+# Prints a line, and another one when the drawing of the first has been written, or after ten
+# seconds. What had been written by then is `seen`.
+print_in_turn() {
+    printf '%s\n' "$1"
+    for ((tries = 0; tries < 100; tries++)); do
+        cmp -s "$room/want" "$room/live" && break
+        sleep 0.1
+    done
+    cp "$room/live" "$room/seen"
+    printf '%s\n' "$2"
+}
+
+# Counts what is drawn of a line, on standard input, while the next one hasn't come. The first
+# argument is a name, the next two are the lines, and the others are passed to the program.
+live() {
+    local name=$1 first=$2 next=$3
+    cat > "$room/want"
+    : > "$room/live"
+    print_in_turn "$first" "$next" | timeout 300 "$ttree" "${@:4}" > "$room/live" 2> "$room/err"
+    status=$?
+    mv "$room/seen" "$room/out"
+    count "$name, while its input waits" want '' 0
+}
+
+# The program draws each line before it waits for the next one.
+run_live() {
+    local log='{"level":"info","msg":"a"}' next='{"level":"info","msg":"b"}'
+    live 'on a log' "$log" "$next" <<< 'INFO a'
+    live 'on a log in a few columns' "$log" "$next" --width 20 <<< 'INFO a'
+    live 'on a log with times' "$log" "$next" --times <<< '                                      INFO a'
+    live 'on tracing' '{"level":"INFO","fields":{"message":"a"},"target":"t"}' \
+        '{"level":"INFO","fields":{"message":"b"},"target":"t"}' <<< 'INFO a'
+    live "on Go's tests" '{"Action":"output","Package":"p","Output":"x\n"}' '{"Action":"pass","Package":"p"}' << 'END'
+┐p 
+├─ INFO x
+END
+    live 'on settings and calls' $'{"indent_lines":true}\n{"call":"new","name":"a"}' '{"call":"close","id":1}' <<< '┐a '
+}
+
 # Lines of settings and calls. The first line or --from selects the format.
 run_lines() {
     local input=$top/examples/server.jsonl
@@ -1342,6 +1381,7 @@ run_options_of_other_formats
 run_files
 run_widths
 run_closed
+run_live
 run_lines
 run_terminal
 run_faults
