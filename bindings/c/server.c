@@ -5,13 +5,8 @@
 static tt_tree tree; /* all bytes 0: no tree yet */
 
 static void show(uint32_t status) {
-  static uint8_t text[4096];
-  size_t length = tt_text(&tree, text, sizeof text);
-  if (status != TT_OK || length > sizeof text) {
-    fprintf(stderr, "status %u\n", (unsigned)status);
-    return;
-  }
-  fwrite(text, 1, length, stdout);
+  if (status == TT_OK) status = tt_write(&tree, stdout);
+  if (status != TT_OK) fprintf(stderr, "status %u\n", (unsigned)status);
 }
 
 int main(void) {

@@ -443,6 +443,42 @@ static void rooms(void) {
   tt_free(&tree);
 }
 
+static void a_stream_without_memory(tt_tree *tree, FILE *file) {
+  asked = 0;
+  refused_at = 1;
+  counting = true;
+  uint32_t status = tt_write(tree, file);
+  counting = false;
+  check(status == TT_NO_MEMORY && ftell(file) == 0, "a stream gets nothing without memory", 0);
+}
+
+/* Outputs that fit in the buffer of `tt_write`, and longer ones. */
+static void streams(void) {
+  static char long_value[3000];
+  static uint8_t text[4096], written[4096];
+  memset(long_value, 'x', sizeof long_value - 1);
+  for (int i = 0; i < 2; i++) {
+    tt_tree tree = started();
+    tt_field message = {tt_str("message"), tt_str(i ? long_value : "short")};
+    tt_event_ref event = {tt_str(""), 0, TT_ROOT, TT_INFO};
+    FILE *file = tmpfile();
+    check(file && tt_event(&tree, &event, &message, 1, &NOWHERE) == TT_OK, "an event for a stream", i);
+    if (i) a_stream_without_memory(&tree, file);
+    size_t length = tt_text(&tree, text, sizeof text);
+    check(tt_write(&tree, file) == TT_OK && (size_t)ftell(file) == length, "a stream gets the output", i);
+    rewind(file);
+    check(fread(written, 1, sizeof written, file) == length && memcmp(text, written, length) == 0, "the output in a stream", i);
+    fclose(file);
+    file = fopen("/dev/full", "w");
+    setvbuf(file, NULL, _IONBF, 0);
+    check(tt_write(&tree, file) == TT_STREAM, "a stream that fails", i);
+    check(tt_clone_span(&tree, 1) == TT_OK && tt_write(&tree, file) == TT_OK, "nothing for a stream", i);
+    fclose(file);
+    check(tt_write(NULL, stdout) == TT_NULL && tt_write(&tree, NULL) == TT_NULL, "a stream that is NULL", i);
+    tt_free(&tree);
+  }
+}
+
 int main(void) {
   check(tt_version() == TT_VERSION, "the version", 0);
   refusals();
@@ -454,6 +490,7 @@ int main(void) {
   timers();
   trees_that_are_none();
   rooms();
+  streams();
   printf("%d %d\n", passed, failed);
   return 0;
 }

@@ -3,10 +3,11 @@
  *     tt_tree tree = TT_NO_TREE;
  *     tt_settings settings = tt_default_settings();
  *     tt_new(&tree, &settings);
- *     .. a call, and after each call that may draw: tt_text(&tree, room, size) ..
+ *     .. a call, and after each call that may draw: tt_write(&tree, stdout) ..
  *     tt_free(&tree);
  *
- * Output. What a call draws is its output. `tt_text` copies the output of the last call.
+ * Output. What a call draws is its output. `tt_write` writes the output of the last call to a
+ * stream, and `tt_text` copies it.
  *
  * Proof. `tt_version` and the functions `tt_raw_..` and `tt_utf8_..` are proved: each meets its
  * contract in crates/tracing_tree_c/src/calls.rt. The proof ends at these functions. The other
@@ -33,8 +34,8 @@
  * be NULL if `has_thread_name` is false. `data` of a `tt_timer` may be NULL.
  *
  * Threads. A call may come from any thread. But a tree serves one call at a time, including
- * `tt_text` and `tt_free`. Callers on several threads hold a lock around each call together with
- * its `tt_text`. Different trees share nothing. It is proved that a tree may move from one thread
+ * `tt_write`, `tt_text` and `tt_free`. Callers on several threads hold a lock around each call
+ * together with its `tt_write` or `tt_text`. Different trees share nothing. It is proved that a tree may move from one thread
  * to another.
  *
  * Ownership. The tree owns its memory, and `tt_free` returns it. No function keeps a pointer that
@@ -51,6 +52,8 @@
 #include <stdbool.h>
 #include <stddef.h>
 #include <stdint.h>
+#include <stdio.h>
+#include <stdlib.h>
 #include <string.h>
 
 #ifdef __cplusplus
@@ -86,7 +89,8 @@ enum {
   TT_THERE = 10,    /* `tt_new`: there is a tree already */
   TT_SIZE = 11,     /* `tt_new`: `size` isn't the library's, as in another version of the header */
   TT_SETTINGS = 12, /* `tt_new`: the settings are invalid */
-  TT_NULL = 13      /* a pointer or a string's address is NULL */
+  TT_NULL = 13,     /* a pointer or a string's address is NULL */
+  TT_STREAM = 14    /* `tt_write`: the stream failed */
 };
 
 /* A tree. If `there` is false, as in zeroed memory, the tree is missing. Only the library uses the
@@ -434,6 +438,24 @@ static inline size_t tt_text(tt_tree *tree, uint8_t *room, size_t size) {
   uint8_t none[1];
   if (!tree) return 0;
   return room ? tt_raw_text(tree, room, size) : tt_raw_text(tree, none, 0);
+}
+
+/* Writes the output of the last call to a stream, as `fwrite` does: the stream may hold it back.
+ * Writes nothing if there is no output. Returns `TT_OK`, `TT_NULL`, `TT_STREAM` if the stream failed,
+ * which may have written a prefix, or `TT_NO_MEMORY` if an output of more than 1024 bytes can't be
+ * copied, of which nothing is written. The output stays until the next call. */
+static inline uint32_t tt_write(tt_tree *tree, FILE *out) {
+  uint8_t room[1024];
+  uint8_t *text = room;
+  size_t length = tt_text(tree, NULL, 0);
+  uint32_t status = TT_OK;
+  if (!tree || !out) return TT_NULL;
+  if (length > sizeof room) text = (uint8_t *)malloc(length);
+  if (!text) return TT_NO_MEMORY;
+  tt_text(tree, text, length);
+  if (fwrite(text, 1, length, out) != length) status = TT_STREAM;
+  if (text != room) free(text);
+  return status;
 }
 
 #ifdef __cplusplus
