@@ -29,7 +29,7 @@ prints the rounds. --sample N takes N of the edits that a round refused and trie
 for that edit only. An edit fails if `rt must-fail` doesn't refuse it."""
 import argparse, concurrent.futures, copy, functools, hashlib, os, re, shutil, sys, tempfile, threading, time
 from collections import defaultdict
-from dataclasses import dataclass
+from dataclasses import dataclass, replace
 
 import kit as kits
 
@@ -219,8 +219,20 @@ def all_bodies(kit, crate):
     for path, text in kit.rtlib.blanked(crate.folder).items():
         if path.endswith(".rt"):
             file = os.path.relpath(path, crate.folder)
-            found[file] = bodies_of(file, text.encode())
+            bodies = bodies_of(file, text.encode())
+            found[file] = [replace(it, folder=proofs_of(crate, it.folder)) for it in bodies]
     return found
+
+
+def proofs_of(crate, folder):
+    """Returns the folder of a function's proofs. An impl may be in a module below that of its type.
+    The proofs of its methods are then in a folder of the type's module."""
+    parts = folder.split("/")
+    for last in range(len(parts) - 2, -1, -1):
+        found = "/".join(parts[:last] + parts[-2:])
+        if os.path.isdir(f"{crate.folder}/proofs/{found}"):
+            return found
+    return folder
 
 
 def pairs_of(path):
