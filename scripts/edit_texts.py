@@ -3,7 +3,7 @@
 
 Each old string of an edit must occur exactly once in its file, when the edit's earlier changes have
 been made. The gate finds such edits too, but an hour later. The last line is
-'edits: N of M apply'."""
+'edits: N passed, M failed'."""
 import glob
 import os
 import sys
@@ -34,7 +34,7 @@ def main():
     faults = [(path, fault) for path in paths if (fault := fault_of(path))]
     for path, fault in faults:
         print(f"edits: {os.path.relpath(path, TOP)}: FAILED: {fault}")
-    print(f"edits: {len(paths) - len(faults)} of {len(paths)} apply")
+    print(f"edits: {len(paths) - len(faults)} passed, {len(faults)} failed")
     return 1 if faults or not paths else 0
 
 
