@@ -1,7 +1,7 @@
 # Targets that prove, build or run something need the kit's command `rt` and Python 3. `bench`,
 # `counts`, `faults`, `soak` and `bindings` also need a C compiler, and `memcheck` needs valgrind.
 # README says how long the first ones take.
-.PHONY: help demo test prove gate edits page-test claim build install uninstall dist dist-test service jobs laws stress bench faults fuzz soak memcheck limits counts clean
+.PHONY: help demo test prove gate edits page-test claim build install uninstall dist dist-test service workers stress bench faults fuzz soak memcheck limits counts clean
 
 # Prints the targets in groups. A group's name is a line that starts with '##', and a target's
 # description comes after its '##'.
@@ -59,7 +59,7 @@ bin/tracing_tree_read: $(SOURCES)
 	@scripts/build.sh tracing_tree_read $@
 
 bin/ttree: $(SOURCES)
-	@scripts/build.sh tracing_tree_ttree $@
+	@scripts/build.sh ttree $@
 
 bin/%: $(SOURCES)
 	@scripts/build.sh $* $@
@@ -87,38 +87,32 @@ dist-test: dist ## tests the archive in an empty folder
 	@CC='$(CC)' CXX='$(CXX)' scripts/dist_test.sh
 
 # Proves and runs the example of a service.
-service: bin/tracing_tree_service ## proves and runs the example of a service
-	@bin/tracing_tree_service < crates/tracing_tree_service/stdin
+service: bin/example_service ## proves and runs the example of a service
+	@bin/example_service < crates/example_service/stdin
 
 # Proves and runs the example of several threads.
-jobs: bin/tracing_tree_jobs ## proves and runs the example of several threads
-	@bin/tracing_tree_jobs
+workers: bin/example_workers ## proves and runs the example of several threads
+	@bin/example_workers
 
 ## Outside the gate
 
-# Outside the gate. Draws and reads random rows, and reads randomly changed drawings. Also draws
-# random calls with retracing on, and looks for each event's ancestors in the drawing.
-laws: need-python build bin/tracing_tree_rows_laws ## draws and reads random rows and calls
-	@bin/tracing_tree_rows_laws 10000
-	@python3 scripts/reading_law.py bin/tracing_tree
-
 # Outside the gate. Makes random calls on two to eight threads through the layers for several
 # threads, in ten thousand rounds.
-stress: bin/tracing_tree_stress ## runs random calls of several threads
-	@timeout 1800 bin/tracing_tree_stress 10000 20261124
+stress: bin/check_stress ## runs random calls of several threads
+	@timeout 1800 bin/check_stress 10000 20261124
 
 # Times the library's calls, the program on generated inputs, and the reading of drawings. Asserts
 # nothing.
-bench: need-python need-cc build bin/tracing_tree_bench ## times the library and the programs
+bench: need-python need-cc build bin/bench ## times the library and the programs
 	@$(CC) -O1 -shared -fPIC -o bin/count.so scripts/count.c -ldl
-	@python3 scripts/bench_calls.py bin/tracing_tree_bench bin/count.so
-	@python3 scripts/bench_shared.py bin/tracing_tree_bench
+	@python3 scripts/bench_calls.py bin/bench bin/count.so
+	@python3 scripts/bench_shared.py bin/bench
 	@python3 scripts/bench.py bin/tracing_tree
-	@python3 scripts/bench_rows.py bin/tracing_tree bin/tracing_tree_bench
+	@python3 scripts/bench_rows.py bin/tracing_tree bin/bench
 
 # The worked cases for `faults`: with retracing, with clocks, with messages of two lines, and with a
 # fault of the settings and of a call.
-DATA = crates/tracing_tree_cases/data
+DATA = crates/test_cases/data
 FAULTY = $(addprefix $(DATA)/,retracing/concurrent_eager.in retracing/deferred_closes.in close_retrace/stranger.in \
 	clocks/utc.in clocks/local.in clocks/uptime_higher.in \
 	drawing/two_lines_in_close.in drawing/no_lines_two_lines.in lines/settings_wraparound_text.in lines/call_close_without_id.in)
@@ -143,25 +137,27 @@ SOAKED_CALLS = 100000000
 
 # Outside the gate. Runs random lines, calls and drawings through the programs. A model that was
 # written only from the docs says what is right. The model must first agree with the worked cases.
-# Then draws changed examples of other tools' output. Each failing input is left below bin/fuzz and
-# can be run again.
+# Then draws random calls with retracing on and looks for each event's ancestors in the drawing, and
+# draws changed examples of other tools' output. Each failing input is left below bin/fuzz and can
+# be run again.
 fuzz: need-python build ## runs random and damaged lines
 	@python3 scripts/model.py $(DATA)
 	@python3 scripts/fuzz.py --lines $(LINES) --calls $(CALLS) --drawings $(DRAWN) --seed $(SEED) bin/tracing_tree bin/tracing_tree_read
+	@python3 scripts/reading_law.py bin/tracing_tree
 	@python3 scripts/fuzz_formats.py --inputs $(CHANGED) --seed $(SEED) bin/ttree
 
 # Outside the gate. Makes many calls through the program and many of the library itself. Compares
 # the memory and the speed at the start and at the end.
-soak: need-python need-cc build bin/tracing_tree_bench ## makes 10^8 calls
+soak: need-python need-cc build bin/bench ## makes 10^8 calls
 	@$(CC) -O2 -o bin/soak scripts/soak.c
 	@python3 scripts/soak.py bin/tracing_tree bin/soak $(SOAKED)
-	@python3 scripts/soak_calls.py bin/tracing_tree_bench $(SOAKED_CALLS)
+	@python3 scripts/soak_calls.py bin/bench $(SOAKED_CALLS)
 
 # Outside the gate. Writes again the figures with which the gate compares the library's use of
 # memory.
-counts: need-python need-cc build bin/tracing_tree_bench bin/tracing_tree_service ## writes the figures of memory again
+counts: need-python need-cc build bin/bench bin/example_service ## writes the figures of memory again
 	@$(CC) -O1 -shared -fPIC -o bin/count.so scripts/count.c -ldl
-	@python3 scripts/counts.py bin/tracing_tree_bench bin/tracing_tree bin/ttree bin/tracing_tree_service bin/count.so --write
+	@python3 scripts/counts.py bin/bench bin/tracing_tree bin/ttree bin/example_service bin/count.so --write
 
 # Outside the gate. Runs the programs under valgrind, on all worked cases and some drawings.
 memcheck: need-python need-valgrind build ## runs the programs under valgrind

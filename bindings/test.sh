@@ -100,7 +100,7 @@ if has go; then
 fi
 
 # ---- the worked cases of the program, through the shared object
-counts "the worked cases" python3 bindings/python/cases.py bin/libtracing_tree.so.1 crates/tracing_tree_cases/data
+counts "the worked cases" python3 bindings/python/cases.py bin/libtracing_tree.so.1 crates/test_cases/data
 
 # ---- the Python module
 counts "the Python module" env TRACING_TREE_LIB=bin/libtracing_tree.so.1 python3 bindings/python/test_tracing_tree.py

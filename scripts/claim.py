@@ -138,7 +138,7 @@ def functions_of(path):
 def all_functions():
     found = collections.defaultdict(list)
     for path in sorted(glob.glob(f"{TOP}/crates/*/src/**/*.rt", recursive=True)):
-        if "_tests/" not in path and "_bench/" not in path:
+        if not re.search(r"/crates/(test_|bench/)", path):
             for it in functions_of(path):
                 found[it.name].append(it)
     return found

@@ -2,7 +2,7 @@
 """Counts the memory of fixed works and compares it with the figures in counts.txt next to this
 script.
 
-BENCH is crates/tracing_tree_bench, which makes calls of the library, directly and through the
+BENCH is crates/bench, which makes calls of the library, directly and through the
 layers for several threads. CLI, TTREE and SERVICE are the programs of those crates. They read lines
 of calls, other tools' output, and requests for which a tracer makes calls. COUNTER is
 scripts/count.c.

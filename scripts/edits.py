@@ -68,7 +68,7 @@ LET_THROUGH = "NOT REFUSED"
 NO_BODY = b"{\n    unreachable!()\n}"
 PROOF = ("Invariants.antt", "Answers.antt", "Proof.antt")
 # The edit that must be let through, and its crate.
-HARMLESS, ITS_CRATE = f"{TOP}/scripts/harmless.edit", "tracing_tree_text"
+HARMLESS, ITS_CRATE = f"{TOP}/scripts/harmless.edit", "tracing_tree_base"
 
 
 @dataclass(frozen=True)

@@ -50,7 +50,7 @@ def compare(path, found, compiled):
 
 
 def main():
-    tested = sources("crates/*_tests/src/**/*.rt")
+    tested = sources("crates/test_*/src/**/*.rt")
     compiled = sources("crates/*/src/**/*.rt", "bindings/**/*.rs", "bindings/**/*.c", "bindings/**/*.cpp", "bindings/**/*.go")
     shown = [(f"{TOP}/README.md", "rust", tested)]
     shown += [(it, "rust", tested) for it in sorted(glob.glob(f"{TOP}/crates/*/src/**/*.rt", recursive=True))]

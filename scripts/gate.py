@@ -145,15 +145,15 @@ class Gate:
         the library for C."""
         asked = ["--lines", "20000", "--calls", "20000", "--drawings", "20000", "--sizes", "16385"]
         self.programs("scripts/fuzz.py", "tracing_tree_cli", "tracing_tree_read", more=asked)
-        self.programs("scripts/fuzz_formats.py", "tracing_tree_ttree", more=["--inputs", "2000"])
+        self.programs("scripts/fuzz_formats.py", "ttree", more=["--inputs", "2000"])
         self.programs("scripts/program.sh", "tracing_tree_cli", "tracing_tree_read")
-        self.programs("scripts/ttree.sh", "tracing_tree_ttree", "tracing_tree_cli")
-        self.programs("scripts/page.py", "tracing_tree_ttree", "tracing_tree_cli")
-        self.programs("scripts/manual.py", "tracing_tree_ttree", "tracing_tree_cli", "tracing_tree_read")
-        self.programs("scripts/controls.py", "tracing_tree_ttree")
+        self.programs("scripts/ttree.sh", "ttree", "tracing_tree_cli")
+        self.programs("scripts/page.py", "ttree", "tracing_tree_cli")
+        self.programs("scripts/manual.py", "ttree", "tracing_tree_cli", "tracing_tree_read")
+        self.programs("scripts/controls.py", "ttree")
         logs = sorted(glob.glob(f"{TOP}/examples/tracing*.jsonl"))
-        self.programs("scripts/tracing_paths.py", "tracing_tree_ttree", "tracing_tree_read", more=logs)
-        self.programs("viewer/page_test.py", "tracing_tree_ttree")
+        self.programs("scripts/tracing_paths.py", "ttree", "tracing_tree_read", more=logs)
+        self.programs("viewer/page_test.py", "ttree")
         self.faults()
         self.bindings()
 
@@ -169,14 +169,14 @@ class Gate:
             compiled = subprocess.run([compiler, "-O1", "-shared", "-fPIC", "-o", made, f"{TOP}/scripts/{source}", "-ldl"], check=False)
             if compiled.returncode:
                 return self.count("refused calls", 0, [f"scripts/{source} does not compile"], time.time())
-        counted = ("tracing_tree_bench", "tracing_tree_cli", "tracing_tree_ttree", "tracing_tree_service")
+        counted = ("bench", "tracing_tree_cli", "ttree", "example_service")
         self.programs("scripts/counts.py", *counted, more=[counter])
-        self.programs("scripts/steps.py", "tracing_tree_bench", more=[stepper])
-        self.programs("scripts/refuse_calls.py", "tracing_tree_refusals", more=[shim])
-        data = f"{TOP}/crates/tracing_tree_cases/data"
+        self.programs("scripts/steps.py", "bench", more=[stepper])
+        self.programs("scripts/refuse_calls.py", "check_out_of_memory", more=[shim])
+        data = f"{TOP}/crates/test_cases/data"
         lines = [f"{TOP}/examples/first.jsonl", f"{data}/drawing/two_lines_in_close.in", f"{data}/drawing/no_lines_two_lines.in"]
         self.programs("scripts/refuse.py", "tracing_tree_cli", more=[shim, *lines])
-        self.programs("scripts/refuse.py", "tracing_tree_ttree", more=[shim, f"{TOP}/examples/go-test.jsonl", f"{TOP}/examples/uftrace.json"])
+        self.programs("scripts/refuse.py", "ttree", more=[shim, f"{TOP}/examples/go-test.jsonl", f"{TOP}/examples/uftrace.json"])
         return self.programs("scripts/refuse.py", "tracing_tree_read", more=[shim, f"{data}/first/tree.out"])
 
     def bindings(self):

@@ -21,8 +21,8 @@ NAMES = ("ttree", "tracing_tree", "tracing_tree_read")
 BLOCK = re.compile(r"(?ms)^```console\n(.*?)^```$")
 # What the programs print that `make test` doesn't run.
 RECORDED = {
-    "make service": "crates/tracing_tree_service/stdout",
-    "bin/tracing_tree_jobs check": "crates/tracing_tree_jobs/stdout",
+    "make service": "crates/example_service/stdout",
+    "bin/example_workers check": "crates/example_workers/stdout",
     "cargo run --example server": "bindings/c/server.out",
     "cc bindings/c/server.c -Ibindings/c bin/libtracing_tree.a -o server && ./server": "bindings/c/server.out",
 }

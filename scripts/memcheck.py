@@ -13,7 +13,7 @@ with 'memcheck: N of M runs ended as they must'.
 import argparse, glob, os, re, shutil, subprocess, sys, tempfile, time
 
 TOP = os.path.dirname(os.path.dirname(os.path.abspath(__file__)))
-DATA = f"{TOP}/crates/tracing_tree_cases/data"
+DATA = f"{TOP}/crates/test_cases/data"
 LOST = "definite,indirect,possible"
 VALGRIND = ["valgrind", "--leak-check=full", f"--show-leak-kinds={LOST}", f"--errors-for-leak-kinds={LOST}", "--error-exitcode=99"]
 DRAWINGS = (

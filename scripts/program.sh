@@ -23,7 +23,7 @@ fi
 program=$(realpath "$1")
 reader=$(realpath "$2")
 top=$(cd "$(dirname "$0")/.." && pwd)
-cases=$top/crates/tracing_tree_cases
+cases=$top/crates/test_cases
 tree=$cases/data/first/tree
 room=$(mktemp -d)
 trap 'rm -rf "$room"' EXIT

@@ -1,7 +1,7 @@
 #!/usr/bin/env python3
 """Makes each allocation of a program that calls the library fail in turn, work by work.
 
-The program (crates/tracing_tree_refusals) makes what a work needs, prints `begin NAME`, does the
+The program (crates/check_out_of_memory) makes what a work needs, prints `begin NAME`, does the
 work, and prints how many allocations failed. After a failure the program itself checks what was
 left and tries again. It ends with an error if the result is wrong. At its end it must hold no more
 blocks of memory than without a failure. The last line is 'N of M runs ended as they must'. Each run

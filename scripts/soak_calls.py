@@ -3,7 +3,7 @@
 
 usage: soak_calls.py PROGRAM [CALLS]
 
-PROGRAM (crates/tracing_tree_bench) makes waves of calls and times each call. A wave opens and
+PROGRAM (crates/bench) makes waves of calls and times each call. A wave opens and
 closes the same spans: 100,000 at once, branches in turn, and a span whose fields and handles grow.
 Half of CALLS (10^8) are made with retracing, and half with deferred spans too. No call may be
 refused. The peak memory at the end may be at most a twentieth and 1 MiB more than after the second

@@ -2,7 +2,7 @@
 """Compares the number of instructions of calls that look spans up, among few live spans and among
 many.
 
-PROGRAM is crates/tracing_tree_bench, and COUNTER is scripts/steps.c. No contract says how many
+PROGRAM is crates/bench, and COUNTER is scripts/steps.c. No contract says how many
 places a look-up reads. If no gap between a span and the newest span was closed, it reads one place:
 calls among 100,000 live spans take as many instructions as among ten. If gaps were closed evenly,
 it reads about six places, however many spans there are. A binary search would exceed the bounds,

@@ -31,22 +31,22 @@ import kit as kits
 TOP = os.path.dirname(os.path.dirname(os.path.abspath(__file__)))
 START = time.time()
 # The programs: the crate, and the path of its unproved executable.
-PROGRAMS = {"tracing_tree_cli": "bin/unproved_tree", "tracing_tree_read": "bin/unproved_read", "tracing_tree_ttree": "bin/unproved_ttree"}
+PROGRAMS = {"tracing_tree_cli": "bin/unproved_tree", "tracing_tree_read": "bin/unproved_read", "ttree": "bin/unproved_ttree"}
 # Logs of Rust's tracing.
 LOGS = tuple(f"examples/{it}.jsonl" for it in ("tracing", "tracing-flat", "tracing-full", "tracing-plain"))
 # The scripts that run them, with their arguments.
 RUNS = (
     ("scripts/program.sh", "--checked", "tracing_tree_cli", "tracing_tree_read"),
-    ("scripts/ttree.sh", "--checked", "tracing_tree_ttree", "tracing_tree_cli"),
-    ("scripts/page.py", "tracing_tree_ttree", "tracing_tree_cli"),
-    ("scripts/manual.py", "tracing_tree_ttree", "tracing_tree_cli", "tracing_tree_read"),
-    ("scripts/controls.py", "tracing_tree_ttree"),
-    ("scripts/tracing_paths.py", "tracing_tree_ttree", "tracing_tree_read", *LOGS),
-    ("scripts/model.py", "crates/tracing_tree_cases/data"),
+    ("scripts/ttree.sh", "--checked", "ttree", "tracing_tree_cli"),
+    ("scripts/page.py", "ttree", "tracing_tree_cli"),
+    ("scripts/manual.py", "ttree", "tracing_tree_cli", "tracing_tree_read"),
+    ("scripts/controls.py", "ttree"),
+    ("scripts/tracing_paths.py", "ttree", "tracing_tree_read", *LOGS),
+    ("scripts/model.py", "crates/test_cases/data"),
     ("scripts/fuzz.py", "--checked", "--lines", "3000", "--calls", "2000", "--drawings", "2000", "--sizes", "-1",
      "tracing_tree_cli", "tracing_tree_read"),
-    ("scripts/limits.py", "--checked", "tracing_tree_cli", "tracing_tree_read", "tracing_tree_ttree"),
-    ("scripts/install_test.py", "tracing_tree_cli", "tracing_tree_read", "tracing_tree_ttree"),
+    ("scripts/limits.py", "--checked", "tracing_tree_cli", "tracing_tree_read", "ttree"),
+    ("scripts/install_test.py", "tracing_tree_cli", "tracing_tree_read", "ttree"),
     ("scripts/messages.py",),
 )
 # The scripts that compare the docs with the sources, each with a name.

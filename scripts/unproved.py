@@ -12,7 +12,7 @@ import glob, os, shutil, subprocess, sys, tempfile, time
 LONG = {
     "tracing_tree_cli": ("{}\n", '{"call":"record","id":1}\n'),
     "tracing_tree_read": ("├─ INFO x\n", "│  x\n"),
-    "tracing_tree_ttree": ("\n", '{"Action":"pause","Package":"p"}\n'),
+    "ttree": ("\n", '{"Action":"pause","Package":"p"}\n'),
 }
 LINES = 2_000_000
 

@@ -1,7 +1,7 @@
 #!/usr/bin/env python3
 """Joins the viewer of a page into its head and tail: the fixed parts before and after the data.
 
-    viewer/build.py            writes crates/tracing_tree_viewer/src/fixed.rt
+    viewer/build.py            writes crates/ttree_viewer/src/fixed.rt
     viewer/build.py --check    fails if that file isn't what would be written
     viewer/build.py --head     prints the part before the data
     viewer/build.py --tail     prints the part after the data
@@ -16,7 +16,7 @@ import re
 import sys
 
 HERE = pathlib.Path(__file__).resolve().parent
-TARGET = HERE.parent / "crates/tracing_tree_viewer/src/fixed.rt"
+TARGET = HERE.parent / "crates/ttree_viewer/src/fixed.rt"
 
 # The parts of the script, in their order.
 PARTS = ["common", "run", "text", "filter", "list", "timeline", "details", "search", "overview", "keyboard", "reading"]
@@ -115,7 +115,7 @@ def main():
     elif word == "--check":
         is_right = TARGET.exists() and TARGET.read_text(encoding="utf-8") == module()
         if not is_right:
-            print("viewer: crates/tracing_tree_viewer/src/fixed.rt is out of date: run viewer/build.py")
+            print("viewer: crates/ttree_viewer/src/fixed.rt is out of date: run viewer/build.py")
         print(f"viewer: {int(is_right)} passed, {int(not is_right)} failed")
         sys.exit(not is_right)
     elif word == "":

@@ -1,7 +1,7 @@
 -- Fields that C passes, one by one.
 use Rattle.std.proofs.Common.{◌≡◌, ◌+◌, ℕ, ◌<◌, List, [], ◌∷◌, ◌++◌, length, drop, arith, zero, suc, refl, sym, subst, ap, ◌∙◌, Bool, append_assoc}
 use Rattle.std.specs.Prelude.{Result, Ok, Err, ⊤, slice_index_or}
-use Rattle.tracing_tree_text.specs.declared.field.Field.{Field}
+use Rattle.tracing_tree_base.specs.declared.field.Field.{Field}
 use Rattle.tracing_tree_drawing.specs.Format.Texts.{comma_after, event_field}
 use Rattle.tracing_tree_layer.proofs.FieldTexts.{added_fields}
 use Rattle.tracing_tree_c.specs.Foreign.{HasNoFields, IsSmallField, IsUtf8Field, IsUtf8Fields, Reads, field_of, fields_of}

@@ -1,7 +1,7 @@
 -- The answers and effects of the functions that C calls.
 use Rattle.std.specs.Prelude.{◌<◌, ◌≤◌, ◌++◌, List, drop, length, ◌≡◌, ◌≢◌, ℕ, Bool, None, Some, Ok, Err}
-use Rattle.tracing_tree_context.specs.declared.context.Refusal.{Refusal}
-use Rattle.tracing_tree_context.specs.declared.context.Refusal.TheVariants.{NotHeld, TooWide, TooMany, Memory, Timer as TimerFault, Writer, Failed}
+use Rattle.tracing_tree_base.specs.declared.context.Refusal.{Refusal}
+use Rattle.tracing_tree_base.specs.declared.context.Refusal.TheVariants.{NotHeld, TooWide, TooMany, Memory, Timer as TimerFault, Writer, Failed}
 use Rattle.tracing_tree_time.specs.Clock.{Timer}
 use Rattle.tracing_tree_layer.specs.declared.call.Call.{Call}
 use Rattle.tracing_tree_layer.specs.declared.call.Reply.TheVariants.{Span, Closed}

@@ -1,7 +1,7 @@
 -- What calls on a tree leave.
 use Rattle.std.specs.Prelude.{◌≡◌, Bool, true, false, [], None, Some, Result, Ok, Err}
-use Rattle.tracing_tree_context.specs.declared.context.Refusal.{Refusal}
-use Rattle.tracing_tree_context.specs.declared.context.Refusal.TheVariants.{Memory, Writer}
+use Rattle.tracing_tree_base.specs.declared.context.Refusal.{Refusal}
+use Rattle.tracing_tree_base.specs.declared.context.Refusal.TheVariants.{Memory, Writer}
 use Rattle.tracing_tree_layer.specs.Layered.Answered.{IsAnswered}
 use Rattle.tracing_tree_layer.specs.Layered.Seen.{Seen}
 use Rattle.tracing_tree_layer.specs.declared.call.Call.{Call}

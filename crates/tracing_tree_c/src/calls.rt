@@ -13,7 +13,7 @@ use crate::foreign::{
 use crate::settings::SettingsRef;
 use crate::tree::Tree;
 use std::alloc::Global;
-use tracing_tree_context::Id;
+use tracing_tree_base::Id;
 use tracing_tree_layer::call::Call;
 
 // The version of these functions and structs.

@@ -10,14 +10,14 @@ use crate::timer::Written;
 use jiff::Timestamp;
 use std::alloc::{AllocError, AllocFailed, Global};
 use std::marker::Model;
-use tracing_tree_context::{Context, Id};
+use tracing_tree_base::field::{Field, Fields};
+use tracing_tree_base::style::Level;
+use tracing_tree_base::text::Text;
+use tracing_tree_base::{Context, Id};
 use tracing_tree_drawing::format::push_event_texts;
 use tracing_tree_layer::call::Call;
 use tracing_tree_layer::told::ToldEvent;
 use tracing_tree_spans::registry::{Attributes, Event, Parent, Record};
-use tracing_tree_text::field::{Field, Fields};
-use tracing_tree_text::style::Level;
-use tracing_tree_text::text::Text;
 use tracing_tree_time::Moment;
 
 /// Why a value that C passed could not be read.

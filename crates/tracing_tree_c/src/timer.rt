@@ -4,7 +4,7 @@ ghost use Rattle.std.specs.Prelude.{Some, string_bytes};
 ghost use Rattle.tracing_tree_time.specs.Timers.{AppendsStated, AsksForText};
 
 use std::alloc::AllocError;
-use tracing_tree_text::text::Text;
+use tracing_tree_base::text::Text;
 use tracing_tree_time::{Clock, FormatTime, Moment, TimeFault};
 
 /// The strings of the next events' time.

@@ -17,7 +17,7 @@ use crate::settings::{SIZE, SettingsRef};
 use crate::timer::{TreeTimer, Written};
 use std::alloc::Global;
 use std::mem;
-use tracing_tree_context::Refusal;
+use tracing_tree_base::Refusal;
 use tracing_tree_layer::call::Reply;
 use tracing_tree_layer::layer::HierarchicalLayer;
 use tracing_tree_layer::layered::Layered;

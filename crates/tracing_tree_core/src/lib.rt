@@ -11,5 +11,5 @@ pub mod context;
 pub mod format;
 pub mod time;
 
+pub use tracing_tree_base::{field, style, text};
 pub use tracing_tree_spans::registry;
-pub use tracing_tree_text::{field, style, text};

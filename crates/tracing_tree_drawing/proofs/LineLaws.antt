@@ -14,7 +14,7 @@ use Rattle.std.proofs.Math.Seq.{take-append_seam}
 use Rattle.tracing_tree_drawing.specs.Format.Settings.{Settings}
 use Rattle.tracing_tree_drawing.specs.Format.Picture.{Row, drawn_line, drawn_row, mark_after_corner, mark_before_corner, mark_line, row_frame, row_lines, row_start}
 use Rattle.tracing_tree_drawing.specs.declared.format.SpanMode.{SpanMode}
-use Rattle.tracing_tree_text.specs.Extended.{IsExtended}
+use Rattle.tracing_tree_base.specs.Extended.{IsExtended}
 
 -- ---- carriage returns
 

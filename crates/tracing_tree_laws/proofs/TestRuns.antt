@@ -1,14 +1,14 @@
 -- What a whole run over Go's tests says of failures.
 use Rattle.std.proofs.Common.{◌≡◌, ℕ, Bool, List, Option, Some, None, IfSome, ap, ◌∙◌}
-use Rattle.tracing_tree_context.specs.declared.context.Moment.{Moment}
+use Rattle.tracing_tree_base.specs.declared.context.Moment.{Moment}
 use Rattle.tracing_tree_layer.specs.Layered.Answered.{IsAnswered}
 use Rattle.tracing_tree_layer.specs.Layered.Seen.{Seen}
 use Rattle.tracing_tree_lines.specs.Lines.Spelled.{input_lines}
-use Rattle.tracing_tree_sources.specs.Source.{Makes, RunsSource, hear, source_after}
-use Rattle.tracing_tree_sources.specs.declared.run.SourceRun.{SourceRun}
-use Rattle.tracing_tree_go_test.specs.Failures.{some_failed}
-use Rattle.tracing_tree_go_test.specs.GoTest.{GoState, go_ended, go_ends, go_takes, has_failed, nothing_run}
-use Rattle.tracing_tree_go_test.proofs.Failing.{some_failed_after}
+use Rattle.ttree_source.specs.Source.{Makes, RunsSource, hear, source_after}
+use Rattle.ttree_source.specs.declared.run.SourceRun.{SourceRun}
+use Rattle.ttree_go_test.specs.Failures.{some_failed}
+use Rattle.ttree_go_test.specs.GoTest.{GoState, go_ended, go_ends, go_takes, has_failed, nothing_run}
+use Rattle.ttree_go_test.proofs.Failing.{some_failed_after}
 
 pub failed_after_run : (known : Option (List ℕ)) (next : ℕ) (moment : Moment) (begun source : GoState) (run : SourceRun) (old new : Seen) → begun ≡ nothing_run next moment → run.fault ≡ None →
     RunsSource Makes IsAnswered go_takes go_ends go_ended known begun source run old new → (failed : Bool) → failed ≡ has_failed source →

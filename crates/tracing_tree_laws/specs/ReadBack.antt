@@ -1,6 +1,6 @@
 -- What is read back of a run from its text.
 use Rattle.std.specs.Prelude.{◌≡◌, ◌&&◌, false, List, [], ◌∷◌, ◌++◌, Option, None, IsTrue}
-use Rattle.tracing_tree_context.specs.declared.context.Id.{Id}
+use Rattle.tracing_tree_base.specs.declared.context.Id.{Id}
 use Rattle.tracing_tree_drawing.specs.Format.Settings.{Settings, retraces}
 use Rattle.tracing_tree_drawing.specs.Rows.Readable.{IsReadable}
 use Rattle.tracing_tree_drawing.specs.declared.rows.paths.EventPath.{EventPath}

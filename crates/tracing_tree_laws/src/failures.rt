@@ -1,21 +1,21 @@
 //! When Go's tests have failed.
 
 ghost use Rattle.std.specs.Prelude.{◌≡◌, ◌==◌, ◌||◌, ◌++◌, [], ℕ, List, Option, IfSome, codes, false, not};
-ghost use Rattle.tracing_tree_context.specs.declared.context.Moment.{Moment};
+ghost use Rattle.tracing_tree_base.specs.declared.context.Moment.{Moment};
 ghost use Rattle.tracing_tree_lines.specs.Lines.Spelled.{input_lines};
-ghost use Rattle.tracing_tree_sources.specs.Source.{hear, source_after};
-ghost use Rattle.tracing_tree_go_test.specs.Failures.{some_failed};
-ghost use Rattle.tracing_tree_go_test.specs.GoTest.{GoState, go_ended, go_takes, has_failed, moved, nothing_run};
-ghost use Rattle.tracing_tree_go_test.specs.Texts.{own_name};
-ghost use Rattle.tracing_tree_sources.specs.Marks.{is_empty};
+ghost use Rattle.ttree_source.specs.Source.{hear, source_after};
+ghost use Rattle.ttree_go_test.specs.Failures.{some_failed};
+ghost use Rattle.ttree_go_test.specs.GoTest.{GoState, go_ended, go_takes, has_failed, moved, nothing_run};
+ghost use Rattle.ttree_go_test.specs.Texts.{own_name};
+ghost use Rattle.ttree_source.specs.Marks.{is_empty};
 
 use std::alloc::Global;
-use tracing_tree_go_test::GoTest;
 use tracing_tree_layer::layered::Layered;
 use tracing_tree_lines::lines::LineInput;
 use tracing_tree_output::Output;
-use tracing_tree_sources::{Notes, draw_source};
 use tracing_tree_time::{FormatTime, Moment};
+use ttree_go_test::GoTest;
+use ttree_source::{Notes, draw_source};
 
 /// After lines and their end, tests have failed exactly if a line says that a test or a package
 /// failed, or a package was still running after the last line. A package runs from its first

@@ -2,13 +2,13 @@
 
 ghost use Rattle.std.specs.Prelude.{◌≡◌, [], ℕ, List, None, Option, flat_map, true};
 ghost use Rattle.json.specs.Json.{Json};
-ghost use Rattle.tracing_tree_context.specs.declared.context.Moment.{Moment};
-ghost use Rattle.tracing_tree_go_test.specs.Closing.{ClosesAll, is_end};
-ghost use Rattle.tracing_tree_go_test.specs.GoTest.{go_ends, go_takes, kind_in, moved, nothing_run, printed, ran, tests_of};
-ghost use Rattle.tracing_tree_go_test.specs.Names.{named};
-ghost use Rattle.tracing_tree_go_test.specs.Nesting.{PlacesCalls};
-ghost use Rattle.tracing_tree_go_test.specs.Printed.{ShowsEachLine, build_prints, plain_line, texts_added};
-ghost use Rattle.tracing_tree_sources.specs.Source.{calls_of, hear};
+ghost use Rattle.tracing_tree_base.specs.declared.context.Moment.{Moment};
+ghost use Rattle.ttree_go_test.specs.Closing.{ClosesAll, is_end};
+ghost use Rattle.ttree_go_test.specs.GoTest.{go_ends, go_takes, kind_in, moved, nothing_run, printed, ran, tests_of};
+ghost use Rattle.ttree_go_test.specs.Names.{named};
+ghost use Rattle.ttree_go_test.specs.Nesting.{PlacesCalls};
+ghost use Rattle.ttree_go_test.specs.Printed.{ShowsEachLine, build_prints, plain_line, texts_added};
+ghost use Rattle.ttree_source.specs.Source.{calls_of, hear};
 
 /// Over a run of Go's tests, each line that a test or a package prints is one event, unless it is
 /// blank or only frames. The lines of a test, joined, are the strings that it prints without its

@@ -1,7 +1,7 @@
 //! Runs whose events are read back only from their text.
 
 ghost use Rattle.std.specs.Prelude.{◌≡◌, [], IfSome, Option, length};
-ghost use Rattle.tracing_tree_context.specs.declared.context.Id.{Id};
+ghost use Rattle.tracing_tree_base.specs.declared.context.Id.{Id};
 ghost use Rattle.tracing_tree_drawing.specs.Format.Picture.{draw};
 ghost use Rattle.tracing_tree_layer.specs.Laws.Reading.{rows_of};
 ghost use Rattle.tracing_tree_layer.specs.Layered.Run.{accepted_calls};

@@ -1,7 +1,7 @@
 //! Runs of calls.
 
 ghost use Rattle.std.specs.Prelude.{◌||◌, IsTrue, List, Ok, Option};
-ghost use Rattle.tracing_tree_context.specs.declared.context.Id.{Id};
+ghost use Rattle.tracing_tree_base.specs.declared.context.Id.{Id};
 ghost use Rattle.tracing_tree_drawing.specs.Format.Settings.{Settings, retraces};
 ghost use Rattle.tracing_tree_layer.specs.declared.call.Call.{Call};
 ghost use Rattle.tracing_tree_layer.specs.declared.call.Reply.{Reply};

@@ -1,9 +1,9 @@
 -- The causes for which a call may be refused, by their names.
 use Rattle.std.specs.Prelude.{Bool, [], ◌∷◌, Option, option_map}
 use Rattle.std.specs.Bool.{then_some}
-use Rattle.tracing_tree_context.specs.declared.context.Id.{Id}
-use Rattle.tracing_tree_context.specs.declared.context.Refusal.{Refusal}
-use Rattle.tracing_tree_context.specs.declared.context.Refusal.TheVariants.{NotHeld, TooWide, TooMany, Timer as TimerFault, Failed}
+use Rattle.tracing_tree_base.specs.declared.context.Id.{Id}
+use Rattle.tracing_tree_base.specs.declared.context.Refusal.{Refusal}
+use Rattle.tracing_tree_base.specs.declared.context.Refusal.TheVariants.{NotHeld, TooWide, TooMany, Timer as TimerFault, Failed}
 use Rattle.tracing_tree_layer.specs.Layered.Refused.{first_of_all}
 
 -- the causes that apply to a call

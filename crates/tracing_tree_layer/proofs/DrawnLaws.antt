@@ -6,17 +6,17 @@ use Rattle.std.proofs.Math.Seq.{drop-append_seam, take-append_seam}
 use Rattle.std.proofs.lemmas.List.Folds.{list_any-append}
 use Rattle.tracing_tree_drawing.specs.Format.Settings.{Settings}
 use Rattle.tracing_tree_drawing.specs.Format.Picture.{Row, draw, drawn_row, is_too_wide, row_start, unnamed_row}
-use Rattle.tracing_tree_context.specs.declared.context.Refusal.{Refusal}
-use Rattle.tracing_tree_context.specs.declared.context.Refusal.TheVariants.{NotHeld, TooWide, TooMany, Memory, Timer, Writer, Failed}
+use Rattle.tracing_tree_base.specs.declared.context.Refusal.{Refusal}
+use Rattle.tracing_tree_base.specs.declared.context.Refusal.TheVariants.{NotHeld, TooWide, TooMany, Memory, Timer, Writer, Failed}
 use Rattle.tracing_tree_spans.specs.Registry.Forest.{Forest, is_live, if_live, path_of, path_of_any}
-use Rattle.tracing_tree_context.specs.declared.context.Id.{Id}
-use Rattle.tracing_tree_context.specs.declared.context.Context.{Context}
+use Rattle.tracing_tree_base.specs.declared.context.Id.{Id}
+use Rattle.tracing_tree_base.specs.declared.context.Context.{Context}
 use Rattle.tracing_tree_spans.specs.declared.registry.Event.{Event}
 use Rattle.tracing_tree_drawing.specs.declared.format.SpanMode.TheVariants.{Event as EventMode}
 use Rattle.tracing_tree_time.specs.Clock.{Timer as Clock}
 use Rattle.tracing_tree_spans.proofs.PathLaws.{path_of-none}
-use Rattle.tracing_tree_text.proofs.Extended.{cuts_back, extended_twice}
-use Rattle.tracing_tree_text.specs.Extended.{IsExtended}
+use Rattle.tracing_tree_base.proofs.Extended.{cuts_back, extended_twice}
+use Rattle.tracing_tree_base.specs.Extended.{IsExtended}
 use Rattle.tracing_tree_drawing.specs.Format.Frames.{IsBegun, row_of, with_row}
 use Rattle.tracing_tree_drawing.specs.declared.format.draw.RowDrawing.{RowDrawing}
 use Rattle.tracing_tree_drawing.specs.declared.format.draw.RowPlace.{RowPlace}

@@ -8,21 +8,21 @@ use Rattle.std.specs.Option.{option_eq}
 use Rattle.std.specs.Int.Signed.{◌≤ℤ◌, le_z}
 use Rattle.jiff_core.specs.Timestamp.{IsTimestampNanos}
 use Rattle.jiff_core.specs.declared.timestamp.Timestamp.{Timestamp}
-use Rattle.tracing_tree_context.specs.declared.context.Moment.{Moment}
-use Rattle.tracing_tree_context.specs.declared.context.Id.{Id}
-use Rattle.tracing_tree_context.specs.declared.context.Context.{Context}
+use Rattle.tracing_tree_base.specs.declared.context.Moment.{Moment}
+use Rattle.tracing_tree_base.specs.declared.context.Id.{Id}
+use Rattle.tracing_tree_base.specs.declared.context.Context.{Context}
 use Rattle.tracing_tree_spans.specs.Registry.Ids.{id_of}
 use Rattle.tracing_tree_spans.specs.declared.registry.Record.{Record}
 use Rattle.tracing_tree_layer.specs.declared.call.Call.{Call}
 use Rattle.tracing_tree_layer.specs.declared.call.Call.TheVariants.{New, Clone, Record as RecordOf, Event as Told, Close}
 use Rattle.tracing_tree_layer.specs.contracts.call.CallPartialEq.TheImpl.{ghosts as call}
-use Rattle.tracing_tree_text.specs.Equal.{field_eq, fields_eq}
-use Rattle.tracing_tree_text.specs.declared.field.Field.{Field}
-use Rattle.tracing_tree_text.specs.declared.style.Level.{Level}
+use Rattle.tracing_tree_base.specs.Equal.{field_eq, fields_eq}
+use Rattle.tracing_tree_base.specs.declared.field.Field.{Field}
+use Rattle.tracing_tree_base.specs.declared.style.Level.{Level}
 use Rattle.tracing_tree_spans.specs.declared.registry.Parent.{Parent}
 use Rattle.tracing_tree_spans.specs.declared.registry.Event.{Event}
 use Rattle.tracing_tree_spans.specs.declared.registry.Attributes.{Attributes}
-use Rattle.tracing_tree_text.specs.contracts.style.LevelPartialEq.TheImpl.{ghosts as level}
+use Rattle.tracing_tree_base.specs.contracts.style.LevelPartialEq.TheImpl.{ghosts as level}
 use Rattle.tracing_tree_spans.specs.contracts.registry.ParentPartialEq.TheImpl.{ghosts as parent}
 
 decides-by : {P Q : Type 0} (b : Bool) → (P → Q) → (Q → P) → Decides b P → Decides b Q

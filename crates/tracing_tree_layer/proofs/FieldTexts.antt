@@ -1,6 +1,6 @@
 -- The fields of a row, one after the other.
 use Rattle.std.proofs.Common.{◌≡◌, ℕ, Bool, true, false, not, if◌then◌else◌, List, [], ◌∷◌, ◌++◌, map, filter, flat_map, codes, refl, ap}
-use Rattle.tracing_tree_text.specs.declared.field.Field.{Field}
+use Rattle.tracing_tree_base.specs.declared.field.Field.{Field}
 use Rattle.tracing_tree_drawing.specs.Format.Texts.{is_log_field, shown_field, event_field, comma_after, event_fields, spaced_fields}
 
 -- what these fields of an event add, after a field or not

@@ -7,8 +7,8 @@ use Rattle.tracing_tree_drawing.specs.Format.Settings.{Settings}
 use Rattle.tracing_tree_spans.specs.Registry.Ids.{same_id}
 use Rattle.tracing_tree_spans.specs.Registry.Spans.{Span, printed_span}
 use Rattle.tracing_tree_spans.specs.Registry.Forest.{Forest, has_id, span_at, handles_of, is_child_of, children_of, goes_after, with_previous, going_up, closing_of, path_of, take_handle, mark_all}
-use Rattle.tracing_tree_context.specs.declared.context.Id.{Id}
-use Rattle.tracing_tree_context.specs.declared.context.Context.{Context}
+use Rattle.tracing_tree_base.specs.declared.context.Id.{Id}
+use Rattle.tracing_tree_base.specs.declared.context.Context.{Context}
 use Rattle.tracing_tree_layer.specs.Layered.State.{Turn}
 use Rattle.tracing_tree_layer.specs.Layer.Turns.{turn_of_closes}
 use Rattle.tracing_tree_layer.specs.Layer.Plan.{empty_plan, plan_of_closes}

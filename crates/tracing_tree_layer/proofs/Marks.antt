@@ -9,8 +9,8 @@ use Rattle.tracing_tree_spans.specs.Registry.Spans.{Span, printed_span}
 use Rattle.tracing_tree_spans.specs.Registry.Forest.{Forest, span_at, is_printed, parent_of, path_of, path_of_any, fresh_ids, mark_all, mark_printed}
 use Rattle.tracing_tree_spans.specs.Registry.Lookup.{data_at}
 use Rattle.tracing_tree_drawing.specs.Format.Picture.{Row}
-use Rattle.tracing_tree_context.specs.declared.context.Id.{Id}
-use Rattle.tracing_tree_context.specs.declared.context.Context.{Context}
+use Rattle.tracing_tree_base.specs.declared.context.Id.{Id}
+use Rattle.tracing_tree_base.specs.declared.context.Context.{Context}
 use Rattle.tracing_tree_spans.specs.declared.registry.node.Data.{Data}
 use Rattle.tracing_tree_drawing.specs.declared.format.SpanMode.{SpanMode}
 use Rattle.tracing_tree_layer.specs.Layer.Block.{span_block}

@@ -14,8 +14,8 @@ use Rattle.tracing_tree_spans.specs.Registry.Paths.{PartOnce}
 use Rattle.tracing_tree_spans.proofs.PathLaws.{path_of-step}
 use Rattle.tracing_tree_spans.proofs.CommonLaws.{paths_part_once, nothing_parts_once}
 use Rattle.tracing_tree_drawing.specs.Format.Picture.{Row}
-use Rattle.tracing_tree_context.specs.declared.context.Id.{Id}
-use Rattle.tracing_tree_context.specs.declared.context.Context.{Context}
+use Rattle.tracing_tree_base.specs.declared.context.Id.{Id}
+use Rattle.tracing_tree_base.specs.declared.context.Context.{Context}
 use Rattle.tracing_tree_drawing.specs.declared.format.SpanMode.{SpanMode}
 use Rattle.tracing_tree_drawing.specs.declared.format.SpanMode.TheVariants.{PreOpen, Open, Close, PostClose}
 use Rattle.tracing_tree_layer.specs.Layered.State.{Turn, quiet_turn}

@@ -5,15 +5,15 @@ use Rattle.std.specs.Bool.{then_some}
 use Rattle.tracing_tree_drawing.specs.Format.Settings.{Settings}
 use Rattle.tracing_tree_time.specs.Clock.{Timer}
 use Rattle.tracing_tree_output.specs.Writers.{LeavesCut, seen_writer}
-use Rattle.tracing_tree_context.specs.declared.context.Id.{Id}
-use Rattle.tracing_tree_context.specs.declared.context.Refusal.{Refusal}
-use Rattle.tracing_tree_context.specs.declared.context.Refusal.TheVariants as Refused
-use Rattle.tracing_tree_context.specs.declared.context.Refusal.TheVariants.{NotHeld, TooWide, TooMany, Memory, Writer, Failed}
+use Rattle.tracing_tree_base.specs.declared.context.Id.{Id}
+use Rattle.tracing_tree_base.specs.declared.context.Refusal.{Refusal}
+use Rattle.tracing_tree_base.specs.declared.context.Refusal.TheVariants as Refused
+use Rattle.tracing_tree_base.specs.declared.context.Refusal.TheVariants.{NotHeld, TooWide, TooMany, Memory, Writer, Failed}
 use Rattle.tracing_tree_drawing.specs.Format.Picture.{Row, draw}
 use Rattle.tracing_tree_spans.specs.Registry.Ids.{id_of}
 use Rattle.tracing_tree_spans.specs.Registry.Forest.{Forest, add_span, new_span, closing_of, take_handle, without_spans, unless_handle}
 use Rattle.tracing_tree_spans.specs.Registry.Registered.{IsNewSpan, IsClosed}
-use Rattle.tracing_tree_context.specs.declared.context.Context.{Context}
+use Rattle.tracing_tree_base.specs.declared.context.Context.{Context}
 use Rattle.tracing_tree_spans.specs.declared.registry.Attributes.{Attributes}
 use Rattle.tracing_tree_layer.specs.Layered.State.{State, Turn}
 use Rattle.tracing_tree_layer.specs.Layer.Turns.{turn_of_new, turn_of_closes}

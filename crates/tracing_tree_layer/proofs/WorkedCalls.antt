@@ -4,14 +4,14 @@ use Rattle.jiff_core.specs.Timestamp.{IsTimestampNanos}
 use Rattle.jiff_core.specs.declared.timestamp.Timestamp.{Timestamp}
 use Rattle.tracing_tree_drawing.specs.Format.Settings.{Settings, default_settings}
 use Rattle.tracing_tree_spans.specs.Registry.Ids.{id_of}
-use Rattle.tracing_tree_text.specs.Field.{rendered_field}
+use Rattle.tracing_tree_base.specs.Field.{rendered_field}
 use Rattle.tracing_tree_time.specs.Clock.{no_timer}
-use Rattle.tracing_tree_context.specs.declared.context.Context.{Context}
-use Rattle.tracing_tree_text.specs.declared.field.Field.{Field}
+use Rattle.tracing_tree_base.specs.declared.context.Context.{Context}
+use Rattle.tracing_tree_base.specs.declared.field.Field.{Field}
 use Rattle.tracing_tree_spans.specs.declared.registry.Parent.{Parent}
 use Rattle.tracing_tree_spans.specs.declared.registry.Parent.TheVariants.{Current}
-use Rattle.tracing_tree_text.specs.declared.style.Level.{Level}
-use Rattle.tracing_tree_text.specs.declared.style.Level.TheVariants.{Info, Warn}
+use Rattle.tracing_tree_base.specs.declared.style.Level.{Level}
+use Rattle.tracing_tree_base.specs.declared.style.Level.TheVariants.{Info, Warn}
 use Rattle.tracing_tree_layer.specs.Layered.State.{State, opening_state}
 use Rattle.tracing_tree_output.specs.Writers.{SeenWriter}
 use Rattle.tracing_tree_layer.specs.Layered.Run.{run, text_of}

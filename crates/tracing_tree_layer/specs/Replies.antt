@@ -1,7 +1,7 @@
 -- Replies to calls, and the answers of calls by their parts.
 use Rattle.std.specs.Prelude.{◌≡◌, Bool, Result, Ok, Err}
-use Rattle.tracing_tree_context.specs.declared.context.Id.{Id}
-use Rattle.tracing_tree_context.specs.declared.context.Refusal.{Refusal}
+use Rattle.tracing_tree_base.specs.declared.context.Id.{Id}
+use Rattle.tracing_tree_base.specs.declared.context.Refusal.{Refusal}
 use Rattle.tracing_tree_layer.specs.declared.call.Call.{Call}
 use Rattle.tracing_tree_layer.specs.declared.call.Call.TheVariants.{New, Clone, Record, Event, Close}
 use Rattle.tracing_tree_layer.specs.declared.call.Reply.{Reply}

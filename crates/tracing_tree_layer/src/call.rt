@@ -3,7 +3,7 @@
 ghost use Rattle.std.specs.Prelude.{◌≡◌, IfOk};
 
 use std::alloc::AllocError;
-use tracing_tree_context::{Context, Id};
+use tracing_tree_base::{Context, Id};
 use tracing_tree_spans::registry::{Attributes, Event, Record};
 
 /// A call on a registry with a layer.

@@ -3,7 +3,7 @@
 use crate::call::{Call, Reply};
 use crate::layered::Layered;
 use crate::told::ToldEvent;
-use tracing_tree_context::{Context, Id, Refusal};
+use tracing_tree_base::{Context, Id, Refusal};
 use tracing_tree_output::Output;
 use tracing_tree_spans::registry::{Attributes, Record};
 use tracing_tree_time::FormatTime;
@@ -15,7 +15,7 @@ use tracing_tree_time::FormatTime;
 /// no whole [`Call`] is built: the strings of an event stay where they are.
 pub trait Calls {
     ghost use Rattle.std.specs.Prelude.{IfOk, Result, ◌≡◌};
-    ghost use Rattle.tracing_tree_context.specs.declared.context.Refusal.{Refusal};
+    ghost use Rattle.tracing_tree_base.specs.declared.context.Refusal.{Refusal};
     ghost use Rattle.tracing_tree_layer.specs.declared.call.Call.{Call};
     ghost use Rattle.tracing_tree_layer.specs.declared.call.Reply.{Reply};
     ghost use Rattle.tracing_tree_layer.specs.Replies.{IsReplyTo, answer_as, cloned, closed, done, span};

@@ -24,7 +24,7 @@ use plan::Plan;
 use std::alloc::Global;
 use std::marker::Model;
 use std::mem;
-use tracing_tree_context::{Context, Id, Refusal};
+use tracing_tree_base::{Context, Id, Refusal};
 use tracing_tree_drawing::format::Config;
 use tracing_tree_output::{Output, write_whole};
 use tracing_tree_spans::registry::LookupSpan;

@@ -16,11 +16,11 @@ use crate::told::ToldEvent;
 use std::alloc::{AllocError, Global};
 use std::marker::Model;
 use std::mem;
-use tracing_tree_context::{Context, Id, Refusal};
+use tracing_tree_base::field::Fields;
+use tracing_tree_base::text::Text;
+use tracing_tree_base::{Context, Id, Refusal};
 use tracing_tree_output::Output;
 use tracing_tree_spans::registry::{Attributes, Event, LookupSpan, Parent, Record, Registry};
-use tracing_tree_text::field::Fields;
-use tracing_tree_text::text::Text;
 use tracing_tree_time::FormatTime;
 
 /// A registry with a layer. An accepted call changes both, and writes its text.

@@ -8,9 +8,9 @@ ghost use Rattle.tracing_tree_spans.specs.declared.registry.Event.{Event};
 
 use std::alloc::{AllocError, Global};
 pub use texts::{EventTexts, FieldTexts};
+use tracing_tree_base::style::Level;
 use tracing_tree_drawing::format::push_event_field;
 use tracing_tree_spans::registry::{Event, Parent};
-use tracing_tree_text::style::Level;
 
 /// An event in the caller's form. The registry stores no part of an event, so its strings are drawn
 /// from where the caller has them, without a copy.

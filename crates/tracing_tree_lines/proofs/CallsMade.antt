@@ -2,7 +2,7 @@
 use Rattle.std.proofs.Common.{◌≡◌, List, [], ◌∷◌, ◌++◌, map, Result, Ok, refl, sym, subst, ◌∙◌}
 use Rattle.std.proofs.KnownBytes.{Keeps-refl, Keeps-trans}
 use Rattle.std.proofs.lemmas.List.{map-append}
-use Rattle.tracing_tree_context.specs.declared.context.Refusal.{Refusal}
+use Rattle.tracing_tree_base.specs.declared.context.Refusal.{Refusal}
 use Rattle.tracing_tree_layer.specs.Layer.Layers.{LayeredView, Changes, Flushes}
 use Rattle.tracing_tree_layer.specs.Layered.Answered.{IsAnswered}
 use Rattle.tracing_tree_layer.specs.Layered.Seen.{Seen}

@@ -8,10 +8,10 @@ use Rattle.serde_json.specs.Data.{Num, unsigned, negative, float, Data, null, bo
 use Rattle.serde_json.specs.Find.{get, get_member, as_str, as_u64, as_i64}
 use Rattle.serde_json.specs.Written.{has_float, items_have_float}
 use Rattle.serde_json.proofs.Views.{get_member-put, get_member-put_other}
-use Rattle.tracing_tree_text.specs.Style.{level_named}
-use Rattle.tracing_tree_context.specs.declared.context.Context.{Context}
-use Rattle.tracing_tree_context.specs.declared.context.Moment.{Moment}
-use Rattle.tracing_tree_text.specs.declared.field.Field.{Field}
+use Rattle.tracing_tree_base.specs.Style.{level_named}
+use Rattle.tracing_tree_base.specs.declared.context.Context.{Context}
+use Rattle.tracing_tree_base.specs.declared.context.Moment.{Moment}
+use Rattle.tracing_tree_base.specs.declared.field.Field.{Field}
 use Rattle.tracing_tree_spans.specs.Registry.Ids.{id_of}
 use Rattle.tracing_tree_spans.specs.declared.registry.Parent.TheVariants.{Current}
 use Rattle.tracing_tree_layer.specs.declared.call.Call.{Call}

@@ -12,7 +12,7 @@ use Rattle.json.specs.Json.{parse_map, after_end_array, read_key}
 use Rattle.json.proofs.Grammar.{value_is, value-begin_array, value-begin_object}
 use Rattle.serde_json.specs.Data.{Num, Data, boolean, object, Items, item, Members, no_members, put}
 use Rattle.serde_json.specs.Read.{number_of}
-use Rattle.tracing_tree_text.specs.declared.field.Field.{Field}
+use Rattle.tracing_tree_base.specs.declared.field.Field.{Field}
 use Rattle.tracing_tree_lines.specs.Lines.Borrowed.{number_data, data_of, items_data, members_data}
 use Rattle.tracing_tree_lines.specs.Lines.Parts.{part_data, listed_data, parts_members, no_parts, call_members, with_key, readable, readable_word, readable_list, readable_fields, IsNumberPart}
 use Rattle.tracing_tree_lines.specs.Lines.Spelled.{field_value, item_fields}

@@ -9,8 +9,8 @@ use Rattle.serde_json.specs.Find.{as_str}
 use Rattle.serde_json.specs.Written.{has_float}
 use Rattle.jiff_core.specs.Timestamp.{IsTimestampNanos}
 use Rattle.jiff_core.specs.declared.timestamp.Timestamp.{Timestamp}
-use Rattle.tracing_tree_context.specs.declared.context.Context.{Context}
-use Rattle.tracing_tree_context.specs.declared.context.Moment.{Moment}
+use Rattle.tracing_tree_base.specs.declared.context.Context.{Context}
+use Rattle.tracing_tree_base.specs.declared.context.Moment.{Moment}
 use Rattle.tracing_tree_lines.specs.Lines.Values.{ValueSpells}
 use Rattle.tracing_tree_lines.specs.Lines.Steps.{Answering, MakesNamed, MakesSpelled}
 use Rattle.tracing_tree_lines.proofs.MadeCalls.{spelled_as}

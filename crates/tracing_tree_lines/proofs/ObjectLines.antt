@@ -18,7 +18,7 @@ use Rattle.tracing_tree_lines.proofs.LineTokens.{unless_memory}
 use Rattle.tracing_tree_lines.specs.Lines.Parts.{IsObjectLine, ReadsObject}
 use Rattle.tracing_tree_lines.specs.Lines.Taken.{opens_object, ArePartsTaken, TakesParts}
 use Rattle.serde_json.specs.Find.{as_object, as_str}
-use Rattle.tracing_tree_context.specs.declared.context.Moment.{Moment}
+use Rattle.tracing_tree_base.specs.declared.context.Moment.{Moment}
 use Rattle.tracing_tree_lines.proofs.Moments.{reads_none}
 use Rattle.tracing_tree_lines.specs.Lines.Values.{IsUnlessMemory, ValueSpells}
 use Rattle.tracing_tree_lines.specs.declared.lines.LineCause.TheVariants.{NotACall}

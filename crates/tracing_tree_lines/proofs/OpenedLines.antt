@@ -10,7 +10,7 @@ use Rattle.serde_json.specs.Find.{as_null}
 use Rattle.tracing_tree_drawing.specs.Format.Settings.{Settings}
 use Rattle.tracing_tree_time.specs.Clock.{Timer}
 use Rattle.tracing_tree_time.specs.declared.timer.FormatTime.{Ghosts as FormatTime}
-use Rattle.tracing_tree_context.specs.declared.context.Refusal.{Refusal}
+use Rattle.tracing_tree_base.specs.declared.context.Refusal.{Refusal}
 use Rattle.tracing_tree_output.specs.declared.output.Output.{Ghosts as Output}
 use Rattle.tracing_tree_layer.specs.Layer.Layers.{LayeredView, Changes, Flushes, seen}
 use Rattle.tracing_tree_layer.specs.Layered.Answered.{IsAnswered}

@@ -17,7 +17,7 @@ use Rattle.tracing_tree_lines.specs.Lines.Spelled.{field_value, pair_field}
 use Rattle.tracing_tree_lines.specs.declared.lines.pair.Texts.{Texts}
 use Rattle.tracing_tree_lines.specs.declared.lines.pair.Texts.TheVariants.{None as NoText}
 use Rattle.serde_json.specs.Read.{number_of}
-use Rattle.tracing_tree_text.specs.declared.field.Field.{Field}
+use Rattle.tracing_tree_base.specs.declared.field.Field.{Field}
 use Rattle.tracing_tree_lines.proofs.BorrowedTrees.{no_str, no_field}
 use Rattle.tracing_tree_lines.proofs.Taken.{whole_taken, same_taken, PassesItems, no_items_passed, item_passed, items_passed, item_unread}
 

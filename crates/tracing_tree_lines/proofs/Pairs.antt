@@ -1,7 +1,7 @@
 -- Fields, and those of the rest.
 use Rattle.std.specs.Prelude.{◌≡◌, List, [], ◌∷◌, ◌++◌, Option, Some, None, refl, option_and_then}
 use Rattle.serde_json.specs.Data.{Data, Items, item}
-use Rattle.tracing_tree_text.specs.declared.field.Field.{Field}
+use Rattle.tracing_tree_base.specs.declared.field.Field.{Field}
 use Rattle.std.proofs.Common.{ap, sym, append_assoc}
 use Rattle.tracing_tree_lines.specs.Lines.Spelled.{field_value, item_fields}
 

@@ -35,7 +35,7 @@ use std::alloc::{AllocError, AllocFailed, Global};
 use std::fmt;
 use std::io::{BufReader, Read};
 use thiserror::Error;
-use tracing_tree_context::Refusal;
+use tracing_tree_base::Refusal;
 use tracing_tree_layer::flushed::Flushed;
 use tracing_tree_layer::layer::HierarchicalLayer;
 use tracing_tree_layer::layered::Layered;

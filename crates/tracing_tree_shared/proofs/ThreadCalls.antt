@@ -1,8 +1,8 @@
 -- The answers of a thread's receiver, from the layer's answer to a draft.
 use Rattle.std.specs.Prelude.{◌≡◌, ◌⊎◌, ◌++◌, ◌∷◌, [], ℕ, Result, Ok, Err, IfOk, OnErr, refl}
 use Rattle.std.proofs.Common.{inr, subst, sym}
-use Rattle.tracing_tree_context.specs.declared.context.Refusal.{Refusal}
-use Rattle.tracing_tree_context.specs.declared.context.Refusal.TheVariants.{Memory}
+use Rattle.tracing_tree_base.specs.declared.context.Refusal.{Refusal}
+use Rattle.tracing_tree_base.specs.declared.context.Refusal.TheVariants.{Memory}
 use Rattle.tracing_tree_output.specs.declared.output.Output.{Ghosts as Output}
 use Rattle.tracing_tree_time.specs.declared.timer.FormatTime.{Ghosts as FormatTime}
 use Rattle.tracing_tree_layer.specs.declared.call.Call.{Call}

@@ -2,8 +2,8 @@
 use Rattle.std.specs.Prelude.{◌≡◌, ℕ, Bool, List, [], ◌∷◌, Result, Err, Some, None, true, false, refl, codes, encode_utf8_all}
 use Rattle.std.proofs.Common.{arith, ap, inr}
 use Rattle.std.specs.Char.{encode_utf8}
-use Rattle.tracing_tree_context.specs.declared.context.Refusal.{Refusal}
-use Rattle.tracing_tree_context.specs.declared.context.Refusal.TheVariants.{Memory}
+use Rattle.tracing_tree_base.specs.declared.context.Refusal.{Refusal}
+use Rattle.tracing_tree_base.specs.declared.context.Refusal.TheVariants.{Memory}
 use Rattle.tracing_tree_output.specs.Outputs.{TapeView}
 use Rattle.tracing_tree_spans.specs.Registry.Forest.{empty_forest}
 use Rattle.tracing_tree_spans.specs.Registry.Ids.{id_of}

@@ -3,7 +3,7 @@ use Rattle.std.specs.Prelude.{◌≡◌, ℕ, ◌<◌, ◌≤◌, ◌==◌, ◌�
 use Rattle.tracing_tree_drawing.specs.Format.Settings.{Settings}
 use Rattle.tracing_tree_time.specs.Clock.{Timer}
 use Rattle.tracing_tree_drawing.specs.Format.Picture.{draw}
-use Rattle.tracing_tree_context.specs.declared.context.Id.{Id}
+use Rattle.tracing_tree_base.specs.declared.context.Id.{Id}
 use Rattle.tracing_tree_layer.specs.Layered.State.{State, opening_state}
 use Rattle.tracing_tree_layer.specs.Layered.Run.{Run, run}
 use Rattle.tracing_tree_layer.specs.declared.call.Call.{Call}

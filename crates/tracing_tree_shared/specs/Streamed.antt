@@ -1,6 +1,6 @@
 -- What a draft leaves in a layer that keeps no history.
 use Rattle.std.specs.Prelude.{◌≡◌, ◌+◌, ◌-◌, ◌^◌, ℕ, min, Bool, Result, Ok, Err}
-use Rattle.tracing_tree_context.specs.declared.context.Refusal.{Refusal}
+use Rattle.tracing_tree_base.specs.declared.context.Refusal.{Refusal}
 use Rattle.tracing_tree_output.specs.declared.output.Output.{Ghosts as Output}
 use Rattle.tracing_tree_time.specs.declared.timer.FormatTime.{Ghosts as FormatTime}
 use Rattle.tracing_tree_layer.specs.Layer.Layers.{LayeredView, seen, Changes}

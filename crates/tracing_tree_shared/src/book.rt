@@ -7,7 +7,7 @@ use crate::draft::{Draft, Refused};
 use std::alloc::Global;
 use std::boxed::Box;
 use std::marker::Model;
-use tracing_tree_context::{Id, Refusal};
+use tracing_tree_base::{Id, Refusal};
 use tracing_tree_drawing::format::Config;
 use tracing_tree_layer::Layered;
 use tracing_tree_layer::call::{Call, Reply};

@@ -8,7 +8,7 @@ ghost use Rattle.tracing_tree_shared.specs.Kept.{IsAnsweredOrLacks};
 use std::alloc::{AllocError, Global};
 use std::boxed::Box;
 use std::marker::Model;
-use tracing_tree_context::Refusal;
+use tracing_tree_base::Refusal;
 use tracing_tree_drawing::format::Config;
 use tracing_tree_layer::Layered;
 use tracing_tree_layer::call::{Call, Reply};

@@ -13,7 +13,7 @@ use std::alloc::{AllocError, Global};
 use std::marker::Model;
 use std::sync::ledger::{Blank, Ledger, Share, Total};
 use std::sync::{Mutex, Wait};
-use tracing_tree_context::Refusal;
+use tracing_tree_base::Refusal;
 use tracing_tree_drawing::format::Config;
 use tracing_tree_layer::Layered;
 use tracing_tree_layer::call::{Call, Reply};

@@ -11,7 +11,7 @@ use std::alloc::Global;
 use std::marker::Model;
 use std::mem;
 use std::sync::{Mutex, Wait};
-use tracing_tree_context::Refusal;
+use tracing_tree_base::Refusal;
 use tracing_tree_drawing::format::Config;
 use tracing_tree_layer::Layered;
 use tracing_tree_layer::call::{Call, Reply};

@@ -4,7 +4,7 @@ use Rattle.std.specs.List.{list_all, last_or}
 use Rattle.std.proofs.lemmas.List.Sums.{take_while-cons}
 use Rattle.tracing_tree_spans.specs.Registry.Forest.{Forest, goes_after, closing_of, take_handle, path_of, FirstStays, IsLongestGoing}
 use Rattle.tracing_tree_spans.specs.Registry.Registered.{going_after}
-use Rattle.tracing_tree_context.specs.declared.context.Id.{Id}
+use Rattle.tracing_tree_base.specs.declared.context.Id.{Id}
 
 -- ids, each with the one before it; `before` precedes the first
 abbrev steps : Option Id → List Id → List (Option Id × Id)

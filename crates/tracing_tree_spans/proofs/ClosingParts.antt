@@ -11,7 +11,7 @@ use Rattle.tracing_tree_spans.specs.Registry.Spans.{Span, KeptSpan}
 use Rattle.tracing_tree_spans.specs.Registry.Forest.{has_id, is_child_of, children_of, path_of, path_of_any, goes_after, closing_of}
 use Rattle.tracing_tree_spans.specs.Registry.Registered.{IsRising, IsKept, alone, going_after, lacks_others}
 use Rattle.tracing_tree_spans.specs.Registry.Kept.{kept_at, spans_of, IsTied}
-use Rattle.tracing_tree_context.specs.declared.context.Id.{Id}
+use Rattle.tracing_tree_base.specs.declared.context.Id.{Id}
 use Rattle.tracing_tree_spans.proofs.ForestLaws.{same_id-eq}
 use Rattle.tracing_tree_spans.proofs.PathLaws.{path_of-step}
 use Rattle.tracing_tree_spans.proofs.ClosingLaws.{closing_of-longest}

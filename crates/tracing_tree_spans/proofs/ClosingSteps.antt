@@ -11,7 +11,7 @@ use Rattle.tracing_tree_spans.specs.Registry.Ids.{same_id}
 use Rattle.tracing_tree_spans.specs.Registry.Spans.{Span}
 use Rattle.tracing_tree_spans.specs.Registry.Forest.{Forest, has_id, is_child_of, span_at, handles_of, update_span, take_handle, path_of, is_live, IsGrown, IsForest, IsGrownForest, IsClosing, IsLongestGoing, goes_after, going_up, closing_of, after_close, unless_handle, without_spans}
 use Rattle.tracing_tree_spans.specs.Registry.Registered.{IsRising, IsKept, alone, going_after, is_other_child, lacks_others}
-use Rattle.tracing_tree_context.specs.declared.context.Id.{Id}
+use Rattle.tracing_tree_base.specs.declared.context.Id.{Id}
 use Rattle.tracing_tree_spans.proofs.ForestLaws.{path_among, same_id-eq}
 use Rattle.tracing_tree_spans.proofs.PathLaws.{path_above, path_of-is_path, path_of-among}
 use Rattle.tracing_tree_spans.proofs.ClosingLaws.{going-cons, closing_of-longest}

@@ -8,7 +8,7 @@ use Rattle.std.proofs.lemmas.List.{reverse-append}
 use Rattle.tracing_tree_spans.specs.Registry.Ids.{same_id}
 use Rattle.tracing_tree_spans.specs.Registry.Spans.{Span}
 use Rattle.tracing_tree_spans.specs.Registry.Forest.{Forest, has_id, span_at, path_of, path_of_any, IsGrown, IsForest, IsGrownForest}
-use Rattle.tracing_tree_context.specs.declared.context.Id.{Id}
+use Rattle.tracing_tree_base.specs.declared.context.Id.{Id}
 use Rattle.tracing_tree_spans.proofs.PathLaws.{path_above, look-by, parent-among, above-older, path_of-step, path_of-none, path_of_any-among}
 use Rattle.tracing_tree_spans.proofs.ForestLaws.{path_among, look, look-turned, look-newest, path-newest, path-older, same_id-eq}
 

@@ -8,7 +8,7 @@ use Rattle.std.proofs.lemmas.List.{take-append-drop, take_more}
 use Rattle.tracing_tree_spans.specs.Registry.Ids.{same_id}
 use Rattle.tracing_tree_spans.specs.Registry.Forest.{Forest, is_live, path_of, Descends, IsPath, IsForest}
 use Rattle.tracing_tree_spans.specs.Registry.Paths.{agree_at, PartOnce}
-use Rattle.tracing_tree_context.specs.declared.context.Id.{Id}
+use Rattle.tracing_tree_base.specs.declared.context.Id.{Id}
 use Rattle.tracing_tree_spans.proofs.ForestLaws.{same_id-eq, last_or-push}
 use Rattle.tracing_tree_spans.proofs.PathsUp.{descends-front}
 use Rattle.tracing_tree_spans.proofs.PathLaws.{path_of-is_path, path_of-only, path_of-none}

@@ -6,7 +6,7 @@ use Rattle.std.proofs.lemmas.List.{map-append, reverse-append, reverse-reverse, 
 use Rattle.tracing_tree_spans.specs.Registry.Ids.{same_id}
 use Rattle.tracing_tree_spans.specs.Registry.Spans.{Span}
 use Rattle.tracing_tree_spans.specs.Registry.Forest.{Forest, has_id, span_at, path_up, path_of, IsGrown, IsForest, IsGrownForest}
-use Rattle.tracing_tree_context.specs.declared.context.Id.{Id}
+use Rattle.tracing_tree_base.specs.declared.context.Id.{Id}
 use Rattle.tracing_tree_spans.proofs.ForestLaws.{path_among, among-is_path}
 use Rattle.tracing_tree_spans.proofs.PathsUp.{any_up, up-step, up-none, id_laws, ids_of, on-ids, forest-by_paths}
 use Rattle.tracing_tree_spans.proofs.RegistryLaws.{IsSame, any-reverse, find-same}

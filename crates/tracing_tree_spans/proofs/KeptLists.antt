@@ -8,7 +8,7 @@ use Rattle.tracing_tree_spans.specs.Registry.Ids.{id_of, same_id}
 use Rattle.tracing_tree_spans.specs.Registry.Spans.{Span, KeptSpan, child_more, child_less}
 use Rattle.tracing_tree_spans.specs.Registry.Forest.{has_id}
 use Rattle.tracing_tree_spans.specs.Registry.Kept.{keeps_id, kept_at, spans_of, change_kept, leave_out, with_child}
-use Rattle.tracing_tree_context.specs.declared.context.Id.{Id}
+use Rattle.tracing_tree_base.specs.declared.context.Id.{Id}
 use Rattle.tracing_tree_spans.proofs.RegistryLaws.{changed, without}
 
 -- a search of changed elements, if the change keeps the test's result

@@ -10,7 +10,7 @@ use Rattle.tracing_tree_spans.specs.Registry.Ids.{same_id}
 use Rattle.tracing_tree_spans.specs.Registry.Spans.{Span}
 use Rattle.tracing_tree_spans.specs.Registry.Forest.{Forest, has_id, is_child_of, any_unless_live, id_after, add_span, take_back, IsGrown}
 use Rattle.tracing_tree_spans.specs.Registry.Registered.{IsKept, IsNewest, alone}
-use Rattle.tracing_tree_context.specs.declared.context.Id.{Id}
+use Rattle.tracing_tree_base.specs.declared.context.Id.{Id}
 use Rattle.tracing_tree_spans.proofs.SpanLists.{own_id}
 use Rattle.tracing_tree_spans.proofs.ForestLaws.{is_some-find, same_id-eq}
 use Rattle.tracing_tree_spans.proofs.RegistryLaws.{forest_of, any-reverse, fresh-below, all_kept-below, parent-live}

@@ -6,7 +6,7 @@ use Rattle.std.specs.List.{list_any}
 use Rattle.std.proofs.lemmas.Bool.{or_parts}
 use Rattle.tracing_tree_spans.specs.Registry.Spans.{Span}
 use Rattle.tracing_tree_spans.specs.Registry.Forest.{Forest, has_id, span_at, is_live, path_up, path_of, path_of_any, IsPath, IsPathIfLive, IsGrown, IsForest}
-use Rattle.tracing_tree_context.specs.declared.context.Id.{Id}
+use Rattle.tracing_tree_base.specs.declared.context.Id.{Id}
 use Rattle.tracing_tree_spans.proofs.ForestLaws.{path_among, look, look-turned, look-newest, older-not, path-older, is_some-find, among-is_path}
 use Rattle.tracing_tree_spans.proofs.PathsUp.{any_up, up-step, up-none, path-up, path-short, path_of-one, live-path, none-found}
 

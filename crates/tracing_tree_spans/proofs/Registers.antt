@@ -15,7 +15,7 @@ use Rattle.tracing_tree_spans.specs.Registry.Spans.{Span, KeptSpan, handle_less}
 use Rattle.tracing_tree_spans.specs.Registry.Forest.{Forest, has_id, is_child_of, span_at, handles_of, unless_live, unless_handle, has_all_handles, any_unless_live, update_span, closing_of, children_of, path_of, IsPathIfLive, IsClosing, IsGrownForest}
 use Rattle.tracing_tree_spans.specs.Registry.Registered.{IsKept, IsNewest, alone, going_after, lacks_others}
 use Rattle.tracing_tree_spans.specs.Registry.Kept.{keeps_id, kept_at, spans_of, change_kept, with_child, kept_path, AreBelow, IsTied}
-use Rattle.tracing_tree_context.specs.declared.context.Id.{Id}
+use Rattle.tracing_tree_base.specs.declared.context.Id.{Id}
 use Rattle.tracing_tree_spans.proofs.GrownForests.{as_forest}
 use Rattle.tracing_tree_spans.proofs.ForestLaws.{is_some-find}
 use Rattle.tracing_tree_spans.proofs.PathLaws.{path_of-none, path_of-whole}

@@ -15,7 +15,7 @@ use Rattle.tracing_tree_spans.specs.Registry.Ids.{id_of, same_id}
 use Rattle.tracing_tree_spans.specs.Registry.Spans.{Span}
 use Rattle.tracing_tree_spans.specs.Registry.Forest.{Forest, has_id, is_child_of, span_at, update_span, id_after, any_unless_live, add_span, take_back, IsGrown, IsGrownForest}
 use Rattle.tracing_tree_spans.specs.Registry.Registered.{IsRising, IsKept, IsNewest, alone}
-use Rattle.tracing_tree_context.specs.declared.context.Id.{Id}
+use Rattle.tracing_tree_base.specs.declared.context.Id.{Id}
 use Rattle.tracing_tree_spans.proofs.SpanLists.{all_above, own_id, find-id, set_is_update}
 use Rattle.tracing_tree_spans.proofs.ForestLaws.{is_some-find}
 

@@ -13,7 +13,7 @@ use Rattle.tracing_tree_spans.specs.Registry.Ids.{id_of, same_id}
 use Rattle.tracing_tree_spans.specs.Registry.Spans.{KeptSpan}
 use Rattle.tracing_tree_spans.specs.Registry.Kept.{keeps_id, kept_at, change_kept, leave_out, AreBelow}
 use Rattle.tracing_tree_spans.specs.Registry.Slots.{slot_id, slot_node, is_gone, slot_has, present, slot_ids, AreRising, ends_in_gap, IsLaidOut}
-use Rattle.tracing_tree_context.specs.declared.context.Id.{Id}
+use Rattle.tracing_tree_base.specs.declared.context.Id.{Id}
 use Rattle.tracing_tree_spans.specs.declared.registry.slot.Slot.{Slot}
 use Rattle.tracing_tree_spans.specs.declared.registry.slot.Slot.TheVariants.{Live, Gone}
 

@@ -9,7 +9,7 @@ use Rattle.tracing_tree_spans.specs.Registry.Ids.{id_of}
 use Rattle.tracing_tree_spans.specs.Registry.Spans.{Span}
 use Rattle.tracing_tree_spans.specs.Registry.Forest.{has_id}
 use Rattle.tracing_tree_spans.specs.Registry.Registered.{IsRising}
-use Rattle.tracing_tree_context.specs.declared.context.Id.{Id}
+use Rattle.tracing_tree_base.specs.declared.context.Id.{Id}
 
 -- all of these ids are above this number
 abbrev pub all_above : ℕ → List Span → Bool

@@ -14,7 +14,7 @@ use Rattle.tracing_tree_spans.specs.Registry.Spans.{Span, KeptSpan, child_less}
 use Rattle.tracing_tree_spans.specs.Registry.Forest.{has_id, is_child_of, parent_of, path_of, path_of_any, children_of, IsGrown, IsGrownForest}
 use Rattle.tracing_tree_spans.specs.Registry.Registered.{IsRising, alone}
 use Rattle.tracing_tree_spans.specs.Registry.Kept.{keeps_id, kept_at, spans_of, change_kept, leave_out, with_child, kept_path, IsTied}
-use Rattle.tracing_tree_context.specs.declared.context.Id.{Id}
+use Rattle.tracing_tree_base.specs.declared.context.Id.{Id}
 use Rattle.tracing_tree_spans.proofs.ForestLaws.{path_among, path-newest, path-older, is_some-find, same_id-eq}
 use Rattle.tracing_tree_spans.proofs.PathLaws.{path_of-none, path_of-among, path_of_any-among}
 use Rattle.tracing_tree_spans.proofs.RegistryLaws.{IsSame, changed, changed-same, without, any-reverse}

@@ -5,7 +5,7 @@ use Rattle.std.proofs.lemmas.Option.{same_Some}
 use Rattle.std.proofs.lemmas.List.{append-nil}
 use Rattle.tracing_tree_spans.specs.Registry.Spans.{Span, ShownSpan, shown_span}
 use Rattle.tracing_tree_spans.specs.Registry.Forest.{Forest, span_at, path_of, path_of_any, IsForest}
-use Rattle.tracing_tree_context.specs.declared.context.Id.{Id}
+use Rattle.tracing_tree_base.specs.declared.context.Id.{Id}
 use Rattle.tracing_tree_spans.proofs.SpanLists.{find-id}
 use Rattle.tracing_tree_spans.proofs.ClosingWalk.{way_up, way-none, path-falls, one-up}
 

@@ -18,10 +18,10 @@ pub use node::{Data, SpanRef};
 pub use paths::common;
 pub use prefix::Common;
 pub use spans::Registry;
-pub use tracing_tree_context::{Context, Id};
-use tracing_tree_text::field::Fields;
-use tracing_tree_text::style::Level;
-use tracing_tree_text::text::Text;
+use tracing_tree_base::field::Fields;
+use tracing_tree_base::style::Level;
+use tracing_tree_base::text::Text;
+pub use tracing_tree_base::{Context, Id};
 pub use walked::Walked;
 
 /// The parent that a new span or an event names.

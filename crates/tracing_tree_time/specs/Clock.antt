@@ -8,10 +8,10 @@ use Rattle.jiff_tz.specs.Year.{year_of_day}
 use Rattle.jiff_tz.specs.Zone.{offset_at}
 use Rattle.jiff.specs.ZoneView.{plain_zone}
 use Rattle.jiff.specs.declared.tz.timezone.TimeZone.{TimeZone}
-use Rattle.tracing_tree_text.specs.Style.{styled}
+use Rattle.tracing_tree_base.specs.Style.{styled}
 use Rattle.tracing_tree_time.specs.Numbers.{right_in, digits_in}
-use Rattle.tracing_tree_text.specs.declared.style.Style.TheVariants.{Dimmed}
-use Rattle.tracing_tree_context.specs.declared.context.Moment.{Moment}
+use Rattle.tracing_tree_base.specs.declared.style.Style.TheVariants.{Dimmed}
+use Rattle.tracing_tree_base.specs.declared.context.Moment.{Moment}
 use Rattle.tracing_tree_time.specs.declared.utc.UtcDateTime.{UtcDateTime}
 use Rattle.tracing_tree_time.specs.declared.local.LocalDateTime.{LocalDateTime}
 use Rattle.tracing_tree_time.specs.declared.uptime.Uptime.{Uptime}

@@ -1,7 +1,7 @@
 -- What timers do with strings.
 use Rattle.std.specs.Prelude.{◌≡◌, ◌≢◌, ℕ, List, [], ◌++◌, Option, None, Result, Ok, Err, IsSomeAnd, ⊤}
-use Rattle.tracing_tree_context.specs.declared.context.Refusal.{Refusal}
-use Rattle.tracing_tree_context.specs.declared.context.Refusal.TheVariants as Refused
+use Rattle.tracing_tree_base.specs.declared.context.Refusal.{Refusal}
+use Rattle.tracing_tree_base.specs.declared.context.Refusal.TheVariants as Refused
 use Rattle.tracing_tree_time.specs.declared.timer.TimeFault.{TimeFault}
 use Rattle.tracing_tree_time.specs.declared.timer.TimeFault.TheVariants.{Memory, Fault}
 

@@ -18,6 +18,6 @@ pub mod utc;
 pub use clocks::Clock;
 pub use local::LocalDateTime;
 pub use timer::{FormatTime, TimeFault};
-pub use tracing_tree_context::Moment;
+pub use tracing_tree_base::Moment;
 pub use uptime::Uptime;
 pub use utc::UtcDateTime;

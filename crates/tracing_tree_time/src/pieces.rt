@@ -3,7 +3,7 @@
 
 ghost use Rattle.std.specs.Prelude.{◌≡◌, ◌<◌, ◌++◌, Some, OnOk, replicate, decimal, string_bytes};
 ghost use Rattle.tracing_tree_time.specs.Timers.{AppendsStated};
-ghost use Rattle.tracing_tree_text.specs.Extended.{IsExtended};
+ghost use Rattle.tracing_tree_base.specs.Extended.{IsExtended};
 ghost use Rattle.tracing_tree_time.specs.Numbers.{digits_in, right_in};
 ghost use Rattle.tracing_tree_time.specs.Pieces.{filled_in, piece_text, pieces_text, groups_text};
 
@@ -52,7 +52,7 @@ impl Piece {
 /// # Errors
 ///
 /// `Memory` if an allocation fails. `out` is unchanged then.
-#[tactic(auto, using(tracing_tree_text::proofs::Extended::cuts_back))]
+#[tactic(auto, using(tracing_tree_base::proofs::Extended::cuts_back))]
 pub(super) fn append(out: &mut String, groups: &[&[Piece]]) -> Result<(), TimeFault>
     ensures { AppendsStated (Some (groups_text groups.now))
         (string_bytes out.old) (string_bytes out.new) result }

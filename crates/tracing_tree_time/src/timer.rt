@@ -4,7 +4,7 @@ ghost use Rattle.std.specs.Prelude.{string_bytes};
 ghost use Rattle.tracing_tree_time.specs.Clock.{Timer, no_timer};
 ghost use Rattle.tracing_tree_time.specs.Timers.{AppendsStated, AsksForText};
 
-use tracing_tree_context::{Moment, Refusal};
+use tracing_tree_base::{Moment, Refusal};
 
 /// Why a timer wrote nothing.
 #[derive(Clone, Copy, Debug, PartialEq, Eq)]

@@ -1,8 +1,8 @@
 -- What was done within a span.
 use Rattle.std.specs.Prelude.{◌≡◌, ℕ, List, Result, Ok, Err, refl}
 use Rattle.std.proofs.Common.{subst, sym}
-use Rattle.tracing_tree_context.specs.declared.context.Id.{Id}
-use Rattle.tracing_tree_text.specs.declared.field.Field.{Field}
+use Rattle.tracing_tree_base.specs.declared.context.Id.{Id}
+use Rattle.tracing_tree_base.specs.declared.field.Field.{Field}
 use Rattle.tracing_tree_tracer.specs.declared.tracer.TraceFault.{TraceFault}
 use Rattle.tracing_tree_tracer.specs.declared.spans.Spans.{Ghosts as Spans}
 use Rattle.tracing_tree_tracer.specs.Within.{AfterOpen, IsDoneWithin, Joins}

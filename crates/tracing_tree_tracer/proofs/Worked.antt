@@ -2,10 +2,10 @@
 use Rattle.std.specs.Prelude.{◌≡◌, List, [], ◌∷◌, Some, None, Ok, Err, true, refl, codes, encode_utf8_all}
 use Rattle.std.specs.Char.{encode_utf8}
 use Rattle.std.specs.Fmt.{digits}
-use Rattle.tracing_tree_text.specs.Field.{rendered_field}
-use Rattle.tracing_tree_context.specs.declared.context.Id.{Id}
-use Rattle.tracing_tree_context.specs.declared.context.Moment.{Moment}
-use Rattle.tracing_tree_text.specs.declared.style.Level.TheVariants.{Info, Warn}
+use Rattle.tracing_tree_base.specs.Field.{rendered_field}
+use Rattle.tracing_tree_base.specs.declared.context.Id.{Id}
+use Rattle.tracing_tree_base.specs.declared.context.Moment.{Moment}
+use Rattle.tracing_tree_base.specs.declared.style.Level.TheVariants.{Info, Warn}
 use Rattle.tracing_tree_spans.specs.Registry.Ids.{id_of}
 use Rattle.tracing_tree_layer.proofs.WorkedCalls.{lined, start_of_1970, written}
 use Rattle.tracing_tree_tracer.specs.Tracers.{Teller, after_close, after_open, close_call, current_of, event_call, open_call, outer_of, record_call}

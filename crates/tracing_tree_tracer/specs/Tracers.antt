@@ -1,11 +1,11 @@
 -- What a tracer is, the calls that it makes, and what each of its methods leaves.
 use Rattle.std.specs.Prelude.{◌≡◌, ℕ, zero, suc, ◌-◌, List, [], ◌∷◌, ◌++◌, length, take, slice_get, Option, None, Some, Result, Ok, Err, Bool}
-use Rattle.tracing_tree_context.specs.declared.context.Id.{Id}
-use Rattle.tracing_tree_context.specs.declared.context.Moment.{Moment}
-use Rattle.tracing_tree_context.specs.declared.context.Context.{Context}
-use Rattle.tracing_tree_context.specs.declared.context.Refusal.{Refusal}
-use Rattle.tracing_tree_text.specs.declared.field.Field.{Field}
-use Rattle.tracing_tree_text.specs.declared.style.Level.{Level}
+use Rattle.tracing_tree_base.specs.declared.context.Id.{Id}
+use Rattle.tracing_tree_base.specs.declared.context.Moment.{Moment}
+use Rattle.tracing_tree_base.specs.declared.context.Context.{Context}
+use Rattle.tracing_tree_base.specs.declared.context.Refusal.{Refusal}
+use Rattle.tracing_tree_base.specs.declared.field.Field.{Field}
+use Rattle.tracing_tree_base.specs.declared.style.Level.{Level}
 use Rattle.tracing_tree_spans.specs.declared.registry.Parent.TheVariants.{Current}
 use Rattle.tracing_tree_layer.specs.declared.call.Call.{Call}
 use Rattle.tracing_tree_layer.specs.declared.call.Call.TheVariants.{New, Record, Event, Close}

@@ -4,8 +4,8 @@ use Rattle.std.specs.Borrow.{Bor}
 use Rattle.std.specs.Char.{encode_utf8}
 use Rattle.std.specs.Fmt.{digits}
 use Rattle.std.specs.Str.{chars}
-use Rattle.tracing_tree_text.specs.Field.{rendered_field, whole_field, truth_field}
-use Rattle.tracing_tree_text.specs.declared.field.Field.{Field}
+use Rattle.tracing_tree_base.specs.Field.{rendered_field, whole_field, truth_field}
+use Rattle.tracing_tree_base.specs.declared.field.Field.{Field}
 use Rattle.tracing_tree_tracer.specs.declared.value.Value.{Value}
 use Rattle.tracing_tree_tracer.specs.declared.value.Value.TheVariants.{Quoted, Plain, Whole, Truth}
 

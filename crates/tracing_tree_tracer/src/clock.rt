@@ -10,7 +10,7 @@ use tracing_tree_time::Moment;
 /// A clock of a tracer.
 pub trait Now: Drop {
     ghost use Rattle.std.specs.Prelude.{Option};
-    ghost use Rattle.tracing_tree_context.specs.declared.context.Moment.{Moment};
+    ghost use Rattle.tracing_tree_base.specs.declared.context.Moment.{Moment};
 
     /// The possible results: a moment, or `None`.
     ghost tells: { Self → Option Moment → Type 0 };

@@ -5,13 +5,13 @@ ghost use Rattle.tracing_tree_tracer.specs.Values.{fields_of};
 
 use crate::tracer::TraceFault;
 use crate::value::Value;
-use tracing_tree_context::Id;
+use tracing_tree_base::Id;
 
 /// A value whose spans open and close, such as a `Tracer`.
 pub trait Spans {
     ghost use Rattle.std.specs.Prelude.{ℕ, List, Result};
-    ghost use Rattle.tracing_tree_context.specs.declared.context.Id.{Id};
-    ghost use Rattle.tracing_tree_text.specs.declared.field.Field.{Field};
+    ghost use Rattle.tracing_tree_base.specs.declared.context.Id.{Id};
+    ghost use Rattle.tracing_tree_base.specs.declared.field.Field.{Field};
     ghost use Rattle.tracing_tree_tracer.specs.declared.tracer.TraceFault.{TraceFault};
 
     /// The number of open spans.

@@ -10,11 +10,11 @@ use crate::value::{Value, event_fields, span_fields};
 use std::alloc::{AllocError, Global};
 use std::marker::Model;
 use thiserror::Error;
-use tracing_tree_context::{Context, Id, Refusal};
+use tracing_tree_base::style::Level;
+use tracing_tree_base::text::Text;
+use tracing_tree_base::{Context, Id, Refusal};
 use tracing_tree_layer::calls::Calls;
 use tracing_tree_spans::registry::{Attributes, Event, Parent, Record};
-use tracing_tree_text::style::Level;
-use tracing_tree_text::text::Text;
 use tracing_tree_time::Moment;
 
 /// Why a tracer's method failed. After the first three faults no call was made, and nothing has

@@ -4,8 +4,8 @@ ghost use Rattle.std.specs.Prelude.{◌≡◌, ◌++◌, ◌∷◌, IfOk, OnOk, 
 ghost use Rattle.tracing_tree_tracer.specs.Values.{escaped_char, escaped_code, escaped_text, field_of, fields_of, message_field, quoted_text};
 
 use std::alloc::{AllocError, Global};
-use tracing_tree_text::field::{Field, Fields};
-use tracing_tree_text::text::Text;
+use tracing_tree_base::field::{Field, Fields};
+use tracing_tree_base::text::Text;
 
 /// The value of a field, passed with the field's name.
 #[derive(Clone, Copy, Debug, PartialEq, Eq)]

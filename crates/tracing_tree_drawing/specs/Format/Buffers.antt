@@ -1,8 +1,8 @@
 -- The buffers of a call while it is built.
 use Rattle.std.specs.Prelude.{◌≡◌, ℕ, Bool, true, false, List, Option, Result, Ok, Err}
-use Rattle.tracing_tree_context.specs.declared.context.Id.{Id}
-use Rattle.tracing_tree_context.specs.declared.context.Refusal.{Refusal}
-use Rattle.tracing_tree_context.specs.declared.context.Refusal.TheVariants.{TooWide, Memory}
+use Rattle.tracing_tree_base.specs.declared.context.Id.{Id}
+use Rattle.tracing_tree_base.specs.declared.context.Refusal.{Refusal}
+use Rattle.tracing_tree_base.specs.declared.context.Refusal.TheVariants.{TooWide, Memory}
 
 -- the block being built, the rows drawn already, and the last span
 pub record BuffersView : Type 0 where

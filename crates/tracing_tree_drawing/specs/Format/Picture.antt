@@ -4,7 +4,7 @@ use Rattle.std.specs.List.{enumerate_from, repeat, list_any, list_all, join_with
 use Rattle.std.specs.Str.Lines.{lines}
 use Prim.Native.Char.{code}
 use Rattle.tracing_tree_drawing.specs.Format.Settings.{Settings}
-use Rattle.tracing_tree_context.specs.declared.context.Id.{Id}
+use Rattle.tracing_tree_base.specs.declared.context.Id.{Id}
 use Rattle.tracing_tree_drawing.specs.declared.format.SpanMode.{SpanMode}
 use Rattle.tracing_tree_drawing.specs.declared.format.SpanMode.TheVariants.{PreOpen, Open, Close, Retrace, PostClose, Event}
 

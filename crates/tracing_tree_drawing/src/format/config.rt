@@ -3,14 +3,14 @@
 ghost use Rattle.std.specs.Prelude.{◌≡◌, ◌+◌, ◌^◌, ◌++◌, ◌<◌, [], Ok, Err, IfOk, OnOk, string_bytes, if◌then◌else◌};
 ghost use Rattle.tracing_tree_drawing.specs.Format.Picture.{is_too_wide, unnamed_row, wrapped_level};
 ghost use Rattle.tracing_tree_drawing.specs.Format.Settings.{default_settings};
-ghost use Rattle.tracing_tree_text.specs.Extended.{IsExtended};
+ghost use Rattle.tracing_tree_base.specs.Extended.{IsExtended};
 ghost use Rattle.tracing_tree_drawing.specs.Format.Texts.{prefix_text};
 
 use super::SpanMode;
 use itoa::Buffer;
 use std::alloc::AllocError;
 use std::marker::Model;
-use tracing_tree_context::{Context, Refusal};
+use tracing_tree_base::{Context, Refusal};
 
 /// The settings of a layer, with the names of the Rust crate. `Config::default` has ansi on, two
 /// columns per level and a wraparound of `usize::MAX`. All other settings are off.

@@ -5,13 +5,13 @@ ghost use Rattle.std.specs.Prelude.{◌≡◌, ◌+◌, ◌*◌, ◌^◌, ◌<�
 ghost use Rattle.std.specs.Str.Lines.{strip_carriage_return};
 ghost use Rattle.tracing_tree_drawing.specs.Format.Frames.{HasRoom, IsBegun, blanks, corner_pieces, frame_pieces, line_piece, pushed_text, row_of, span_pieces, with_row};
 ghost use Rattle.tracing_tree_drawing.specs.Format.Picture.{columns, drawn_row, edge_frame, first_frame, is_last_before_wrap, is_too_wide, later_frame, lined_frame, mark_after_corner, mark_before_corner, mark_line, picture, row_frame, row_lines, row_start, shift_of, unnamed_row, wrapped_level};
-ghost use Rattle.tracing_tree_text.specs.Extended.{IsExtended};
+ghost use Rattle.tracing_tree_base.specs.Extended.{IsExtended};
 ghost use Rattle.tracing_tree_drawing.specs.Format.Texts.{prefix_text};
 
 use super::{Config, SpanMode};
 use memchr::memchr;
 use std::alloc::AllocError;
-use tracing_tree_context::{Context, Refusal};
+use tracing_tree_base::{Context, Refusal};
 
 // More spaces than these are appended in several pieces.
 const SPACES: &str = "                                                                ";
@@ -222,7 +222,7 @@ fn lined_frame(mode: SpanMode, amount: usize, wrapped: usize, first: bool) -> Fr
 /// # Errors
 ///
 /// `AllocError` if an allocation fails. `out` is unchanged then.
-#[tactic(auto, using(tracing_tree_text::proofs::Extended::cuts_back))]
+#[tactic(auto, using(tracing_tree_base::proofs::Extended::cuts_back))]
 pub fn push_frame(
     out: &mut String,
     mode: SpanMode,
@@ -334,7 +334,7 @@ fn without_return(line: &str) -> &str
 ///
 /// `TooWide` if the row's width exceeds `usize::MAX` columns. `Memory` if an allocation fails.
 /// `out` is unchanged after both.
-#[tactic(auto, using(tracing_tree_text::proofs::Extended::cuts_back))]
+#[tactic(auto, using(tracing_tree_base::proofs::Extended::cuts_back))]
 pub fn push_row(
     out: &mut String,
     block: &str,

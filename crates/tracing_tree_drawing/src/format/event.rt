@@ -1,11 +1,11 @@
 //! Appends the fields of spans and events to a row.
 
 ghost use Rattle.std.specs.Prelude.{◌≡◌, ◌++◌, OnOk, OnErr, string_bytes};
-ghost use Rattle.tracing_tree_text.specs.Field.{rendered_field};
+ghost use Rattle.tracing_tree_base.specs.Field.{rendered_field};
 ghost use Rattle.tracing_tree_drawing.specs.Format.Texts.{comma_after, event_field, named_value, shown_field};
 
 use std::alloc::AllocError;
-use tracing_tree_text::field::Field;
+use tracing_tree_base::field::Field;
 
 /// Appends a field of an event after a space, or after a comma and a space if `comma` is on. Turns
 /// `comma` on for the next field. A field named `message` is appended as its value only. A field

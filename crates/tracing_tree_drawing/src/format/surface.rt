@@ -13,9 +13,9 @@ use super::{Config, SpanMode};
 use std::alloc::{AllocError, Global};
 use std::marker::Model;
 use std::mem;
-use tracing_tree_context::{Context, Id, Refusal};
+use tracing_tree_base::field::Field;
+use tracing_tree_base::{Context, Id, Refusal};
 use tracing_tree_output::{Output, OutputFault, write_whole};
-use tracing_tree_text::field::Field;
 
 /// The texts of a call while it is built, and the last span shown. (`Buffers` of the Rust crate.)
 #[derive(Drop)]

@@ -6,7 +6,7 @@ use Rattle.tracing_tree_drawing.specs.Format.Settings.{Settings, retraces}
 use Rattle.tracing_tree_time.specs.Clock.{Timer}
 use Rattle.tracing_tree_spans.specs.Registry.Forest.{path_of}
 use Rattle.tracing_tree_drawing.specs.Format.Picture.{Row}
-use Rattle.tracing_tree_context.specs.declared.context.Id.{Id}
+use Rattle.tracing_tree_base.specs.declared.context.Id.{Id}
 use Rattle.tracing_tree_drawing.specs.declared.format.SpanMode.{SpanMode}
 use Rattle.tracing_tree_drawing.specs.declared.format.SpanMode.TheVariants as Kind
 use Rattle.tracing_tree_drawing.specs.Rows.RowText.{TextRow, shape_of, is_opening, opens_level, above}

@@ -5,7 +5,7 @@ use Rattle.std.specs.List.{list_all, last_or}
 use Rattle.tracing_tree_spans.specs.Registry.Ids.{same_id}
 use Rattle.tracing_tree_spans.specs.Registry.Spans.{Span}
 use Rattle.tracing_tree_spans.specs.Registry.Forest.{Forest, is_live, path_of, path_of_any, Descends, IsGrown, IsForest, IsGrownForest}
-use Rattle.tracing_tree_context.specs.declared.context.Id.{Id}
+use Rattle.tracing_tree_base.specs.declared.context.Id.{Id}
 use Rattle.tracing_tree_spans.proofs.PathLaws.{path_of-is_path, path_of-only, path_of-none}
 use Rattle.tracing_tree_spans.proofs.RegistryLaws.{IsSame, grown-changed, reverse-map}
 use Rattle.tracing_tree_spans.proofs.GrownForests.{path_of-mapped}

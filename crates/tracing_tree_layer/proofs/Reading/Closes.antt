@@ -8,8 +8,8 @@ use Rattle.tracing_tree_spans.specs.Registry.Ids.{same_id}
 use Rattle.tracing_tree_spans.specs.Registry.Spans.{Span}
 use Rattle.tracing_tree_spans.specs.Registry.Forest.{Forest, has_id, is_printed, parent_of, path_of_any, IsForest, fresh_ids, mark_all, closing_of, take_handle, without_spans}
 use Rattle.tracing_tree_drawing.specs.Format.Picture.{Row}
-use Rattle.tracing_tree_context.specs.declared.context.Id.{Id}
-use Rattle.tracing_tree_context.specs.declared.context.Context.{Context}
+use Rattle.tracing_tree_base.specs.declared.context.Id.{Id}
+use Rattle.tracing_tree_base.specs.declared.context.Context.{Context}
 use Rattle.tracing_tree_spans.proofs.RegistryLaws.{IsSame, changed, changed-same}
 use Rattle.tracing_tree_spans.proofs.ClosingSteps.{one_less, less-same}
 use Rattle.tracing_tree_layer.specs.Layered.State.{Turn, quiet_turn}

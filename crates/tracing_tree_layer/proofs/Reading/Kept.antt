@@ -8,8 +8,8 @@ use Rattle.tracing_tree_spans.specs.Registry.Ids.{same_id}
 use Rattle.tracing_tree_spans.specs.Registry.Spans.{Span, printed_span}
 use Rattle.tracing_tree_spans.specs.Registry.Forest.{Forest, has_id, span_at, is_live, is_printed, path_of, path_of_any, IsForest, IsGrownForest, mark_all, mark_printed, fresh_ids, add_span, any_unless_live, without_spans}
 use Rattle.tracing_tree_drawing.specs.Format.Picture.{Row}
-use Rattle.tracing_tree_context.specs.declared.context.Id.{Id}
-use Rattle.tracing_tree_context.specs.declared.context.Context.{Context}
+use Rattle.tracing_tree_base.specs.declared.context.Id.{Id}
+use Rattle.tracing_tree_base.specs.declared.context.Context.{Context}
 use Rattle.tracing_tree_spans.proofs.ForestLaws.{same_id-eq}
 use Rattle.tracing_tree_spans.proofs.PathLaws.{path_of-none}
 use Rattle.tracing_tree_spans.proofs.GrownForests.{as_forest}

@@ -6,7 +6,7 @@ use Rattle.tracing_tree_drawing.specs.Format.Settings.{Settings, retraces}
 use Rattle.tracing_tree_time.specs.Clock.{Timer}
 use Rattle.tracing_tree_spans.specs.Registry.Forest.{path_of, fresh_ids}
 use Rattle.tracing_tree_drawing.specs.Format.Picture.{Row}
-use Rattle.tracing_tree_context.specs.declared.context.Id.{Id}
+use Rattle.tracing_tree_base.specs.declared.context.Id.{Id}
 use Rattle.tracing_tree_layer.specs.Layered.State.{State, Turn, opening_state, quiet_turn}
 use Rattle.tracing_tree_layer.specs.Layer.Turns.{current_of, event_row, fresh_rows, retrace_to, turn_before_event}
 use Rattle.tracing_tree_layer.specs.Layered.Run.{Run, run, run_one, run_by_cause}

@@ -8,7 +8,7 @@ use Rattle.tracing_tree_spans.specs.Registry.Ids.{same_id}
 use Rattle.tracing_tree_spans.specs.Registry.Spans.{Span}
 use Rattle.tracing_tree_spans.specs.Registry.Forest.{Forest, has_id, path_of, IsGrown, IsGrownForest, is_child_of, goes_after, closing_of, take_handle, without_spans}
 use Rattle.tracing_tree_spans.specs.Registry.Registered.{going_after}
-use Rattle.tracing_tree_context.specs.declared.context.Id.{Id}
+use Rattle.tracing_tree_base.specs.declared.context.Id.{Id}
 use Rattle.tracing_tree_spans.proofs.ForestLaws.{path_among, same_id-eq, is_some-find}
 use Rattle.tracing_tree_spans.proofs.PathLaws.{path_above, path_of-among}
 use Rattle.tracing_tree_spans.proofs.ClosingLaws.{going-cons}

@@ -9,7 +9,7 @@ use Rattle.std.proofs.lemmas.List.{reverse-append}
 use Rattle.tracing_tree_spans.specs.Registry.Ids.{id_of, same_id}
 use Rattle.tracing_tree_spans.specs.Registry.Spans.{Span}
 use Rattle.tracing_tree_spans.specs.Registry.Forest.{Forest, has_id, span_at, is_live, path_of, path_of_any, Descends, IsGrown, IsForest, IsGrownForest, id_after, add_span, any_unless_live}
-use Rattle.tracing_tree_context.specs.declared.context.Id.{Id}
+use Rattle.tracing_tree_base.specs.declared.context.Id.{Id}
 use Rattle.tracing_tree_spans.proofs.ForestLaws.{is_some-find}
 use Rattle.tracing_tree_spans.proofs.PathLaws.{path_of-is_path, path_of-step, path_of-none}
 use Rattle.tracing_tree_spans.proofs.Ties.{path_of-more}

@@ -8,11 +8,11 @@ use Rattle.tracing_tree_time.specs.Clock.{Timer}
 use Rattle.tracing_tree_spans.specs.Registry.Spans.{Span}
 use Rattle.tracing_tree_spans.specs.Registry.Forest.{Forest, new_span, add_span, any_unless_live, named_parent}
 use Rattle.tracing_tree_drawing.specs.Format.Picture.{Row}
-use Rattle.tracing_tree_text.specs.declared.field.Field.{Field}
-use Rattle.tracing_tree_context.specs.declared.context.Id.{Id}
-use Rattle.tracing_tree_context.specs.declared.context.Context.{Context}
-use Rattle.tracing_tree_context.specs.declared.context.Refusal.{Refusal}
-use Rattle.tracing_tree_context.specs.declared.context.Refusal.TheVariants as Refused
+use Rattle.tracing_tree_base.specs.declared.field.Field.{Field}
+use Rattle.tracing_tree_base.specs.declared.context.Id.{Id}
+use Rattle.tracing_tree_base.specs.declared.context.Context.{Context}
+use Rattle.tracing_tree_base.specs.declared.context.Refusal.{Refusal}
+use Rattle.tracing_tree_base.specs.declared.context.Refusal.TheVariants as Refused
 use Rattle.tracing_tree_spans.specs.declared.registry.Attributes.{Attributes}
 use Rattle.tracing_tree_spans.proofs.RegistryLaws.{changed}
 use Rattle.tracing_tree_layer.specs.Layered.State.{State, opening_state}

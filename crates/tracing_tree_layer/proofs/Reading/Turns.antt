@@ -8,8 +8,8 @@ use Rattle.tracing_tree_time.specs.Clock.{Timer}
 use Rattle.tracing_tree_spans.specs.Registry.Spans.{Span, printed_span}
 use Rattle.tracing_tree_spans.specs.Registry.Forest.{Forest, span_at, if_live, is_live, is_printed, parent_of, path_of, path_of_any, IsForest, IsGrownForest, mark_all, mark_printed, fresh_ids, add_span, any_unless_live}
 use Rattle.tracing_tree_drawing.specs.Format.Picture.{Row}
-use Rattle.tracing_tree_context.specs.declared.context.Id.{Id}
-use Rattle.tracing_tree_context.specs.declared.context.Context.{Context}
+use Rattle.tracing_tree_base.specs.declared.context.Id.{Id}
+use Rattle.tracing_tree_base.specs.declared.context.Context.{Context}
 use Rattle.tracing_tree_drawing.specs.declared.format.SpanMode.TheVariants.{PreOpen, Open, PostClose}
 use Rattle.tracing_tree_spans.specs.declared.registry.Event.{Event}
 use Rattle.tracing_tree_spans.proofs.ForestLaws.{same_id-eq}

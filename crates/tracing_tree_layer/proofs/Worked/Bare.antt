@@ -2,10 +2,10 @@
 use Rattle.std.specs.Prelude.{◌≡◌, ℕ, List, [], ◌∷◌, ◌++◌, Some, None, true, false, refl, codes, encode_utf8_all}
 use Rattle.std.specs.Char.{encode_utf8}
 use Rattle.tracing_tree_spans.specs.Registry.Ids.{id_of}
-use Rattle.tracing_tree_text.specs.Field.{rendered_field}
+use Rattle.tracing_tree_base.specs.Field.{rendered_field}
 use Rattle.tracing_tree_time.specs.Clock.{no_timer}
 use Rattle.tracing_tree_spans.specs.Registry.Forest.{new_span, add_span, empty_forest}
-use Rattle.tracing_tree_context.specs.declared.context.Refusal.TheVariants.{NotHeld, Failed}
+use Rattle.tracing_tree_base.specs.declared.context.Refusal.TheVariants.{NotHeld, Failed}
 use Rattle.tracing_tree_spans.specs.declared.registry.Parent.TheVariants.{Root}
 use Rattle.tracing_tree_layer.specs.Layered.State.{State}
 use Rattle.tracing_tree_layer.specs.Layer.Bare.{BareCall, on_new_span, on_record, on_close, bare_text, bare_state_after, bare_cause_of}

@@ -2,9 +2,9 @@
 use Rattle.std.specs.Prelude.{◌≡◌, true, [], ◌∷◌, Some, None, refl, codes, encode_utf8_all}
 use Rattle.std.specs.Char.{encode_utf8}
 use Rattle.std.specs.Fmt.{digits}
-use Rattle.tracing_tree_text.specs.Field.{rendered_field}
+use Rattle.tracing_tree_base.specs.Field.{rendered_field}
 use Rattle.tracing_tree_spans.specs.declared.registry.Parent.TheVariants.{Current}
-use Rattle.tracing_tree_text.specs.declared.style.Level.TheVariants.{Info, Warn}
+use Rattle.tracing_tree_base.specs.declared.style.Level.TheVariants.{Info, Warn}
 use Rattle.tracing_tree_layer.specs.declared.call.Call.TheVariants.{New, Event}
 use Rattle.tracing_tree_drawing.specs.Format.Picture.{is_too_wide}
 use Rattle.tracing_tree_drawing.specs.declared.format.SpanMode.TheVariants.{PostClose}

@@ -5,11 +5,11 @@ use Rattle.std.specs.Fmt.{digits}
 use Rattle.std.specs.List.{common_prefix_len}
 use Rattle.tracing_tree_spans.specs.Registry.Ids.{id_of, same_id}
 use Rattle.tracing_tree_spans.specs.Registry.Paths.{looks_back}
-use Rattle.tracing_tree_text.specs.Field.{rendered_field}
-use Rattle.tracing_tree_context.specs.declared.context.Context.{Context}
-use Rattle.tracing_tree_context.specs.declared.context.Id.{Id}
+use Rattle.tracing_tree_base.specs.Field.{rendered_field}
+use Rattle.tracing_tree_base.specs.declared.context.Context.{Context}
+use Rattle.tracing_tree_base.specs.declared.context.Id.{Id}
 use Rattle.tracing_tree_spans.specs.declared.registry.Parent.TheVariants.{Current}
-use Rattle.tracing_tree_text.specs.declared.style.Level.TheVariants.{Info}
+use Rattle.tracing_tree_base.specs.declared.style.Level.TheVariants.{Info}
 use Rattle.tracing_tree_layer.specs.declared.call.Call.TheVariants.{New, Event, Close}
 use Rattle.tracing_tree_layer.specs.Difference.Items.{differing}
 use Rattle.tracing_tree_layer.proofs.WorkedCalls.{lined, outside, inside, made, message, informed, closed, written, written_after}

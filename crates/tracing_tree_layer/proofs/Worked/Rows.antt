@@ -4,11 +4,11 @@ use Rattle.std.specs.Prelude.{◌≡◌, true, false, [], ◌∷◌, Some, Ok, E
 use Rattle.std.specs.Char.{encode_utf8}
 use Rattle.std.specs.Fmt.{digits}
 use Rattle.tracing_tree_spans.specs.Registry.Ids.{id_of}
-use Rattle.tracing_tree_text.specs.Field.{text_field, whole_field, rendered_field}
+use Rattle.tracing_tree_base.specs.Field.{text_field, whole_field, rendered_field}
 use Rattle.tracing_tree_time.specs.Clock.{no_timer, uptime_timer, uptime_text, lower_elapsed_text, higher_elapsed_text}
-use Rattle.tracing_tree_context.specs.declared.context.Refusal.TheVariants.{NotHeld, TooWide, TooMany}
+use Rattle.tracing_tree_base.specs.declared.context.Refusal.TheVariants.{NotHeld, TooWide, TooMany}
 use Rattle.tracing_tree_spans.specs.declared.registry.Parent.TheVariants.{Of}
-use Rattle.tracing_tree_text.specs.declared.style.Level.TheVariants.{Info}
+use Rattle.tracing_tree_base.specs.declared.style.Level.TheVariants.{Info}
 use Rattle.tracing_tree_layer.specs.Layered.State.{opening_state}
 use Rattle.tracing_tree_layer.specs.Layered.Run.{text_of, answers_of}
 use Rattle.tracing_tree_layer.specs.declared.call.Call.TheVariants.{Record}

@@ -4,7 +4,7 @@ use Rattle.std.specs.Option.{option_map_or}
 use Rattle.std.specs.List.{enumerate_from}
 use Rattle.tracing_tree_spans.specs.Registry.Ids.{same_id}
 use Rattle.tracing_tree_spans.specs.Registry.Forest.{Forest, path_of, path_of_any, fresh_ids}
-use Rattle.tracing_tree_context.specs.declared.context.Id.{Id}
+use Rattle.tracing_tree_base.specs.declared.context.Id.{Id}
 
 -- whether the left list has an equal item at the place
 abbrev pub has_equal_at : {L R : Type 0} → (L → R → Bool) → List L → ℕ → R → Bool

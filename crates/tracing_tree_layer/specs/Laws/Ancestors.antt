@@ -5,7 +5,7 @@ use Rattle.tracing_tree_drawing.specs.Rows.RowText.{above}
 use Rattle.tracing_tree_drawing.specs.Rows.Readable.{text_rows}
 use Rattle.tracing_tree_time.specs.Clock.{Timer}
 use Rattle.tracing_tree_spans.specs.Registry.Forest.{path_of}
-use Rattle.tracing_tree_context.specs.declared.context.Id.{Id}
+use Rattle.tracing_tree_base.specs.declared.context.Id.{Id}
 use Rattle.tracing_tree_layer.specs.Laws.Reading.{EventInRun, IsInCurrent, forest_at, opens_at, place_of, rows_of}
 use Rattle.tracing_tree_layer.specs.declared.call.Call.{Call}
 

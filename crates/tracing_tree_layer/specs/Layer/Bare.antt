@@ -5,10 +5,10 @@ use Rattle.tracing_tree_drawing.specs.Format.Settings.{Settings}
 use Rattle.tracing_tree_time.specs.Clock.{Timer}
 use Rattle.tracing_tree_spans.specs.Registry.Forest.{Forest, is_live, unless_live, add_fields}
 use Rattle.tracing_tree_drawing.specs.Format.Picture.{draw}
-use Rattle.tracing_tree_context.specs.declared.context.Id.{Id}
-use Rattle.tracing_tree_context.specs.declared.context.Context.{Context}
-use Rattle.tracing_tree_context.specs.declared.context.Refusal.{Refusal}
-use Rattle.tracing_tree_context.specs.declared.context.Refusal.TheVariants.{NotHeld, TooWide, Timer as TimerFault, Failed}
+use Rattle.tracing_tree_base.specs.declared.context.Id.{Id}
+use Rattle.tracing_tree_base.specs.declared.context.Context.{Context}
+use Rattle.tracing_tree_base.specs.declared.context.Refusal.{Refusal}
+use Rattle.tracing_tree_base.specs.declared.context.Refusal.TheVariants.{NotHeld, TooWide, Timer as TimerFault, Failed}
 use Rattle.tracing_tree_spans.specs.declared.registry.Event.{Event}
 use Rattle.tracing_tree_spans.specs.declared.registry.Record.{Record}
 use Rattle.tracing_tree_layer.specs.Layered.State.{State, Turn, quiet_turn}

@@ -1,15 +1,15 @@
 -- The blocks of rows: their text.
 use Rattle.std.specs.Prelude.{ℕ, false, if◌then◌else◌, List, [], ◌∷◌, ◌++◌, Option, Some, None, unwrap_or, codes}
 use Rattle.tracing_tree_drawing.specs.Format.Settings.{Settings}
-use Rattle.tracing_tree_text.specs.Style.{styled, shown_level}
+use Rattle.tracing_tree_base.specs.Style.{styled, shown_level}
 use Rattle.tracing_tree_drawing.specs.Format.Texts.{label, span_fields, event_fields}
 use Rattle.tracing_tree_time.specs.Clock.{Timer}
-use Rattle.tracing_tree_text.specs.declared.style.Style.TheVariants.{Dimmed, BoldGreen}
+use Rattle.tracing_tree_base.specs.declared.style.Style.TheVariants.{Dimmed, BoldGreen}
 use Rattle.tracing_tree_drawing.specs.declared.format.SpanMode.{SpanMode}
 use Rattle.tracing_tree_drawing.specs.declared.format.SpanMode.TheVariants.{Close}
 use Rattle.tracing_tree_spans.specs.declared.registry.Event.{Event}
-use Rattle.tracing_tree_text.specs.declared.field.Field.{Field}
-use Rattle.tracing_tree_context.specs.declared.context.Moment.{Moment}
+use Rattle.tracing_tree_base.specs.declared.field.Field.{Field}
+use Rattle.tracing_tree_base.specs.declared.context.Moment.{Moment}
 
 -- a string and a space, or nothing if it is empty
 abbrev pub spaced : List ℕ → List ℕ

@@ -5,7 +5,7 @@ use Rattle.std.specs.List.{list_any}
 use Rattle.tracing_tree_drawing.specs.Format.Settings.{Settings, retraces}
 use Rattle.tracing_tree_spans.specs.Registry.Ids.{same_id}
 use Rattle.tracing_tree_spans.specs.Registry.Forest.{Forest, is_printed, parent_of, path_of_any}
-use Rattle.tracing_tree_context.specs.declared.context.Id.{Id}
+use Rattle.tracing_tree_base.specs.declared.context.Id.{Id}
 
 -- a printed span with a parent that isn't on the current branch is retraced before it closes
 abbrev pub retraces_before_close : Settings → Forest → Option Id → Id → Bool

@@ -1,8 +1,8 @@
 -- What precedes the fields of a span, in parts. No public contract names these.
 use Rattle.std.specs.Prelude.{ℕ, if◌then◌else◌, List, [], ◌++◌, codes}
 use Rattle.tracing_tree_drawing.specs.Format.Settings.{Settings}
-use Rattle.tracing_tree_text.specs.Style.{styled}
-use Rattle.tracing_tree_text.specs.declared.style.Style.TheVariants.{Dimmed, BoldGreen}
+use Rattle.tracing_tree_base.specs.Style.{styled}
+use Rattle.tracing_tree_base.specs.declared.style.Style.TheVariants.{Dimmed, BoldGreen}
 use Rattle.tracing_tree_layer.specs.Layer.Block.{shown_brace}
 
 module _ (settings : Settings) where

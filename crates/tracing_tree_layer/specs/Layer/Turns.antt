@@ -7,8 +7,8 @@ use Rattle.tracing_tree_time.specs.Clock.{Timer, elapsed}
 use Rattle.tracing_tree_spans.specs.Registry.Forest.{Forest, span_at, if_live, is_printed, parent_of, path_of_any, level_of, fresh_ids, mark_printed, mark_all, named_parent}
 use Rattle.tracing_tree_layer.specs.Layer.Block.{span_block, event_block}
 use Rattle.tracing_tree_drawing.specs.Format.Picture.{Row}
-use Rattle.tracing_tree_context.specs.declared.context.Id.{Id}
-use Rattle.tracing_tree_context.specs.declared.context.Context.{Context}
+use Rattle.tracing_tree_base.specs.declared.context.Id.{Id}
+use Rattle.tracing_tree_base.specs.declared.context.Context.{Context}
 use Rattle.tracing_tree_drawing.specs.declared.format.SpanMode.{SpanMode}
 use Rattle.tracing_tree_drawing.specs.declared.format.SpanMode.TheVariants.{PreOpen, Open, Close, Retrace, PostClose}
 use Rattle.tracing_tree_drawing.specs.declared.format.SpanMode.TheVariants.{Event as EventMode}

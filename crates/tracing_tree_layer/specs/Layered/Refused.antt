@@ -7,10 +7,10 @@ use Rattle.tracing_tree_drawing.specs.Format.Settings.{Settings}
 use Rattle.tracing_tree_time.specs.Clock.{Timer}
 use Rattle.tracing_tree_drawing.specs.Format.Picture.{is_too_wide}
 use Rattle.tracing_tree_spans.specs.Registry.Forest.{Forest, is_live, handles_of, closing_of, named_parent, unless_live, any_unless_live}
-use Rattle.tracing_tree_context.specs.declared.context.Id.{Id}
-use Rattle.tracing_tree_context.specs.declared.context.Context.{Context}
-use Rattle.tracing_tree_context.specs.declared.context.Refusal.{Refusal}
-use Rattle.tracing_tree_context.specs.declared.context.Refusal.TheVariants.{NotHeld, TooWide, TooMany, Timer as TimerFault, Failed}
+use Rattle.tracing_tree_base.specs.declared.context.Id.{Id}
+use Rattle.tracing_tree_base.specs.declared.context.Context.{Context}
+use Rattle.tracing_tree_base.specs.declared.context.Refusal.{Refusal}
+use Rattle.tracing_tree_base.specs.declared.context.Refusal.TheVariants.{NotHeld, TooWide, TooMany, Timer as TimerFault, Failed}
 use Rattle.tracing_tree_layer.specs.Layered.State.{State}
 use Rattle.tracing_tree_layer.specs.Layer.Turns.{time_in_current, event_row}
 use Rattle.tracing_tree_layer.specs.Layered.Step.{turn_of}

@@ -2,7 +2,7 @@
 use Rattle.std.specs.Prelude.{Bool, false, Option, None, List, []}
 use Rattle.tracing_tree_spans.specs.Registry.Forest.{Forest}
 use Rattle.tracing_tree_drawing.specs.Format.Picture.{Row}
-use Rattle.tracing_tree_context.specs.declared.context.Id.{Id}
+use Rattle.tracing_tree_base.specs.declared.context.Id.{Id}
 
 -- The live spans with their printed marks, the last span, and whether the layer has failed. The
 -- last span is the last one shown: a span that opened, one that an event or a close was retraced

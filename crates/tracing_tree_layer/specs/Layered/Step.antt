@@ -4,7 +4,7 @@ use Rattle.tracing_tree_drawing.specs.Format.Settings.{Settings}
 use Rattle.tracing_tree_spans.specs.Registry.Ids.{id_of}
 use Rattle.tracing_tree_time.specs.Clock.{Timer}
 use Rattle.tracing_tree_spans.specs.Registry.Forest.{Forest, new_span, add_span, add_handle, add_fields, closing_of, take_handle, without_spans}
-use Rattle.tracing_tree_context.specs.declared.context.Id.{Id}
+use Rattle.tracing_tree_base.specs.declared.context.Id.{Id}
 use Rattle.tracing_tree_layer.specs.Layered.State.{State, Turn, quiet_turn}
 use Rattle.tracing_tree_layer.specs.Layer.Turns.{turn_of_new, turn_of_event, turn_of_closes}
 use Rattle.tracing_tree_layer.specs.declared.call.Call.{Call}

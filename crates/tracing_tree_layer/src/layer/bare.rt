@@ -7,7 +7,7 @@ ghost use Rattle.tracing_tree_layer.specs.Layer.Bare.{on_new_span, on_record, on
 
 use super::HierarchicalLayer;
 use std::alloc::{AllocError, Global};
-use tracing_tree_context::{Context, Id, Refusal};
+use tracing_tree_base::{Context, Id, Refusal};
 use tracing_tree_output::Output;
 use tracing_tree_spans::registry::{Event, LookupSpan, Record};
 use tracing_tree_time::FormatTime;

@@ -7,10 +7,10 @@ ghost use Rattle.tracing_tree_layer.specs.Layer.Heads.{shown_target, span_head};
 
 use crate::told::ToldEvent;
 use std::alloc::AllocError;
+use tracing_tree_base::field::Field;
+use tracing_tree_base::style::push_level;
 use tracing_tree_drawing::format::{Config, SpanMode, push_named, push_shown, write_span_mode};
 use tracing_tree_spans::registry::SpanRef;
-use tracing_tree_text::field::Field;
-use tracing_tree_text::style::push_level;
 
 // Appends the fields of a span. A message is shown as its value only if it is the first field.
 fn push_span_fields(out: &mut String, fields: &[Field]) -> Result<(), AllocError>

@@ -12,7 +12,7 @@ use super::block::{push_event_tail, push_span_block};
 use super::plan::{Plan, PlannedRow, Planner};
 use crate::told::ToldEvent;
 use std::alloc::{AllocError, Global};
-use tracing_tree_context::{Context, Id, Refusal};
+use tracing_tree_base::{Context, Id, Refusal};
 use tracing_tree_drawing::format::{Config, RowDrawing, SpanMode};
 use tracing_tree_spans::registry::LookupSpan;
 use tracing_tree_time::FormatTime;

@@ -3,7 +3,7 @@
 ghost use Rattle.std.specs.Prelude.{◌≡◌, length};
 ghost use Rattle.tracing_tree_layer.specs.Layer.Plan.{ids_of};
 
-use tracing_tree_context::Id;
+use tracing_tree_base::Id;
 
 // The ids on a path, root first: as stored with the span, or found by walking up.
 #[derive(Drop)]

@@ -14,7 +14,7 @@ ghost use Rattle.tracing_tree_layer.specs.Layer.Plan.{ids_of, empty_plan, with_r
 use super::path::Path;
 use std::alloc::{AllocError, Global};
 use std::marker::Model;
-use tracing_tree_context::{Context, Id};
+use tracing_tree_base::{Context, Id};
 use tracing_tree_drawing::format::{Config, SpanMode};
 use tracing_tree_spans::registry::{LookupSpan, common};
 

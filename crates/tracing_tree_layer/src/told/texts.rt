@@ -5,11 +5,11 @@ ghost use Rattle.std.specs.Prelude.{◌≡◌, IfOk};
 use super::ToldEvent;
 use std::alloc::{AllocError, Global};
 use std::marker::Model;
+use tracing_tree_base::field::{Field, Fields};
+use tracing_tree_base::style::Level;
+use tracing_tree_base::text::Text;
 use tracing_tree_drawing::format::push_event_texts;
 use tracing_tree_spans::registry::{Event, Parent};
-use tracing_tree_text::field::{Field, Fields};
-use tracing_tree_text::style::Level;
-use tracing_tree_text::text::Text;
 
 /// A field whose strings the caller lends. Contracts see the field.
 #[derive(Drop)]
@@ -19,7 +19,7 @@ pub struct FieldTexts<'a> {
 }
 
 impl<'a> Model for FieldTexts<'a> {
-    ghost use Rattle.tracing_tree_text.specs.declared.field.Field.{Field};
+    ghost use Rattle.tracing_tree_base.specs.declared.field.Field.{Field};
 
     ghost Value = { Field };
 

@@ -5,9 +5,9 @@ use Rattle.std.specs.Prelude.{codes}
 use Rattle.tracing_tree_drawing.specs.Format.Settings.{Settings}
 use Rattle.tracing_tree_spans.specs.Registry.Ids.{id_of}
 use Rattle.tracing_tree_time.specs.Clock.{no_timer}
-use Rattle.tracing_tree_context.specs.declared.context.Id.{Id}
+use Rattle.tracing_tree_base.specs.declared.context.Id.{Id}
 use Rattle.tracing_tree_spans.specs.declared.registry.Parent.TheVariants.{Current}
-use Rattle.tracing_tree_text.specs.declared.style.Level.TheVariants.{Info}
+use Rattle.tracing_tree_base.specs.declared.style.Level.TheVariants.{Info}
 use Rattle.tracing_tree_layer.specs.Layered.State.{opening_state}
 use Rattle.tracing_tree_layer.specs.Laws.Reading.{EventInRun, ReadingLaw, run_is_on_path, latest, rows_of}
 use Rattle.tracing_tree_layer.specs.declared.call.Call.{Call}

@@ -7,7 +7,7 @@ use Rattle.serde_json.specs.Data.{string, object, member, no_members}
 use Rattle.serde_json.specs.Read.{read}
 use Rattle.serde_json.specs.Written.{has_float}
 use Rattle.tracing_tree_time.specs.Clock.{Timer, no_timer, local_timer, uptime_timer}
-use Rattle.tracing_tree_context.specs.declared.context.Moment.{Moment}
+use Rattle.tracing_tree_base.specs.declared.context.Moment.{Moment}
 use Rattle.tracing_tree_layer.specs.declared.call.Call.{Call}
 use Rattle.tracing_tree_layer.specs.Layer.Layers.{LayeredView}
 use Rattle.tracing_tree_layer.specs.Layered.State.{State, opening_state}

@@ -3,7 +3,7 @@ use Rattle.std.specs.Prelude.{◌≡◌, ◌<◌, ◌||◌, ℕ, List, length, s
 use Rattle.tracing_tree_drawing.specs.Format.Settings.{Settings, retraces}
 use Rattle.tracing_tree_time.specs.Clock.{Timer}
 use Rattle.tracing_tree_spans.specs.Registry.Forest.{path_of}
-use Rattle.tracing_tree_context.specs.declared.context.Id.{Id}
+use Rattle.tracing_tree_base.specs.declared.context.Id.{Id}
 use Rattle.tracing_tree_drawing.specs.Rows.Readable.{IsDrawing}
 use Rattle.tracing_tree_drawing.specs.Rows.Paths.{place_at}
 use Rattle.tracing_tree_layer.specs.Laws.Reading.{EventInRun, IsInCurrent, forest_at, opens_at, place_of, rows_of, run_is_on_path}

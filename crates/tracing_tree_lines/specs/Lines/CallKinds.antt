@@ -2,7 +2,7 @@
 use Rattle.std.specs.Prelude.{◌≡◌, ℕ, List, Option, Some, None, codes}
 use Rattle.serde_json.specs.Data.{Data}
 use Rattle.serde_json.specs.Find.{as_str}
-use Rattle.tracing_tree_context.specs.declared.context.Context.{Context}
+use Rattle.tracing_tree_base.specs.declared.context.Context.{Context}
 use Rattle.tracing_tree_lines.specs.Lines.Spelled.{read_or, ◌>>=◌, call_named}
 use Rattle.tracing_tree_lines.specs.declared.lines.call.Kind.{Kind}
 use Rattle.tracing_tree_lines.specs.declared.lines.call.Kind.TheVariants.{New, Clone, Record, Event, Close}

@@ -1,6 +1,6 @@
 -- The fields of a line.
 use Rattle.std.specs.Prelude.{List, [], ◌∷◌}
-use Rattle.tracing_tree_text.specs.declared.field.Field.{Field}
+use Rattle.tracing_tree_base.specs.declared.field.Field.{Field}
 use Rattle.tracing_tree_lines.specs.declared.lines.field_list.Kept.{Kept}
 
 -- which fields a list has, wherever they are stored

@@ -8,7 +8,7 @@ use Rattle.serde_json.specs.Data.{Num, unsigned, negative, float, Data, null, bo
 use Rattle.serde_json.specs.Find.{get}
 use Rattle.serde_json.specs.Read.{of_json, read}
 use Rattle.serde_json.specs.Written.{has_float}
-use Rattle.tracing_tree_text.specs.declared.field.Field.{Field}
+use Rattle.tracing_tree_base.specs.declared.field.Field.{Field}
 use Rattle.tracing_tree_lines.specs.Lines.Borrowed.{data_of, members_data, is_whole, members_are_whole}
 use Rattle.tracing_tree_lines.specs.Lines.Spelled.{item_fields, SpellsCall}
 use Rattle.tracing_tree_lines.specs.Lines.Values.{IsUnlessMemory}

@@ -8,8 +8,8 @@ use Rattle.tracing_tree_spans.specs.Registry.Forest.{empty_forest}
 use Rattle.tracing_tree_drawing.specs.Format.Picture.{draw}
 use Rattle.tracing_tree_output.specs.Writers.{IsCutShort, SeenWriter}
 use Rattle.tracing_tree_output.specs.declared.output.Output.{Ghosts as Output}
-use Rattle.tracing_tree_context.specs.declared.context.Refusal.{Refusal}
-use Rattle.tracing_tree_context.specs.declared.context.Refusal.TheVariants.{Writer}
+use Rattle.tracing_tree_base.specs.declared.context.Refusal.{Refusal}
+use Rattle.tracing_tree_base.specs.declared.context.Refusal.TheVariants.{Writer}
 use Rattle.tracing_tree_layer.specs.Layer.Layers.{LayeredView, Changes, Flushes, seen}
 use Rattle.tracing_tree_layer.specs.Layered.Answered.{IsAnswered}
 use Rattle.tracing_tree_layer.specs.Layered.State.{State}

@@ -8,15 +8,15 @@ use Rattle.serde_json.specs.Find.{get, as_bool, as_str, as_number, as_u64, as_i6
 use Rattle.serde_json.specs.Read.{read}
 use Rattle.serde_json.specs.Written.{has_float}
 use Rattle.tracing_tree_drawing.specs.Format.Settings.{Settings, default_settings}
-use Rattle.tracing_tree_text.specs.Style.{level_named}
+use Rattle.tracing_tree_base.specs.Style.{level_named}
 use Rattle.tracing_tree_spans.specs.Registry.Ids.{id_of}
 use Rattle.tracing_tree_time.specs.Clock.{Timer, no_timer, utc_timer, local_timer, uptime_timer}
-use Rattle.tracing_tree_context.specs.declared.context.Id.{Id}
-use Rattle.tracing_tree_context.specs.declared.context.Context.{Context}
-use Rattle.tracing_tree_text.specs.declared.field.Field.{Field}
+use Rattle.tracing_tree_base.specs.declared.context.Id.{Id}
+use Rattle.tracing_tree_base.specs.declared.context.Context.{Context}
+use Rattle.tracing_tree_base.specs.declared.field.Field.{Field}
 use Rattle.tracing_tree_spans.specs.declared.registry.Parent.{Parent}
 use Rattle.tracing_tree_spans.specs.declared.registry.Parent.TheVariants.{Root, Current, Of}
-use Rattle.tracing_tree_context.specs.declared.context.Moment.{Moment}
+use Rattle.tracing_tree_base.specs.declared.context.Moment.{Moment}
 use Rattle.tracing_tree_layer.specs.declared.call.Call.{Call}
 use Rattle.tracing_tree_layer.specs.declared.call.Call.TheVariants.{New, Clone, Record, Event, Close}
 use Rattle.tracing_tree_spans.specs.declared.registry.Attributes.{Attributes}

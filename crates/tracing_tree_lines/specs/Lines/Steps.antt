@@ -1,8 +1,8 @@
 -- What one line does to a layer, and what lines do to it one after another.
 use Rattle.std.specs.Prelude.{◌≡◌, ℕ, true, false, List, Option, Some, option_map, IfSome, Result, Ok, Err}
 use Rattle.serde_json.specs.Data.{Data}
-use Rattle.tracing_tree_context.specs.declared.context.Context.{Context}
-use Rattle.tracing_tree_context.specs.declared.context.Refusal.{Refusal}
+use Rattle.tracing_tree_base.specs.declared.context.Context.{Context}
+use Rattle.tracing_tree_base.specs.declared.context.Refusal.{Refusal}
 use Rattle.tracing_tree_layer.specs.Layered.Seen.{Seen}
 use Rattle.tracing_tree_layer.specs.Layer.Layers.{LayeredView, Changes, Flushes}
 use Rattle.tracing_tree_layer.specs.Layered.Answered.{IsAnswered}

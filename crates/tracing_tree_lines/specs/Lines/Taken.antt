@@ -7,7 +7,7 @@ use Rattle.json.specs.declared.token.Token.{Token as ReadToken}
 use Rattle.json.specs.declared.token.Token.TheVariants as Read
 use Rattle.serde_json.specs.Data.{string, array, Items, item}
 use Rattle.serde_json.specs.Find.{as_str}
-use Rattle.tracing_tree_text.specs.declared.field.Field.{Field}
+use Rattle.tracing_tree_base.specs.declared.field.Field.{Field}
 use Rattle.tracing_tree_lines.specs.Lines.Borrowed.{data_of, items_data, is_whole, items_are_whole, members_are_whole}
 use Rattle.tracing_tree_lines.specs.Lines.Parts.{part_data, listed_data, parts_members, readable, readable_word, readable_list, with_key, ArePartsOf}
 use Rattle.tracing_tree_lines.specs.Lines.Spelled.{field_value, pair_field}

@@ -3,12 +3,12 @@
 ghost use Rattle.std.specs.Prelude.{◌≡◌, [], Some, codes, option_and_then, option_map, IfOk};
 ghost use Rattle.serde_json.specs.Find.{as_str};
 ghost use Rattle.tracing_tree_lines.specs.Lines.Parts.{part_data, parts_data};
-ghost use Rattle.tracing_tree_context.specs.declared.context.Context.{Context};
+ghost use Rattle.tracing_tree_base.specs.declared.context.Context.{Context};
 ghost use Rattle.tracing_tree_lines.specs.Lines.Values.{IsReadAs, ValueSpells};
 ghost use Rattle.tracing_tree_lines.specs.Lines.CallKinds.{word_of, IsKindIn};
 ghost use Rattle.tracing_tree_lines.specs.Lines.Spelled.{attributes_in, event_in, fields_value, id_in, parent_value, read_or, SpellsCall};
 ghost use Rattle.tracing_tree_spans.specs.declared.registry.Parent.TheVariants.{Current};
-ghost use Rattle.tracing_tree_text.specs.Style.{level_named};
+ghost use Rattle.tracing_tree_base.specs.Style.{level_named};
 ghost use Rattle.tracing_tree_lines.specs.Lines.Steps.{MakesNamed, MakesSpelled};
 
 use super::LineCause;
@@ -17,14 +17,14 @@ use super::part::Part;
 use super::parts::{Parts, read_object, refuse_floats};
 use json::Scratch;
 use std::alloc::{AllocError, Global};
-use tracing_tree_context::{Context, Id};
+use tracing_tree_base::field::Fields;
+use tracing_tree_base::style::Level;
+use tracing_tree_base::text::Text;
+use tracing_tree_base::{Context, Id};
 use tracing_tree_layer::call::{Call, Reply};
 use tracing_tree_layer::calls::Calls;
 use tracing_tree_layer::told::{EventTexts, FieldTexts};
 use tracing_tree_spans::registry::{Attributes, Parent, Record};
-use tracing_tree_text::field::Fields;
-use tracing_tree_text::style::Level;
-use tracing_tree_text::text::Text;
 
 /// Makes the call of a line on a receiver, and returns its reply.
 ///

@@ -12,8 +12,8 @@ use super::part::Part;
 use super::parts::Parts;
 use jiff::Timestamp;
 use std::alloc::Global;
-use tracing_tree_context::{Context, Id};
-use tracing_tree_text::text::Text;
+use tracing_tree_base::text::Text;
+use tracing_tree_base::{Context, Id};
 use tracing_tree_time::Moment;
 
 // Reads the context of a call. `NotACall` if a part of it is invalid, `Memory` if an allocation

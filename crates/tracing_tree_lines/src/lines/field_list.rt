@@ -27,7 +27,7 @@ enum Kept<'a> {
 impl<'a> Model for FieldList<'a> {
     ghost use Rattle.std.specs.Prelude.{List};
     ghost use Rattle.tracing_tree_lines.specs.Lines.FieldList.{kept_fields};
-    ghost use Rattle.tracing_tree_text.specs.declared.field.Field.{Field};
+    ghost use Rattle.tracing_tree_base.specs.declared.field.Field.{Field};
 
     ghost Value = { List Field };
 

@@ -9,7 +9,7 @@ use std::alloc::Global;
 use std::marker::Model;
 use std::sync::Wait;
 use std::sync::ledger::Ledger;
-use tracing_tree_context::{Context, Id, Refusal};
+use tracing_tree_base::{Context, Id, Refusal};
 use tracing_tree_layer::call::{Call, Reply, copied_context};
 use tracing_tree_layer::calls::Calls;
 use tracing_tree_layer::told::ToldEvent;

@@ -1,6 +1,6 @@
 -- Ids of spans.
 use Rattle.std.specs.Prelude.{ℕ, ◌==◌, Bool}
-use Rattle.tracing_tree_context.specs.declared.context.Id.{Id}
+use Rattle.tracing_tree_base.specs.declared.context.Id.{Id}
 
 -- the id with this number
 abbrev pub id_of : ℕ → Id

@@ -5,7 +5,7 @@ use Rattle.std.specs.List.{list_all}
 use Rattle.tracing_tree_spans.specs.Registry.Spans.{Span, KeptSpan, child_more}
 use Rattle.tracing_tree_spans.specs.Registry.Forest.{has_id, path_of, children_of}
 use Rattle.tracing_tree_spans.specs.Registry.Registered.{alone}
-use Rattle.tracing_tree_context.specs.declared.context.Id.{Id}
+use Rattle.tracing_tree_base.specs.declared.context.Id.{Id}
 
 -- whether it is the span with this id
 abbrev pub keeps_id : Id → KeptSpan → Bool

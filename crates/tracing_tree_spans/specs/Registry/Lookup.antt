@@ -1,7 +1,7 @@
 -- What a look-up of spans shows.
 use Rattle.std.specs.Prelude.{Option, option_map}
 use Rattle.tracing_tree_spans.specs.Registry.Forest.{Forest, span_at}
-use Rattle.tracing_tree_context.specs.declared.context.Id.{Id}
+use Rattle.tracing_tree_base.specs.declared.context.Id.{Id}
 use Rattle.tracing_tree_spans.specs.declared.registry.node.Data.{Data}
 
 -- the data that is kept with a live span

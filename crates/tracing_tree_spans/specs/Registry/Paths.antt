@@ -2,7 +2,7 @@
 use Rattle.std.specs.Prelude.{ℕ, ◌+◌, ◌-◌, ◌≤◌, ◌==◌, Bool, false, if◌then◌else◌, IsTrue, List, length, slice_get, min}
 use Rattle.std.specs.Option.{option_map_or}
 use Rattle.tracing_tree_spans.specs.Registry.Ids.{same_id}
-use Rattle.tracing_tree_context.specs.declared.context.Id.{Id}
+use Rattle.tracing_tree_base.specs.declared.context.Id.{Id}
 
 -- both lists have this place, and the same id there
 abbrev pub agree_at : List Id → List Id → ℕ → Bool

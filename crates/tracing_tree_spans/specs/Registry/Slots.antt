@@ -3,7 +3,7 @@ use Rattle.std.specs.Prelude.{◌≡◌, ℕ, nat_lt, Bool, true, false, IsTrue,
 use Rattle.std.specs.List.{list_all}
 use Rattle.tracing_tree_spans.specs.Registry.Ids.{same_id}
 use Rattle.tracing_tree_spans.specs.Registry.Spans.{KeptSpan}
-use Rattle.tracing_tree_context.specs.declared.context.Id.{Id}
+use Rattle.tracing_tree_base.specs.declared.context.Id.{Id}
 use Rattle.tracing_tree_spans.specs.declared.registry.slot.Slot.{Slot}
 use Rattle.tracing_tree_spans.specs.declared.registry.slot.Slot.TheVariants.{Live, Gone}
 

@@ -1,7 +1,7 @@
 -- A live span, and what a look-up of it shows.
 use Rattle.std.specs.Prelude.{ℕ, ◌+◌, ◌-◌, List, ◌++◌, Option, true}
-use Rattle.tracing_tree_context.specs.declared.context.Id.{Id}
-use Rattle.tracing_tree_text.specs.declared.field.Field.{Field}
+use Rattle.tracing_tree_base.specs.declared.context.Id.{Id}
+use Rattle.tracing_tree_base.specs.declared.field.Field.{Field}
 use Rattle.tracing_tree_spans.specs.declared.registry.node.Data.{Data}
 use Rattle.tracing_tree_spans.specs.declared.registry.path.SpanPath.{SpanPath}
 use Rattle.tracing_tree_spans.specs.declared.registry.path.SpanPath.TheVariants.{Short, Long}

@@ -7,8 +7,8 @@ ghost use Rattle.tracing_tree_spans.specs.Registry.Lookup.{data_at};
 
 use super::{Data, SpanRef};
 use std::alloc::{AllocError, Global};
-use tracing_tree_context::Id;
-use tracing_tree_text::field::Fields;
+use tracing_tree_base::Id;
+use tracing_tree_base::field::Fields;
 
 /// Live spans that a layer reads and marks. (`LookupSpan` of the Rust crate's registry.)
 ///

@@ -6,9 +6,9 @@ ghost use Rattle.tracing_tree_spans.specs.Registry.Spans.{shown_span, handle_mor
 use super::path::SpanPath;
 use std::alloc::AllocError;
 use std::marker::Model;
-use tracing_tree_context::Id;
-use tracing_tree_text::field::Fields;
-use tracing_tree_text::text::Text;
+use tracing_tree_base::Id;
+use tracing_tree_base::field::Fields;
+use tracing_tree_base::text::Text;
 
 /// The data that the layer stores with a span.
 #[derive(Debug, Drop)]

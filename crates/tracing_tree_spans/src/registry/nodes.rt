@@ -12,8 +12,8 @@ use super::node::Node;
 use super::slot::Slot;
 use std::alloc::{AllocError, Global};
 use std::marker::Model;
-use tracing_tree_context::Id;
-use tracing_tree_text::field::Fields;
+use tracing_tree_base::Id;
+use tracing_tree_base::field::Fields;
 
 // The live spans. A removed span leaves a gap, so nothing moves. Gaps at the end are removed at
 // once. The others are removed when the list would have to grow and more than half of it are gaps.

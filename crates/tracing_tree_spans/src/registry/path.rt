@@ -5,7 +5,7 @@ ghost use Rattle.tracing_tree_spans.specs.Registry.Spans.{path_ids};
 
 use std::alloc::{AllocError, Global};
 use std::marker::Model;
-use tracing_tree_context::Id;
+use tracing_tree_base::Id;
 
 // Paths of at most five spans are stored inline in the span's record. Few spans are nested deeper.
 const SHORT: usize = 5;
@@ -50,7 +50,7 @@ pub(crate) struct ShortPath {
 
 impl Model for ShortPath {
     ghost use Rattle.std.specs.Prelude.{◌≤◌, List, take};
-    ghost use Rattle.tracing_tree_context.specs.declared.context.Id.{Id};
+    ghost use Rattle.tracing_tree_base.specs.declared.context.Id.{Id};
 
     ghost Value = { List Id };
 

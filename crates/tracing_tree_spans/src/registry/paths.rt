@@ -6,7 +6,7 @@ ghost use Rattle.tracing_tree_spans.specs.Registry.Ids.{same_id};
 ghost use Rattle.tracing_tree_spans.specs.Registry.Paths.{PartOnce, looks_back};
 
 use super::prefix::Common;
-use tracing_tree_context::Id;
+use tracing_tree_base::Id;
 
 /// Returns the length of the common prefix of two paths of one forest, and how many places were
 /// compared. Never allocates.

@@ -4,7 +4,7 @@ ghost use Rattle.std.specs.Prelude.{◌≡◌, option_copied};
 ghost use Rattle.tracing_tree_spans.specs.Registry.Slots.{slot_id, slot_node, is_gone};
 
 use super::node::Node;
-use tracing_tree_context::Id;
+use tracing_tree_base::Id;
 
 // A place in the list: a live span, or the gap that a removed span left.
 #[derive(Drop)]

@@ -17,8 +17,8 @@ use super::path::SpanPath;
 use super::{Attributes, Context, Data, LookupSpan, SpanRef};
 use std::alloc::{AllocError, Global};
 use std::marker::Model;
-use tracing_tree_context::{Id, Refusal};
-use tracing_tree_text::field::Fields;
+use tracing_tree_base::field::Fields;
+use tracing_tree_base::{Id, Refusal};
 
 /// The live spans and the next id. A span is live while it has a handle or a live child.
 ///

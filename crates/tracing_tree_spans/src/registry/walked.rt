@@ -10,8 +10,8 @@ ghost use Rattle.tracing_tree_spans.specs.Registry.Registered.{IsNewSpan, IsClon
 use super::{Attributes, Context, Data, LookupSpan, Registry, SpanRef};
 use std::alloc::{AllocError, Global};
 use std::marker::Model;
-use tracing_tree_context::{Id, Refusal};
-use tracing_tree_text::field::Fields;
+use tracing_tree_base::field::Fields;
+use tracing_tree_base::{Id, Refusal};
 
 /// A [`Registry`] that doesn't lend paths. It finds each path by a walk from the span up to its
 /// root. It has the same calls with the same contracts.

@@ -1,6 +1,6 @@
 use Rattle.std.proofs.Common.{◌≡◌, List}
 use Rattle.std.specs.Prelude.{slice_index_or, [], ⊤}
-use Rattle.tracing_tree_text.specs.declared.field.Field.{Field}
+use Rattle.tracing_tree_base.specs.declared.field.Field.{Field}
 use Rattle.tracing_tree_c.specs.Foreign.{IsUtf8Field, IsUtf8Fields, HasNoFields, IsSmallField, field_of, fields_of}
 use Rattle.tracing_tree_c.specs.declared.foreign.FieldRef.{FieldRef}
 use Rattle.tracing_tree_c.proofs.Makes.{carried, head_of, not_empty}

@@ -3,7 +3,7 @@ use Rattle.std.proofs.lemmas.Iterator.{YieldsList-from_slice, items_from_collect
 use Rattle.std.proofs.lemmas.Iterator.Consumers.{YieldsList-from_copied}
 use Rattle.std.specs.Slice.Iter.{iter_rest}
 use Rattle.tracing_tree_spans.specs.Registry.Ids.{same_id}
-use Rattle.tracing_tree_context.specs.declared.context.Id.{Id}
+use Rattle.tracing_tree_base.specs.declared.context.Id.{Id}
 use Rattle.tracing_tree_layer.specs.Difference.Items.{differing}
 use Rattle.tracing_tree_layer.proofs.DifferenceYields.{YieldsList-from_yields}
 use Rattle.tracing_tree_layer.proofs.PathPairs.{differing-fresh_ids}

@@ -1,4 +1,4 @@
-use Rattle.tracing_tree_go_test.proofs.Laws.ClosesInward.{gone_after}
+use Rattle.ttree_go_test.proofs.Laws.ClosesInward.{gone_after}
 use Rattle.tracing_tree_laws.proofs.go_tests.ended_packages_run_no_test.Goals as goal
 
 pub returns : goal.returns

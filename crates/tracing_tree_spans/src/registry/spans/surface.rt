@@ -7,7 +7,7 @@ ghost use Rattle.tracing_tree_spans.specs.Registry.Registered.{AsksLastHandle, L
 
 use super::{Attributes, Data, Registry};
 use std::alloc::{AllocError, Global};
-use tracing_tree_context::{Id, Refusal};
+use tracing_tree_base::{Id, Refusal};
 
 impl Registry {
     /// Returns the ids that `try_close` would remove, as [`closing_into`](Registry::closing_into)

@@ -1,5 +1,5 @@
 use Rattle.std.proofs.Common.{◌≡◌, ◌++◌, replicate, string_bytes}
-use Rattle.tracing_tree_text.specs.Extended.{IsExtended}
+use Rattle.tracing_tree_base.specs.Extended.{IsExtended}
 use Rattle.tracing_tree_time.proofs.pieces.push_fill.Given as goal
 
 abbrev pub invariant-loop : goal.invariant-loop

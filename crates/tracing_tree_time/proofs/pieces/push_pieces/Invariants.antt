@@ -1,6 +1,6 @@
 use Rattle.std.proofs.Common.{◌≡◌, ◌++◌, take, string_bytes}
 use Rattle.tracing_tree_time.specs.Pieces.{pieces_text}
-use Rattle.tracing_tree_text.specs.Extended.{IsExtended}
+use Rattle.tracing_tree_base.specs.Extended.{IsExtended}
 use Rattle.tracing_tree_time.proofs.pieces.push_pieces.Given as goal
 
 -- the pieces so far

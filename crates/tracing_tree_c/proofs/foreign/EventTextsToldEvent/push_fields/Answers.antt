@@ -1,6 +1,6 @@
 use Rattle.std.proofs.Common.{◌≡◌, ◌++◌, [], arith, drop, sym, ap, ap₂, ◌∙◌, append-nil, string_bytes}
 use Rattle.std.proofs.lemmas.Grind.{common_steps}
-use Rattle.tracing_tree_text.specs.Field.{rendered_field}
+use Rattle.tracing_tree_base.specs.Field.{rendered_field}
 use Rattle.tracing_tree_drawing.specs.Format.Texts.{comma_after, event_field, event_fields}
 use Rattle.tracing_tree_layer.proofs.FieldTexts.{added_fields-false}
 use Rattle.tracing_tree_c.specs.Foreign.{fields_of}

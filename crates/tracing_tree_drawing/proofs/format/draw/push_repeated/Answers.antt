@@ -1,5 +1,5 @@
 use Rattle.std.proofs.Common.{string_bytes}
-use Rattle.tracing_tree_text.proofs.Extended.{extended_twice}
+use Rattle.tracing_tree_base.proofs.Extended.{extended_twice}
 use Rattle.tracing_tree_drawing.proofs.FrameTexts.{repeated-step}
 use Rattle.tracing_tree_drawing.proofs.format.draw.push_repeated.Goals as goal
 

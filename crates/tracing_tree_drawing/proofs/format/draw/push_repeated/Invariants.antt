@@ -1,6 +1,6 @@
 use Rattle.std.proofs.Common.{◌≡◌, ◌++◌, string_bytes}
 use Rattle.std.specs.List.{repeat}
-use Rattle.tracing_tree_text.specs.Extended.{IsExtended}
+use Rattle.tracing_tree_base.specs.Extended.{IsExtended}
 use Rattle.tracing_tree_drawing.proofs.format.draw.push_repeated.Given as goal
 
 abbrev pub invariant-loop : goal.invariant-loop

@@ -1,7 +1,7 @@
 use Rattle.std.proofs.Common.{◌≡◌, ◌++◌, OnOk, refl, arith, string_bytes}
 use Rattle.std.proofs.lemmas.Grind.{common_steps}
-use Rattle.tracing_tree_text.specs.Field.{rendered_field}
-use Rattle.tracing_tree_text.specs.declared.field.Field.{Field}
+use Rattle.tracing_tree_base.specs.Field.{rendered_field}
+use Rattle.tracing_tree_base.specs.declared.field.Field.{Field}
 use Rattle.tracing_tree_drawing.specs.Format.Texts.{event_field}
 use Rattle.tracing_tree_drawing.proofs.format.event.push_event_texts.Goals as goal
 

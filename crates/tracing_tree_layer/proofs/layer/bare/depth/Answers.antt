@@ -1,5 +1,5 @@
 use Rattle.std.proofs.Common.{List, length, ap, sym, ◌∙◌}
-use Rattle.tracing_tree_context.specs.declared.context.Id.{Id}
+use Rattle.tracing_tree_base.specs.declared.context.Id.{Id}
 use Rattle.tracing_tree_layer.proofs.DrawnLaws.{path-if_live}
 use Rattle.tracing_tree_layer.proofs.layer.bare.depth.Goals as goal
 

@@ -1,4 +1,4 @@
-use Rattle.tracing_tree_text.proofs.Extended.{cuts_back}
+use Rattle.tracing_tree_base.proofs.Extended.{cuts_back}
 use Rattle.tracing_tree_drawing.proofs.format.draw.RowDrawing.begin.Goals as goal
 
 pub truncate-requires : goal.truncate-requires

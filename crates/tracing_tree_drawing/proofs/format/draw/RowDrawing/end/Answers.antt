@@ -1,4 +1,4 @@
-use Rattle.tracing_tree_text.proofs.Extended.{cuts_back_to}
+use Rattle.tracing_tree_base.proofs.Extended.{cuts_back_to}
 use Rattle.tracing_tree_drawing.proofs.format.draw.RowDrawing.end.Goals as goal
 
 pub truncate-requires : goal.truncate-requires

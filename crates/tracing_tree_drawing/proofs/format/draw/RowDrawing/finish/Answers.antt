@@ -1,7 +1,7 @@
 use Rattle.std.proofs.Common.{[], take, string_bytes}
 use Rattle.std.specs.Char.{encode_utf8}
 use Rattle.tracing_tree_drawing.specs.Format.Frames.{row_of}
-use Rattle.tracing_tree_text.proofs.Extended.{extended_push, extended_twice}
+use Rattle.tracing_tree_base.proofs.Extended.{extended_push, extended_twice}
 use Rattle.tracing_tree_drawing.proofs.LineLaws.{extended-cut, row-ended}
 use Rattle.tracing_tree_drawing.proofs.format.draw.RowDrawing.finish.Goals as goal
 

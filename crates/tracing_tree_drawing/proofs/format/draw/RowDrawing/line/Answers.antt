@@ -1,4 +1,4 @@
-use Rattle.tracing_tree_text.proofs.Extended.{extended_push, extended_twice}
+use Rattle.tracing_tree_base.proofs.Extended.{extended_push, extended_twice}
 use Rattle.tracing_tree_drawing.proofs.format.draw.RowDrawing.line.Goals as goal
 
 pub returns-clause-extended : goal.returns-clause-extended

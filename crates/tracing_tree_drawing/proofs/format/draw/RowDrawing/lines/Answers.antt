@@ -3,7 +3,7 @@ use Rattle.std.proofs.lemmas.Str.Pattern.{split_parts}
 use Rattle.tracing_tree_drawing.specs.Format.Frames.{pushed_text, row_of}
 use Rattle.tracing_tree_drawing.specs.Format.Picture.{picture}
 use Rattle.tracing_tree_drawing.specs.Format.Texts.{prefix_text}
-use Rattle.tracing_tree_text.proofs.Extended.{extended_twice}
+use Rattle.tracing_tree_base.proofs.Extended.{extended_twice}
 use Rattle.tracing_tree_drawing.proofs.LineLaws.{drawing-step, lined-last, unlined-last}
 use Rattle.tracing_tree_drawing.proofs.format.draw.RowDrawing.lines.Goals as goal
 

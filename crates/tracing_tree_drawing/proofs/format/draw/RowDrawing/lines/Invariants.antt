@@ -3,7 +3,7 @@ use denote.Text.{Utf8}
 use denote.Shadow.{shadow}
 use Rattle.tracing_tree_drawing.specs.Format.Frames.{pushed_text, row_of}
 use Rattle.tracing_tree_drawing.specs.Format.Picture.{picture}
-use Rattle.tracing_tree_text.specs.Extended.{IsExtended}
+use Rattle.tracing_tree_base.specs.Extended.{IsExtended}
 use Rattle.tracing_tree_drawing.proofs.LineLaws.{IsDrawing}
 use Rattle.tracing_tree_drawing.proofs.format.draw.RowDrawing.lines.Given as goal
 

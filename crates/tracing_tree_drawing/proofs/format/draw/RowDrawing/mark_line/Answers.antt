@@ -1,7 +1,7 @@
 use Rattle.std.proofs.Common.{◌≡◌, ◌*◌, refl, append_assoc, rules}
 use Rattle.std.specs.Char.{encode_utf8}
 use Rattle.tracing_tree_drawing.specs.Format.Picture.{wrapped_level}
-use Rattle.tracing_tree_text.proofs.Extended.{extended_push, extended_twice}
+use Rattle.tracing_tree_base.proofs.Extended.{extended_push, extended_twice}
 use Rattle.tracing_tree_drawing.proofs.format.draw.RowDrawing.mark_line.Goals as goal
 
 pub returns-clause-ok : goal.returns-clause-ok

@@ -1,5 +1,5 @@
 use Rattle.std.proofs.Common.{◌<◌, List, [], ◌∷◌, ◌++◌, sym, ap, ◌∙◌, refl, arith}
-use Rattle.tracing_tree_context.specs.declared.context.Id.{Id}
+use Rattle.tracing_tree_base.specs.declared.context.Id.{Id}
 use Rattle.tracing_tree_spans.specs.Registry.Forest.{Forest, named_parent, any_unless_live}
 use Rattle.tracing_tree_spans.specs.Registry.Kept.{spans_of}
 use Rattle.tracing_tree_spans.proofs.RegistryLaws.{kept-new, forest-new}

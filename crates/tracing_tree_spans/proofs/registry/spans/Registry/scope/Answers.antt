@@ -1,7 +1,7 @@
 use Rattle.std.proofs.Common.{List, reverse, rules, sym, ap, ◌∙◌, subst}
 use Rattle.std.proofs.lemmas.List.{reverse-reverse}
 use Rattle.tracing_tree_spans.specs.Registry.Forest.{IsGrownForest, path_of}
-use Rattle.tracing_tree_context.specs.declared.context.Id.{Id}
+use Rattle.tracing_tree_base.specs.declared.context.Id.{Id}
 use Rattle.tracing_tree_spans.proofs.GrownForests.{as_forest}
 use Rattle.tracing_tree_spans.proofs.PathLaws.{path_of-whole}
 use Rattle.tracing_tree_spans.proofs.Registers.{seen, error-live, path-gone, if-turned}

@@ -1,6 +1,6 @@
 use Rattle.std.proofs.Common.{List, ◌++◌, refl}
 use Rattle.tracing_tree_spans.specs.Registry.Spans.{Span, fields_more}
-use Rattle.tracing_tree_text.specs.declared.field.Field.{Field}
+use Rattle.tracing_tree_base.specs.declared.field.Field.{Field}
 use Rattle.tracing_tree_spans.proofs.Ties.{KeepsTies}
 use Rattle.tracing_tree_spans.proofs.Registers.{kept-attempt, tied-attempt, forest-attempt, live-error}
 use Rattle.tracing_tree_spans.proofs.registry.spans.RegistryLookupSpan.record.Goals as goal

@@ -1,7 +1,7 @@
 use Rattle.std.proofs.Common.{◌++◌, ◌∷◌, [], List, reverse, sym, ap, ◌∙◌, subst}
 use Rattle.std.proofs.lemmas.List.{reverse-reverse}
 use Rattle.tracing_tree_spans.specs.Registry.Forest.{IsForest, path_of}
-use Rattle.tracing_tree_context.specs.declared.context.Id.{Id}
+use Rattle.tracing_tree_base.specs.declared.context.Id.{Id}
 use Rattle.tracing_tree_spans.proofs.ClosingWalk.{way_up, way-live}
 use Rattle.tracing_tree_spans.proofs.PathLaws.{path_of-whole}
 use Rattle.tracing_tree_spans.proofs.RegistryLaws.{on_error}

@@ -1,7 +1,0 @@
-use Rattle.std.proofs.Common.{◌≡◌, map}
-use Rattle.tracing_tree_adapters.specs.OneRow.{one_row_call}
-use Rattle.tracing_tree_adapters.proofs.one_row.all_in_one_row.Given as goal
-
--- what was made so far are the calls that were taken
-abbrev pub invariant-loop-call : goal.invariant-loop-call
-invariant-loop-call l = l.made.items ≡ map one_row_call l.yielded

@@ -1,7 +1,0 @@
-use Rattle.std.proofs.Common.{◌≡◌, map}
-use Rattle.tracing_tree_adapters.specs.Short.{short_call}
-use Rattle.tracing_tree_adapters.proofs.short.all_short.Given as goal
-
--- what was made so far are the calls that were taken
-abbrev pub invariant-loop-call : goal.invariant-loop-call
-invariant-loop-call l = l.made.items ≡ map short_call l.yielded

@@ -1,4 +1,0 @@
-use Rattle.tracing_tree_bench.proofs.threads.timed.Given as goal
-
-abbrev pub ghosts-shared : goal.ghosts-shared
-ghosts-shared g a = record { name = a.blank.name; parts = a.blank.parts }

@@ -1,8 +1,0 @@
-use Rattle.std.proofs.Common.{ap, ◌∙◌}
-use Rattle.tracing_tree_chrome.specs.Keys.{by_bytes, key_added}
-use Rattle.tracing_tree_chrome.proofs.KeyLists.{inserted}
-use Rattle.tracing_tree_chrome.proofs.keys.Keys.put.Goals as goal
-
-pub returns : goal.returns
-returns c =
-    ap by_bytes c.in_ok-insert.ensures.entries ∙ inserted c.self.inside.entries.entries c.args.key c.args.number ∙ ap (key_added c.args.key.items c.args.number) c.self.view_is

@@ -1,6 +1,0 @@
-use Rattle.std.proofs.Common.{◌∙◌}
-use Rattle.tracing_tree_chrome.proofs.Numbers.{exponent_parsed}
-use Rattle.tracing_tree_chrome.proofs.number.exponent_of.Goals as goal
-
-pub returns : goal.returns
-returns c = c.ok.ensures.value ∙ exponent_parsed c.args.text.now c.parse.result c.parse.ensures.value.0

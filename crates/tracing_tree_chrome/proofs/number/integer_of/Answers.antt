@@ -1,6 +1,0 @@
-use Rattle.std.proofs.Common.{◌∙◌}
-use Rattle.tracing_tree_chrome.proofs.Numbers.{integer_parsed}
-use Rattle.tracing_tree_chrome.proofs.number.integer_of.Goals as goal
-
-pub returns : goal.returns
-returns c = c.ok.ensures.value ∙ integer_parsed c.args.text.now c.parse.result c.parse.ensures.value.0

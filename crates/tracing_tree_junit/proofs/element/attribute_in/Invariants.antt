@@ -1,8 +1,0 @@
-use Rattle.std.proofs.Common.{◌≡◌, drop}
-use Rattle.tracing_tree_junit.specs.Element.{attribute_in}
-use Rattle.tracing_tree_junit.proofs.element.attribute_in.Given as goal
-
--- what the rest has, all have
-abbrev pub invariant-loop-attribute : goal.invariant-loop-attribute
-invariant-loop-attribute l =
-    attribute_in l.name l.attributes ≡ attribute_in l.name (drop l.attribute-index l.attributes)

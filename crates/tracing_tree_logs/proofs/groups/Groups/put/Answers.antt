@@ -1,8 +1,0 @@
-use Rattle.std.proofs.Common.{ap, ◌∙◌}
-use Rattle.tracing_tree_logs.specs.Groups.{by_bytes, with_span}
-use Rattle.tracing_tree_logs.proofs.GroupLists.{inserted}
-use Rattle.tracing_tree_logs.proofs.groups.Groups.put.Goals as goal
-
-pub returns : goal.returns
-returns c =
-    ap by_bytes c.in_ok-insert.ensures.entries ∙ inserted c.self.inside.entries.entries c.args.key c.args.span ∙ ap (with_span c.args.key.items c.args.span) c.self.view_is

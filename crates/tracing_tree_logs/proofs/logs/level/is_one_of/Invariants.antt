@@ -1,8 +1,0 @@
-use Rattle.std.proofs.Common.{◌≡◌, drop, map}
-use Rattle.tracing_tree_logs.specs.LogLine.{is_one_of}
-use Rattle.tracing_tree_logs.proofs.logs.level.is_one_of.Given as goal
-
--- what holds of the rest holds of all
-abbrev pub invariant-loop-name : goal.invariant-loop-name
-invariant-loop-name l =
-    is_one_of (map (λ n. n.now) l.names) l.word ≡ is_one_of (map (λ n. n.now) (drop l.name-index l.names)) l.word

@@ -1,9 +1,0 @@
-//! The JSON logs of services, drawn as a tree.
-//!
-//! [`Logs`] says what the lines mean, and `tracing_tree_sources::draw_source` draws them.
-#![tactic(auto)]
-
-mod groups;
-pub mod logs;
-
-pub use logs::Logs;

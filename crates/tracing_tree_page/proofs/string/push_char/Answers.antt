@@ -1,7 +1,0 @@
-use Rattle.std.proofs.Common.{arith, rules}
-use Rattle.tracing_tree_page.proofs.Kept.{char-kept}
-use Rattle.tracing_tree_page.proofs.string.push_char.Goals as goal
-
-pub returns-in_default-clause-ok : goal.returns-in_default-clause-ok
-returns-in_default-clause-ok c =
-    let same = char-kept c.args.c (omega arith) (λ e. omega arith) (λ e. omega arith) (λ e. omega arith) in rw same (search rules)

@@ -1,4 +1,0 @@
-use Rattle.tracing_tree_refusals.proofs.share.Given as goal
-
-abbrev pub ghosts-hand_in : goal.ghosts-hand_in
-ghosts-hand_in g a = record { name = a.blank.name; parts = a.blank.parts }

@@ -1,4 +1,0 @@
-use Rattle.tracing_tree_shared_tests.proofs.drafts.draft_while_locked.Given as goal
-
-abbrev pub ghosts-locked_with : goal.ghosts-locked_with
-ghosts-locked_with g a = record { name = a.blank.name; parts = a.blank.parts }

@@ -1,4 +1,0 @@
-use Rattle.tracing_tree_shared_tests.proofs.threads.four_threads.Given as goal
-
-abbrev pub ghosts-four_threads_with : goal.ghosts-four_threads_with
-ghosts-four_threads_with g a = record { name = a.blank.name; parts = a.blank.parts }

@@ -1,4 +1,0 @@
-use Rattle.tracing_tree_shared_tests.proofs.threads.no_passes.Given as goal
-
-abbrev pub ghosts-no_passes_with : goal.ghosts-no_passes_with
-ghosts-no_passes_with g a = record { name = a.blank.name; parts = a.blank.parts }

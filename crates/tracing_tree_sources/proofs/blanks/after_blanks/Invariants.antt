@@ -1,9 +1,0 @@
-use Rattle.std.proofs.Common.{◌≡◌, length}
-use Rattle.tracing_tree_sources.specs.Blanks.{after_blanks}
-use Rattle.tracing_tree_sources.proofs.blanks.after_blanks.Given as goal
-
-abbrev pub invariant-loop-rest : goal.invariant-loop-rest
-invariant-loop-rest l = after_blanks l.fn.text ≡ after_blanks l.rest
-
-abbrev pub decreases-loop-rest : goal.decreases-loop-rest
-decreases-loop-rest l = length l.rest

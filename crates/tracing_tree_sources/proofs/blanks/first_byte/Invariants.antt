@@ -1,9 +1,0 @@
-use Rattle.std.proofs.Common.{◌≡◌, length}
-use Rattle.tracing_tree_sources.specs.Blanks.{first_byte}
-use Rattle.tracing_tree_sources.proofs.blanks.first_byte.Given as goal
-
-abbrev pub invariant-loop-rest : goal.invariant-loop-rest
-invariant-loop-rest l = first_byte l.fn.text ≡ first_byte l.rest
-
-abbrev pub decreases-loop-rest : goal.decreases-loop-rest
-decreases-loop-rest l = length l.rest

@@ -1,9 +1,0 @@
-use Rattle.std.proofs.Common.{◌≡◌, length}
-use Rattle.tracing_tree_sources.specs.Traces.{after_digits}
-use Rattle.tracing_tree_sources.proofs.traces.after_digits.Given as goal
-
-abbrev pub invariant-loop-rest : goal.invariant-loop-rest
-invariant-loop-rest l = after_digits l.fn.text ≡ after_digits l.rest
-
-abbrev pub decreases-loop-rest : goal.decreases-loop-rest
-decreases-loop-rest l = length l.rest

@@ -1,4 +1,0 @@
-use Rattle.tracing_tree_stress.proofs.both_rounds.Given as goal
-
-abbrev pub ghosts-shared_round : goal.ghosts-shared_round
-ghosts-shared_round g a = record { name = a.blank.name; parts = a.blank.parts }

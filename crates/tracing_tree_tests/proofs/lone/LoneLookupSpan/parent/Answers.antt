@@ -1,5 +1,0 @@
-use Rattle.tracing_tree_tests.proofs.Roots.{lone_forest}
-use Rattle.tracing_tree_tests.proofs.lone.LoneLookupSpan.parent.Goals as goal
-
-pub returns-clause-formed : goal.returns-clause-formed
-returns-clause-formed c = lone_forest c.args.self.now.name c.args.self.now.target c.args.self.now.«data»

@@ -1,7 +1,0 @@
-use Rattle.std.proofs.Common.{◌≡◌, ◌∷◌, flat_map, take, string_bytes}
-use Rattle.tracing_tree_text.specs.Field.{escaped}
-use Rattle.tracing_tree_text.proofs.field.quoted.Given as goal
-
--- the quote, and the characters so far
-abbrev pub invariant-loop-byte : goal.invariant-loop-byte
-invariant-loop-byte l = string_bytes l.out ≡ 34 ∷ flat_map escaped (take l.byte-index l.byte-items)

@@ -1,5 +1,0 @@
-use Rattle.tracing_tree_xml.proofs.Marked.{strips_end}
-use Rattle.tracing_tree_xml.proofs.cut.without_end.Goals as goal
-
-pub returns : goal.returns
-returns c = strips_end c.strip_suffix.result c.args.mark.now c.args.text.now c.strip_suffix.ensures.cases

@@ -1,7 +1,0 @@
--- The rest of a document, and where its first byte is.
-use Rattle.std.specs.Prelude.{ℕ, List}
-use Rattle.tracing_tree_xml.specs.declared.reader.Place.{Place}
-
-pub record Reading : Type 0 where
-  pub place : Place
-  pub rest : List ℕ

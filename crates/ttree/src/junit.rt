@@ -1,0 +1,100 @@
+//! A document of JUnit XML shown.
+
+use crate::input::Head;
+use crate::options::Options;
+use crate::output::output;
+use crate::page::write_read;
+use crate::report::{Origin, Reporter, Status, Unit, report_run};
+use crate::shown::{Subject, shown_calls};
+use crate::summary::print_summary;
+use crate::tree::{fault_of_document, layered, some_moment};
+use std::alloc::AllocError;
+use std::io;
+use tracing_tree::lines::LineCause;
+use ttree_chrome::TraceCalls;
+use ttree_junit::{JunitCalls, Selection, junit_calls};
+use ttree_source::SourceRun;
+use ttree_source::level::is_shown;
+use ttree_source::run::make;
+
+// Shows a document of JUnit XML. The status is 1 also if a case failed, if the document ends early,
+// or if there is no report.
+pub fn draw_junit<R: AllocGlobal + Eprint + Print>(
+    rt: &R,
+    origin: Origin<'_>,
+    head: &Head,
+    text: &str,
+    options: &Options<'_>,
+) -> Result<Status, AllocError> {
+    let junit = junit_calls(rt.alloc(), selection(options), 1, some_moment(), text)?;
+    let mut status = if junit.has_failed() {
+        Status::Failure
+    } else {
+        Status::Success
+    };
+    if let Some(fault) = fault_of(&junit) {
+        let _ = eprintln!(rt; "{origin}{fault}");
+        status = Status::Failure;
+        if options.is_strict {
+            return Ok(status);
+        }
+    }
+    Ok(status.worse(show(rt, origin, head, junit, options)?))
+}
+
+// Returns which cases and suites are shown.
+fn selection(options: &Options<'_>) -> Selection {
+    if options.is_failed {
+        Selection::Failures
+    } else {
+        Selection::All
+    }
+}
+
+// Returns what is wrong with a document.
+fn fault_of(junit: &JunitCalls) -> Option<&'static str> {
+    if junit.is_cut {
+        Some("the document ends early")
+    } else if !junit.is_report {
+        Some("expected an element testsuites, testsuite or testcase")
+    } else {
+        None
+    }
+}
+
+fn show<R: AllocGlobal + Eprint + Print>(
+    rt: &R,
+    origin: Origin<'_>,
+    head: &Head,
+    junit: JunitCalls,
+    options: &Options<'_>,
+) -> Result<Status, AllocError> {
+    let JunitCalls {
+        mut calls,
+        tally: _,
+        is_cut: _,
+        is_report: _,
+    } = junit;
+    calls.retain(|call| is_shown(options.min_level(), call));
+    let reporter = Reporter::new(rt, origin, Unit::Element, options.is_strict);
+    if let Some(form) = options.form {
+        let read = TraceCalls {
+            calls: Ok(calls),
+            unknown: 0,
+            undrawn: 0,
+        };
+        return write_read(rt, origin, head, read, form, &reporter, options);
+    }
+    let alloc = rt.alloc();
+    let (calls, summary) = shown_calls(alloc, calls, Subject::Document, options)?;
+    let writer = output(alloc, io::writer(rt), options.shaping())?;
+    let config = options.config().with_deferred_spans(true);
+    let mut layered = layered(alloc, config, writer);
+    let fault = match make(calls, &mut layered) {
+        Ok(()) => None,
+        Err(refusal) => Some(fault_of_document(LineCause::Refused(refusal))),
+    };
+    let run = SourceRun { unknown: 0, fault };
+    let status = report_run(&run, layered, &reporter);
+    Ok(status.worse(print_summary(rt, origin, status, summary)?))
+}

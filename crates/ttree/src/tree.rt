@@ -1,0 +1,233 @@
+//! An input drawn as a tree.
+
+use crate::input::Head;
+use crate::options::Options;
+use crate::output::{flush_output, output};
+use crate::report::{
+    Origin, Reporter, Status, Unit, report, report_run, report_undrawn, report_unread,
+};
+use crate::shown::{Subject, shown, shown_calls, summary_of};
+use crate::summary::{Summary, print_summary};
+use jiff::Timestamp;
+use json::{Scratch, Value};
+use std::alloc::{AllocError, Global};
+use std::io;
+use std::io::{BufReader, Read, Write};
+use std::str::from_utf8;
+use tracing_tree::format::{Config, Wrap};
+use tracing_tree::layer::HierarchicalLayer;
+use tracing_tree::layered::Layered;
+use tracing_tree::lines::{BLOCK, LineCause, LineFault};
+use tracing_tree::run_lines;
+use tracing_tree::time::Moment;
+use ttree_adapters::{Mapping, RowClock};
+use ttree_chrome::{Leaves, TraceCalls, trace_calls};
+use ttree_source::run::make;
+use ttree_source::values::value_of;
+use ttree_source::{Lack, Notes, Source, SourceRun, draw_source};
+use ttree_terminal::Shaping;
+
+// Returns the moment of the calls before a source knows one.
+pub fn some_moment() -> Moment {
+    Moment {
+        mono: 0,
+        wall: Timestamp::UNIX_EPOCH,
+    }
+}
+
+// Draws the lines of a source, and returns the source afterwards. `AllocError` if the buffers can't
+// be allocated.
+pub fn draw_input<R: AllocGlobal + Eprint + Print, I: Read + Drop, S: Source + Drop>(
+    rt: &R,
+    origin: Origin<'_>,
+    input: I,
+    source: S,
+    subject: Subject,
+    options: &Options<'_>,
+) -> Result<(Status, S), AllocError> {
+    let alloc = rt.alloc();
+    let Ok(mut lines) = BufReader::with_capacity(alloc, BLOCK, input) else {
+        return Err(AllocError);
+    };
+    let mut shown = shown(alloc, source, subject, options);
+    let writer = output(alloc, io::writer(rt), options.shaping())?;
+    let mut layered = layered(alloc, options.config(), writer);
+    let mut reporter = Reporter::new(rt, origin, Unit::Line, options.is_strict);
+    let run = draw_source(alloc, &mut shown, &mut lines, &mut layered, &mut reporter);
+    let status = report_run(&run, layered, &reporter);
+    let (source, shape) = shown.into_parts();
+    Ok((
+        status.worse(print_summary(rt, origin, status, summary_of(shape))?),
+        source,
+    ))
+}
+
+// Draws lines of settings and calls. Their settings decide whether the drawing has colours.
+pub fn draw_calls<R: AllocGlobal + Eprint + Print, I: Read + Drop>(
+    rt: &R,
+    origin: Origin<'_>,
+    head: &Head,
+    lines: BufReader<I>,
+    options: &Options<'_>,
+) -> Result<Status, AllocError> {
+    let alloc = rt.alloc();
+    let shaping = Shaping {
+        width: options.width,
+        is_escaped: !has_colours(alloc, head.body())?,
+    };
+    let writer = output(alloc, io::writer(rt), shaping)?;
+    let run = run_lines(alloc, head.body().chain(lines), Wrap::new(writer));
+    let fault = after_lines(run.fault, head.lines_before);
+    Ok(report(rt, origin, &fault, flush_output(run.writer)))
+}
+
+// Returns whether the settings, which are the first of these lines, switch colours on.
+fn has_colours(alloc: Global, lines: &[u8]) -> Result<bool, AllocError> {
+    let Ok(line) = from_utf8(first_line(lines).0) else {
+        return Ok(false);
+    };
+    let mut scratch = Scratch::new(alloc);
+    match value_of(alloc, line, &mut scratch)? {
+        Some(settings) => Ok(is_coloured(&settings)),
+        None => Ok(false),
+    }
+}
+
+// Splits lines after the first.
+pub fn first_line(lines: &[u8]) -> (&[u8], &[u8]) {
+    match lines
+        .iter()
+        .position(|byte: &u8| -> bool { *byte == b'\n' })
+    {
+        Some(end) => (&lines[..end], &lines[end + 1..]),
+        None => (lines, &[]),
+    }
+}
+
+fn is_coloured(settings: &Value<'_>) -> bool {
+    match settings.get("ansi") {
+        Some(Value::Bool(is_on)) => *is_on,
+        _ => false,
+    }
+}
+
+// Returns a fault with its line in the input, if `lines_before` lines come before those of the run.
+pub fn after_lines(fault: Option<LineFault>, lines_before: u64) -> Option<LineFault> {
+    let fault = fault?;
+    Some(LineFault {
+        line: fault.line.saturating_add(lines_before),
+        cause: fault.cause,
+    })
+}
+
+// Draws the trace that an input has. An input that was taken for a trace and isn't one is printed
+// unchanged.
+pub fn draw_trace<R: AllocGlobal + Eprint + Print>(
+    rt: &R,
+    origin: Origin<'_>,
+    input: &[u8],
+    text: &str,
+    options: &Options<'_>,
+) -> Result<Status, AllocError> {
+    let alloc = rt.alloc();
+    let mut reporter = Reporter::new(rt, origin, Unit::Element, options.is_strict);
+    let read = read_trace(alloc, Leaves::Rows, text, options, &mut reporter);
+    if reporter.is_no_trace && options.from.is_none() {
+        let _ = io::writer(rt).write_all(input);
+        return Ok(Status::Failure);
+    }
+    let undrawn = read.undrawn;
+    let summary = trace_summary(alloc, text, options)?;
+    let status = draw_read(
+        rt,
+        origin,
+        read,
+        Subject::Trace,
+        summary,
+        &reporter,
+        options,
+    )?;
+    report_undrawn(rt, origin, undrawn, status);
+    Ok(status)
+}
+
+// Reads a trace. `leaves` says how a span is drawn that has nothing in it.
+pub fn read_trace<N: Notes>(
+    alloc: Global,
+    leaves: Leaves,
+    text: &str,
+    options: &Options<'_>,
+    notes: &mut N,
+) -> TraceCalls {
+    trace_calls(alloc, 1, some_moment(), options.cut, leaves, text, notes)
+}
+
+// A receiver of notes that reports nothing.
+#[derive(Drop)]
+struct Silent;
+
+impl Notes for Silent {
+    fn note(&mut self, _line: u64, _lack: Lack) -> bool {
+        true
+    }
+}
+
+// Returns the summary of a trace under --summary. It counts each span, also those that are drawn
+// as one row.
+fn trace_summary(
+    alloc: Global,
+    text: &str,
+    options: &Options<'_>,
+) -> Result<Option<Summary>, AllocError> {
+    if !options.has_summary {
+        return Ok(None);
+    }
+    let read = read_trace(alloc, Leaves::Spans, text, options, &mut Silent);
+    let Ok(calls) = read.calls else {
+        return Ok(None);
+    };
+    let mut summary = Summary::new(alloc, RowClock::Trace);
+    drop(summary.map(alloc, None, calls)?);
+    Ok(Some(summary))
+}
+
+// Draws what was read of a whole document. Without a summary, it is that of the calls.
+pub fn draw_read<R: AllocGlobal + Eprint + Print>(
+    rt: &R,
+    origin: Origin<'_>,
+    read: TraceCalls,
+    subject: Subject,
+    summary: Option<Summary>,
+    reporter: &Reporter<'_, R>,
+    options: &Options<'_>,
+) -> Result<Status, AllocError> {
+    let alloc = rt.alloc();
+    let unknown = read.unknown;
+    let (calls, of_calls) = match read.calls {
+        Ok(calls) => shown_calls(alloc, calls, subject, options)?,
+        Err(cause) => return Ok(report_unread(cause, reporter)),
+    };
+    let summary = summary.or(of_calls);
+    let writer = output(alloc, io::writer(rt), options.shaping())?;
+    let config = options.config().with_deferred_spans(false);
+    let mut layered = layered(alloc, config, writer);
+    let fault = match make(calls, &mut layered) {
+        Ok(()) => None,
+        Err(refusal) => Some(fault_of_document(LineCause::Refused(refusal))),
+    };
+    let status = report_run(&SourceRun { unknown, fault }, layered, reporter);
+    Ok(status.worse(print_summary(rt, origin, status, summary)?))
+}
+
+// Returns the fault of a document, at its first line.
+pub fn fault_of_document(cause: LineCause) -> LineFault {
+    LineFault { line: 1, cause }
+}
+
+// Returns a drawing without a span.
+pub fn layered<W: Write + Drop>(alloc: Global, config: Config, writer: W) -> Layered<Wrap<W>, ()> {
+    Layered::new(
+        alloc,
+        HierarchicalLayer::with_config(alloc, config, Wrap::new(writer)),
+    )
+}

@@ -1,0 +1,27 @@
+use Rattle.std.proofs.Common.{rules, ◌∙◌, ◌++◌, List, ℕ, sym, ap, append_assoc, append-nil, flat_map, string_bytes}
+use Rattle.std.specs.Str.{chars}
+use Rattle.std.proofs.lemmas.Str.{IsUtf8-past_char, chars_past_char}
+use Rattle.std.proofs.StrCases.{chars_of_empty}
+use Rattle.ttree_adapters.specs.OneRow.{one_row_char}
+use Rattle.ttree_adapters.proofs.one_row.push_all_one_row.Goals as goal
+
+abbrev all_of : List ℕ → List ℕ
+all_of text = flat_map one_row_char (chars text)
+
+pub loop-c-init : goal.loop-c-init
+loop-c-init c = search rules
+
+pub loop-c-preserved : goal.loop-c-preserved
+loop-c-preserved c =
+    let held = c.loop-c.invariant in
+    let parts = c.in-Some.ensures.steps.0 in
+    let out = string_bytes c.loop-c.out in
+    let rest = c.next.new.self.rest.now in (
+      IsUtf8-past_char _ _ c.in-Some.c held.0 parts,
+      ap (λ l. l ++ all_of rest) c.in_ok-push_one_row.ensures ∙ append_assoc out (one_row_char c.in-Some.c) (all_of rest)
+          ∙ ap (λ l. out ++ l) (sym (ap (flat_map one_row_char) (chars_past_char _ _ c.in-Some.c held.0 parts))) ∙ held.1,
+    )
+
+pub returns : goal.returns
+returns c =
+    sym (append-nil (string_bytes c.loop-c.out)) ∙ (rw (chars_of_empty _ c.in-None.ensures.steps.0.0) at c.loop-c.invariant.1)

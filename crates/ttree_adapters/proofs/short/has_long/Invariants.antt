@@ -1,0 +1,11 @@
+use Rattle.std.proofs.Common.{◌≡◌, length}
+use Rattle.std.specs.List.{list_any}
+use Rattle.ttree_adapters.specs.Short.{has_long}
+use Rattle.ttree_adapters.proofs.short.has_long.Given as goal
+
+-- what holds of the rest holds of all
+abbrev pub invariant-loop-rest : goal.invariant-loop-rest
+invariant-loop-rest l = list_any has_long l.fn.calls ≡ list_any has_long l.rest
+
+abbrev pub decreases-loop-rest : goal.decreases-loop-rest
+decreases-loop-rest l = length l.rest

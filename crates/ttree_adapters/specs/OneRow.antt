@@ -1,0 +1,60 @@
+-- Spans in one row each.
+use Rattle.std.specs.Prelude.{ℕ, ◌==◌, ◌||◌, Bool, false, if◌then◌else◌, List, flat_map, map, Option, codes}
+use Rattle.std.specs.Char.{encode_utf8}
+use Rattle.std.specs.List.{list_any}
+use Rattle.std.specs.Str.{chars}
+use Rattle.json.specs.Json.{Json}
+use Rattle.tracing_tree_base.specs.declared.field.Field.{Field}
+use Rattle.tracing_tree_layer.specs.declared.call.Call.{Call}
+use Rattle.tracing_tree_layer.specs.declared.call.Call.TheVariants.{New, Clone, Record, Event, Close}
+use Rattle.ttree_adapters.specs.Mapping.{Made}
+use Rattle.ttree_adapters.specs.declared.one_row.OneRow.{OneRow}
+
+abbrev pub is_line_end : ℕ → Bool
+is_line_end c = c == 10
+
+abbrev pub has_line_end : List ℕ → Bool
+has_line_end text = list_any is_line_end text
+
+-- a line end is shown as its escape
+abbrev pub one_row_char : ℕ → List ℕ
+one_row_char c = if is_line_end c then codes "\\n" else encode_utf8 c
+
+abbrev pub one_row_text : List ℕ → List ℕ
+one_row_text text = if has_line_end text then flat_map one_row_char (chars text) else text
+
+abbrev pub is_lined : Field → Bool
+is_lined field = has_line_end field.name || has_line_end field.value
+
+abbrev pub one_row_field : Field → Field
+one_row_field field = record {
+  name = one_row_text field.name;
+  value = one_row_text field.value;
+}
+
+-- a span that would take several rows
+abbrev pub has_lines : Call → Bool
+has_lines (New attributes context) =
+    has_line_end attributes.name || list_any is_lined attributes.fields
+has_lines (Record id record_of_it) = list_any is_lined record_of_it.fields
+has_lines (Event event context) = false
+has_lines (Clone id) = false
+has_lines (Close id context) = false
+
+-- a call whose span takes one row
+abbrev pub one_row_call : Call → Call
+one_row_call (New attributes context) =
+    New
+    (record attributes {
+      name = one_row_text attributes.name;
+      fields = map one_row_field attributes.fields;
+    })
+    context
+one_row_call (Record id record_of_it) =
+    Record id (record { fields = map one_row_field record_of_it.fields })
+one_row_call (Event event context) = Event event context
+one_row_call (Clone id) = Clone id
+one_row_call (Close id context) = Close id context
+
+abbrev pub makes_one_row : OneRow → Option Json → List Call → Made OneRow
+makes_one_row s value calls = record { calls = map one_row_call calls; mapping = s }

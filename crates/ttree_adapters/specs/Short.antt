@@ -1,0 +1,71 @@
+-- Long values of fields, cut.
+use Rattle.std.specs.Prelude.{ℕ, zero, suc, ◌-◌, ◌==◌, ◌&&◌, ◌||◌, Bool, false, not, if◌then◌else◌, List, [], ◌∷◌, ◌++◌, map, Option, bytes_eq, codes}
+use Rattle.std.specs.Char.{encode_utf8}
+use Rattle.std.specs.List.{list_any}
+use Rattle.std.specs.Str.{chars}
+use Rattle.json.specs.Json.{Json}
+use Rattle.tracing_tree_base.specs.declared.field.Field.{Field}
+use Rattle.tracing_tree_layer.specs.declared.call.Call.{Call}
+use Rattle.tracing_tree_layer.specs.declared.call.Call.TheVariants.{New, Clone, Record, Event, Close}
+use Rattle.ttree_adapters.specs.Column.{columns_left}
+use Rattle.ttree_adapters.specs.Mapping.{Made}
+use Rattle.ttree_adapters.specs.declared.short.ShortValues.{ShortValues}
+
+-- what an array or an object begins with
+abbrev pub is_structure : List ℕ → Bool
+is_structure [] = false
+is_structure (byte ∷ rest) = (byte == 91) || (byte == 123)
+
+-- more than 200 characters
+abbrev pub is_over : List ℕ → Bool
+is_over value = columns_left 201 (chars value) == 0
+
+-- a field that is cut: an array or an object of more than 200 characters, and no message
+abbrev pub is_long : Field → Bool
+is_long field =
+    is_structure field.value && not (bytes_eq field.name (codes "message")) && is_over field.value
+
+-- a character, if there is room for it
+abbrev pub within : ℕ → ℕ → List ℕ
+within zero c = []
+within (suc left) c = encode_utf8 c
+
+-- as many of these characters
+abbrev pub first_chars : ℕ → List ℕ → List ℕ
+first_chars left [] = []
+first_chars left (c ∷ cs) = within left c ++ first_chars (left - 1) cs
+
+-- `…` in UTF-8
+abbrev pub ellipsis : List ℕ
+ellipsis = 226 ∷ 128 ∷ 166 ∷ []
+
+abbrev pub short_text : List ℕ → List ℕ
+short_text value = first_chars 199 (chars value) ++ ellipsis
+
+abbrev pub short_field : Field → Field
+short_field field =
+    if is_long field then record field { value = short_text field.value } else field
+
+abbrev pub fields_of : Call → List Field
+fields_of (New attributes context) = attributes.fields
+fields_of (Event event context) = event.fields
+fields_of (Record id record_of_it) = record_of_it.fields
+fields_of (Clone id) = []
+fields_of (Close id context) = []
+
+abbrev pub has_long : Call → Bool
+has_long call = list_any is_long (fields_of call)
+
+-- a call whose long fields are cut
+abbrev pub short_call : Call → Call
+short_call (New attributes context) =
+    New (record attributes { fields = map short_field attributes.fields }) context
+short_call (Event event context) =
+    Event (record event { fields = map short_field event.fields }) context
+short_call (Record id record_of_it) =
+    Record id (record { fields = map short_field record_of_it.fields })
+short_call (Clone id) = Clone id
+short_call (Close id context) = Close id context
+
+abbrev pub makes_short : ShortValues → Option Json → List Call → Made ShortValues
+makes_short s value calls = record { calls = map short_call calls; mapping = s }

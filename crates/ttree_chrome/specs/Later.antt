@@ -1,0 +1,43 @@
+-- Which items of a trace are drawn, and after which of them others of their thread and their
+-- process are.
+use Rattle.std.specs.Prelude.{ℕ, ◌-◌, nat_le, Bool, true, ◌&&◌, ◌||◌, List, [], ◌∷◌, Option, Some, None}
+use Rattle.ttree_chrome.specs.Gather.{none_later, same_lane}
+use Rattle.ttree_chrome.specs.Strings.{same_label}
+use Rattle.ttree_chrome.specs.declared.gather.Item.{Item}
+use Rattle.ttree_chrome.specs.declared.gather.Later.{Later}
+use Rattle.ttree_chrome.specs.declared.gather.Shape.{Shape}
+use Rattle.ttree_chrome.specs.declared.gather.Shape.TheVariants.{Event, Whole, Unended}
+
+abbrev pub is_long_as : Shape → Item → ℕ → Bool
+is_long_as Event item least = true
+is_long_as Whole item least = nat_le least (item.end.time - item.start.time)
+is_long_as Unended item least = true
+
+-- an item is drawn, if shorter spans are left out
+abbrev pub is_long : Item → ℕ → Bool
+is_long item least = is_long_as item.shape item least
+
+abbrev pub noted : Later → Item → Item
+noted later item = record item { later = later }
+
+-- what comes after an item, by the next one: that is drawn, or one after it
+abbrev pub later_by : ℕ → Item → Option Item → Later
+later_by least item None = none_later
+later_by least item (Some next) = record {
+  in_thread = same_lane next.lane item.lane && (is_long next least || next.later.in_thread);
+  in_process =
+      same_label next.lane.process item.lane.process
+      && (is_long next least || next.later.in_process);
+}
+
+abbrev pub first_of : List Item → Option Item
+first_of [] = None
+first_of (item ∷ others) = Some item
+
+-- items in their order, each with what comes after it: items of one thread are adjacent, and so are
+-- those of one process
+abbrev pub marked : ℕ → List Item → List Item
+marked least [] = []
+marked least (item ∷ others) =
+    let rest : List Item = marked least others in
+    noted (later_by least item (first_of rest)) item ∷ rest

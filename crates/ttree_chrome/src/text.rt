@@ -1,0 +1,234 @@
+//! The elements of a trace's JSON.
+
+ghost use Rattle.std.specs.Prelude.{◌≡◌, ◌++◌, IfOk, OnOk, flat_map, option_map, reverse, string_bytes};
+ghost use Rattle.json.specs.Value.{items_view, value_view};
+ghost use Rattle.ttree_chrome.specs.Text.{byte_read, closed, closer, elements_in, has_more, is_closing, is_cut, level_of, mended, noted, nothing_read, opened, read_in_text, read_outside, scan_of};
+
+use json::Value;
+use std::alloc::{AllocError, Global};
+use std::marker::Model;
+use tracing_tree_base::text::Text;
+use ttree_source::blanks::{first_byte, is_blank};
+use ttree_source::values::array_at;
+
+// Returns the elements that a value lists.
+pub(crate) fn elements_in<'v, 'a>(value: &'v Value<'a>) -> Option<&'v Vec<Value<'a>>>
+    ensures { option_map (λ items. items_view items.now.items) result
+        ≡ elements_in (value_view value.now) }
+{
+    match value {
+        Value::Array(items) => Some(items),
+        _ => array_at(value, "traceEvents"),
+    }
+}
+
+// A truncated trace, with its end added.
+#[derive(Drop)]
+pub(crate) struct MendedText {
+    pub(crate) text: Text,
+    // Whether an element was lost, and not only the end of the list.
+    pub(crate) is_cut: bool,
+}
+
+// Returns the input up to the last place between two elements, and closes what is open there.
+pub(crate) fn mended(alloc: Global, text: &str) -> Result<MendedText, AllocError>
+    ensures { IfOk result (λ made. made ≡ record {
+      text = mended text.now;
+      is_cut = is_cut text.now;
+    }) }
+{
+    let scan = scan_of(alloc, text.as_bytes())?;
+    let mut out = String::with_capacity(alloc, text.len())?;
+    out.push_str(&text[..scan.place])?;
+    let is_cut = has_more(&text.as_bytes()[scan.place..]);
+    push_closers(&mut out, scan.left_open)?;
+    Ok(MendedText {
+        text: Text::from(out),
+        is_cut,
+    })
+}
+
+// An opening bracket.
+#[derive(Clone, Copy)]
+enum Bracket {
+    Square,
+    Curly,
+}
+
+// Returns what closes a bracket.
+fn closer(bracket: Bracket) -> &'static str
+    ensures { result.now ≡ closer bracket }
+{
+    match bracket {
+        Bracket::Square => "]",
+        Bracket::Curly => "}",
+    }
+}
+
+// Closes these brackets, the last first.
+fn push_closers(out: &mut String, brackets: Vec<Bracket>) -> Result<(), AllocError>
+    ensures { OnOk result (string_bytes out.new ≡ string_bytes out.old ++ flat_map closer (reverse
+        brackets.items)) }
+{
+    let mut brackets = brackets;
+    while let Some(bracket) = brackets.pop() {
+        out.push_str(closer(bracket))?;
+    }
+    Ok(())
+}
+
+// The state after a part of the input.
+#[derive(Drop)]
+struct Scan {
+    // The open brackets, innermost last.
+    brackets: Vec<Bracket>,
+    in_text: bool,
+    is_escaped: bool,
+    // The number of bytes up to the last place between two elements.
+    place: usize,
+    // The open brackets at that place, innermost last.
+    left_open: Vec<Bracket>,
+}
+
+impl Model for Scan {
+    ghost use Rattle.std.specs.Prelude.{reverse};
+    ghost use Rattle.ttree_chrome.specs.Text.{ScanState};
+
+    ghost Value = { ScanState };
+
+    ghost view = { λ s. record {
+      brackets = reverse s.brackets.items;
+      in_text = s.in_text;
+      is_escaped = s.is_escaped;
+      place = s.place;
+      left_open = reverse s.left_open.items;
+    } };
+}
+
+impl Scan {
+    fn new(alloc: Global) -> Scan
+        ensures { result ≡ nothing_read }
+    {
+        Scan {
+            brackets: Vec::new(alloc),
+            in_text: false,
+            is_escaped: false,
+            place: 0,
+            left_open: Vec::new(alloc),
+        }
+    }
+
+    // Reads the byte at the place `at`.
+    fn read(&mut self, level: usize, at: usize, byte: u8) -> Result<(), AllocError>
+        ensures { OnOk result (self.new ≡ byte_read level at byte self.old) }
+    {
+        if self.in_text {
+            self.read_in_text(byte);
+            Ok(())
+        } else {
+            self.read_outside(level, at, byte)
+        }
+    }
+
+    fn read_in_text(&mut self, byte: u8)
+        ensures { self.new ≡ read_in_text byte self.old }
+    {
+        if self.is_escaped {
+            self.is_escaped = false;
+        } else if byte == b'\\' {
+            self.is_escaped = true;
+        } else if byte == b'"' {
+            self.in_text = false;
+        }
+    }
+
+    fn read_outside(&mut self, level: usize, at: usize, byte: u8) -> Result<(), AllocError>
+        ensures { OnOk result (self.new ≡ read_outside level at byte self.old) }
+    {
+        match byte {
+            b'"' => {
+                self.in_text = true;
+                return Ok(());
+            }
+            b'[' => self.push(Bracket::Square)?,
+            b'{' => self.push(Bracket::Curly)?,
+            b']' | b'}' => self.pop(),
+            _ => return Ok(()),
+        }
+        self.note(level, at)
+    }
+
+    fn push(&mut self, bracket: Bracket) -> Result<(), AllocError>
+        ensures { OnOk result (self.new ≡ opened bracket self.old) }
+    {
+        Ok(self.brackets.push(bracket)?)
+    }
+
+    fn pop(&mut self)
+        ensures { self.new ≡ closed self.old }
+    {
+        self.brackets.pop();
+    }
+
+    // Records a place between two elements, at which only the list and what contains it are open.
+    fn note(&mut self, level: usize, at: usize) -> Result<(), AllocError>
+        ensures { OnOk result (self.new ≡ noted level at self.old) }
+    {
+        if self.brackets.len() != level {
+            return Ok(());
+        }
+        self.place = at;
+        self.left_open.clear();
+        self.left_open.extend_from_slice(self.brackets.as_slice())
+    }
+}
+
+fn scan_of(alloc: Global, text: &[u8]) -> Result<Scan, AllocError>
+    ensures { IfOk result (λ scan. scan ≡ scan_of text.now) }
+{
+    let level = level_of(text);
+    let mut scan = Scan::new(alloc);
+    let mut at = 0;
+    let mut rest = text;
+    while let [byte, others @ ..] = rest {
+        at += 1;
+        scan.read(level, at, *byte)?;
+        rest = others;
+    }
+    Ok(scan)
+}
+
+// Returns how many brackets are open between two elements: the list's, and that of an object that
+// contains it.
+fn level_of(text: &[u8]) -> usize
+    ensures { result ≡ level_of text.now }
+{
+    match first_byte(text) {
+        Some(b'[') => 1,
+        _ => 2,
+    }
+}
+
+// Returns whether a byte may come after the last element of a list.
+fn is_closing(byte: u8) -> bool
+    ensures { result ≡ is_closing byte }
+{
+    match byte {
+        b',' | b']' | b'}' => true,
+        _ => is_blank(byte),
+    }
+}
+
+// Returns whether any other byte comes there.
+fn has_more(bytes: &[u8]) -> bool
+    ensures { result ≡ has_more bytes.now }
+{
+    let mut rest = bytes;
+    while let [byte, others @ ..] = rest {
+        if !is_closing(*byte) {
+            return true;
+        }
+        rest = others;
+    }
+    false
+}

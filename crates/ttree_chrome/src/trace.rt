@@ -1,0 +1,380 @@
+//! Traces in Chrome's trace event format.
+
+ghost use Rattle.std.specs.Prelude.{◌≡◌, [], ◌∷◌, IfErr, IfOk, MatchResult, OnOk, Some, is_none, is_ok, true};
+ghost use Rattle.json.specs.Value.{items_view, value_view};
+ghost use Rattle.tracing_tree_layer.specs.Layer.Layers.{seen, Changes};
+ghost use Rattle.ttree_chrome.specs.Trace.{AreCallsOf, DrawsOrEnds, EndsHearing, EndsReading, RunsTrace, ended_run, heard_all, heard_as, heard_cut, heard_from, heard_in, heard_mended, heard_unknown, heard_value, nothing_heard_of};
+ghost use Rattle.ttree_chrome.specs.Element.{element_of};
+ghost use Rattle.ttree_chrome.specs.Text.{elements_in};
+ghost use Rattle.ttree_chrome.specs.Notes.{IsNoted, cut_notes, element_note, element_notes, mended_notes, notes_in, trace_notes};
+ghost use Rattle.ttree_source.specs.Noted.{Note};
+
+use crate::element::element_of;
+use crate::gather::{Gathered, in_order};
+use crate::leaves::Leaves;
+use crate::text::{elements_in, mended};
+use crate::tree::{Names, Tree, clock_start};
+use json::{Scratch, Value};
+use std::alloc::{AllocError, Global};
+use tracing_tree_layer::call::Call;
+use tracing_tree_layer::layered::Layered;
+use tracing_tree_lines::lines::{LineCause, LineFault};
+use tracing_tree_output::Output;
+use tracing_tree_time::{FormatTime, Moment};
+use ttree_source::cut::Cut;
+use ttree_source::notes::{Lack, Notes};
+use ttree_source::run::{SourceRun, draw_calls, skip};
+use ttree_source::values::value_of;
+
+// What was read of a trace so far.
+#[derive(Drop)]
+struct Heard {
+    gathered: Gathered,
+    // The number of unknown elements.
+    unknown: u64,
+}
+
+/// The result of drawing a trace.
+#[derive(Clone, Copy, Debug)]
+pub struct TraceRun {
+    /// The number of unknown elements, and what ended the run.
+    pub run: SourceRun,
+
+    /// The number of elements that have no row, such as counters and flows. Metadata doesn't count.
+    /// It is 0 if nothing is drawn because of a fault.
+    pub undrawn: u64,
+}
+
+/// Draws a trace: a JSON array of elements, or an object with such an array at `traceEvents`. A
+/// truncated trace is drawn up to its last complete element.
+///
+/// Each process is a span, and each of its threads is a span in it. In a thread, spans are nested
+/// by time, and an event is in the innermost span that hasn't ended. A span shows how long it took.
+/// A span that has nothing in it is drawn as `leaves` says. A span records how many spans were left
+/// out in it, before it closes. Times are nanoseconds on the trace's clock. If an event or a span
+/// begins before the zero of that clock, they are nanoseconds since the first of them. The first
+/// span gets the id `next`. The moment of a call is `moment` with the element's time.
+///
+/// An unknown element is counted and left out, and what is missing is noted with its number from 1.
+/// A truncated element, or an input that isn't a trace, is counted and noted too.
+///
+/// # Errors
+///
+/// The fault is at line 1. Its cause is `Memory` if an allocation fails before the first call, and
+/// `NotACall` if the notes end the run. Nothing is drawn then. It is `Refused` if a call is
+/// refused. The drawing ends at that call.
+#[tactic(auto, using(crate::proofs::Noting::noted_less))]
+pub fn run_trace<W: Output, FT: FormatTime, N: Notes>(
+    alloc: Global,
+    next: u64,
+    moment: Moment,
+    cut: Cut,
+    leaves: Leaves,
+    text: &str,
+    layered: &mut Layered<W, FT>,
+    notes: &mut N,
+) -> TraceRun
+    ensures run { Changes (seen FT.FormatTime W.Output)
+        (RunsTrace next moment cut leaves text.now result) layered.old layered.new }
+    ensures noted { IsNoted (notes_in text.now) (is_none result.run.fault) 0 result.run.unknown
+        (N.noted notes.old) (N.noted notes.new) }
+{
+    let mut heard = Heard::new(alloc);
+    if let Err(cause) = hear(alloc, text, &mut heard, notes) {
+        return ended(heard.unknown, cause, 0);
+    }
+    let Heard { gathered, unknown } = heard;
+    let undrawn = gathered.undrawn;
+    match draw(alloc, next, moment, cut, leaves, gathered, layered) {
+        Ok(()) => TraceRun {
+            run: SourceRun {
+                unknown,
+                fault: None,
+            },
+            undrawn,
+        },
+        Err(LineCause::Memory) => ended(unknown, LineCause::Memory, 0),
+        Err(cause) => ended(unknown, cause, undrawn),
+    }
+}
+
+/// The result of reading a trace.
+#[derive(Drop)]
+pub struct TraceCalls {
+    /// The calls that draw it, or why the reading ended.
+    pub calls: Result<Vec<Call>, LineCause>,
+
+    /// The number of unknown elements.
+    pub unknown: u64,
+
+    /// The number of elements that have no row, such as counters and flows. Metadata doesn't count.
+    /// It is 0 if the reading ended early.
+    pub undrawn: u64,
+}
+
+/// Reads a trace, and returns the calls that [`run_trace`] makes on its receiver. The arguments and
+/// the notes are those of `run_trace`.
+#[tactic(auto, using(crate::proofs::Noting::noted_less))]
+pub fn trace_calls<N: Notes>(
+    alloc: Global,
+    next: u64,
+    moment: Moment,
+    cut: Cut,
+    leaves: Leaves,
+    text: &str,
+    notes: &mut N,
+) -> TraceCalls
+    ensures read { MatchResult result.calls
+        (λ calls. AreCallsOf next moment cut leaves (heard_in text.now).gathered calls.items
+        × (result.unknown ≡ (heard_in text.now).unknown)
+        × (result.undrawn ≡ (heard_in text.now).gathered.undrawn))
+        (λ cause. EndsReading cause result.unknown (heard_in text.now) × (result.undrawn ≡ 0)) }
+    ensures noted { IsNoted (notes_in text.now) (is_ok result.calls) 0 result.unknown
+        (N.noted notes.old) (N.noted notes.new) }
+{
+    let mut read = Heard::new(alloc);
+    if let Err(cause) = hear(alloc, text, &mut read, notes) {
+        return TraceCalls {
+            calls: Err(cause),
+            unknown: read.unknown,
+            undrawn: 0,
+        };
+    }
+    let Heard {
+        gathered,
+        unknown: count,
+    } = read;
+    let undrawn = gathered.undrawn;
+    match calls_of(alloc, next, moment, cut, leaves, gathered) {
+        Ok(calls) => TraceCalls {
+            calls: Ok(calls),
+            unknown: count,
+            undrawn,
+        },
+        Err(AllocError) => TraceCalls {
+            calls: Err(LineCause::Memory),
+            unknown: count,
+            undrawn: 0,
+        },
+    }
+}
+
+fn ended(unknown: u64, cause: LineCause, undrawn: u64) -> TraceRun
+    ensures { result ≡ ended_run unknown cause undrawn }
+{
+    TraceRun {
+        run: SourceRun {
+            unknown,
+            fault: Some(LineFault { line: 1, cause }),
+        },
+        undrawn,
+    }
+}
+
+// Draws what was gathered.
+fn draw<W: Output, FT: FormatTime>(
+    alloc: Global,
+    next: u64,
+    moment: Moment,
+    cut: Cut,
+    leaves: Leaves,
+    gathered: Gathered,
+    layered: &mut Layered<W, FT>,
+) -> Result<(), LineCause>
+    ensures { Changes (seen FT.FormatTime W.Output)
+        (DrawsOrEnds next moment cut leaves gathered result) layered.old layered.new }
+{
+    let Ok(calls) = calls_of(alloc, next, moment, cut, leaves, gathered) else {
+        return Err(LineCause::Memory);
+    };
+    match draw_calls(calls, layered) {
+        Ok(()) => Ok(()),
+        Err(refusal) => Err(LineCause::Refused(refusal)),
+    }
+}
+
+// Returns the calls that draw what was gathered.
+fn calls_of(
+    alloc: Global,
+    next: u64,
+    moment: Moment,
+    cut: Cut,
+    leaves: Leaves,
+    gathered: Gathered,
+) -> Result<Vec<Call>, AllocError>
+    ensures { IfOk result (λ calls. AreCallsOf next moment cut leaves gathered calls.items) }
+{
+    let Gathered {
+        items,
+        begun,
+        processes,
+        threads,
+        strings,
+        tracks: _,
+        count: _,
+        undrawn: _,
+    } = gathered;
+    let names = Names {
+        processes,
+        threads,
+        strings: strings.into_texts(),
+    };
+    let ordered = in_order(items, begun)?;
+    let origin = clock_start(ordered.as_slice());
+    let mut tree = Tree::new(alloc, next, moment, origin, cut, leaves, names)?;
+    tree.draw(ordered)?;
+    Ok(tree.into_calls())
+}
+
+// Reads the elements of a trace.
+#[tactic(auto, using(crate::proofs::Noting::noted_not_yet))]
+fn hear<N: Notes>(
+    alloc: Global,
+    text: &str,
+    heard: &mut Heard,
+    notes: &mut N,
+) -> Result<(), LineCause>
+    ensures heard { OnOk result (heard.new ≡ heard_from text.now heard.old) }
+    ensures ended { IfErr result (λ cause. EndsHearing cause heard.new (heard_from text.now
+        heard.old)) }
+    ensures noted { IsNoted (notes_in text.now) (is_ok result) heard.old.unknown heard.new.unknown
+        (N.noted notes.old) (N.noted notes.new) }
+{
+    let mut scratch = Scratch::new(alloc);
+    match value_of(alloc, text, &mut scratch)? {
+        Some(value) => heard.take_value(alloc, &value, false, notes),
+        None => hear_mended(alloc, text, heard, notes),
+    }
+}
+
+// Reads the elements of a truncated trace.
+#[tactic(auto, using(crate::proofs::Noting::noted_less, crate::proofs::Noting::noted_not_yet))]
+fn hear_mended<N: Notes>(
+    alloc: Global,
+    text: &str,
+    heard: &mut Heard,
+    notes: &mut N,
+) -> Result<(), LineCause>
+    ensures heard { OnOk result (heard.new ≡ heard_mended text.now heard.old) }
+    ensures ended { IfErr result (λ cause. EndsHearing cause heard.new (heard_mended text.now
+        heard.old)) }
+    ensures noted { IsNoted (mended_notes text.now) (is_ok result) heard.old.unknown
+        heard.new.unknown (N.noted notes.old) (N.noted notes.new) }
+{
+    let mended = mended(alloc, text)?;
+    let mut scratch = Scratch::new(alloc);
+    match value_of(alloc, mended.text.as_str(), &mut scratch)? {
+        Some(value) => heard.take_value(alloc, &value, mended.is_cut, notes),
+        None => heard.lose(1, Lack::Trace, notes),
+    }
+}
+
+impl Heard {
+    fn new(alloc: Global) -> Heard
+        ensures { result ≡ nothing_heard_of }
+    {
+        Heard {
+            gathered: Gathered::new(alloc),
+            unknown: 0,
+        }
+    }
+
+    // Reads the elements of a value. If it was truncated, one more element is lost.
+    #[tactic(auto, using(crate::proofs::Hearing::ends_before_cut, crate::proofs::Noting::noted_among, crate::proofs::Noting::noted_one, crate::proofs::Noting::noted_then))]
+    fn take_value<N: Notes>(
+        &mut self,
+        alloc: Global,
+        value: &Value<'_>,
+        is_cut: bool,
+        notes: &mut N,
+    ) -> Result<(), LineCause>
+        ensures heard { OnOk result (self.new ≡ heard_value is_cut (value_view value.now) self.old) }
+        ensures ended { IfErr result (λ cause. EndsHearing cause self.new
+            (heard_value is_cut (value_view value.now) self.old)) }
+        ensures noted { IsNoted (trace_notes is_cut (elements_in (value_view value.now)))
+            (is_ok result) self.old.unknown self.new.unknown (N.noted notes.old)
+            (N.noted notes.new) }
+    {
+        let Some(elements) = elements_in(value) else {
+            return self.lose(1, Lack::Trace, notes);
+        };
+        self.take_all(alloc, elements, notes)?;
+        self.lose_cut(is_cut, elements.len(), notes)
+    }
+
+    fn take_all<N: Notes>(
+        &mut self,
+        alloc: Global,
+        elements: &Vec<Value<'_>>,
+        notes: &mut N,
+    ) -> Result<(), LineCause>
+        ensures heard { OnOk result (self.new ≡ heard_all (items_view elements.now.items) self.old) }
+        ensures ended { IfErr result (λ cause. EndsHearing cause self.new
+            (heard_all (items_view elements.now.items) self.old)) }
+        ensures noted { IsNoted (element_notes 1 (items_view elements.now.items)) (is_ok result)
+            self.old.unknown self.new.unknown (N.noted notes.old) (N.noted notes.new) }
+    {
+        let mut number: u64 = 0;
+        for element in elements {
+            number = number.saturating_add(1);
+            self.take(alloc, element, number, notes)?;
+        }
+        Ok(())
+    }
+
+    // Reads one element.
+    #[tactic(auto, using(crate::proofs::Noting::noted_less, crate::proofs::Noting::noted_none, crate::proofs::Noting::noted_not_yet))]
+    fn take<N: Notes>(
+        &mut self,
+        alloc: Global,
+        element: &Value<'_>,
+        number: u64,
+        notes: &mut N,
+    ) -> Result<(), LineCause>
+        ensures heard { OnOk result (self.new ≡ heard_as (element_of (value_view element.now))
+            self.old) }
+        ensures ended { IfErr result (λ cause. EndsHearing cause self.new
+            (heard_as (element_of (value_view element.now)) self.old)) }
+        ensures noted { IsNoted (element_note number (element_of (value_view element.now)))
+            (is_ok result) self.old.unknown self.new.unknown (N.noted notes.old)
+            (N.noted notes.new) }
+    {
+        match element_of(alloc, element)? {
+            Ok(element) => Ok(self.gathered.take(element)?),
+            Err(lack) => self.lose(number, lack, notes),
+        }
+    }
+
+    // Counts the truncated element, after `count` complete ones.
+    #[tactic(auto, using(crate::proofs::Noting::noted_less, crate::proofs::Noting::noted_none))]
+    fn lose_cut<N: Notes>(
+        &mut self,
+        is_cut: bool,
+        count: usize,
+        notes: &mut N,
+    ) -> Result<(), LineCause>
+        ensures heard { OnOk result (self.new ≡ heard_cut is_cut self.old) }
+        ensures ended { IfErr result (λ cause. EndsHearing cause self.new (heard_cut is_cut
+            self.old)) }
+        ensures noted { IsNoted (cut_notes is_cut count) (is_ok result) self.old.unknown
+            self.new.unknown (N.noted notes.old) (N.noted notes.new) }
+    {
+        if !is_cut {
+            return Ok(());
+        }
+        let last = (count as u64).saturating_add(1);
+        self.lose(last, Lack::Object, notes)
+    }
+
+    // Counts and notes an unknown element. An error ends the run.
+    #[tactic(auto, using(crate::proofs::Hearing::ends_unknown, crate::proofs::Noting::noted_one))]
+    fn lose<N: Notes>(&mut self, number: u64, lack: Lack, notes: &mut N) -> Result<(), LineCause>
+        ensures heard { self.new ≡ heard_unknown self.old }
+        ensures ended { IfErr result (λ cause. EndsHearing cause self.new (heard_unknown self.old)) }
+        ensures noted { IsNoted ((number, lack) ∷ []) true self.old.unknown self.new.unknown
+            (N.noted notes.old) (N.noted notes.new) }
+    {
+        self.unknown = self.unknown.saturating_add(1);
+        skip(notes, number, Ok(lack))
+    }
+}

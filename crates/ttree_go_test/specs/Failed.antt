@@ -1,0 +1,216 @@
+-- What failed of Go's tests: a line is kept until its outermost test, or its package, ends.
+use Rattle.std.specs.Prelude.{◌≡◌, ℕ, ◌==◌, ◌&&◌, ◌||◌, Bool, true, false, not, if◌then◌else◌, List, [], ◌∷◌, ◌++◌, length, take, Option, Some, None, unwrap_or, option_map, codes, bytes_eq}
+use Rattle.std.specs.List.{list_any, position_or_len}
+use Rattle.json.specs.Json.{Json, document}
+use Rattle.tracing_tree_base.specs.declared.context.Moment.{Moment}
+use Rattle.tracing_tree_layer.specs.declared.call.Call.{Call}
+use Rattle.ttree_source.specs.Source.{Step}
+use Rattle.ttree_go_test.specs.GoTest.{GoState, all_ended, go_ended, go_takes, nothing_run, package_of, runs, takes_json, takes_text, tally_call, test_of, timed}
+use Rattle.ttree_go_test.specs.Names.{named, put, without}
+use Rattle.ttree_source.specs.Values.{text_at}
+use Rattle.ttree_go_test.specs.declared.failed.Kept.{Kept}
+use Rattle.ttree_go_test.specs.declared.failed.Verdict.{Verdict}
+use Rattle.ttree_go_test.specs.declared.failed.Verdict.TheVariants.{Open, Good, Bad}
+
+-- what is kept of a package by its outermost tests; the package's own lines have the empty name
+abbrev pub Untold : Type 0
+Untold = List (List ℕ × List Kept)
+
+-- what is known of all lines and of those that were shown, and what is kept by the packages' paths
+pub record FailedState : Type 0 where
+  pub whole : GoState
+  pub shown : GoState
+  pub packages : List (List ℕ × Untold)
+
+-- no test runs yet
+abbrev pub none_failed : ℕ → Moment → FailedState
+none_failed next moment = record {
+  whole = nothing_run next moment;
+  shown = nothing_run next moment;
+  packages = [];
+}
+
+-- ---- what a line says
+
+-- a test passed or was skipped, it failed, or neither
+abbrev pub verdict_of : List ℕ → Verdict
+verdict_of action =
+    if bytes_eq action (codes "pass") || bytes_eq action (codes "bench")
+    || bytes_eq action (codes "skip") then Good
+    else if bytes_eq action (codes "fail") || bytes_eq action (codes "build-fail") then Bad
+    else Open
+
+abbrev pub verdict_in : Json → Verdict
+verdict_in value = verdict_of (unwrap_or (text_at (codes "Action") value) [])
+
+abbrev pub is_open : Verdict → Bool
+is_open Open = true
+is_open Good = false
+is_open Bad = false
+
+abbrev pub is_good : Verdict → Bool
+is_good Open = false
+is_good Good = true
+is_good Bad = false
+
+abbrev pub is_bad : Verdict → Bool
+is_bad Open = false
+is_bad Good = false
+is_bad Bad = true
+
+-- the name of a test in another
+abbrev pub is_inner : List ℕ → Bool
+is_inner test = list_any (λ b. b == 47) test
+
+-- the name of the outermost test in which a test is nested
+abbrev pub outermost : List ℕ → List ℕ
+outermost test = take (position_or_len (λ b. b == 47) test) test
+
+-- a line says that the test came to such an end
+abbrev pub says : (Verdict → Bool) → Kept → List ℕ → Bool
+says is one test = is one.verdict && bytes_eq one.test test
+
+-- one of these lines says so
+abbrev pub someone_says : (Verdict → Bool) → List Kept → List ℕ → Bool
+someone_says is kept test = list_any (λ one. says is one test) kept
+
+-- the test passed or was skipped, as these lines say, and no line says that it failed
+abbrev pub is_over : List Kept → List ℕ → Bool
+is_over kept test = someone_says is_good kept test && not (someone_says is_bad kept test)
+
+-- ---- what is shown
+
+-- shows a line
+abbrev pub line_shown : List ℕ → Option Json → GoState → GoState
+line_shown line None shown = takes_text line shown
+line_shown line (Some value) shown = unwrap_or (takes_json value (timed value shown)) shown
+
+abbrev pub kept_shown : Kept → GoState → GoState
+kept_shown one shown = line_shown one.line (document one.line) shown
+
+-- shows a line of a package, unless its test is over and wasn't shown in part
+abbrev pub released_one : List ℕ → (List ℕ → Bool) → Kept → GoState → GoState
+released_one path over one shown =
+    if over one.test && not (runs path one.test shown) then shown else kept_shown one shown
+
+abbrev pub released_each : List ℕ → (List ℕ → Bool) → List Kept → GoState → GoState
+released_each path over [] shown = shown
+released_each path over (one ∷ others) shown =
+    released_each path over others (released_one path over one shown)
+
+-- shows lines of a package, without those of tests that passed or were skipped
+abbrev pub released : List ℕ → List Kept → GoState → GoState
+released path kept shown = released_each path (is_over kept) kept shown
+
+-- what is kept of one outermost test after the other
+abbrev pub tests_released : List ℕ → Untold → GoState → GoState
+tests_released path [] shown = shown
+tests_released path (one ∷ others) shown = tests_released path others (released path one.1 shown)
+
+-- the lines of an outermost test, or with an empty name the package's own
+abbrev pub kept_in : List ℕ → Untold → List Kept
+kept_in test untold = unwrap_or (named test untold) []
+
+-- what is kept of a package: of its tests, and then its own lines
+abbrev pub package_released : List ℕ → Untold → GoState → GoState
+package_released path untold shown =
+    released path (kept_in [] untold) (tests_released path (without [] untold) shown)
+
+-- ---- what is kept
+
+-- adds a line to those of an outermost test, or with an empty name to the package's own
+abbrev pub with_line : List ℕ → Kept → Untold → Untold
+with_line test one untold = put test (kept_in test untold ++ one ∷ []) (without test untold)
+
+-- what is kept of a package
+abbrev pub untold_of : List ℕ → FailedState → Untold
+untold_of path s = unwrap_or (named path s.packages) []
+
+abbrev pub without_untold : List ℕ → FailedState → FailedState
+without_untold path s = record s { packages = without path s.packages }
+
+abbrev pub with_untold : List ℕ → Untold → FailedState → FailedState
+with_untold path untold s = record s { packages = put path untold s.packages }
+
+abbrev pub line_kept : List ℕ → List ℕ → Verdict → List ℕ → FailedState → FailedState
+line_kept path test verdict line s =
+    with_untold path
+    (with_line (outermost test) (record { test = test; verdict = verdict; line = line })
+    (untold_of path s)) (without_untold path s)
+
+-- nothing is kept of an outermost test any more, or of a package if the name is empty
+abbrev pub forgotten : List ℕ → List ℕ → FailedState → FailedState
+forgotten path test s =
+    if length test == 0 then without_untold path s
+    else with_untold path (without test (untold_of path s)) (without_untold path s)
+
+-- shows what is kept of an outermost test, or of a package if the name is empty
+abbrev pub told_of : List ℕ → List ℕ → FailedState → FailedState
+told_of path test s =
+    record (forgotten path test s) {
+      shown =
+          if length test == 0 then package_released path (untold_of path s) s.shown
+          else released path (kept_in test (untold_of path s)) s.shown;
+    }
+
+-- ---- lines
+
+abbrev pub path_of : Json → List ℕ
+path_of value = unwrap_or (package_of value) []
+
+-- a line that is shown
+abbrev pub value_shown : List ℕ → Json → FailedState → FailedState
+value_shown line value s = record s { shown = line_shown line (Some value) s.shown }
+
+-- A line is kept, unless it ends an outermost test or a package. Then what is kept of that is shown
+-- with it if it failed or was shown in part, and otherwise forgotten.
+abbrev pub value_taken_of : List ℕ → List ℕ → Verdict → List ℕ → Json → FailedState → FailedState
+value_taken_of path test verdict line value s =
+    if is_open verdict || is_inner test then line_kept path test verdict line s
+    else if is_good verdict && not (runs path test s.shown) then forgotten path test s
+    else value_shown line value (told_of path test s)
+
+abbrev pub value_taken : List ℕ → Json → FailedState → FailedState
+value_taken line value s =
+    value_taken_of (path_of value) (test_of value) (verdict_in value) line value s
+
+-- a line that isn't JSON is shown at once
+abbrev pub line_taken : List ℕ → Option Json → FailedState → FailedState
+line_taken line None s = record s { shown = line_shown line None s.shown }
+line_taken line (Some value) s = value_taken line value s
+
+-- a known line updates what is known of all lines; an unknown line changes nothing
+abbrev pub Knows : Option (Step GoState) → FailedState → FailedState → Bool → Type 0
+Knows (Some step) old new known = (new ≡ record old { whole = step.source }) × (known ≡ true)
+Knows None old new known = (new ≡ old) × (known ≡ false)
+
+abbrev pub failed_handed_out : FailedState → Step FailedState
+failed_handed_out s = record {
+  calls = s.shown.calls;
+  source = record s { shown = record s.shown { calls = [] } };
+}
+
+abbrev pub failed_step : List ℕ → Option Json → FailedState → Step GoState → Step FailedState
+failed_step line value s step =
+    failed_handed_out (line_taken line value (record s { whole = step.source }))
+
+-- what is shown when a line comes; what is known of all lines says whether it is known
+abbrev pub failed_takes : FailedState → List ℕ → Option Json → Option (Step FailedState)
+failed_takes s line value = option_map (failed_step line value s) (go_takes s.whole line value)
+
+-- what is kept of packages that didn't end
+abbrev pub all_released : List (List ℕ × Untold) → GoState → GoState
+all_released [] shown = shown
+all_released (one ∷ others) shown = all_released others (package_released one.0 one.1 shown)
+
+abbrev pub failed_ends : FailedState → List Call
+failed_ends s =
+    (all_ended (all_released s.packages s.shown)).calls ++ tally_call (all_ended s.whole) ∷ []
+
+-- the source after the end: nothing is kept, nothing runs, and what was shown is returned
+abbrev pub failed_ended : FailedState → FailedState
+failed_ended s = record {
+  whole = all_ended s.whole;
+  shown = go_ended (all_released s.packages s.shown);
+  packages = [];
+}

@@ -1,0 +1,100 @@
+-- Test cases.
+use Rattle.std.specs.Prelude.{ℕ, ◌==◌, ◌||◌, ◌&&◌, Bool, true, false, if◌then◌else◌, List, [], ◌∷◌, ◌++◌, length, Option, Some, None, codes}
+use Rattle.tracing_tree_base.specs.declared.field.Field.{Field}
+use Rattle.tracing_tree_base.specs.declared.style.Level.{Level}
+use Rattle.tracing_tree_base.specs.declared.style.Level.TheVariants.{Trace, Debug, Info, Warn, Error}
+use Rattle.ttree_source.specs.Told.{message_field, shown}
+use Rattle.ttree_junit.specs.Element.{attribute_in, is_off}
+use Rattle.ttree_junit.specs.Failure.{failure_rows}
+use Rattle.ttree_source.specs.Length.{length_text}
+use Rattle.ttree_junit.specs.Lines.{printed_rows, reason_of}
+use Rattle.ttree_junit.specs.Seconds.{nanoseconds_of}
+use Rattle.ttree_junit.specs.States.{CaseState, PartState, TagState}
+use Rattle.ttree_junit.specs.declared.case.Outcome.{Outcome}
+use Rattle.ttree_junit.specs.declared.case.Outcome.TheVariants.{Passed, Failed, Skipped}
+
+-- a case with the attributes of this tag
+abbrev pub case_of : TagState → CaseState
+case_of tag = record {
+  name = attribute_in (codes "name") tag.attributes;
+  classname = attribute_in (codes "classname") tag.attributes;
+  nanoseconds = nanoseconds_of (attribute_in (codes "time") tag.attributes);
+  is_off = is_off (attribute_in (codes "status") tag.attributes);
+  is_failed = false;
+  is_skipped = false;
+  reason = [];
+  fields = [];
+  rows = [];
+}
+
+abbrev pub with_property : Field → CaseState → CaseState
+with_property field case = record case { fields = case.fields ++ field ∷ [] }
+
+abbrev pub is_error : Level → Bool
+is_error Trace = false
+is_error Debug = false
+is_error Info = false
+is_error Warn = false
+is_error Error = true
+
+-- a failure is its rows; the case failed if it is an error
+abbrev pub with_failure : Level → PartState → CaseState → CaseState
+with_failure level part case = record case {
+  is_failed = case.is_failed || is_error level;
+  rows = case.rows ++ failure_rows level part;
+}
+
+abbrev pub with_printed : PartState → CaseState → CaseState
+with_printed part case = record case { rows = case.rows ++ printed_rows part.body }
+
+abbrev pub with_skip : PartState → CaseState → CaseState
+with_skip part case = record case {
+  is_skipped = true;
+  reason = reason_of part.message part.body;
+}
+
+-- how a case ended: a failure that was expected skips it
+abbrev pub outcome_of : CaseState → Outcome
+outcome_of case =
+    if case.is_skipped then Skipped
+    else if case.is_failed then Failed
+    else if case.is_off then Skipped else Passed
+
+-- there is nothing more to show than how it ended
+abbrev pub is_bare : CaseState → Bool
+is_bare case = (length case.rows == 0) && (length case.fields == 0)
+
+abbrev pub word_of : Outcome → List ℕ
+word_of Passed = codes "pass"
+word_of Failed = codes "fail"
+word_of Skipped = codes "skip"
+
+abbrev pub level_of : Outcome → Level
+level_of Passed = Info
+level_of Failed = Error
+level_of Skipped = Warn
+
+abbrev pub named : List ℕ → List ℕ → List ℕ
+named word name = word ++ codes " " ++ name
+
+abbrev pub reason_fields : List ℕ → List Field
+reason_fields reason =
+    if length reason == 0 then []
+    else record { name = codes "reason"; value = shown reason } ∷ []
+
+abbrev pub time_fields : Option ℕ → List Field
+time_fields (Some nanoseconds) =
+    record { name = codes "time"; value = length_text nanoseconds } ∷ []
+time_fields None = []
+
+abbrev pub end_fields : List ℕ → CaseState → List Field
+end_fields message case =
+    message_field message ∷ [] ++ reason_fields case.reason ++ time_fields case.nanoseconds
+
+-- the event of a bare case
+abbrev pub event_fields : CaseState → List Field
+event_fields case = end_fields (named (word_of (outcome_of case)) case.name) case
+
+-- the last event in the span of a case
+abbrev pub span_fields : CaseState → List Field
+span_fields case = end_fields (word_of (outcome_of case)) case

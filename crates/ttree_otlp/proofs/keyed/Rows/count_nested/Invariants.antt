@@ -1,0 +1,13 @@
+use Rattle.std.proofs.Common.{◌≡◌, length}
+use Rattle.ttree_otlp.specs.Cut.{count_with}
+use Rattle.ttree_otlp.specs.Nested.{without_nested}
+use Rattle.ttree_otlp.proofs.keyed.Rows.count_nested.Given as goal
+
+-- the others are left to be counted
+abbrev pub invariant-loop-self : goal.invariant-loop-self
+invariant-loop-self l =
+    (count_with l.depth l.fn.count l.fn.self ≡ count_with l.depth l.count l.self)
+    × (without_nested l.depth l.fn.self ≡ without_nested l.depth l.self)
+
+abbrev pub decreases-loop-self : goal.decreases-loop-self
+decreases-loop-self l = length l.self

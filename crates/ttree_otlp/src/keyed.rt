@@ -1,0 +1,270 @@
+//! What is kept by trace and span: the earliest time of each, and the rows nested in each.
+
+ghost use Rattle.std.specs.Prelude.{◌≡◌, ◌∷◌, [], IfOk, OnOk};
+ghost use Rattle.ttree_otlp.specs.Cut.{count_with};
+ghost use Rattle.ttree_otlp.specs.Nested.{begins_deeper, without_nested};
+ghost use Rattle.ttree_otlp.specs.Keyed.{after_first, first_kept, head_of, kept_at, key_of, tail_of, time_of, trace_of, with_kept, without_kept};
+
+use crate::cut::{count_as, sum_of};
+use crate::item::Item;
+use crate::walk::Row;
+use std::alloc::{AllocError, Global};
+use std::collections::BTreeMap;
+use std::marker::Model;
+
+// Returns a trace and a span of it; without a span it is the trace, and without either the root.
+pub(crate) fn key_of(alloc: Global, trace: &str, span: &str) -> Result<Vec<u8>, AllocError>
+    ensures { IfOk result (λ key. key.items ≡ key_of trace.now span.now) }
+{
+    let mut key = Vec::from_slice(alloc, trace.as_bytes())?;
+    key.extend_from_slice(" ".as_bytes())?;
+    key.extend_from_slice(span.as_bytes())?;
+    Ok(key)
+}
+
+// Frees the space of elements that were taken, once it is most of it.
+pub(crate) fn trim<T>(items: &mut Vec<T>)
+    ensures { items.new.items ≡ items.old.items }
+{
+    if items.len() < items.capacity() / 2 {
+        items.shrink_to_fit();
+    }
+}
+
+// The traces and spans that there are. A trace has its earliest time.
+#[derive(Drop)]
+pub(crate) struct Known {
+    entries: BTreeMap<Vec<u8>, u64>,
+}
+
+impl Model for Known {
+    ghost use Rattle.std.specs.Prelude.{ℕ, List};
+    ghost use Rattle.ttree_otlp.specs.Keyed.{by_bytes};
+
+    ghost Value = { List (List ℕ × ℕ) };
+
+    ghost view = { λ k. by_bytes k.entries.entries };
+}
+
+impl Known {
+    pub(crate) fn new(alloc: Global) -> Known
+        ensures { result ≡ [] }
+    {
+        Known {
+            entries: BTreeMap::new(alloc),
+        }
+    }
+
+    pub(crate) fn time_at(&self, key: &[u8]) -> Option<u64>
+        ensures { result ≡ kept_at key.now self.now }
+    {
+        self.entries.get(key).copied()
+    }
+
+    pub(crate) fn put(&mut self, key: Vec<u8>, time: u64) -> Result<(), AllocError>
+        ensures { OnOk result (self.new ≡ with_kept key.items time self.old) }
+    {
+        self.entries.insert(key, time)?;
+        Ok(())
+    }
+}
+
+// The rows nested in one span, the first first.
+#[derive(Drop)]
+pub(crate) struct Group {
+    // The first one last.
+    items: Vec<Item>,
+}
+
+impl Model for Group {
+    ghost use Rattle.std.specs.Prelude.{List, reverse};
+    ghost use Rattle.ttree_otlp.specs.declared.item.Item.{Item};
+
+    ghost Value = { List Item };
+
+    ghost view = { λ g. reverse g.items.items };
+}
+
+impl Group {
+    pub(crate) fn new(alloc: Global) -> Group
+        ensures { result ≡ [] }
+    {
+        Group {
+            items: Vec::new(alloc),
+        }
+    }
+
+    // Puts a row before the others. Most spans have few, so little space is kept for more.
+    pub(crate) fn put(&mut self, item: Item) -> Result<(), AllocError>
+        ensures { OnOk result (self.new ≡ item ∷ self.old) }
+    {
+        if self.items.len() == self.items.capacity() {
+            self.items.reserve_exact(self.items.len() / 2 + 1)?;
+        }
+        Ok(self.items.push(item)?)
+    }
+
+    // Takes the first row.
+    pub(crate) fn take(&mut self) -> Option<Item>
+        ensures item { result ≡ head_of self.old }
+        ensures rest { self.new ≡ tail_of self.old }
+    {
+        self.items.pop()
+    }
+
+    // Returns the trace of the first row.
+    pub(crate) fn trace(&self) -> &str
+        ensures { result.now ≡ trace_of self.now }
+    {
+        match self.items.as_slice().last() {
+            Some(item) => item.trace.as_str(),
+            None => "",
+        }
+    }
+
+    // Returns the time of the first row.
+    pub(crate) fn time(&self) -> u64
+        ensures { result ≡ time_of self.now }
+    {
+        match self.items.as_slice().last() {
+            Some(item) => item.time,
+            None => 0,
+        }
+    }
+}
+
+// Rows in the order in which they are drawn, the first first.
+#[derive(Drop)]
+pub(crate) struct Rows {
+    // The first one last.
+    rows: Vec<Row>,
+}
+
+impl Model for Rows {
+    ghost use Rattle.std.specs.Prelude.{List, reverse};
+    ghost use Rattle.ttree_otlp.specs.declared.walk.Row.{Row};
+
+    ghost Value = { List Row };
+
+    ghost view = { λ r. reverse r.rows.items };
+}
+
+impl Rows {
+    pub(crate) fn new(alloc: Global) -> Rows
+        ensures { result ≡ [] }
+    {
+        Rows {
+            rows: Vec::new(alloc),
+        }
+    }
+
+    // Puts a row before the others.
+    pub(crate) fn put(&mut self, row: Row) -> Result<(), AllocError>
+        ensures { OnOk result (self.new ≡ row ∷ self.old) }
+    {
+        Ok(self.rows.push(row)?)
+    }
+
+    // Drops the first rows that are deeper than this.
+    pub(crate) fn drop_nested(&mut self, depth: usize)
+        ensures { self.new ≡ without_nested depth self.old }
+    {
+        while self.begins_deeper(depth) {
+            drop(self.rows.pop());
+        }
+    }
+
+    // Drops the first rows that are deeper than this. Adds how many spans are left out with them.
+    pub(crate) fn count_nested(&mut self, depth: usize, count: u64) -> u64
+        ensures count { result ≡ count_with depth count self.old }
+        ensures rest { self.new ≡ without_nested depth self.old }
+    {
+        let mut count = count;
+        while self.begins_deeper(depth) {
+            if let Some(row) = self.rows.pop() {
+                count = sum_of(count, count_as(&row.item.shape));
+            }
+        }
+        count
+    }
+
+    // Returns the rows, the first first.
+    pub(crate) fn into_rows(self) -> Vec<Row>
+        ensures { result.items ≡ self }
+    {
+        let mut rows = self.rows;
+        rows.reverse();
+        rows
+    }
+
+    fn begins_deeper(&self, depth: usize) -> bool
+        ensures { result ≡ begins_deeper depth self.now }
+    {
+        match self.rows.as_slice().last() {
+            Some(row) => depth < row.depth,
+            None => false,
+        }
+    }
+
+    // Takes the first row.
+    pub(crate) fn take(&mut self) -> Option<Row>
+        ensures row { result ≡ head_of self.old }
+        ensures rest { self.new ≡ tail_of self.old }
+    {
+        let row = self.rows.pop();
+        trim(&mut self.rows);
+        row
+    }
+}
+
+// The rows nested in each trace and span.
+#[derive(Drop)]
+pub(crate) struct Groups {
+    entries: BTreeMap<Vec<u8>, Group>,
+}
+
+impl Model for Groups {
+    ghost use Rattle.std.specs.Prelude.{ℕ, List};
+    ghost use Rattle.ttree_otlp.specs.Keyed.{by_bytes};
+    ghost use Rattle.ttree_otlp.specs.declared.item.Item.{Item};
+
+    ghost Value = { List (List ℕ × List Item) };
+
+    ghost view = { λ g. by_bytes g.entries.entries };
+}
+
+impl Groups {
+    pub(crate) fn new(alloc: Global) -> Groups
+        ensures { result ≡ [] }
+    {
+        Groups {
+            entries: BTreeMap::new(alloc),
+        }
+    }
+
+    // Takes the rows at a key.
+    pub(crate) fn take(&mut self, key: &[u8]) -> Option<Group>
+        ensures group { result ≡ kept_at key.now self.old }
+        ensures rest { self.new ≡ without_kept key.now self.old }
+    {
+        self.entries.remove(key)
+    }
+
+    pub(crate) fn put(&mut self, key: Vec<u8>, group: Group) -> Result<(), AllocError>
+        ensures { OnOk result (self.new ≡ with_kept key.items group self.old) }
+    {
+        self.entries.insert(key, group)?;
+        Ok(())
+    }
+
+    // Takes the rows at the first key.
+    pub(crate) fn take_first(&mut self) -> Option<Group>
+        ensures group { result ≡ first_kept self.old }
+        ensures rest { self.new ≡ after_first self.old }
+    {
+        match self.entries.pop_first() {
+            Some((_, group)) => Some(group),
+            None => None,
+        }
+    }
+}

@@ -1,0 +1,160 @@
+//! A source of lines with prefixes.
+
+ghost use Rattle.std.specs.Prelude.{◌≡◌, IfOk, map, option_map};
+ghost use Rattle.json.specs.Json.{document};
+ghost use Rattle.json.specs.Value.{value_view};
+ghost use Rattle.ttree_source.specs.Source.{Tells};
+ghost use Rattle.ttree_prefix.specs.Prefix.{parts_of, prefix_field, prefixed_step, with_prefix};
+
+use crate::mark::Mark;
+use json::{Scratch, Value};
+use std::alloc::{AllocError, Global};
+use std::marker::Model;
+use tracing_tree_base::field::{Field, Fields};
+use tracing_tree_base::text::Text;
+use tracing_tree_layer::call::Call;
+use ttree_source::notes::Lack;
+use ttree_source::source::Source;
+use ttree_source::told::shown;
+use ttree_source::values::value_of;
+
+/// A source whose lines may start with a prefix.
+///
+/// A line that isn't JSON and has the mark is taken without its prefix, which comes last among the
+/// fields of the line's events. Every other line is taken unchanged.
+#[derive(Drop)]
+pub struct Prefixed<S> {
+    source: S,
+    mark: Option<Mark>,
+}
+
+impl<S> Model for Prefixed<S> {
+    ghost use Rattle.ttree_prefix.specs.Prefix.{Marked};
+
+    ghost Value = { Marked S };
+
+    ghost view = { λ p. record { source = p.source; mark = p.mark } };
+}
+
+impl<S> Prefixed<S> {
+    /// Returns a source for lines of `source` with prefixes that end at this mark, if there is one.
+    pub fn new(source: S, mark: Option<Mark>) -> Prefixed<S>
+        ensures { result ≡ record { source = source; mark = mark } }
+    {
+        Prefixed { source, mark }
+    }
+
+    /// Returns the source.
+    pub fn into_source(self) -> S
+        ensures { result ≡ self.source }
+    {
+        self.source
+    }
+}
+
+impl<S: Source> Prefixed<S> {
+    // Takes a line that has this prefix, and then this rest. It isn't inlined, since its `Scratch` of
+    // 16 KiB would be cleared for lines without a prefix too.
+    #[inline(never)]
+    fn take_rest(
+        &mut self,
+        alloc: Global,
+        prefix: &str,
+        rest: &str,
+    ) -> Result<Option<Vec<Call>>, AllocError>
+        ensures { IfOk result (λ told. Tells
+            (option_map (prefixed_step self.old.mark prefix.now)
+            (S.takes self.old.source rest.now (document rest.now)))
+            self.old self.new (option_map (λ calls. calls.items) told)) }
+    {
+        let mut scratch = Scratch::new(alloc);
+        let value = value_of(alloc, rest, &mut scratch)?;
+        match self.source.take(alloc, rest, value.as_ref())? {
+            Some(calls) => Ok(Some(with_prefixes(alloc, prefix, calls)?)),
+            None => Ok(None),
+        }
+    }
+}
+
+impl<S: Source> Source for Prefixed<S> {
+    ghost use Rattle.ttree_prefix.specs.Prefix.{prefixed_ended, prefixed_ends, prefixed_takes};
+
+    ghost takes = { prefixed_takes S.takes };
+
+    ghost ends = { prefixed_ends S.ends };
+
+    ghost ended = { prefixed_ended S.ended };
+
+    ghost lacks = { S.lacks };
+
+    fn take(
+        &mut self,
+        alloc: Global,
+        line: &str,
+        value: Option<&Value<'_>>,
+    ) -> Result<Option<Vec<Call>>, AllocError> {
+        let Some((prefix, rest)) = parts_of(self.mark, line, value) else {
+            return self.source.take(alloc, line, value);
+        };
+        self.take_rest(alloc, prefix, rest)
+    }
+
+    fn lack(value: Option<&Value<'_>>) -> Lack {
+        S::lack(value)
+    }
+
+    fn end(&mut self, alloc: Global) -> Result<Vec<Call>, AllocError> {
+        self.source.end(alloc)
+    }
+}
+
+// Returns the prefix of a line, and what comes after it. None if the line is JSON, or has no
+// prefix.
+fn parts_of<'a>(
+    mark: Option<Mark>,
+    line: &'a str,
+    value: Option<&Value<'_>>,
+) -> Option<(&'a str, &'a str)>
+    ensures { option_map (λ parts. (parts.0.now, parts.1.now)) result
+        ≡ parts_of mark line.now (option_map (λ v. value_view v.now) value.entry) }
+{
+    match (mark, value) {
+        (Some(mark), None) => mark.split(line),
+        _ => None,
+    }
+}
+
+// Returns these calls, with a prefix in each event.
+fn with_prefixes(alloc: Global, prefix: &str, calls: Vec<Call>) -> Result<Vec<Call>, AllocError>
+    ensures { IfOk result (λ made. made.items ≡ map (with_prefix prefix.now) calls.items) }
+{
+    let mut made = Vec::new(alloc);
+    for call in calls {
+        made.push(with_prefix(alloc, prefix, call)?)?;
+    }
+    Ok(made)
+}
+
+// Returns a call, with a prefix last among its fields if it is an event.
+fn with_prefix(alloc: Global, prefix: &str, call: Call) -> Result<Call, AllocError>
+    ensures { IfOk result (λ made. made ≡ with_prefix prefix.now call) }
+{
+    match call {
+        Call::Event(event, context) => {
+            let mut event = event;
+            event.fields.append(prefix_field(alloc, prefix)?)?;
+            Ok(Call::Event(event, context))
+        }
+        other => Ok(other),
+    }
+}
+
+fn prefix_field(alloc: Global, prefix: &str) -> Result<Fields, AllocError>
+    ensures { IfOk result (λ fields. fields ≡ prefix_field prefix.now) }
+{
+    let field = Field {
+        name: Text::from_str(alloc, "prefix")?,
+        value: shown(alloc, prefix)?,
+    };
+    Ok(Fields::one(alloc, field))
+}

@@ -1,0 +1,71 @@
+//! Lines of calls.
+
+use crate::notes::Lack;
+use crate::recorder::Recorder;
+use crate::source::Source;
+use json::{Scratch, Value};
+use std::alloc::{AllocError, Global};
+use std::marker::Model;
+use tracing_tree_layer::call::Call;
+use tracing_tree_lines::lines::{LineCause, is_skipped, make_call};
+
+/// Lines of calls, as they follow the settings in the input of [`run_lines`]. A blank line has no
+/// call.
+///
+/// [`run_lines`]: tracing_tree_lines::run_lines
+#[derive(Drop)]
+pub struct CallLines {
+    scratch: Scratch,
+}
+
+impl Model for CallLines {
+    ghost Value = { Unit {0} };
+
+    ghost view = { λ _. tt };
+}
+
+impl CallLines {
+    /// Returns the source of such lines.
+    pub fn new(alloc: Global) -> CallLines {
+        CallLines {
+            scratch: Scratch::new(alloc),
+        }
+    }
+}
+
+impl Source for CallLines {
+    ghost use Rattle.ttree_source.specs.CallLines.{call_lines_ended, call_lines_ends, call_lines_lacks, call_lines_takes};
+
+    ghost takes = { call_lines_takes };
+
+    ghost ends = { call_lines_ends };
+
+    ghost ended = { call_lines_ended };
+
+    ghost lacks = { call_lines_lacks };
+
+    fn take(
+        &mut self,
+        alloc: Global,
+        line: &str,
+        _value: Option<&Value<'_>>,
+    ) -> Result<Option<Vec<Call>>, AllocError> {
+        let mut recorder = Recorder::new(alloc);
+        if is_skipped(line.as_bytes()) {
+            return Ok(Some(recorder.into_calls()));
+        }
+        match make_call(alloc, line, &mut self.scratch, &mut recorder) {
+            Ok(_) => Ok(Some(recorder.into_calls())),
+            Err(LineCause::NotACall) => Ok(None),
+            Err(_) => Err(AllocError),
+        }
+    }
+
+    fn lack(_value: Option<&Value<'_>>) -> Lack {
+        Lack::Call
+    }
+
+    fn end(&mut self, alloc: Global) -> Result<Vec<Call>, AllocError> {
+        Ok(Vec::new(alloc))
+    }
+}
