@@ -17,9 +17,9 @@ use timer::{Timer, timer_value};
 use tracing_tree_drawing::format::Config;
 use tracing_tree_time::Clock;
 
-// The settings and the timer of the first line.
+/// The settings and the timer that the first line names.
 #[derive(Drop)]
-pub(super) struct Setup {
+pub struct Setup {
     config: Config,
     timer: Timer,
 }
@@ -86,8 +86,8 @@ impl Setup {
         }
     }
 
-    // Splits this value into its settings and its timer.
-    pub(super) fn into_parts(self) -> (Config, Clock<'static>)
+    /// Returns the settings, and the timer that they name.
+    pub fn into_parts(self) -> (Config, Clock<'static>)
         ensures settings { result.0 ≡ self.0 }
         ensures timer { clock_timer result.1 ≡ asked_timer self.1 }
     {
@@ -96,9 +96,12 @@ impl Setup {
     }
 }
 
-// Reads the setup of a line. `Settings` if the line isn't valid settings, `Memory` if an allocation
-// fails.
-pub(super) fn settings_of_line(alloc: Global, line: &[u8]) -> Result<Setup, LineCause>
+/// Reads the settings of a line.
+///
+/// # Errors
+///
+/// `Settings` if the line isn't valid settings. `Memory` if an allocation fails.
+pub fn settings_of_line(alloc: Global, line: &[u8]) -> Result<Setup, LineCause>
     ensures { ReadsFirst line.now result }
 {
     match Value::from_slice(alloc, line) {
