@@ -105,6 +105,18 @@ INFO up, prefix=web-1
 INFO a b, prefix=db
 INFO c, prefix=web-1
 END
+    reads 'the indentation after a bar' logs "web-1  | $log" 'web-1  | Traceback (most recent call last):' \
+        'web-1  |   File "a.py", line 1' '\x1b[33mweb-1  | \x1b[0m    raise' 'web-1  |' <<END
+INFO up, prefix=web-1
+ERROR Traceback (most recent call last):, prefix=web-1
+INFO   File "a.py", line 1, prefix=web-1
+INFO     raise, prefix=web-1
+END
+    reads 'the times of ts' logs "Dec 01 04:18:04 $log" 'Dec 01 04:18:05   a b' 'The quick brown fox' <<END
+INFO up, prefix=Dec 01 04:18:04
+INFO   a b, prefix=Dec 01 04:18:05
+INFO The quick brown fox
+END
 }
 
 # Lines that have no prefix, whatever comes after a colon.

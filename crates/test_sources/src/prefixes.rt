@@ -7,27 +7,28 @@ use ttree_prefix::{Mark, Prefixed};
 use ttree_source::{Plain, Source};
 
 // Marks, lines, and what they are split into.
-const SPLITS: [(Mark, &str, Option<(&str, &str)>); 32] = [
+const SPLITS: [(Mark, &str, Option<(&str, &str)>); 38] = [
     (Mark::Bar, "web-1  | up", Some(("web-1", "up"))),
     (Mark::Bar, "a|b|c", Some(("a", "b|c"))),
+    (Mark::Bar, "web-1  |     at x", Some(("web-1", "    at x"))),
     (Mark::Bar, "ready", None),
     (Mark::Bracket, "[pod/web/a] up", Some(("pod/web/a", "up"))),
     (Mark::Job, "a b\tc d\t1Z e f", Some(("a b\tc d\t1Z", "e f"))),
     (
         Mark::Job,
         "a\tb\t\u{feff}1Z  e",
-        Some(("a\tb\t\u{feff}1Z", "e")),
+        Some(("a\tb\t\u{feff}1Z", " e")),
     ),
     (Mark::Job, "a\tb\t1Z ", Some(("a\tb\t1Z", ""))),
     (Mark::Job, "a\tb\tc d", None),
     (Mark::Job, "a\t1Z d", None),
-    (Mark::Time, "02:31:19Z  up", Some(("02:31:19Z", "up"))),
+    (Mark::Time, "02:31:19Z  up", Some(("02:31:19Z", " up"))),
     (Mark::Time, "Starting up", None),
     (Mark::Time, "", None),
     (Mark::Tab, "a b\tc\td", Some(("a b", "c\td"))),
     (Mark::Tab, "\tc", None),
     (Mark::Colon, "web:dev: a: b", Some(("web:dev", "a: b"))),
-    (Mark::Colon, "01:23 s[1]:  up", Some(("01:23 s[1]", "up"))),
+    (Mark::Colon, "01:23 s[1]:  up", Some(("01:23 s[1]", " up"))),
     (Mark::Colon, "web:", None),
     (Mark::Colon, ": up", None),
     (Mark::Colon, "  at: a", None),
@@ -46,6 +47,14 @@ const SPLITS: [(Mark, &str, Option<(&str, &str)>); 32] = [
     (Mark::Pod, "web  up", None),
     (Mark::Pod, " web up", None),
     (
+        Mark::Stamp,
+        "Dec 01 04:18:04 up",
+        Some(("Dec 01 04:18:04", "up")),
+    ),
+    (Mark::Stamp, "Dec 01 04:18 up", None),
+    (Mark::Stamp, "The quick brown fox", None),
+    (Mark::Stamp, "a up", None),
+    (
         Mark::Bar,
         "\u{1b}[33mweb  | \u{1b}[0mup",
         Some(("web", "up")),
@@ -55,11 +64,16 @@ const SPLITS: [(Mark, &str, Option<(&str, &str)>); 32] = [
         "\u{1b}[33;1mweb |\u{1b}[0m up",
         Some(("web", "up")),
     ),
+    (
+        Mark::Bar,
+        "\u{1b}[33mweb | \u{1b}[0m  up",
+        Some(("web", "  up")),
+    ),
     (Mark::Bar, "\u{1b}[2Kam | up", Some(("\u{1b}[2Kam", "up"))),
 ];
 
 // Marks, and the strings that prefixes end at.
-const ENDS: [(Mark, &str); 8] = [
+const ENDS: [(Mark, &str); 9] = [
     (Mark::Bar, "|"),
     (Mark::Bracket, "]"),
     (Mark::Job, " "),
@@ -68,6 +82,7 @@ const ENDS: [(Mark, &str); 8] = [
     (Mark::Colon, ": "),
     (Mark::DateTime, " "),
     (Mark::Pod, " "),
+    (Mark::Stamp, " "),
 ];
 
 #[test]

@@ -9,6 +9,7 @@ use std::io::{BufRead, BufReader, Read};
 use std::str::from_utf8;
 use tracing_tree::lines::{LineCause, LineFault, is_skipped};
 use ttree_prefix::Mark;
+use ttree_source::blanks::first_byte;
 use ttree_source::{Detection, Detector, Format, format_of_line, is_empty_object, without_mark};
 
 // How the detection of the format ended.
@@ -194,7 +195,7 @@ pub fn read_through<R: Read>(
 
 // The marks, in the order of the attempts. A job's step may have spaces, and a name before a colon
 // may be the second word of its line, so these come before the marks at spaces.
-const MARKS: [Mark; 8] = [
+const MARKS: [Mark; 9] = [
     Mark::Bar,
     Mark::Bracket,
     Mark::Job,
@@ -203,6 +204,7 @@ const MARKS: [Mark; 8] = [
     Mark::Colon,
     Mark::DateTime,
     Mark::Pod,
+    Mark::Stamp,
 ];
 
 // Returns the format of a line that has a prefix before an object, and the mark of the prefix.
@@ -223,7 +225,7 @@ fn format_after(alloc: Global, mark: Mark, line: &str) -> Result<Option<Format>,
     let Some((_, rest)) = mark.split(line) else {
         return Ok(None);
     };
-    if !rest.starts_with('{') {
+    if first_byte(rest.as_bytes()) != Some(b'{') {
         return Ok(None);
     }
     match format_of_line(alloc, rest.as_bytes())? {

@@ -5,7 +5,7 @@ use Rattle.std.specs.Str.{IsCharBoundary}
 use Rattle.std.proofs.lemmas.Bool.{and_parts, eqb-true}
 use Rattle.ttree_prefix.specs.Mark.{ends_here, left_after, place_after, place_of}
 use Rattle.ttree_prefix.specs.declared.mark.Mark.{Mark}
-use Rattle.ttree_prefix.specs.declared.mark.Mark.TheVariants.{Bar, Bracket, Job, Time, Tab, Colon, DateTime, Pod}
+use Rattle.ttree_prefix.specs.declared.mark.Mark.TheVariants.{Bar, Bracket, Job, Time, Tab, Colon, DateTime, Pod, Stamp}
 
 -- what is found begins with this byte
 abbrev IsAt : ℕ → List ℕ → Option ℕ → Type 0
@@ -64,3 +64,4 @@ boundary Tab line place h = ascii_boundary 32 0 9 [] line place (lit< tt) h
 boundary Colon line place h = ascii_boundary 32 0 58 (32 ∷ []) line place (lit< tt) h
 boundary DateTime line place h = ascii_boundary 32 1 32 [] line place (lit< tt) h
 boundary Pod line place h = ascii_boundary 32 1 32 [] line place (lit< tt) h
+boundary Stamp line place h = ascii_boundary 32 2 32 [] line place (lit< tt) h

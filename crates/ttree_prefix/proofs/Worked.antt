@@ -1,10 +1,11 @@
 -- Examples computed from the definitions. What std trims at the mark isn't computed here.
 use Rattle.std.proofs.Common.{◌≡◌, ◌∷◌, None, Some, true, false, codes, refl}
 use Rattle.json.specs.Json.{null}
+use Rattle.ttree_prefix.specs.Blank.{without_blank}
 use Rattle.ttree_prefix.specs.Color.{after_color}
 use Rattle.ttree_prefix.specs.Mark.{are_names, at_mark, is_prefix, split, trimmed}
 use Rattle.ttree_prefix.specs.Prefix.{parts_of}
-use Rattle.ttree_prefix.specs.declared.mark.Mark.TheVariants.{Bar, Bracket, Job, Time, Tab, Colon, DateTime, Pod}
+use Rattle.ttree_prefix.specs.declared.mark.Mark.TheVariants.{Bar, Bracket, Job, Time, Tab, Colon, DateTime, Pod, Stamp}
 
 pub a_service_of_docker_compose : at_mark Bar (codes "web-1|a|b") ≡ Some (codes "web-1", codes "a|b")
 a_service_of_docker_compose = refl
@@ -45,6 +46,18 @@ a_pod_and_a_container = refl
 
 pub a_sentence_names_no_pod : are_names (codes "Listening on") ≡ false
 a_sentence_names_no_pod = refl
+
+pub a_time_of_ts : at_mark Stamp (codes "Dec 01 04:18:04 a b") ≡ Some (codes "Dec 01 04:18:04", codes "a b")
+a_time_of_ts = refl
+
+pub a_time_of_ts_is_a_prefix : is_prefix Stamp (codes "Dec 01 04:18:04 a b") (codes "Dec 01 04:18:04") ≡ true
+a_time_of_ts_is_a_prefix = refl
+
+pub a_sentence_is_no_time : is_prefix Stamp (codes "The quick brown fox") (codes "The quick brown") ≡ false
+a_sentence_is_no_time = refl
+
+pub an_indentation_after_a_bar : without_blank Bar (codes "   at x") ≡ codes "  at x"
+an_indentation_after_a_bar = refl
 
 pub a_colour_of_docker_compose : after_color (27 ∷ codes "[33;1mweb") ≡ Some (codes "web")
 a_colour_of_docker_compose = refl

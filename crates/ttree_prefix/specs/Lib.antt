@@ -1,3 +1,4 @@
+pub mod Blank
 pub mod Color
 pub mod Mark
 pub mod Prefix

@@ -1,12 +1,12 @@
 -- What the prefix of a line is, and where it ends.
-use Rattle.std.specs.Prelude.{ℕ, ◌+◌, ◌-◌, ◌==◌, ◌&&◌, ◌||◌, nat_le, nat_lt, not, Bool, true, false, if◌then◌else◌, List, [], ◌∷◌, take, drop, Option, Some, None, option_map, codes}
+use Rattle.std.specs.Prelude.{ℕ, ◌+◌, ◌-◌, ◌==◌, ◌&&◌, ◌||◌, nat_le, nat_lt, not, Bool, true, false, if◌then◌else◌, List, [], ◌∷◌, take, drop, Option, Some, None, option_map, codes, get_or, length}
 use Rattle.std.specs.List.{ends_with}
-use Rattle.std.specs.Str.{trim_end, trim_start}
+use Rattle.std.specs.Str.{trim_end}
 use Rattle.ttree_source.specs.Marks.{after_mark, begins, is_empty}
 use Rattle.ttree_source.specs.Traces.{begins_trace, is_digit}
 use Rattle.ttree_prefix.specs.Color.{uncolored}
 use Rattle.ttree_prefix.specs.declared.mark.Mark.{Mark}
-use Rattle.ttree_prefix.specs.declared.mark.Mark.TheVariants.{Bar, Bracket, Job, Time, Tab, Colon, DateTime, Pod}
+use Rattle.ttree_prefix.specs.declared.mark.Mark.TheVariants.{Bar, Bracket, Job, Time, Tab, Colon, DateTime, Pod, Stamp}
 
 -- the string that a prefix ends at
 abbrev pub mark_text : Mark → List ℕ
@@ -18,6 +18,7 @@ mark_text Tab = codes "\t"
 mark_text Colon = codes ": "
 mark_text DateTime = codes " "
 mark_text Pod = codes " "
+mark_text Stamp = codes " "
 
 -- what is between the parts of a prefix: a tab after a job and a step, a blank otherwise
 abbrev pub separator : Mark → ℕ
@@ -29,9 +30,10 @@ separator Tab = 32
 separator Colon = 32
 separator DateTime = 32
 separator Pod = 32
+separator Stamp = 32
 
--- how many separators come before the last part: a job, a step and a time have two, a date and a
--- time one, a pod and a container one
+-- how many separators come before the last part: a job, a step and a time have two, and so have a
+-- month, a day and a time; a date and a time have one, and so have a pod and a container
 abbrev pub separators : Mark → ℕ
 separators Bar = 0
 separators Bracket = 0
@@ -41,6 +43,7 @@ separators Tab = 0
 separators Colon = 0
 separators DateTime = 1
 separators Pod = 1
+separators Stamp = 2
 
 -- how many separators are left after this byte
 abbrev pub left_after : ℕ → ℕ → ℕ → ℕ
@@ -103,6 +106,13 @@ is_second_name (byte ∷ rest) =
 abbrev pub are_names : List ℕ → Bool
 are_names prefix = begins_with_name prefix && is_second_name (after_name prefix)
 
+-- a month, a day and a time have 15 characters, the first a capital, with a `:` (58) after the hour
+abbrev pub is_stamp : List ℕ → Bool
+is_stamp [] = false
+is_stamp (byte ∷ rest) =
+    (length (byte ∷ rest) == 15) && (nat_le 65 byte && nat_le byte 90)
+    && (get_or (byte ∷ rest) 9 0 == 58)
+
 -- What comes before the mark is a prefix: a line with a time begins with a digit, and after a step
 -- a time ends with a `Z`. A line that begins a panic has no name before its colon.
 abbrev pub is_prefix : Mark → List ℕ → List ℕ → Bool
@@ -114,6 +124,7 @@ is_prefix Tab line prefix = is_name prefix
 is_prefix Colon line prefix = is_name prefix && not (begins_trace line)
 is_prefix DateTime line prefix = begins_with_digit line
 is_prefix Pod line prefix = are_names prefix
+is_prefix Stamp line prefix = is_stamp prefix
 
 abbrev pub without_bracket : List ℕ → List ℕ
 without_bracket prefix = after (after_mark (codes "[") prefix) where
@@ -131,15 +142,16 @@ trimmed Tab prefix = trim_end prefix
 trimmed Colon prefix = trim_end prefix
 trimmed DateTime prefix = trim_end prefix
 trimmed Pod prefix = trim_end prefix
+trimmed Stamp prefix = trim_end prefix
 
 -- what a line at its mark is split into, if what comes before the mark is a prefix
 abbrev pub chosen : Mark → List ℕ → List ℕ × List ℕ → Option (List ℕ × List ℕ)
 chosen mark line parts =
     if is_prefix mark line parts.0 then Some (trimmed mark parts.0, parts.1) else None
 
--- a line is split at its mark, without the blanks and the colours there
+-- a line is split at its mark, without the blank and the colours there
 abbrev pub split : Mark → List ℕ → Option (List ℕ × List ℕ)
 split mark line = parts (at_mark mark line) where
   parts : Option (List ℕ × List ℕ) → Option (List ℕ × List ℕ)
   parts None = None
-  parts (Some both) = chosen mark line (uncolored (both.0, trim_start both.1))
+  parts (Some both) = chosen mark line (uncolored mark both)

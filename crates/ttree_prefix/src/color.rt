@@ -2,18 +2,29 @@
 
 ghost use Rattle.std.specs.Prelude.{◌≡◌, option_map};
 ghost use Rattle.ttree_source.specs.Traces.{is_digit};
-ghost use Rattle.ttree_prefix.specs.Color.{after_color, after_numbers, are_numbers, at_letter, uncolored, without_color};
+ghost use Rattle.ttree_prefix.specs.Color.{after_color, after_numbers, after_reset, are_numbers, at_letter, uncolored, without_color};
 
+use crate::mark::Mark;
 use ttree_source::marks::after_mark;
 
-// Returns a prefix without the colour at its start, and what comes after it. If the prefix has a
-// colour, the one that resets it is removed there.
-pub(crate) fn uncolored<'a>(prefix: &'a str, rest: &'a str) -> (&'a str, &'a str)
-    ensures { (result.0.now, result.1.now) ≡ uncolored (prefix.now, rest.now) }
+// Returns a prefix without the colour at its start, and what comes after the mark and its blank. If
+// the prefix has a colour, the one that resets it is removed there.
+pub(crate) fn uncolored<'a>(mark: Mark, prefix: &'a str, rest: &'a str) -> (&'a str, &'a str)
+    ensures { (result.0.now, result.1.now) ≡ uncolored mark (prefix.now, rest.now) }
 {
     match after_color(prefix) {
-        Some(prefix) => (prefix, without_color(rest)),
-        None => (prefix, rest),
+        Some(prefix) => (prefix, after_reset(mark, rest)),
+        None => (prefix, mark.without_blank(rest)),
+    }
+}
+
+// Returns what comes after the colour and the blank of a mark, in either order.
+fn after_reset(mark: Mark, rest: &str) -> &str
+    ensures { result.now ≡ after_reset mark rest.now }
+{
+    match after_color(rest) {
+        Some(rest) => mark.without_blank(rest),
+        None => without_color(mark.without_blank(rest)),
     }
 }
 
@@ -21,7 +32,7 @@ fn without_color(text: &str) -> &str
     ensures { result.now ≡ without_color text.now }
 {
     match after_color(text) {
-        Some(rest) => rest.trim_start(),
+        Some(rest) => rest,
         None => text,
     }
 }

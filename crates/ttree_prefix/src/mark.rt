@@ -1,12 +1,18 @@
 //! What the prefix of a line is, and where it ends.
 
-ghost use Rattle.std.specs.Prelude.{◌≡◌, option_map};
+ghost use Rattle.std.specs.Prelude.{◌≡◌, get_or, option_map};
 ghost use Rattle.ttree_source.specs.Traces.{is_digit};
-ghost use Rattle.ttree_prefix.specs.Mark.{after_name, are_names, at_mark, begins_with_digit, begins_with_name, ends_here, is_name, is_of_name, is_prefix, is_second_name, left_after, mark_text, place_after, place_of, separator, separators, split, trimmed, without_bracket};
+ghost use Rattle.ttree_prefix.specs.Blank.{after_blank, without_blank};
+ghost use Rattle.ttree_prefix.specs.Mark.{after_name, are_names, at_mark, begins_with_digit, begins_with_name, ends_here, is_name, is_of_name, is_prefix, is_second_name, is_stamp, left_after, mark_text, place_after, place_of, separator, separators, split, trimmed, without_bracket};
 
 use crate::color::uncolored;
 use ttree_source::marks::after_mark;
 use ttree_source::traces::begins_trace;
+
+// How long a month, a day and a time are, and where the first colon of the time is.
+const STAMP: usize = 15;
+
+const COLON: usize = 9;
 
 /// What the prefix of a line is, by the tools that write it.
 #[derive(Clone, Copy, Debug, PartialEq, Eq)]
@@ -37,6 +43,9 @@ pub enum Mark {
 
     /// The names of a pod and a container, up to the second space: `stern`.
     Pod,
+
+    /// A month, a day and a time, up to the third space: `ts`.
+    Stamp,
 }
 
 impl Mark {
@@ -49,18 +58,18 @@ impl Mark {
             Mark::Bracket => "]",
             Mark::Tab => "\t",
             Mark::Colon => ": ",
-            Mark::Job | Mark::Time | Mark::DateTime | Mark::Pod => " ",
+            Mark::Job | Mark::Time | Mark::DateTime | Mark::Pod | Mark::Stamp => " ",
         }
     }
 
-    /// Returns the prefix of a line, and what comes after it, both without blanks at the mark. A
-    /// prefix in brackets is returned without them, and a prefix in a colour without the colour.
-    /// None if the line has no such prefix.
+    /// Returns the prefix of a line, and what comes after it. The prefix has no blanks at its end,
+    /// and what comes after keeps its indentation. A prefix in brackets is returned without them,
+    /// and a prefix in a colour without the colour. None if the line has no such prefix.
     pub fn split<'a>(self, line: &'a str) -> Option<(&'a str, &'a str)>
         ensures { option_map (λ parts. (parts.0.now, parts.1.now)) result ≡ split self line.now }
     {
         let (prefix, rest) = self.at_mark(line)?;
-        let (prefix, rest) = uncolored(prefix, rest.trim_start());
+        let (prefix, rest) = uncolored(self, prefix, rest);
         if self.is_prefix(line, prefix) {
             Some((self.trimmed(prefix), rest))
         } else {
@@ -109,7 +118,7 @@ impl Mark {
         match self {
             Mark::Bar | Mark::Bracket | Mark::Time | Mark::Tab | Mark::Colon => 0,
             Mark::DateTime | Mark::Pod => 1,
-            Mark::Job => 2,
+            Mark::Job | Mark::Stamp => 2,
         }
     }
 
@@ -124,6 +133,18 @@ impl Mark {
             Mark::Tab => is_name(prefix.as_bytes()),
             Mark::Colon => is_name(prefix.as_bytes()) && !begins_trace(line),
             Mark::Pod => are_names(prefix.as_bytes()),
+            Mark::Stamp => is_stamp(prefix.as_bytes()),
+        }
+    }
+
+    // Returns what comes after a mark, without the blank that the tools write after a bar and a
+    // bracket. Further blanks are the indentation of a line.
+    pub(crate) fn without_blank(self, rest: &str) -> &str
+        ensures { result.now ≡ without_blank self rest.now }
+    {
+        match self {
+            Mark::Bar | Mark::Bracket => after_blank(rest),
+            _ => rest,
         }
     }
 
@@ -174,6 +195,15 @@ fn left_after(separator: u8, left: usize, byte: u8) -> usize
     }
 }
 
+fn after_blank(rest: &str) -> &str
+    ensures { result.now ≡ after_blank rest.now }
+{
+    match after_mark(rest, " ") {
+        Some(after) => after,
+        None => rest,
+    }
+}
+
 fn without_bracket(prefix: &str) -> &str
     ensures { result.now ≡ without_bracket prefix.now }
 {
@@ -204,6 +234,18 @@ fn is_name(text: &[u8]) -> bool
 {
     match text {
         [first, ..] => *first > b' ',
+        [] => false,
+    }
+}
+
+// Returns whether this is a month, a day and a time, such as `Dec 01 04:18:04`.
+fn is_stamp(text: &[u8]) -> bool
+    ensures { result ≡ is_stamp text.now }
+{
+    match text {
+        [first, ..] => {
+            text.len() == STAMP && matches!(*first, b'A'..=b'Z') && text[COLON] == b':'
+        }
         [] => false,
     }
 }
