@@ -1222,7 +1222,27 @@ run_lines() {
     count 'on standard input by its name' want '' 0
     { cat "$input"; echo '{"call":"close"}'; echo '{"call":"event","level":"INFO"}'; } > "$room/ended"
     run "$room/ended"
-    count 'on a line that is no call' want "ttree: line $(($(wc -l < "$input") + 1)): expected a JSON object with a call" 1
+    count 'on a line that is no call' want "ttree: line $(($(wc -l < "$input") + 1)): a member of the call is missing, unknown or invalid" 1
+    local level='"level" must be one of TRACE, DEBUG, INFO, WARN, ERROR'
+    local name='"call" must be one of new, clone, record, event, close'
+    printf '%s\n' '{"indent_lines":true}' '{"call":"new","name":"a\nb","fields":[["x","1\n2"]]}' \
+        '{"call":"event","level":"INFO","fields":[["message","c\nd"]],"current":1}' > "$room/lines"
+    printf '%s\n' '┐a\nb x=1\n2' '├─ INFO c' '│  d' > "$room/want"
+    run "$room/lines"
+    count 'on line ends in settings and calls' want '' 0
+    printf '%s\n' '{}' '{"call":"event","level":"INFO"}' '' '{"call":"event","level":"info"}' > "$room/lines"
+    printf ' INFO \n' > "$room/want"
+    run "$room/lines"
+    count 'on a level in small letters' want "ttree: line 4: $level, found \"info\"" 1
+    printf '%s\n' '{}' '{"call":"event"}' > "$room/lines"
+    run --from lines "$room/lines"
+    count 'on a call without a level' none "ttree: line 2: $level" 1
+    printf '%s\n' '{}' '{"call":"fork\u001b[2J"}' > "$room/lines"
+    run --from lines "$room/lines"
+    count 'on a call of another name' none "ttree: line 2: $name, found \"fork\\u001b[2J\"" 1
+    printf '%s\n' '{}' "{\"call\":\"$(printf 'x%.0s' {1..80})\"}" > "$room/lines"
+    run --from lines "$room/lines"
+    count 'on a long name of a call' none "ttree: line 2: $name, found \"$(printf 'x%.0s' {1..59})…" 1
     printf '%s\r\n' '{"indent_lines":true}' '{"call":"new","name":"a"}' > "$room/lines"
     printf '┐a \n' > "$room/want"
     run "$room/lines"
@@ -1279,7 +1299,7 @@ ttree: 1 line skipped' <<< 'INFO x'
     detects 'a log with a target' '{"level":"INFO","msg":"x","target":"y"}\n' <<< 'INFO x, target=y'
     detects 'a log with fields beside its message' '{"level":"INFO","message":"x","fields":{"a":1}}\n' <<< 'INFO x, fields.a=1'
     detects 'pods of kubectl' '[pod/web/a] {"Action":"pass","Package":"p"}\n' <<< $'INFO pass p, prefix=pod/web/a\nINFO passed=0, failed=0, skipped=0, unfinished=0, packages=1, packages_failed=0'
-    detects 'times before tracing' '2026-11-24T02:31:19Z {"level":"INFO","fields":{"message":"x"},"target":"t"}\nStarting up\n2026-11-24T02:31:20Z  up\n' <<< $'INFO x, prefix=2026-11-24T02:31:19Z\nINFO Starting up\nINFO up, prefix=2026-11-24T02:31:20Z'
+    detects 'times before tracing' '2026-11-24T02:31:19Z {"level":"INFO","fields":{"message":"x"},"target":"t"}\nStarting up\n2026-11-24T02:31:20Z  up\n' <<< $'INFO x, prefix=2026-11-24T02:31:19Z\nINFO Starting up\nINFO  up, prefix=2026-11-24T02:31:20Z'
     detects 'a panic before a trace' 'panic: x\n[\n{"ph":"i","ts":1,"name":"a"}]' <<< $'ERROR panic: x\nINFO a'
     detects 'lines before settings' 'Starting\n\n{"indent_lines":true}\n{"call":"new","name":"a"}\n{"call":"ne' 1 'ttree: line 5: expected a JSON object with a call' <<< $'INFO Starting\n┐a '
     detects 'settings without a key' '{}\n\n{"call":"event","level":"INFO","fields":[["message","x"]]}\n' <<< ' INFO x'

@@ -312,7 +312,7 @@ TRACE a\u{1b}[31m, text=b c, n=-1.50, yes=true, no=false, none=null, some=[1], m
 WARN code=7
 END_OF_LINES
     lines_of 'on lines of tracing that are cut off or lack a level' 1 'ttree: line 2: "level" must be one of TRACE, DEBUG, INFO, WARN, ERROR, skipped
-ttree: line 4: "level" must be one of TRACE, DEBUG, INFO, WARN, ERROR, skipped
+ttree: line 4: "level" must be one of TRACE, DEBUG, INFO, WARN, ERROR, found "info", skipped
 ttree: 2 lines skipped' << 'END_OF_LINES'
 {"level":"INFO","fields":{"message":"a"},"target":"t","spans":[{"name":"s"}]}
 {"fields":{"message":"b"},"target":"t"}

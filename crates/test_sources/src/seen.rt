@@ -31,8 +31,8 @@ impl Skipped {
 }
 
 impl Notes for Skipped {
-    fn note(&mut self, line: u64, lack: Lack) -> bool {
-        self.lines.push((line, lack)).is_ok()
+    fn note(&mut self, number: u64, lack: Lack, _line: &[u8]) -> bool {
+        self.lines.push((number, lack)).is_ok()
     }
 }
 

@@ -86,7 +86,7 @@ fn show<R: AllocGlobal + Eprint + Print>(
         return write_read(rt, origin, head, read, form, &reporter, options);
     }
     let alloc = rt.alloc();
-    let (calls, summary) = shown_calls(alloc, calls, Subject::Document, options)?;
+    let (calls, summary) = shown_calls(alloc, calls, Subject::Report, options)?;
     let writer = output(alloc, io::writer(rt), options.shaping())?;
     let config = options.config().with_deferred_spans(true);
     let mut layered = layered(alloc, config, writer);

@@ -2,6 +2,7 @@
 #![tactic(auto)]
 
 mod draw;
+mod found;
 mod input;
 mod junit;
 mod options;

@@ -36,7 +36,7 @@ pub fn draw_otlp<R: AllocGlobal + Eprint + Print>(
     let Readable { text, skipped } = Readable::of(rt.alloc(), bytes.as_slice())?;
     drop(bytes);
     for line in skipped {
-        if !reporter.note(line, Lack::Utf8) {
+        if !reporter.note(line, Lack::Utf8, &[]) {
             return Ok(Status::Failure);
         }
     }

@@ -2,9 +2,9 @@
 
 use crate::input::Head;
 use crate::options::Options;
-use crate::output::{Flush, Output, UNCHANGED, output};
-use crate::report::{Origin, Reporter, Status, Unit, report, report_undrawn, report_written};
-use crate::tree::{after_lines, first_line, read_trace, some_moment};
+use crate::output::{Output, UNCHANGED, output};
+use crate::report::{Origin, Reporter, Status, Unit, report_undrawn, report_written};
+use crate::tree::{after_lines, first_line, read_trace, refuse_settings, some_moment};
 use std::alloc::{AllocError, Global};
 use std::io;
 use std::io::{BufReader, Printer, Read, Write};
@@ -57,11 +57,7 @@ pub fn write_call_lines<R: AllocGlobal + Eprint + Print, I: Read + Drop>(
     let (settings, calls) = first_line(head.body());
     let lines_before = head.lines_before.saturating_add(1);
     if !are_settings(alloc, settings)? {
-        let fault = Some(LineFault {
-            line: lines_before,
-            cause: LineCause::Settings,
-        });
-        return Ok(report(rt, origin, &fault, Flush::Done));
+        return Ok(refuse_settings(rt, origin, lines_before, LineCause::Settings));
     }
     let Ok(mut lines) = BufReader::with_capacity(alloc, BLOCK, calls.chain(lines)) else {
         return Err(AllocError);

@@ -1,5 +1,6 @@
 //! What is reported: messages on standard error, and the exit status.
 
+use crate::found::Found;
 use crate::output::{Flush, Output, flush_output};
 use std::fmt;
 use std::io::Write;
@@ -7,6 +8,7 @@ use std::process::ExitCode;
 use tracing_tree::format::{Refusal, Wrap};
 use tracing_tree::layered::Layered;
 use tracing_tree::lines::{LineCause, LineFault};
+use tracing_tree::time::FormatTime;
 use ttree_source::{Lack, Notes, SourceRun};
 
 // What `ttree` says if no line determines the format.
@@ -171,9 +173,9 @@ pub fn report_unwritten(rt: &impl Eprint, origin: Origin<'_>) -> Status {
 }
 
 // Reports how the run of a source or a trace ended. It succeeds only if nothing was skipped.
-pub fn report_run<R: Eprint, W: Write + Drop>(
+pub fn report_run<R: Eprint, W: Write + Drop, FT: FormatTime + Drop>(
     run: &SourceRun,
-    layered: Layered<Wrap<Output<W>>, ()>,
+    layered: Layered<Wrap<Output<W>>, FT>,
     reporter: &Reporter<'_, R>,
 ) -> Status {
     let (_registry, layer) = layered.into_parts();
@@ -231,18 +233,22 @@ impl fmt::Display for Unit {
     }
 }
 
-// What a skipped line or element is or needs.
+// What a skipped line or element is or needs, and what was found in its place.
 #[derive(Drop)]
 struct Reason {
     unit: Unit,
     lack: Lack,
+    found: Found,
 }
 
 impl fmt::Display for Reason {
     fn fmt<W: fmt::Write>(&self, f: &mut fmt::Formatter<W>) -> fmt::Result {
         match (self.unit, self.lack) {
             (Unit::Export, Lack::Object) => { f.write_str(EXPORT) }
-            (_, lack) => write!(f, "{lack}"),
+            (_, lack) => {
+                let found = &self.found;
+                write!(f, "{lack}{found}")
+            }
         }
     }
 }
@@ -262,8 +268,8 @@ pub struct Reporter<'a, R> {
     count: u64,
 }
 
-impl<R: Eprint> Notes for Reporter<'_, R> {
-    fn note(&mut self, number: u64, lack: Lack) -> bool {
+impl<R: AllocGlobal + Eprint> Notes for Reporter<'_, R> {
+    fn note(&mut self, number: u64, lack: Lack, line: &[u8]) -> bool {
         let origin = self.origin;
         let unit = self.unit;
         if lack == Lack::Trace {
@@ -272,7 +278,11 @@ impl<R: Eprint> Notes for Reporter<'_, R> {
             return !self.is_strict;
         }
         let number = number.saturating_add(self.lines_before);
-        let reason = Reason { unit, lack };
+        let reason = Reason {
+            unit,
+            lack,
+            found: Found::in_line(self.rt.alloc(), lack, line),
+        };
         if self.is_strict {
             let _ = eprintln!(self.rt; "{origin}{unit} {number}: {reason}");
             return false;

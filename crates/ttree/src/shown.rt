@@ -21,7 +21,10 @@ pub enum Subject {
     // A trace, on its own clock. Each span takes one row.
     Trace,
 
-    // Another document. Line ends in it are drawn as such.
+    // A report of JUnit XML. Each span takes one row.
+    Report,
+
+    // OTLP. Line ends in it are drawn as such.
     Document,
 }
 
@@ -29,13 +32,15 @@ impl Subject {
     fn clock(self) -> RowClock {
         match self {
             Subject::Trace => RowClock::Trace,
-            Subject::Lines | Subject::Preamble | Subject::Document => RowClock::Utc,
+            Subject::Lines | Subject::Preamble | Subject::Report | Subject::Document => {
+                RowClock::Utc
+            }
         }
     }
 
     fn one_row(self) -> Option<OneRow> {
         match self {
-            Subject::Lines | Subject::Preamble | Subject::Trace => Some(OneRow),
+            Subject::Lines | Subject::Preamble | Subject::Trace | Subject::Report => Some(OneRow),
             Subject::Document => None,
         }
     }
@@ -104,6 +109,6 @@ fn shape(alloc: Global, subject: Subject, options: &Options<'_>) -> Shape {
 fn is_deferred(subject: Subject, options: &Options<'_>) -> bool {
     match subject {
         Subject::Lines | Subject::Preamble => options.is_deferred(),
-        Subject::Trace | Subject::Document => false,
+        Subject::Trace | Subject::Report | Subject::Document => false,
     }
 }

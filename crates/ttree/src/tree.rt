@@ -2,7 +2,7 @@
 
 use crate::input::Head;
 use crate::options::Options;
-use crate::output::{flush_output, output};
+use crate::output::{Flush, output};
 use crate::report::{
     Origin, Reporter, Status, Unit, report, report_run, report_undrawn, report_unread,
 };
@@ -17,14 +17,13 @@ use std::str::from_utf8;
 use tracing_tree::format::{Config, Wrap};
 use tracing_tree::layer::HierarchicalLayer;
 use tracing_tree::layered::Layered;
-use tracing_tree::lines::{BLOCK, LineCause, LineFault};
-use tracing_tree::run_lines;
+use tracing_tree::lines::{BLOCK, LineCause, LineFault, settings_of_line};
 use tracing_tree::time::Moment;
-use ttree_adapters::{Mapping, RowClock};
+use ttree_adapters::{Mapped, Mapping, OneRow, RowClock};
 use ttree_chrome::{Leaves, TraceCalls, trace_calls};
 use ttree_source::run::make;
 use ttree_source::values::value_of;
-use ttree_source::{Lack, Notes, Source, SourceRun, draw_source};
+use ttree_source::{CallLines, Lack, Notes, Source, SourceRun, draw_source};
 use ttree_terminal::Shaping;
 
 // Returns the moment of the calls before a source knows one.
@@ -62,7 +61,8 @@ pub fn draw_input<R: AllocGlobal + Eprint + Print, I: Read + Drop, S: Source + D
     ))
 }
 
-// Draws lines of settings and calls. Their settings decide whether the drawing has colours.
+// Draws lines of settings and calls. The settings say how. A line that isn't a call ends the
+// drawing.
 pub fn draw_calls<R: AllocGlobal + Eprint + Print, I: Read + Drop>(
     rt: &R,
     origin: Origin<'_>,
@@ -71,19 +71,44 @@ pub fn draw_calls<R: AllocGlobal + Eprint + Print, I: Read + Drop>(
     options: &Options<'_>,
 ) -> Result<Status, AllocError> {
     let alloc = rt.alloc();
+    let (first, calls) = first_line(head.body());
+    let lines_before = head.lines_before.saturating_add(1);
+    let (config, timer) = match settings_of_line(alloc, first) {
+        Ok(setup) => setup.into_parts(),
+        Err(LineCause::Memory) => return Err(AllocError),
+        Err(cause) => return Ok(refuse_settings(rt, origin, lines_before, cause)),
+    };
+    let Ok(mut lines) = BufReader::with_capacity(alloc, BLOCK, calls.chain(lines)) else {
+        return Err(AllocError);
+    };
     let shaping = Shaping {
         width: options.width,
-        is_escaped: !has_colours(alloc, head.body())?,
+        is_escaped: !has_colours(alloc, first)?,
     };
-    let writer = output(alloc, io::writer(rt), shaping)?;
-    let run = run_lines(alloc, head.body().chain(lines), Wrap::new(writer));
-    let fault = after_lines(run.fault, head.lines_before);
-    Ok(report(rt, origin, &fault, flush_output(run.writer)))
+    let writer = Wrap::new(output(alloc, io::writer(rt), shaping)?);
+    let layer = HierarchicalLayer::with_config(alloc, config, writer).with_timer(timer);
+    let mut layered = Layered::new(alloc, layer);
+    let mut source = Mapped::new(CallLines::new(alloc), OneRow);
+    let mut reporter = Reporter::new(rt, origin, Unit::Line, true);
+    reporter.lines_before = lines_before;
+    let run = draw_source(alloc, &mut source, &mut lines, &mut layered, &mut reporter);
+    let fault = after_lines(run.fault, lines_before);
+    Ok(report_run(&SourceRun { fault, ..run }, layered, &reporter))
 }
 
-// Returns whether the settings, which are the first of these lines, switch colours on.
-fn has_colours(alloc: Global, lines: &[u8]) -> Result<bool, AllocError> {
-    let Ok(line) = from_utf8(first_line(lines).0) else {
+// Reports that a line isn't valid settings.
+pub fn refuse_settings(
+    rt: &impl Eprint,
+    origin: Origin<'_>,
+    line: u64,
+    cause: LineCause,
+) -> Status {
+    report(rt, origin, &Some(LineFault { line, cause }), Flush::Done)
+}
+
+// Returns whether settings switch colours on.
+fn has_colours(alloc: Global, settings: &[u8]) -> Result<bool, AllocError> {
+    let Ok(line) = from_utf8(settings) else {
         return Ok(false);
     };
     let mut scratch = Scratch::new(alloc);
@@ -167,7 +192,7 @@ pub fn read_trace<N: Notes>(
 struct Silent;
 
 impl Notes for Silent {
-    fn note(&mut self, _line: u64, _lack: Lack) -> bool {
+    fn note(&mut self, _number: u64, _lack: Lack, _line: &[u8]) -> bool {
         true
     }
 }

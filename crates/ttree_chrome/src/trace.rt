@@ -375,6 +375,6 @@ impl Heard {
             (N.noted notes.old) (N.noted notes.new) }
     {
         self.unknown = self.unknown.saturating_add(1);
-        skip(notes, number, Ok(lack))
+        skip(notes, number, Ok(lack), &[])
     }
 }

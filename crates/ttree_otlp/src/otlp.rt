@@ -143,7 +143,7 @@ fn note_all<N: Notes>(problems: &[u64], notes: &mut N) -> Result<(), LineCause>
         problems.now)) }
 {
     for line in problems {
-        skip(notes, *line, Ok(Lack::Object))?;
+        skip(notes, *line, Ok(Lack::Object), &[])?;
     }
     Ok(())
 }

@@ -1,5 +1,6 @@
 -- Lines of calls.
-use Rattle.std.specs.Prelude.{ℕ, ℤ, pos, if◌then◌else◌, List, [], ◌∷◌, Option, Some, None, option_map, codes}
+use Rattle.std.specs.Prelude.{ℕ, ℤ, pos, ◌&&◌, if◌then◌else◌, not, List, [], ◌∷◌, Option, Some, None, is_none, option_map, bytes_eq, codes}
+use Rattle.std.specs.List.{list_any}
 use Rattle.std.specs.Ordering.{int_eq}
 use Rattle.json.specs.Json.{Json}
 use Rattle.jiff_core.specs.declared.timestamp.Timestamp.{Timestamp}
@@ -9,10 +10,13 @@ use Rattle.serde_json.specs.Written.{has_float}
 use Rattle.tracing_tree_base.specs.declared.context.Moment.{Moment}
 use Rattle.tracing_tree_layer.specs.declared.call.Call.{Call}
 use Rattle.tracing_tree_lines.specs.Lines.Spelled.{◌>>=◌, is_skipped, object_call, read_or, signed_value, whole_value}
+use Rattle.ttree_source.specs.First.{call_words}
+use Rattle.ttree_source.specs.Levels.{level_in}
 use Rattle.ttree_source.specs.Moments.{instant_at, into_range}
 use Rattle.ttree_source.specs.Source.{Step}
+use Rattle.ttree_source.specs.Values.{text_at}
 use Rattle.ttree_source.specs.declared.notes.Lack.{Lack}
-use Rattle.ttree_source.specs.declared.notes.Lack.TheVariants.{Call as LacksCall}
+use Rattle.ttree_source.specs.declared.notes.Lack.TheVariants.{Call as LacksCall, CallName, Level as NoLevel, Member}
 
 -- the instant at these nanoseconds since 1970, if there is one
 abbrev pub instant_of : ℤ → Option Timestamp
@@ -50,5 +54,21 @@ call_lines_ends s = []
 abbrev pub call_lines_ended : Unit {0} → Unit {0}
 call_lines_ended s = s
 
+-- what an object lacks that has this name of a call
+abbrev pub lack_of_named : List ℕ → Json → Lack
+lack_of_named name value =
+    if not (list_any (bytes_eq name) call_words) then CallName
+    else if bytes_eq name (codes "event") && is_none (level_in value) then NoLevel
+    else Member
+
+-- what an object lacks that isn't a call: its name, a name that there is, an event's level, or else
+-- a member
+abbrev pub lack_of_call : Json → Lack
+lack_of_call value = named (text_at (codes "call") value) where
+  named : Option (List ℕ) → Lack
+  named None = LacksCall
+  named (Some name) = lack_of_named name value
+
 abbrev pub call_lines_lacks : Option Json → Lack
-call_lines_lacks value = LacksCall
+call_lines_lacks None = LacksCall
+call_lines_lacks (Some value) = lack_of_call value

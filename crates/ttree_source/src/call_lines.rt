@@ -1,8 +1,16 @@
 //! Lines of calls.
 
+ghost use Rattle.std.specs.Prelude.{◌≡◌};
+ghost use Rattle.json.specs.Value.{value_view};
+ghost use Rattle.ttree_source.specs.CallLines.{lack_of_call, lack_of_named};
+
+use crate::fields::is_among;
+use crate::first::CALL_WORDS;
+use crate::level::level_in;
 use crate::notes::Lack;
 use crate::recorder::Recorder;
 use crate::source::Source;
+use crate::values::text_at;
 use json::{Scratch, Value};
 use std::alloc::{AllocError, Global};
 use std::marker::Model;
@@ -61,11 +69,37 @@ impl Source for CallLines {
         }
     }
 
-    fn lack(_value: Option<&Value<'_>>) -> Lack {
-        Lack::Call
+    fn lack(value: Option<&Value<'_>>) -> Lack {
+        match value {
+            Some(value) => lack_of_call(value),
+            None => Lack::Call,
+        }
     }
 
     fn end(&mut self, alloc: Global) -> Result<Vec<Call>, AllocError> {
         Ok(Vec::new(alloc))
+    }
+}
+
+// Returns what is missing in an object that isn't a call.
+fn lack_of_call(value: &Value<'_>) -> Lack
+    ensures { result ≡ lack_of_call (value_view value.now) }
+{
+    match text_at(value, "call") {
+        Some(name) => lack_of_named(name, value),
+        None => Lack::Call,
+    }
+}
+
+// Returns what is missing in an object that has this name of a call.
+fn lack_of_named(name: &str, value: &Value<'_>) -> Lack
+    ensures { result ≡ lack_of_named name.now (value_view value.now) }
+{
+    if !is_among(name, &CALL_WORDS) {
+        Lack::CallName
+    } else if name == "event" && level_in(value).is_none() {
+        Lack::Level
+    } else {
+        Lack::Member
     }
 }

@@ -34,7 +34,7 @@ const SETTING_KEYS: [&str; 15] = [
 ];
 
 // The names of calls.
-const CALL_WORDS: [&str; 5] = ["new", "clone", "record", "event", "close"];
+pub(crate) const CALL_WORDS: [&str; 5] = ["new", "clone", "record", "event", "close"];
 
 // At most this many lines are held, and this many bytes.
 const MAX_LINES: usize = 1000;

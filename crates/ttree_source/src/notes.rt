@@ -52,9 +52,17 @@ pub enum Lack {
     #[error("\"dur\" must be a number of microseconds")]
     Duration,
 
-    /// The line isn't a call.
+    /// The line isn't an object with a string at `call`.
     #[error("expected a JSON object with a call")]
     Call,
+
+    /// `call` isn't the name of a call.
+    #[error("\"call\" must be one of new, clone, record, event, close")]
+    CallName,
+
+    /// A member of the call is missing, is unknown or has a value that it can't have.
+    #[error("a member of the call is missing, unknown or invalid")]
+    Member,
 
     /// The input isn't a trace.
     #[error("not a trace: expected an array, or an object with an array at \"traceEvents\"")]
@@ -66,7 +74,8 @@ pub trait Notes {
     /// The notes so far, in order. `None` if they aren't known.
     ghost noted: { Self → Option (List Note) } = { λ _. None };
 
-    /// Reports a skipped line, numbered from 1. Returns whether the run continues.
-    fn note(&mut self, line: u64, lack: Lack) -> bool
-        ensures { AddsNotes ((line, lack) ∷ []) (noted self.old) (noted self.new) };
+    /// Reports a skipped line, numbered from 1, with its bytes, which may be left out. Returns
+    /// whether the run continues.
+    fn note(&mut self, number: u64, lack: Lack, line: &[u8]) -> bool
+        ensures { AddsNotes ((number, lack) ∷ []) (noted self.old) (noted self.new) };
 }

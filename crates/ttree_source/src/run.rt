@@ -77,7 +77,7 @@ pub fn run_source<S: Source, L: LineInput, C: Calls, N: Notes>(
             Ok(Judged::Unknown) => {
                 unknown += 1;
                 let lack = lack_of::<S>(alloc, line.as_slice(), &mut scratch);
-                if let Err(cause) = skip(notes, number, lack) {
+                if let Err(cause) = skip(notes, number, lack, line.as_slice()) {
                     let fault = Some(LineFault {
                         line: number,
                         cause,
@@ -120,7 +120,8 @@ pub fn draw_source<S: Source, L: LineInput, W: Output, FT: FormatTime, N: Notes>
     run_source(alloc, source, lines, layered, notes)
 }
 
-/// Reports a skipped line, numbered from 1. Returns an error if the run has to stop.
+/// Reports a skipped line, numbered from 1, with its bytes, which may be left out. Returns an error
+/// if the run has to stop.
 ///
 /// # Errors
 ///
@@ -131,6 +132,7 @@ pub fn skip<N: Notes>(
     notes: &mut N,
     number: u64,
     lack: Result<Lack, AllocError>,
+    line: &[u8],
 ) -> Result<(), LineCause>
     ensures quiet { IfErr result (λ cause. is_quiet cause ≡ true) }
     ensures ended { MatchResult lack (λ _. IfErr result (λ cause. cause ≡ LineCause.NotACall))
@@ -139,7 +141,7 @@ pub fn skip<N: Notes>(
 {
     match lack {
         Ok(lack) => {
-            if notes.note(number, lack) {
+            if notes.note(number, lack, line) {
                 Ok(())
             } else {
                 Err(LineCause::NotACall)
