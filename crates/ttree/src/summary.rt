@@ -123,6 +123,10 @@ impl Mapping for Summary {
 
     ghost makes = { unchanged };
 
+    fn reads_values(&self) -> bool {
+        false
+    }
+
     fn map(
         &mut self,
         _alloc: Global,

@@ -1,5 +1,5 @@
 -- Calls that become others, line by line.
-use Rattle.std.specs.Prelude.{ℕ, List, Option, Some, None, option_map}
+use Rattle.std.specs.Prelude.{◌≡◌, ℕ, List, Option, Some, None, option_map}
 use Rattle.json.specs.Json.{Json}
 use Rattle.tracing_tree_layer.specs.declared.call.Call.{Call}
 use Rattle.ttree_source.specs.Source.{Step}
@@ -15,6 +15,11 @@ pub record MappedState (S M : Type 0) : Type 0 where
   pub mapping : M
 
 module _ {M : Type 0} (makes : M → Option Json → List Call → Made M) where
+  -- calls become the same whatever the value of their line is
+  abbrev pub MapsAnyValue : M → Type 0
+  MapsAnyValue mapping =
+      (value : Option Json) (calls : List Call) → makes mapping value calls ≡ makes mapping None calls
+
   abbrev pub some_made : Made M → Made (Option M)
   some_made made = record { calls = made.calls; mapping = Some made.mapping }
 

@@ -58,6 +58,10 @@ impl Mapping for FailureLines {
 
     ghost makes = { makes_kept };
 
+    fn reads_values(&self) -> bool {
+        false
+    }
+
     fn map(
         &mut self,
         _alloc: Global,

@@ -1,10 +1,10 @@
 //! Sources whose calls are mapped.
 
-ghost use Rattle.std.specs.Prelude.{◌≡◌, IfOk, List, Option, option_map};
+ghost use Rattle.std.specs.Prelude.{◌≡◌, IfOk, List, Option, false, option_map};
 ghost use Rattle.json.specs.Json.{Json};
 ghost use Rattle.json.specs.Value.{value_view};
 ghost use Rattle.tracing_tree_layer.specs.declared.call.Call.{Call};
-ghost use Rattle.ttree_adapters.specs.Mapping.{Made};
+ghost use Rattle.ttree_adapters.specs.Mapping.{Made, MapsAnyValue};
 
 use json::Value;
 use std::alloc::{AllocError, Global};
@@ -18,6 +18,14 @@ pub trait Mapping {
     /// What the calls of a line become, given the line's JSON value if it is one, and the mapping
     /// afterwards.
     ghost makes: { Self → Option Json → List Call → Made Self };
+
+    /// Returns whether the calls of a line become others by its JSON value. If they don't, the line
+    /// needs no parsing: `map` may be passed `None`.
+    fn reads_values(&self) -> bool
+        ensures { result ≡ false → MapsAnyValue makes self.now }
+    {
+        true
+    }
 
     /// Maps the calls of a line, or of an input's end.
     ///
@@ -40,6 +48,13 @@ impl<M: Mapping> Mapping for Option<M> {
     ghost use Rattle.ttree_adapters.specs.Mapping.{made_if};
 
     ghost makes = { made_if M.makes };
+
+    fn reads_values(&self) -> bool {
+        match self {
+            Some(mapping) => mapping.reads_values(),
+            None => false,
+        }
+    }
 
     fn map(
         &mut self,
@@ -91,6 +106,10 @@ impl<A: Mapping, B: Mapping> Mapping for Then<A, B> {
     ghost use Rattle.ttree_adapters.specs.Mapping.{makes_both};
 
     ghost makes = { makes_both A.makes B.makes };
+
+    fn reads_values(&self) -> bool {
+        self.first.reads_values() || self.second.reads_values()
+    }
 
     fn map(
         &mut self,
@@ -147,6 +166,10 @@ impl<S: Source, M: Mapping> Source for Mapped<S, M> {
     ghost ended = { mapped_ended S.ended S.ends M.makes };
 
     ghost lacks = { S.lacks };
+
+    fn reads_values(&self) -> bool {
+        self.source.reads_values() || self.mapping.reads_values()
+    }
 
     fn take(
         &mut self,

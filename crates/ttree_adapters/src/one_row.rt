@@ -23,6 +23,10 @@ impl Mapping for OneRow {
 
     ghost makes = { makes_one_row };
 
+    fn reads_values(&self) -> bool {
+        false
+    }
+
     #[tactic(auto, using(crate::proofs::LinedSpans::unchanged))]
     fn map(
         &mut self,

@@ -27,6 +27,10 @@ impl Mapping for ShortValues {
 
     ghost makes = { makes_short };
 
+    fn reads_values(&self) -> bool {
+        false
+    }
+
     #[tactic(auto, using(crate::proofs::LongValues::unchanged))]
     fn map(
         &mut self,

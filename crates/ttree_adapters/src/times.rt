@@ -94,6 +94,10 @@ impl Mapping for TimeColumns {
 
     ghost makes = { makes_timed };
 
+    fn reads_values(&self) -> bool {
+        false
+    }
+
     fn map(
         &mut self,
         _alloc: Global,

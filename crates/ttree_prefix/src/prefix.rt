@@ -87,6 +87,10 @@ impl<S: Source> Source for Prefixed<S> {
 
     ghost lacks = { S.lacks };
 
+    fn reads_values(&self) -> bool {
+        self.mark.is_some() || self.source.reads_values()
+    }
+
     fn take(
         &mut self,
         alloc: Global,

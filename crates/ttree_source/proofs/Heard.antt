@@ -15,7 +15,7 @@ use Rattle.tracing_tree_lines.specs.declared.lines.LineFault.{LineFault}
 use Rattle.tracing_tree_lines.specs.declared.lines.LineCause.TheVariants.{Settings as NoSettings, NotACall, Read, Memory, Refused}
 use Rattle.ttree_source.specs.Noted.{AddsNotes, Note}
 use Rattle.ttree_source.specs.declared.notes.Lack.{Lack}
-use Rattle.ttree_source.specs.Source.{Accepts, Breaks, MakesSome, lack_of, note_of, noted_at, noted_lines, notes_of, source_after, CountsUnknown, EndsAt, Heard, HearsLine, HearsNext, MakesAll, MayEnd, Step, StopsIn, Tells, calls_of, hear, hear_line, heard_step, next_calls, next_unknown, nothing_heard, then_heard}
+use Rattle.ttree_source.specs.Source.{Accepts, Breaks, IgnoresValues, MakesSome, lack_of, note_of, noted_at, noted_lines, notes_of, source_after, CountsUnknown, EndsAt, Heard, HearsLine, HearsNext, MakesAll, MayEnd, Step, StopsIn, Tells, calls_of, hear, hear_line, heard_step, next_calls, next_unknown, nothing_heard, then_heard}
 use Rattle.ttree_source.specs.declared.run.SourceRun.{SourceRun}
 use Rattle.ttree_source.specs.declared.run.Judged.TheVariants.{End}
 use Rattle.ttree_source.proofs.Ended.{IsOfNotes}
@@ -30,6 +30,11 @@ no_text line bad = elim (is_utf8 line) as (λ b. is_utf8 line ≡ b → b ≡ fa
 ] refl
 
 module _ {S : Type 0} (takes : S → List ℕ → Option Json → Option (Step S)) where
+  -- a source that ignores values returns the same without one
+  pub tells_anyway : (source new : S) (line : List ℕ) (value : Option Json) (told : Option (List Call)) → IgnoresValues takes source →
+      Tells (takes source line None) source new told → Tells (takes source line value) source new told
+  tells_anyway source new line value told ignores h = subst (λ step. Tells step source new told) (sym (ignores line value)) h
+
   -- ---- lines after lines
 
   then_nothing : (h : Heard S) (source : S) → h ≡ then_heard (nothing_heard source) h

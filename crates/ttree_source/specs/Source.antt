@@ -100,6 +100,12 @@ Tells None old new (Some calls) = ⊥
 Tells (Some step) old new None = ⊥
 Tells (Some step) old new (Some calls) = (calls ≡ step.calls) × (new ≡ step.source)
 
+module _ {S : Type 0} where
+  -- a line means the same whatever its value is
+  abbrev pub IgnoresValues : (S → List ℕ → Option Json → Option (Step S)) → S → Type 0
+  IgnoresValues takes source =
+      (line : List ℕ) (value : Option Json) → takes source line value ≡ takes source line None
+
 -- A `Layered` accepted these calls: state and bytes are those of their run.
 pub record Makes (calls : List Call) (old new : Seen) : Type 0 where
   pub left : new ≡ seen_later old (run_from old calls).state new.writer

@@ -25,6 +25,10 @@ abbrev pub is_escaped : ℕ → Bool
 is_escaped c =
     if (c == 9) || (c == 10) then false else nat_lt c 32 || (nat_le 127 c && nat_le c 159)
 
+-- a byte that isn't a printable character of ASCII
+abbrev pub is_unprintable : ℕ → Bool
+is_unprintable byte = nat_lt byte 32 || nat_lt 126 byte
+
 abbrev pub shown_char : ℕ → List ℕ
 shown_char c =
     if is_escaped c then codes "\\u{" ++ digits 16 false c ++ codes "}" else encode_utf8 c

@@ -52,6 +52,10 @@ impl Source for CallLines {
 
     ghost lacks = { call_lines_lacks };
 
+    fn reads_values(&self) -> bool {
+        false
+    }
+
     fn take(
         &mut self,
         alloc: Global,

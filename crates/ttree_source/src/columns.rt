@@ -62,6 +62,10 @@ impl<S: Source> Source for ThreadColumns<S> {
 
     ghost lacks = { S.lacks };
 
+    fn reads_values(&self) -> bool {
+        self.source.reads_values()
+    }
+
     fn take(
         &mut self,
         alloc: Global,

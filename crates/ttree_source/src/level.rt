@@ -63,6 +63,10 @@ impl<S: Source> Source for AtLeast<S> {
 
     ghost lacks = { S.lacks };
 
+    fn reads_values(&self) -> bool {
+        self.source.reads_values()
+    }
+
     fn take(
         &mut self,
         alloc: Global,

@@ -47,6 +47,10 @@ impl Source for Plain {
 
     ghost lacks = { plain_lacks };
 
+    fn reads_values(&self) -> bool {
+        false
+    }
+
     fn take(
         &mut self,
         alloc: Global,

@@ -254,7 +254,8 @@ fn run_line<S: Source, C: Calls>(
     }
 }
 
-// Returns the calls of a line.
+// Returns the calls of a line. It is parsed only if the source reads its value.
+#[tactic(auto, using(crate::proofs::Heard::tells_anyway))]
 fn hear<S: Source>(
     alloc: Global,
     source: &mut S,
@@ -264,6 +265,9 @@ fn hear<S: Source>(
     ensures { IfOk result (λ told. Tells (S.takes source.old text.now (document text.now))
         source.old source.new (option_map (λ calls. calls.items) told)) }
 {
+    if !source.reads_values() {
+        return source.take(alloc, text, None);
+    }
     let value = value_of(alloc, text, scratch)?;
     source.take(alloc, text, value.as_ref())
 }

@@ -1,9 +1,9 @@
 //! The meaning of another tool's lines.
 
-ghost use Rattle.std.specs.Prelude.{◌≡◌, List, ℕ, Option, IfOk, OnOk, option_map};
+ghost use Rattle.std.specs.Prelude.{◌≡◌, List, ℕ, Option, IfOk, OnOk, false, option_map};
 ghost use Rattle.json.specs.Json.{Json};
 ghost use Rattle.json.specs.Value.{value_view};
-ghost use Rattle.ttree_source.specs.Source.{Step, Tells};
+ghost use Rattle.ttree_source.specs.Source.{IgnoresValues, Step, Tells};
 ghost use Rattle.tracing_tree_layer.specs.declared.call.Call.{Call};
 ghost use Rattle.ttree_source.specs.declared.notes.Lack.{Lack};
 
@@ -26,6 +26,14 @@ pub trait Source {
 
     /// What is missing in an unknown line, given its JSON value if it is one.
     ghost lacks: { Option Json → Lack };
+
+    /// Returns whether the calls of a line depend on its JSON value. If they don't, the line needs
+    /// no parsing: `take` may be passed `None`.
+    fn reads_values(&self) -> bool
+        ensures { result ≡ false → IgnoresValues takes self.now }
+    {
+        true
+    }
 
     /// Takes a line, which may be blank, and returns its calls. Returns `None` if the line is
     /// unknown. Nothing has changed then.

@@ -3,7 +3,7 @@
 ghost use Rattle.std.specs.Prelude.{◌≡◌, ◌++◌, IfOk, OnOk, [], ◌∷◌, map, string_bytes};
 ghost use Rattle.std.specs.List.{list_any};
 ghost use Rattle.std.specs.Str.{chars};
-ghost use Rattle.ttree_source.specs.Told.{all_on_thread, close_call, context_at, event_call, is_escaped, message_field, on_thread, record_call, shown, shown_char, span_call};
+ghost use Rattle.ttree_source.specs.Told.{all_on_thread, close_call, context_at, event_call, is_escaped, is_unprintable, message_field, on_thread, record_call, shown, shown_char, span_call};
 
 use std::alloc::{AllocError, Global};
 use tracing_tree_base::field::{Field, Fields};
@@ -67,10 +67,29 @@ pub fn shown(alloc: Global, text: &str) -> Result<Text, AllocError>
     }
 }
 
-// Returns whether a character of a string is shown as an escape.
+// Returns whether a byte isn't a printable character of ASCII.
+fn has_unprintable(bytes: &[u8]) -> bool
+    ensures { result ≡ list_any is_unprintable bytes.now }
+{
+    let mut rest = bytes;
+    while let [byte, others @ ..] = rest {
+        if *byte < b' ' || b'~' < *byte {
+            return true;
+        }
+        rest = others;
+    }
+    false
+}
+
+// Returns whether a character of a string is shown as an escape. Most strings are printable ASCII,
+// and their characters aren't decoded.
+#[tactic(auto, using(crate::proofs::Escapes::printable))]
 fn has_escaped(text: &str) -> bool
     ensures { result ≡ list_any is_escaped (chars text.now) }
 {
+    if !has_unprintable(text.as_bytes()) {
+        return false;
+    }
     for c in text.chars() {
         if is_escaped(c) {
             return true;
