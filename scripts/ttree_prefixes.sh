@@ -112,6 +112,26 @@ ERROR Traceback (most recent call last):, prefix=web-1
 INFO   File "a.py", line 1, prefix=web-1
 INFO     raise, prefix=web-1
 END
+    local web='"target":"t","span":{"name":"req"},"spans":[{"name":"req"}]}'
+    local db='"target":"t","span":{"name":"query"},"spans":[{"name":"query"}]}'
+    reads 'plain lines of services' tracing 'api-1  | boot' \
+        "web-1  | {\"level\":\"INFO\",\"fields\":{\"message\":\"a\"},$web" 'web-1  | b' \
+        "db-1   | {\"level\":\"WARN\",\"fields\":{\"message\":\"c\"},$db" 'web-1  | panic: x' \
+        'db-1   | d' 'api-1  | e' 'f' <<END
+INFO boot, prefix=api-1
+┐req 
+├─ INFO a, prefix=web-1
+├─ INFO b, prefix=web-1
+┐query 
+├─ WARN c, prefix=db-1
+┐req 
+├─ ERROR panic: x, prefix=web-1
+┐query 
+├─ INFO d, prefix=db-1
+INFO e, prefix=api-1
+┐query 
+├─ INFO f
+END
     reads 'the times of ts' logs "Dec 01 04:18:04 $log" 'Dec 01 04:18:05   a b' 'The quick brown fox' <<END
 INFO up, prefix=Dec 01 04:18:04
 INFO   a b, prefix=Dec 01 04:18:05

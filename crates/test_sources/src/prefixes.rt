@@ -102,7 +102,7 @@ fn marks_are_strings(rt: HostRuntime) {
 #[test]
 fn a_prefix_is_the_last_field(rt: HostRuntime) -> Result<(), Fail> {
     let alloc = rt.alloc();
-    let mut source = Prefixed::new(Plain::new(START), Some(Mark::Bar));
+    let mut source = Prefixed::new(alloc, Plain::new(START), Some(Mark::Bar));
     let calls = source
         .take(alloc, "web-1  | up", None)?
         .unwrap_or(Vec::new(alloc));

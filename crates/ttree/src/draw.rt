@@ -203,7 +203,7 @@ fn draw_tests<R: AllocGlobal + Eprint + Print, I: Read + Drop>(
     }
     let tests = GoTest::new(rt.alloc(), 1, some_moment())?;
     let source = Mapped::new(
-        Prefixed::new(tests, mark),
+        Prefixed::new(rt.alloc(), tests, mark),
         options.failure_lines(rt.alloc()),
     );
     let (status, source) = draw_lines(rt, origin, input, source, options)?;
@@ -221,7 +221,7 @@ fn draw_failed<R: AllocGlobal + Eprint + Print, I: Read + Drop>(
 ) -> Result<Status, AllocError> {
     let failed = Failed::new(rt.alloc(), 1, some_moment())?;
     let source = Mapped::new(
-        Prefixed::new(failed, mark),
+        Prefixed::new(rt.alloc(), failed, mark),
         options.failure_lines(rt.alloc()),
     );
     let (status, source) = draw_lines(rt, origin, input, source, options)?;
@@ -249,7 +249,10 @@ fn draw_tracing<R: AllocGlobal + Eprint + Print, I: Read + Drop>(
     let tracing = Tracing::new(rt.alloc(), 1, some_moment());
     let columns = ThreadColumns::new(tracing, options.has_threads());
     let further = Mapped::new(columns, options.line_fields(rt.alloc())?);
-    let source = AtLeast::new(Prefixed::new(further, mark), options.min_level());
+    let source = AtLeast::new(
+        Prefixed::new(rt.alloc(), further, mark),
+        options.min_level(),
+    );
     let (status, _source) = draw_lines(rt, origin, input, source, options)?;
     Ok(status)
 }
@@ -266,7 +269,7 @@ fn draw_logs<R: AllocGlobal + Eprint + Print, I: Read + Drop>(
         Some(key) => Logs::grouped_by(rt.alloc(), key, 1, some_moment()),
         None => Logs::new(rt.alloc(), 1, some_moment()),
     };
-    let source = AtLeast::new(Prefixed::new(logs, mark), options.min_level());
+    let source = AtLeast::new(Prefixed::new(rt.alloc(), logs, mark), options.min_level());
     let (status, _source) = draw_lines(rt, origin, input, source, options)?;
     Ok(status)
 }
@@ -284,7 +287,7 @@ fn draw_tap<R: AllocGlobal + Eprint + Print, I: Read + Drop>(
     } else {
         Tap::new(rt.alloc(), 1, some_moment())?
     };
-    let source = AtLeast::new(Prefixed::new(tap, mark), options.min_level());
+    let source = AtLeast::new(Prefixed::new(rt.alloc(), tap, mark), options.min_level());
     let (status, source) = draw_lines(rt, origin, input, source, options)?;
     Ok(with_tests(status, source.into_source().into_source().has_failed()))
 }

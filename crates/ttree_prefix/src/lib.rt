@@ -7,6 +7,7 @@
 mod color;
 pub mod mark;
 pub mod prefix;
+mod streams;
 
 pub use mark::Mark;
 pub use prefix::Prefixed;

@@ -3,6 +3,7 @@
 ghost use Rattle.std.specs.Prelude.{◌≡◌, get_or, option_map};
 ghost use Rattle.ttree_source.specs.Traces.{is_digit};
 ghost use Rattle.ttree_prefix.specs.Blank.{after_blank, without_blank};
+ghost use Rattle.ttree_prefix.specs.Streams.{names_stream};
 ghost use Rattle.ttree_prefix.specs.Mark.{after_name, are_names, at_mark, begins_with_digit, begins_with_name, ends_here, is_name, is_of_name, is_prefix, is_second_name, is_stamp, left_after, mark_text, place_after, place_of, separator, separators, split, trimmed, without_bracket};
 
 use crate::color::uncolored;
@@ -74,6 +75,16 @@ impl Mark {
             Some((self.trimmed(prefix), rest))
         } else {
             None
+        }
+    }
+
+    // Returns whether a prefix names a stream of lines. Another one may have a time.
+    pub(crate) fn names_stream(self) -> bool
+        ensures { result ≡ names_stream self }
+    {
+        match self {
+            Mark::Bar | Mark::Bracket | Mark::Tab | Mark::Pod => true,
+            Mark::Job | Mark::Time | Mark::Colon | Mark::DateTime | Mark::Stamp => false,
         }
     }
 

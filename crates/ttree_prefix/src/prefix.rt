@@ -1,12 +1,13 @@
 //! A source of lines with prefixes.
 
-ghost use Rattle.std.specs.Prelude.{◌≡◌, IfOk, map, option_map};
+ghost use Rattle.std.specs.Prelude.{◌≡◌, [], IfOk, OnOk, map, option_map};
 ghost use Rattle.json.specs.Json.{document};
 ghost use Rattle.json.specs.Value.{value_view};
 ghost use Rattle.ttree_source.specs.Source.{Tells};
-ghost use Rattle.ttree_prefix.specs.Prefix.{parts_of, prefix_field, prefixed_step, with_prefix};
+ghost use Rattle.ttree_prefix.specs.Prefix.{calls_of_line, has_streams, is_object, parts_of, prefix_field, prefixed_step, streams_after, value_taken, with_prefix};
 
 use crate::mark::Mark;
+use crate::streams::Streams;
 use json::{Scratch, Value};
 use std::alloc::{AllocError, Global};
 use std::marker::Model;
@@ -16,16 +17,19 @@ use tracing_tree_layer::call::Call;
 use ttree_source::notes::Lack;
 use ttree_source::source::Source;
 use ttree_source::told::shown;
-use ttree_source::values::value_of;
+use ttree_source::values::{is_object, value_of};
 
 /// A source whose lines may start with a prefix.
 ///
 /// A line that isn't JSON and has the mark is taken without its prefix, which comes last among the
-/// fields of the line's events. Every other line is taken unchanged.
+/// fields of the line's events. If the prefix names a stream, such as a service, a line that isn't
+/// an object stays in it: if the last object was of another stream, it is an event in the span of
+/// the last event of its own. Every other line is taken unchanged.
 #[derive(Drop)]
 pub struct Prefixed<S> {
     source: S,
     mark: Option<Mark>,
+    streams: Streams,
 }
 
 impl<S> Model for Prefixed<S> {
@@ -33,15 +37,19 @@ impl<S> Model for Prefixed<S> {
 
     ghost Value = { Marked S };
 
-    ghost view = { λ p. record { source = p.source; mark = p.mark } };
+    ghost view = { λ p. record { source = p.source; mark = p.mark; streams = p.streams } };
 }
 
 impl<S> Prefixed<S> {
     /// Returns a source for lines of `source` with prefixes that end at this mark, if there is one.
-    pub fn new(source: S, mark: Option<Mark>) -> Prefixed<S>
-        ensures { result ≡ record { source = source; mark = mark } }
+    pub fn new(alloc: Global, source: S, mark: Option<Mark>) -> Prefixed<S>
+        ensures { result ≡ record { source = source; mark = mark; streams = [] } }
     {
-        Prefixed { source, mark }
+        Prefixed {
+            source,
+            mark,
+            streams: Streams::new(alloc),
+        }
     }
 
     /// Returns the source.
@@ -63,16 +71,92 @@ impl<S: Source> Prefixed<S> {
         rest: &str,
     ) -> Result<Option<Vec<Call>>, AllocError>
         ensures { IfOk result (λ told. Tells
-            (option_map (prefixed_step self.old.mark prefix.now)
-            (S.takes self.old.source rest.now (document rest.now)))
+            (value_taken S.takes prefix.now rest.now (document rest.now) self.old)
             self.old self.new (option_map (λ calls. calls.items) told)) }
     {
         let mut scratch = Scratch::new(alloc);
         let value = value_of(alloc, rest, &mut scratch)?;
-        match self.source.take(alloc, rest, value.as_ref())? {
-            Some(calls) => Ok(Some(with_prefixes(alloc, prefix, calls)?)),
-            None => Ok(None),
+        self.take_value(alloc, prefix, rest, value.as_ref())
+    }
+
+    // Takes a line that has this prefix, and then this rest with this value.
+    fn take_value(
+        &mut self,
+        alloc: Global,
+        prefix: &str,
+        rest: &str,
+        value: Option<&Value<'_>>,
+    ) -> Result<Option<Vec<Call>>, AllocError>
+        ensures { IfOk result (λ told. Tells
+            (value_taken S.takes prefix.now rest.now
+            (option_map (λ v. value_view v.now) value.entry) self.old)
+            self.old self.new (option_map (λ calls. calls.items) told)) }
+    {
+        let Some(calls) = self.source.take(alloc, rest, value)? else {
+            return Ok(None);
+        };
+        Ok(Some(self.step(alloc, prefix, has_object(value), calls)?))
+    }
+}
+
+impl<S> Prefixed<S> {
+    // Returns the calls of a line with this prefix, each event in its stream and with the prefix.
+    fn step(
+        &mut self,
+        alloc: Global,
+        prefix: &str,
+        is_object: bool,
+        calls: Vec<Call>,
+    ) -> Result<Vec<Call>, AllocError>
+        ensures { IfOk result (λ made. record { calls = made.items; source = self.new }
+            ≡ prefixed_step self.old.mark self.old.streams prefix.now is_object
+            (record { calls = calls.items; source = self.old.source })) }
+    {
+        let calls = self.in_stream(prefix, is_object, calls)?;
+        with_prefixes(alloc, prefix, calls)
+    }
+
+    // Returns the calls of a line with this prefix, in its stream.
+    fn in_stream(
+        &mut self,
+        prefix: &str,
+        is_object: bool,
+        calls: Vec<Call>,
+    ) -> Result<Vec<Call>, AllocError>
+        ensures calls { IfOk result (λ made. made.items
+            ≡ calls_of_line self.old.mark prefix.now is_object self.old.streams calls.items) }
+        ensures streams { OnOk result (self.new ≡ record self.old {
+          streams =
+              streams_after self.old.mark prefix.now is_object calls.items self.old.streams;
+        }) }
+    {
+        if !has_streams(self.mark) {
+            return Ok(calls);
         }
+        if !is_object {
+            return self.streams.calls_in(prefix, calls);
+        }
+        self.streams.note(prefix, calls.as_slice())?;
+        Ok(calls)
+    }
+}
+
+// Returns whether prefixes name streams.
+fn has_streams(mark: Option<Mark>) -> bool
+    ensures { result ≡ has_streams mark }
+{
+    match mark {
+        Some(mark) => mark.names_stream(),
+        None => false,
+    }
+}
+
+fn has_object(value: Option<&Value<'_>>) -> bool
+    ensures { result ≡ is_object (option_map (λ v. value_view v.now) value.entry) }
+{
+    match value {
+        Some(value) => is_object(value),
+        None => false,
     }
 }
 
