@@ -14,6 +14,7 @@ pub mod failures;
 pub mod frames;
 pub mod go_tests;
 pub mod lines;
+pub mod otlp;
 pub mod reading_back;
 pub mod runs;
 pub mod tracers;

@@ -3,3 +3,4 @@ mod Kept
 mod Numbers
 mod Reach
 mod Worked
+pub mod Order

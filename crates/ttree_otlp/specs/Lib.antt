@@ -5,6 +5,7 @@ pub mod Item
 pub mod Keyed
 pub mod Gather
 pub mod Walk
+pub mod Ties
 pub mod Nested
 pub mod Cut
 pub mod Select
