@@ -175,6 +175,10 @@ run_junit_cut() {
   ├─ ERROR z
   ├─ ERROR fail
 ┌─┘
+└─┐w 
+  ├─ INFO b
+  ├─ ERROR unfinished
+┌─┘
 ┘
 ERROR passed=1, failed=1, skipped=0
 END_OF_RUN
@@ -185,6 +189,76 @@ END_OF_RUN
 ├─ INFO pass x
 ┘
 INFO passed=1, failed=0, skipped=0
+END_OF_RUN
+}
+
+# The case that is open at the end of a document.
+run_junit_open() {
+    junit_of 'on a document that ends in the text of a failure' 1 'ttree: the document ends early' << 'END_OF_RUN'
+<testsuite name="a" time="1"><testsuite name="b"><testcase name="x" classname="c" time="0.5"><properties><property name="k" value="v"/></properties><failure message="no &lt;b&gt;">at line 3
+at li
+--
+┐a 
+└─┐b 
+  └─┐c 
+    └─┐x k=v
+      ├─ ERROR no <b>
+      ├─ INFO at line 3
+      ├─ INFO at li
+      ├─ ERROR unfinished, time=500.000ms
+    ┌─┘
+  ┌─┘
+┌─┘
+┘
+INFO passed=0, failed=0, skipped=0
+END_OF_RUN
+    junit_of 'on a document that ends in CDATA' 1 'ttree: the document ends early' << 'END_OF_RUN'
+<testsuite name="a"><testcase name="x"/><testcase name="y"><failure><stack><![CDATA[a > b
+&lt; c
+--
+┐a 
+├─ INFO pass x
+└─┐y 
+  ├─ ERROR failure
+  ├─ INFO a > b
+  ├─ INFO &lt; c
+  ├─ ERROR unfinished
+┌─┘
+┘
+INFO passed=1, failed=0, skipped=0
+END_OF_RUN
+    junit_of 'on a document that ends in a bare case' 1 'ttree: the document ends early' << 'END_OF_RUN'
+<testsuite name="a"><testcase name="x"/><testcase name="y" time="2">
+--
+┐a 
+├─ INFO pass x
+├─ ERROR unfinished y, time=2.000s
+┘
+INFO passed=1, failed=0, skipped=0
+END_OF_RUN
+    junit_of 'on a document that ends in the failure of a suite' 1 'ttree: the document ends early' << 'END_OF_RUN'
+<testsuite name="a"><testcase name="x"/><error message="no setup">at line
+--
+┐a 
+├─ INFO pass x
+├─ ERROR no setup
+├─ INFO at line
+┘
+ERROR passed=1, failed=1, skipped=0
+END_OF_RUN
+    junit_of 'on an open case with --failed' 1 'ttree: the document ends early' --failed << 'END_OF_RUN'
+<testsuite name="a"><testsuite name="b"><testcase name="x"/></testsuite><testsuite name="c"><testcase name="y"/><testcase name="z"><skipped message="later"/>
+--
+┐a 
+└─┐c 
+  ├─ ERROR unfinished z, reason=later
+┌─┘
+┘
+INFO passed=2, failed=0, skipped=0
+END_OF_RUN
+    junit_of 'on an open case with --strict' 1 'ttree: the document ends early' --strict << 'END_OF_RUN'
+<testsuite name="a"><testcase name="y">
+--
 END_OF_RUN
 }
 
@@ -379,6 +453,7 @@ run_junit() {
     run_junit_runners
     run_junit_xml
     run_junit_cut
+    run_junit_open
     run_junit_failures
     run_junit_none
     run_junit_failed

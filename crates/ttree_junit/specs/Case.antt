@@ -11,7 +11,7 @@ use Rattle.ttree_junit.specs.Lines.{printed_rows, reason_of}
 use Rattle.ttree_junit.specs.Seconds.{nanoseconds_of}
 use Rattle.ttree_junit.specs.States.{CaseState, PartState, TagState}
 use Rattle.ttree_junit.specs.declared.case.Outcome.{Outcome}
-use Rattle.ttree_junit.specs.declared.case.Outcome.TheVariants.{Passed, Failed, Skipped}
+use Rattle.ttree_junit.specs.declared.case.Outcome.TheVariants.{Passed, Failed, Skipped, Unfinished}
 
 -- a case with the attributes of this tag
 abbrev pub case_of : TagState → CaseState
@@ -22,6 +22,7 @@ case_of tag = record {
   is_off = is_off (attribute_in (codes "status") tag.attributes);
   is_failed = false;
   is_skipped = false;
+  is_cut = false;
   reason = [];
   fields = [];
   rows = [];
@@ -53,10 +54,15 @@ with_skip part case = record case {
   reason = reason_of part.message part.body;
 }
 
+-- the document ends in the case
+abbrev pub with_cut : CaseState → CaseState
+with_cut case = record case { is_cut = true }
+
 -- how a case ended: a failure that was expected skips it
 abbrev pub outcome_of : CaseState → Outcome
 outcome_of case =
-    if case.is_skipped then Skipped
+    if case.is_cut then Unfinished
+    else if case.is_skipped then Skipped
     else if case.is_failed then Failed
     else if case.is_off then Skipped else Passed
 
@@ -68,11 +74,13 @@ abbrev pub word_of : Outcome → List ℕ
 word_of Passed = codes "pass"
 word_of Failed = codes "fail"
 word_of Skipped = codes "skip"
+word_of Unfinished = codes "unfinished"
 
 abbrev pub level_of : Outcome → Level
 level_of Passed = Info
 level_of Failed = Error
 level_of Skipped = Warn
+level_of Unfinished = Error
 
 abbrev pub named : List ℕ → List ℕ → List ℕ
 named word name = word ++ codes " " ++ name

@@ -7,9 +7,10 @@ use Rattle.xml.specs.Token.{ReadStep}
 use Rattle.xml.specs.Xml.{next_plain_step, next_step}
 use Rattle.xml.specs.Xml.{at_start as document_start}
 use Rattle.xml.specs.declared.reader.Unfinished.{Unfinished}
+use Rattle.xml.specs.declared.reader.Unfinished.TheVariants.{Tag, Comment, Cdata, Instruction, Doctype}
 use Rattle.ttree_junit.specs.Element.{begins_document}
 use Rattle.ttree_junit.specs.Junit.{JunitState}
-use Rattle.ttree_junit.specs.Reading.{at_start, finished, is_open, taken}
+use Rattle.ttree_junit.specs.Reading.{at_start, cdata_added, finished, is_open, taken}
 use Rattle.ttree_junit.specs.declared.reading.Selection.{Selection}
 
 -- a document as far as it is read, and whether it is truncated
@@ -21,11 +22,22 @@ pub record ReadDocument : Type 0 where
 abbrev pub at_end : JunitState → ReadDocument
 at_end s = record { state = s; is_cut = is_open s }
 
-abbrev pub read_next : Result (Option ReadStep) Unfinished → JunitState → (Reading → JunitState →
-    ReadDocument) → ReadDocument
-read_next (Ok (Some step)) s others = others step.after (taken step.token s)
-read_next (Ok None) s others = at_end s
-read_next (Err unfinished) s others = record { state = s; is_cut = true }
+-- of what a document ends in, only a CDATA section has characters that are shown
+abbrev pub rest_taken : Unfinished → List ℕ → JunitState → JunitState
+rest_taken Cdata rest s = cdata_added rest s
+rest_taken Tag rest s = s
+rest_taken Comment rest s = s
+rest_taken Instruction rest s = s
+rest_taken Doctype rest s = s
+
+abbrev pub read_next : Result (Option ReadStep) Unfinished → List ℕ → JunitState
+    → (Reading → JunitState → ReadDocument) → ReadDocument
+read_next (Ok (Some step)) rest s others = others step.after (taken step.token s)
+read_next (Ok None) rest s others = at_end s
+read_next (Err unfinished) rest s others = record {
+  state = rest_taken unfinished rest s;
+  is_cut = true;
+}
 
 -- the next token: outside of all elements, what doesn't begin a document is plain text
 abbrev pub step_of : Reading → JunitState → Result (Option ReadStep) Unfinished
@@ -35,7 +47,7 @@ step_of reading s =
 abbrev pub read_within : ℕ → Reading → JunitState → ReadDocument
 read_within zero reading s = at_end s
 read_within (suc tokens) reading s =
-    read_next (step_of reading s) s (λ rest t. read_within tokens rest t)
+    read_next (step_of reading s) reading.rest s (λ rest t. read_within tokens rest t)
 
 -- A document that is read. Each token has a byte or more.
 abbrev pub read_document : Selection → ℕ → Moment → List ℕ → ReadDocument

@@ -12,7 +12,7 @@ use Rattle.ttree_source.specs.Counts.{one_more}
 use Rattle.ttree_source.specs.Told.{close_call, event_call, message_field, record_call, shown, span_call}
 use Rattle.xml.specs.Decoded.{cdata_decoded, text_decoded}
 use Rattle.xml.specs.Token.{XmlToken, start_tag, attribute, tag_end, empty_tag_end, end_tag, characters, cdata, skipped}
-use Rattle.ttree_junit.specs.Case.{case_of, event_fields, is_bare, level_of, outcome_of, span_fields, time_fields, with_failure, with_printed, with_property, with_skip}
+use Rattle.ttree_junit.specs.Case.{case_of, event_fields, is_bare, level_of, outcome_of, span_fields, time_fields, with_cut, with_failure, with_printed, with_property, with_skip}
 use Rattle.ttree_junit.specs.Element.{attribute_in, element_named, is_of_report, role_of}
 use Rattle.ttree_junit.specs.Failure.{failure_rows}
 use Rattle.ttree_junit.specs.Junit.{JunitState}
@@ -21,7 +21,7 @@ use Rattle.ttree_junit.specs.Plain.{plain_calls}
 use Rattle.ttree_junit.specs.Seconds.{nanoseconds_of}
 use Rattle.ttree_junit.specs.States.{TagState, with_attribute}
 use Rattle.ttree_junit.specs.declared.case.Outcome.{Outcome}
-use Rattle.ttree_junit.specs.declared.case.Outcome.TheVariants.{Passed, Failed, Skipped as WasSkipped}
+use Rattle.ttree_junit.specs.declared.case.Outcome.TheVariants.{Passed, Failed, Skipped as WasSkipped, Unfinished}
 use Rattle.ttree_junit.specs.declared.element.Element.{Element}
 use Rattle.ttree_junit.specs.declared.element.Element.TheVariants.{Suite as SuiteElement, Case, Failure, Rerun, Skipped, Output, Property, Other}
 use Rattle.ttree_junit.specs.declared.lines.Row.{Row}
@@ -208,6 +208,7 @@ abbrev pub counted_as : Outcome → Tally → Tally
 counted_as Passed tally = record tally { passed = one_more tally.passed }
 counted_as Failed tally = record tally { failed = one_more tally.failed }
 counted_as WasSkipped tally = record tally { skipped = one_more tally.skipped }
+counted_as Unfinished tally = tally
 
 abbrev pub counted : JunitState → JunitState
 counted s = record s { tally = counted_as (outcome_of s.case) s.tally }
@@ -243,14 +244,15 @@ span_shown s =
 abbrev pub case_shown : JunitState → JunitState
 case_shown s = if is_bare s.case then event_shown s else span_shown s
 
-abbrev pub has_failed : Outcome → Bool
-has_failed Passed = false
-has_failed Failed = true
-has_failed WasSkipped = false
+abbrev pub is_fine : Outcome → Bool
+is_fine Passed = true
+is_fine Failed = false
+is_fine WasSkipped = true
+is_fine Unfinished = false
 
--- a case isn't shown if only failures are, and it isn't one
+-- a case isn't shown if only failures are, and it passed or was skipped
 abbrev pub is_case_hidden : JunitState → Bool
-is_case_hidden s = shows_failures_only s.selection && not (has_failed (outcome_of s.case))
+is_case_hidden s = shows_failures_only s.selection && is_fine (outcome_of s.case)
 
 abbrev pub shown_unless_hidden : JunitState → JunitState
 shown_unless_hidden s = if is_case_hidden s then s else case_shown (class_entered s)
@@ -408,8 +410,40 @@ taken skipped s = s
 
 -- ---- the end
 
+-- the case that a document ends in is shown, and isn't counted
+abbrev pub case_cut : JunitState → JunitState
+case_cut s = shown_unless_hidden (record s { case = with_cut s.case })
+
+-- a part of a case or of a suite ends with the document; suites close later
+abbrev pub cut_as : Element → JunitState → JunitState
+cut_as SuiteElement s = s
+cut_as Case s = case_cut s
+cut_as Failure s = failure_ended Error s
+cut_as Rerun s = failure_ended Warn s
+cut_as Skipped s = skip_ended s
+cut_as Output s = output_ended s
+cut_as Property s = s
+cut_as Other s = s
+
+abbrev pub cut_if : Option Element → JunitState → JunitState
+cut_if (Some element) s = cut_as element s
+cut_if None s = s
+
+abbrev pub innermost_cut : JunitState → JunitState
+innermost_cut s = cut_if (innermost s.elements) (record s { elements = outer s.elements })
+
+abbrev pub cut_times : ℕ → JunitState → JunitState
+cut_times zero s = s
+cut_times (suc count) s = cut_times count (innermost_cut s)
+
+-- the elements that are open end with the document, the innermost first
+abbrev pub elements_cut : JunitState → JunitState
+elements_cut s = cut_times (length s.elements) s
+
+-- a suite in which a case is open is shown
 abbrev pub cut_with : Suite → JunitState → JunitState
-cut_with suite s = if is_suite_hidden suite s then suite_hidden suite s else shut suite s
+cut_with suite s =
+    if is_suite_hidden suite s && not s.in_case then suite_hidden suite s else shut suite s
 
 abbrev pub closed_if : Option Suite → JunitState → JunitState
 closed_if (Some suite) s = cut_with suite s
@@ -438,6 +472,6 @@ tallied s =
     then evented (if s.tally.failed == 0 then Info else Error) (tally_fields s.tally) None s
     else s
 
--- what is open closes, and the last event counts the cases of a report
-abbrev pub finished : JunitState → JunitState
-finished s = tallied (outside_shown (suites_closed (class_left s)))
+-- what is open ends, and the last event counts the cases of a report
+unfoldable pub finished : JunitState → JunitState
+finished s = tallied (outside_shown (suites_closed (class_left (elements_cut s))))

@@ -4,7 +4,8 @@ use Rattle.xml.specs.Decoded.{attribute_decoded}
 use Rattle.tracing_tree_base.specs.declared.field.Field.{Field}
 use Rattle.ttree_junit.specs.declared.lines.Row.{Row}
 
--- a case: its attributes, what its elements say, its properties, and its rows
+-- a case: its attributes, what its elements say, whether the document ends in it, its properties,
+-- and its rows
 pub record CaseState : Type 0 where
   pub name : List ℕ
   pub classname : List ℕ
@@ -12,6 +13,7 @@ pub record CaseState : Type 0 where
   pub is_off : Bool
   pub is_failed : Bool
   pub is_skipped : Bool
+  pub is_cut : Bool
   pub reason : List ℕ
   pub fields : List Field
   pub rows : List Row

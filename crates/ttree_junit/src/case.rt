@@ -1,7 +1,7 @@
 //! A test case.
 
 ghost use Rattle.std.specs.Prelude.{◌≡◌, ◌++◌, ◌∷◌, [], IfOk, OnOk, string_bytes};
-ghost use Rattle.ttree_junit.specs.Case.{case_of, end_fields, event_fields, is_bare, level_of, named, outcome_of, reason_fields, span_fields, time_fields, with_failure, with_printed, with_property, with_skip, word_of};
+ghost use Rattle.ttree_junit.specs.Case.{case_of, end_fields, event_fields, is_bare, level_of, named, outcome_of, reason_fields, span_fields, time_fields, with_cut, with_failure, with_printed, with_property, with_skip, word_of};
 
 use crate::element::is_off;
 use crate::failure::push_failure;
@@ -22,6 +22,8 @@ pub(crate) enum Outcome {
     Passed,
     Failed,
     Skipped,
+    // The document ends in it.
+    Unfinished,
 }
 
 // A case: its attributes, what its elements say, its properties, and its rows.
@@ -35,6 +37,8 @@ pub(crate) struct Case {
     is_off: bool,
     is_failed: bool,
     is_skipped: bool,
+    // The document ends in it.
+    is_cut: bool,
     reason: Text,
     fields: Fields,
     rows: Vec<Row>,
@@ -52,6 +56,7 @@ impl Model for Case {
       is_off = c.is_off;
       is_failed = c.is_failed;
       is_skipped = c.is_skipped;
+      is_cut = c.is_cut;
       reason = c.reason;
       fields = c.fields;
       rows = c.rows.items;
@@ -70,6 +75,7 @@ impl Case {
             is_off: is_off(tag.value("status")),
             is_failed: false,
             is_skipped: false,
+            is_cut: false,
             reason: Text::from_str(alloc, "")?,
             fields: Fields::new(alloc),
             rows: Vec::new(alloc),
@@ -135,11 +141,20 @@ impl Case {
         Ok(())
     }
 
+    // Leaves the case unfinished.
+    pub(crate) fn cut(&mut self)
+        ensures { self.new ≡ with_cut self.old }
+    {
+        self.is_cut = true;
+    }
+
     // Returns how the case ended. A failure that was expected, as of a test to be done, skips it.
     pub(crate) fn outcome(&self) -> Outcome
         ensures { result ≡ outcome_of self.now }
     {
-        if self.is_skipped {
+        if self.is_cut {
+            Outcome::Unfinished
+        } else if self.is_skipped {
             Outcome::Skipped
         } else if self.is_failed {
             Outcome::Failed
@@ -190,6 +205,7 @@ fn word_of(outcome: Outcome) -> &'static str
         Outcome::Passed => "pass",
         Outcome::Failed => "fail",
         Outcome::Skipped => "skip",
+        Outcome::Unfinished => "unfinished",
     }
 }
 
@@ -198,7 +214,7 @@ pub(crate) fn level_of(outcome: Outcome) -> Level
 {
     match outcome {
         Outcome::Passed => Level::Info,
-        Outcome::Failed => Level::Error,
+        Outcome::Failed | Outcome::Unfinished => Level::Error,
         Outcome::Skipped => Level::Warn,
     }
 }

@@ -21,7 +21,7 @@ pub struct JunitCalls {
     /// How many cases ended how. A failure of a suite counts as one of a case.
     pub tally: Tally,
 
-    /// Whether the document ends early. What it was in then isn't drawn.
+    /// Whether the document ends early.
     pub is_cut: bool,
 
     /// Whether a report begins: an element `testsuites`, `testsuite` or `testcase`.
@@ -42,7 +42,7 @@ impl JunitCalls {
 /// Each suite is a span, and so are consecutive cases of a class. A case is an event, or a span if
 /// there is more to show than how it ended. The first span gets the id `next`, and all calls are
 /// made at `moment`. Lines around a document are events at the root, and another document may
-/// follow. A document that ends early has the calls of the cases that ended, and its spans close.
+/// follow. If a document ends early, the case that is open is unfinished, and its spans close.
 ///
 /// `Selection::Failures` leaves out cases that passed or were skipped, and suites without a failure.
 /// They are counted nevertheless.
@@ -87,7 +87,10 @@ fn read(junit: &mut Junit, text: &str) -> Result<bool, AllocError>
         match next_of(&mut reader, junit) {
             Ok(Some(token)) => junit.take(&token)?,
             Ok(None) => return Ok(junit.is_open()),
-            Err(_) => return Ok(true),
+            Err(unfinished) => {
+                junit.take_rest(unfinished, reader.rest())?;
+                return Ok(true);
+            }
         }
     }
     Ok(junit.is_open())

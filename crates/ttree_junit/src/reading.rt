@@ -4,7 +4,9 @@ ghost use Rattle.std.specs.Prelude.{◌≡◌, ◌++◌, [], IfOk, OnOk, pos};
 ghost use Rattle.tracing_tree_spans.specs.Registry.Ids.{id_of};
 ghost use Rattle.tracing_tree_base.specs.Field.{whole_field};
 ghost use Rattle.xml.specs.Token.{token_view};
-ghost use Rattle.ttree_junit.specs.Reading.{added_outside, at_start, before_now, begun, called, case_begun, case_ended, case_span, cdata_added, class_entered, class_left, class_opened, closed, counted, cut_with, element_begun, element_of, end_event, end_shown, ended, ended_as, ended_with, event_shown, evented, failure_ended, finished, innermost_name, innermost_span, is_case_hidden, is_in_class, is_open, is_suite_hidden, opened, output_ended, output_shown, outside_shown, part_begun, property_added, property_of, row_calls, rows_in_suite, rows_shown, skip_ended, span_shown, suite_begun, suite_closed, suite_ended, suite_failed, suite_hidden, suites_closed, tag_begun, taken, tallied, tally_fields, text_added, wants_class};
+ghost use Rattle.ttree_junit.specs.Reading.{added_outside, at_start, before_now, begun, called, case_begun, case_ended, case_span, cdata_added, class_entered, class_left, class_opened, closed, counted, element_begun, element_of, end_event, end_shown, ended, ended_as, ended_with, event_shown, evented, failure_ended, innermost_name, innermost_span, is_case_hidden, is_in_class, is_open, is_suite_hidden, opened, output_ended, output_shown, outside_shown, part_begun, property_added, property_of, row_calls, rows_in_suite, rows_shown, shown_unless_hidden, skip_ended, span_shown, suite_begun, suite_ended, suite_failed, suite_hidden, tag_begun, taken, text_added, wants_class};
+
+mod ending;
 
 use crate::case::{Case, Outcome, level_of, time_fields};
 use crate::element::{Element, element_named, is_of_report, role_of};
@@ -89,6 +91,7 @@ pub(crate) struct Junit {
     tag: Tag,
     suites: Vec<Suite>,
     class: Option<Class>,
+    // A case is open. It stays so if the document ends in it.
     in_case: bool,
     // The case that is read, or the last one.
     case: Case,
@@ -529,6 +532,13 @@ impl Junit {
     {
         self.in_case = false;
         self.count();
+        self.show_case()
+    }
+
+    // Shows the case in the span of its class.
+    fn show_case(&mut self) -> Result<(), AllocError>
+        ensures { OnOk result (self.new ≡ shown_unless_hidden self.old) }
+    {
         if self.is_case_hidden() {
             return Ok(());
         }
@@ -540,11 +550,12 @@ impl Junit {
         }
     }
 
-    // Returns whether the case isn't shown: only failures are, and it isn't one.
+    // Returns whether the case isn't shown: only failures are, and it passed or was skipped.
     fn is_case_hidden(&self) -> bool
         ensures { result ≡ is_case_hidden self.now }
     {
-        self.selection == Selection::Failures && self.case.outcome() != Outcome::Failed
+        self.selection == Selection::Failures
+            && matches!(self.case.outcome(), Outcome::Passed | Outcome::Skipped)
     }
 
     fn count(&mut self)
@@ -554,6 +565,7 @@ impl Junit {
             Outcome::Passed => self.tally.passed = self.tally.passed.saturating_add(1),
             Outcome::Failed => self.tally.failed = self.tally.failed.saturating_add(1),
             Outcome::Skipped => self.tally.skipped = self.tally.skipped.saturating_add(1),
+            Outcome::Unfinished => {}
         }
     }
 
@@ -680,64 +692,6 @@ impl Junit {
             None => Ok(()),
         }
     }
-
-    // ---- the end
-
-    // Closes what is open, and counts the cases.
-    pub(crate) fn finish(&mut self) -> Result<(), AllocError>
-        ensures { OnOk result (self.new ≡ finished self.old) }
-    {
-        self.leave_class()?;
-        self.close_suites()?;
-        self.show_outside()?;
-        self.show_tally()
-    }
-
-    // Shows the counts of the cases of a report.
-    fn show_tally(&mut self) -> Result<(), AllocError>
-        ensures { OnOk result (self.new ≡ tallied self.old) }
-    {
-        if !self.is_report {
-            return Ok(());
-        }
-        let fields = tally_fields(self.alloc, &self.tally)?;
-        let level = if self.tally.failed == 0 {
-            Level::Info
-        } else {
-            Level::Error
-        };
-        self.event(level, fields, None)
-    }
-
-    // Closes the suites that are open, the innermost first.
-    fn close_suites(&mut self) -> Result<(), AllocError>
-        ensures { OnOk result (self.new ≡ suites_closed self.old) }
-    {
-        for _suite in 0..self.suites.len() {
-            self.close_suite()?;
-        }
-        Ok(())
-    }
-
-    fn close_suite(&mut self) -> Result<(), AllocError>
-        ensures { OnOk result (self.new ≡ suite_closed self.old) }
-    {
-        match self.suites.pop() {
-            Some(suite) => self.cut_with(&suite),
-            None => Ok(()),
-        }
-    }
-
-    // Closes a suite that the document ends in.
-    fn cut_with(&mut self, suite: &Suite) -> Result<(), AllocError>
-        ensures { OnOk result (self.new ≡ cut_with suite.now self.old) }
-    {
-        if self.is_suite_hidden(suite) {
-            self.hide_suite(suite);
-            return Ok(());
-        }
-        self.close(suite.span, self.innermost_span())
-    }
 }
 
 // Appends the events of these rows.
@@ -764,20 +718,4 @@ fn property_of(alloc: Global, tag: &Tag) -> Result<Field, AllocError>
         name: shown(alloc, tag.value("name"))?,
         value: shown(alloc, tag.value("value"))?,
     })
-}
-
-// Returns the last event.
-fn tally_fields(alloc: Global, tally: &Tally) -> Result<Fields, AllocError>
-    ensures { IfOk result (λ fields. fields ≡ tally_fields tally.now) }
-{
-    let mut fields = Fields::one(alloc, count_field(alloc, "passed", tally.passed)?);
-    fields.append(Fields::one(alloc, count_field(alloc, "failed", tally.failed)?))?;
-    fields.append(Fields::one(alloc, count_field(alloc, "skipped", tally.skipped)?))?;
-    Ok(fields)
-}
-
-fn count_field(alloc: Global, name: &str, count: u64) -> Result<Field, AllocError>
-    ensures { IfOk result (λ field. field ≡ whole_field name.now (pos count)) }
-{
-    Field::whole(alloc, name, i128::from(count))
 }
