@@ -227,7 +227,6 @@ INFO a note
 ┌─┘
 ├─ INFO   Failed test 'inner'
 ├─ INFO   at t/basic.t line 6.
-├─ INFO Looks like you failed 1 test of 3.
 ├─ ERROR fail
 ┘
 INFO   Failed test 'outer'
@@ -294,6 +293,72 @@ INFO before q
 ERROR fail q
 INFO after q
 ERROR passed=8, failed=2, skipped=1, todo=2
+END_OF_LINES
+    tap_of 'on comments of TAP with --failed' 1 --failed << 'END_OF_LINES'
+1..5
+# before any test
+not ok 1 - loads
+# after loads
+ok 2 - adds
+# after adds
+printed by totals
+# more of adds
+not ok 3 - totals
+# Subtest: cart
+    # before empty
+    ok 1 - empty
+    # after empty
+    not ok 2 - full
+    1..2
+not ok 4 - cart
+ok 5 - closes
+# after closes
+--
+ERROR fail loads
+INFO after loads
+INFO printed by totals
+ERROR fail totals
+┐cart 
+├─ ERROR fail full
+├─ ERROR fail
+┘
+ERROR passed=3, failed=4, skipped=0, todo=0
+END_OF_LINES
+    tap_of "on the kernel's comments with --failed" 1 --failed << 'END_OF_LINES'
+KTAP version 1
+1..2
+    KTAP version 1
+    # Subtest: example
+    1..3
+    # test_skip: initializing
+    ok 1 test_skip # SKIP unsupported
+    # module: example
+    # test_add: initializing
+    # test_add: EXPECTATION FAILED at example.c:29
+    Expected 1 + 1 == 3, but
+    # exiting
+    not ok 2 test_add
+    # test_sub: initializing
+    ok 3 test_sub
+# example: pass:1 fail:1 skip:1 total:3
+not ok 1 example
+# selftests: timers: nanosleep
+# timeout
+not ok 2 selftests: timers: nanosleep # exit=1
+--
+┐example 
+├─ INFO test_add: initializing
+├─ INFO test_add: EXPECTATION FAILED at example.c:29
+├─ INFO Expected 1 + 1 == 3, but
+├─ INFO exiting
+├─ ERROR fail test_add
+├─ INFO test_sub: initializing
+├─ ERROR fail
+┘
+INFO selftests: timers: nanosleep
+INFO timeout
+ERROR fail selftests: timers: nanosleep # exit=1
+ERROR passed=1, failed=3, skipped=1, todo=0
 END_OF_LINES
     tap_of "on prove's output with --failed" 1 --failed << 'END_OF_LINES'
 t/a.t .. 

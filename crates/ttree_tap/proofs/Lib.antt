@@ -3,3 +3,4 @@ mod Marked
 mod Numbers
 mod Places
 mod Worked
+mod Unescaped

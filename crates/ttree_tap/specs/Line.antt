@@ -1,6 +1,6 @@
 -- What a line of TAP is.
 use Rattle.std.specs.Prelude.{ℕ, ◌+◌, ◌==◌, ◌&&◌, ◌||◌, nat_lt, Bool, true, false, if◌then◌else◌, List, [], ◌∷◌, length, take, drop, Option, Some, None, is_some, unwrap_or, option_and_then, codes, bytes_eq}
-use Rattle.std.specs.List.{position_or_len, before_first, after_first}
+use Rattle.std.specs.List.{list_any, position_or_len, before_first, after_first}
 use Rattle.tracing_tree_base.specs.declared.style.Level.{Level}
 use Rattle.tracing_tree_base.specs.declared.style.Level.TheVariants.{Error, Info, Warn}
 use Rattle.ttree_source.specs.Marks.{after_mark, begins, is_empty}
@@ -135,6 +135,9 @@ is_said Skip = true
 is_said Todo = true
 is_said Time = true
 is_said Absent = false
+
+abbrev pub has_hash : List ℕ → Bool
+has_hash text = list_any (λ byte. byte == 35) text
 
 -- a `#` after which a directive comes
 abbrev pub is_note : List ℕ → Bool

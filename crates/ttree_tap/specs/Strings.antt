@@ -1,7 +1,7 @@
 -- Parts of strings.
 use Rattle.std.specs.Prelude.{ℕ, ◌+◌, ◌-◌, ◌^◌, ◌==◌, ◌&&◌, ◌||◌, nat_lt, Bool, false, not, if◌then◌else◌, List, [], ◌∷◌, ◌++◌, length, take, Option, Some, None, unwrap_or, codes}
 use Rattle.std.specs.Char.{encode_utf8}
-use Rattle.std.specs.List.{ends_with, position_or_len, before_first, after_first}
+use Rattle.std.specs.List.{ends_with, list_any, position_or_len, before_first, after_first}
 use Rattle.std.specs.Str.{all_ascii_digits, chars, str_eq_ignore_ascii_case}
 use Rattle.std.specs.Str.Parse.{digits_value}
 use Rattle.ttree_source.specs.Marks.{after_mark, is_empty}
@@ -95,6 +95,9 @@ unescaped_from is_escaped (c ∷ rest) =
 
 abbrev pub unescaped : List ℕ → List ℕ
 unescaped text = unescaped_from false (chars text)
+
+abbrev pub has_backslash : List ℕ → Bool
+has_backslash text = list_any (λ byte. byte == 92) text
 
 -- a description without the dash before it
 abbrev pub dashless : List ℕ → List ℕ

@@ -18,7 +18,7 @@ use Rattle.ttree_source.specs.Told.{close_call, event_call, message_field, span_
 use Rattle.ttree_tap.specs.declared.line.Kind.{Kind}
 use Rattle.ttree_tap.specs.declared.line.Kind.TheVariants.{Passing, Failing, Plan, BailOut, Heading as HeadingLine, Comment, Frame, Brace, Output}
 use Rattle.ttree_tap.specs.declared.queue.Role.{Role}
-use Rattle.ttree_tap.specs.declared.queue.Role.TheVariants.{Good, End, Failure, Note, Opening, Closing}
+use Rattle.ttree_tap.specs.declared.queue.Role.TheVariants.{Good, End, Failure, Output as OutputLine, Comment as CommentLine, Opening, Closing}
 use Rattle.ttree_tap.specs.declared.tally.Tally.{Tally}
 use Rattle.ttree_tap.specs.declared.tally.Verdict.{Verdict}
 use Rattle.ttree_tap.specs.declared.tally.Verdict.TheVariants.{Passed, Failed, Skipped, Todo as TodoVerdict}
@@ -35,7 +35,7 @@ use Rattle.ttree_tap.specs.declared.tap.subtests.Subtest.{Subtest}
 use Rattle.ttree_tap.specs.declared.tap.waiting.Waiting.{Waiting}
 use Rattle.ttree_source.specs.Length.{length_text}
 use Rattle.ttree_tap.specs.Line.{begins_inside, begins_summary, comment_of, ends_summary, is_braced, is_count, is_failed_summary, is_file, is_stamp, kind_of, name_of_file, number_of, plan_reason, planned, tail_of_file, unbraced, verdict_level, verdict_time}
-use Rattle.ttree_tap.specs.Queue.{QueueState, added, empty_queue, is_held}
+use Rattle.ttree_tap.specs.Queue.{QueueState, added, claimed, empty_queue, is_held}
 use Rattle.ttree_tap.specs.Strings.{first_part, rest_after, unescaped, without_end, without_leading, without_margin}
 use Rattle.ttree_tap.specs.Tally.{broken_tally, counted_tally, has_failed, level_of, no_counts, tally_fields, verdict_of}
 use Rattle.ttree_tap.specs.Texts.{begins_block, directive_in, duration_of, elapsed_text, end_fields, end_text, good_text, label_of, missing_text, name_in, no_plan_text, plan_text, reason_in, time_fields, unfinished_text}
@@ -96,18 +96,24 @@ abbrev pub row_told : Role → Level → List ℕ → List Field → Option Id �
 row_told role level text rest span s =
     told role (event_call s.moment level (message_field text ∷ rest) span) s
 
-abbrev pub line_told : Level → List ℕ → Option Id → TapState → TapState
-line_told level text span s = row_told Note level text [] span s
+abbrev pub line_told : Role → List ℕ → Option Id → TapState → TapState
+line_told role text span s = row_told role Info text [] span s
 
 -- a failure that isn't a result
 abbrev pub error_told : List ℕ → Option Id → TapState → TapState
 error_told text span s =
     row_told Failure Error text [] span (record s { tally = broken_tally s.tally })
 
+-- the lines before a test of this name that belong to it
+abbrev pub lines_claimed : List ℕ → TapState → TapState
+lines_claimed name s = record s { queue = claimed name s.queue }
+
 -- a new span in this one; its id is the next
 abbrev pub opened : List ℕ → Option Id → TapState → TapState
 opened name parent s =
-    record (told Opening (span_call s.moment name [] parent) s) { next = one_more s.next }
+    record (told Opening (span_call s.moment name [] parent) (lines_claimed name s)) {
+      next = one_more s.next;
+    }
 
 -- the id of a span that is left out is free again: all later spans were in it
 abbrev pub next_after : Id → TapState → ℕ
@@ -142,7 +148,7 @@ unfoldable pub finished : Waiting → TapState → TapState
 finished w s =
     closed_if w.span w.parent
     (row_told (role_of w.verdict w.span) (level_of w.verdict) (end_text w.verdict w.label)
-    (end_fields w.reason w.elapsed) (span_or w.span w.parent) s)
+    (end_fields w.reason w.elapsed) (span_or w.span w.parent) (lines_claimed w.label s))
 
 abbrev pub flushed_if : Option Waiting → TapState → TapState
 flushed_if (Some w) s = finished w s
@@ -429,11 +435,11 @@ reporter_counts s = (length s.outer == 0) && is_some s.subtest.planned
 unfoldable pub comment_taken : List ℕ → TapState → TapState
 comment_taken comment s =
     if reporter_counts s && is_count comment then s
-    else line_told Info (unescaped comment) s.subtest.span s
+    else line_told CommentLine (unescaped comment) s.subtest.span s
 
 -- what a test printed, without the column of its lines
 unfoldable pub output_taken : List ℕ → TapState → TapState
-output_taken text s = line_told Info (without_margin s.subtest.column text) s.subtest.span s
+output_taken text s = line_told OutputLine (without_margin s.subtest.column text) s.subtest.span s
 
 abbrev pub without_result : TapState → TapState
 without_result s = record s { subtest = record s.subtest { result = None } }
@@ -627,7 +633,7 @@ spanned w s = if is_some w.span then s else opened w.label w.parent s
 -- a line of a block is an event in the span of its result
 unfoldable pub detail_taken : Waiting → List ℕ → TapState → TapState
 detail_taken w text s =
-    waits (with_span w s) (line_told Info text (with_span w s).span (spanned w s))
+    waits (with_span w s) (line_told OutputLine text (with_span w s).span (spanned w s))
 
 abbrev pub timed_or_told : Option ℕ → Waiting → List ℕ → TapState → TapState
 timed_or_told (Some nanoseconds) w rest s = timed w nanoseconds s

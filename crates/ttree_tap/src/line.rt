@@ -2,7 +2,7 @@
 
 ghost use Rattle.std.specs.Prelude.{◌≡◌, ◌<◌, option_map};
 ghost use Rattle.ttree_source.specs.Marks.{after_mark, begins};
-ghost use Rattle.ttree_tap.specs.Line.{after_dots, begins_inside, begins_note, begins_summary, bracketed, comment_of, described, directive_of, elapsed_of, elapsed_word, ends_summary, is_bad_verdict, is_braced, is_clock, is_count, is_failed_summary, is_failure, is_file, is_frame, is_good_verdict, is_named, is_named_file, is_note, is_pair, is_plan, is_result, is_reporters, is_said, is_skip, is_spaced_note, is_stamp, is_success, is_unit, kind_of, kind_of_comment, label_part, name_of_file, note_place, number_of, plan_reason, planned, reason_of, space_note_place, tail_from, tail_of, tail_of_file, timer_of, unbraced, unstamped, verdict_level, verdict_time, without_colon, word_in};
+ghost use Rattle.ttree_tap.specs.Line.{after_dots, begins_inside, begins_note, begins_summary, bracketed, comment_of, described, directive_of, elapsed_of, elapsed_word, ends_summary, has_hash, is_bad_verdict, is_braced, is_clock, is_count, is_failed_summary, is_failure, is_file, is_frame, is_good_verdict, is_named, is_named_file, is_note, is_pair, is_plan, is_result, is_reporters, is_said, is_skip, is_spaced_note, is_stamp, is_success, is_unit, kind_of, kind_of_comment, label_part, name_of_file, note_place, number_of, plan_reason, planned, reason_of, space_note_place, tail_from, tail_of, tail_of_file, timer_of, unbraced, unstamped, verdict_level, verdict_time, without_colon, word_in};
 
 use crate::length::milliseconds;
 use crate::strings::{
@@ -177,13 +177,23 @@ pub(crate) fn described(rest: &str) -> &str
 
 // Returns the index of the first `#` at the start or after a space, with that space, after which a
 // directive comes. If there isn't one, returns the length.
+#[tactic(auto, using(crate::proofs::Places::no_note))]
 fn note_place(text: &str) -> usize
     ensures value { result ≡ note_place text.now }
 {
+    if !has_hash(text) {
+        return text.len();
+    }
     if is_note(text) {
         return 0;
     }
     space_note_place(text)
+}
+
+fn has_hash(text: &str) -> bool
+    ensures { result ≡ has_hash text.now }
+{
+    text.as_bytes().contains(&b'#')
 }
 
 fn is_note(text: &str) -> bool
@@ -256,10 +266,14 @@ fn is_said(directive: Directive) -> bool
     !matches!(directive, Directive::Absent)
 }
 
-#[tactic(auto, unfolding(crate::specs::Line::directive_of))]
+// Returns what a note says, given what comes after its `#`.
+#[tactic(auto, unfolding(crate::specs::Line::directive_of), using(crate::proofs::Places::no_directive))]
 pub(crate) fn directive_of(tail: &str) -> Directive
     ensures { result ≡ directive_of tail.now }
 {
+    if tail.is_empty() {
+        return Directive::Absent;
+    }
     if is_skip(word_in(tail)) {
         Directive::Skip
     } else if same_word(word_in(tail), "todo") {

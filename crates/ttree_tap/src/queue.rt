@@ -1,12 +1,13 @@
 //! The calls that weren't returned yet.
 
-ghost use Rattle.std.specs.Prelude.{◌≡◌, [], length, OnOk};
-ghost use Rattle.ttree_tap.specs.Queue.{added, base_of, closing_added_to, empty_queue, end_added, failed_added, failure_added, good_added, held_too, is_held, let_go, note_added, opening_added, readied};
+ghost use Rattle.std.specs.Prelude.{◌≡◌, ◌++◌, [], false, length, OnOk};
+ghost use Rattle.ttree_tap.specs.Queue.{added, base_of, claimed, claimed_line, claimed_lines, closing_added_to, empty_queue, end_added, failed_added, failure_added, good_added, has_part, held_too, is_held, is_named, let_go, line_added, message_of, opening_added, readied, value_in};
 
 use std::alloc::{AllocError, Global};
 use std::collections::VecDeque;
 use std::marker::Model;
 use std::mem;
+use tracing_tree_base::field::Field;
 use tracing_tree_layer::call::Call;
 
 // What a call says of the tests.
@@ -18,12 +19,21 @@ pub(crate) enum Role {
     End,
     // A failure.
     Failure,
-    // A line that isn't a result.
-    Note,
+    // A line that a test printed, or one of a block.
+    Output,
+    // A comment.
+    Comment,
     // A span opens.
     Opening,
     // A span closes.
     Closing,
+}
+
+// A line before the next test.
+#[derive(Drop)]
+pub(crate) struct Line {
+    call: Call,
+    is_comment: bool,
 }
 
 // The calls that weren't returned yet. If only what failed is returned, calls are held until
@@ -37,6 +47,8 @@ pub(crate) struct Queue {
     // For each open span that is held, how many calls are held up to its own. The innermost is
     // first.
     opens: VecDeque<usize>,
+    // The lines since the last result, or since a span opened.
+    lines: Vec<Line>,
     is_after_failure: bool,
 }
 
@@ -50,6 +62,7 @@ impl Model for Queue {
       ready = q.ready.items;
       held = q.held.items;
       opens = q.opens.items;
+      lines = q.lines.items;
       is_after_failure = q.is_after_failure;
     } };
 }
@@ -64,6 +77,7 @@ impl Queue {
             ready: Vec::new(alloc),
             held: Vec::new(alloc),
             opens: VecDeque::new(alloc),
+            lines: Vec::new(alloc),
             is_after_failure: false,
         }
     }
@@ -106,7 +120,8 @@ impl Queue {
             }
             Role::End => self.add_end(call),
             Role::Failure => self.add_failure(call),
-            Role::Note => self.add_note(call),
+            Role::Output => self.add_line(false, call),
+            Role::Comment => self.add_line(true, call),
             Role::Opening => self.add_opening(call),
             Role::Closing => self.add_closing(call),
         }
@@ -124,12 +139,23 @@ impl Queue {
         Ok(self.held.push(call)?)
     }
 
-    // Leaves out what is held since the innermost span opened.
+    // Leaves out what is held since the innermost span opened, and the lines since then.
     fn let_go(&mut self)
         ensures { self.new ≡ let_go self.old }
     {
         let base = self.base();
         self.held.truncate(base);
+        self.lines.clear();
+    }
+
+    // Holds the lines that belong to the test of this name. The others belong to what came before
+    // them, and are left out.
+    #[tactic(auto, unfolding(crate::specs::Queue::claimed))]
+    pub(crate) fn claim(&mut self, name: &str) -> Result<(), AllocError>
+        ensures { OnOk result (self.new ≡ claimed name.now self.old) }
+    {
+        let lines = mem::replace(&mut self.lines, Vec::new(self.alloc));
+        push_claimed(&mut self.held, name, lines)
     }
 
     fn base(&self) -> usize
@@ -164,6 +190,7 @@ impl Queue {
     fn add_failure(&mut self, call: Call) -> Result<(), AllocError>
         ensures { OnOk result (self.new ≡ failure_added call self.old) }
     {
+        self.claim("")?;
         self.ready.append(&mut self.held)?;
         self.ready.push(call)?;
         self.opens.clear();
@@ -171,19 +198,20 @@ impl Queue {
         Ok(())
     }
 
-    fn add_note(&mut self, call: Call) -> Result<(), AllocError>
-        ensures { OnOk result (self.new ≡ note_added call self.old) }
+    fn add_line(&mut self, is_comment: bool, call: Call) -> Result<(), AllocError>
+        ensures { OnOk result (self.new ≡ line_added is_comment call self.old) }
     {
         if self.is_after_failure {
             self.ready(call)
         } else {
-            self.hold(call)
+            Ok(self.lines.push(Line { call, is_comment })?)
         }
     }
 
     fn add_opening(&mut self, call: Call) -> Result<(), AllocError>
         ensures { OnOk result (self.new ≡ opening_added call self.old) }
     {
+        self.claim("")?;
         self.hold(call)?;
         self.opens.push_front(self.held.len())?;
         self.is_after_failure = false;
@@ -198,4 +226,67 @@ impl Queue {
         self.let_go();
         if is_held { Ok(()) } else { self.ready(call) }
     }
+}
+
+// Appends the lines that belong to the test of this name.
+fn push_claimed(out: &mut Vec<Call>, name: &str, lines: Vec<Line>) -> Result<(), AllocError>
+    ensures { OnOk result (out.new.items ≡ out.old.items ++ claimed_lines false name.now
+        lines.items) }
+{
+    let mut was_named = false;
+    for line in lines {
+        was_named = was_named || is_named(name, &line);
+        push_line(out, was_named, line)?;
+    }
+    Ok(())
+}
+
+// Appends a line that is output, or comes after a comment with the test's name.
+fn push_line(out: &mut Vec<Call>, was_named: bool, line: Line) -> Result<(), AllocError>
+    ensures { OnOk result (out.new.items ≡ out.old.items ++ claimed_line was_named line) }
+{
+    let Line { call, is_comment } = line;
+    if was_named || !is_comment {
+        out.push(call)?;
+    }
+    Ok(())
+}
+
+// Returns whether a line is a comment with this name.
+fn is_named(name: &str, line: &Line) -> bool
+    ensures { result ≡ is_named name.now line.now }
+{
+    line.is_comment && !name.is_empty() && has_part(name, message_of(&line.call))
+}
+
+// Returns what an event says.
+fn message_of(call: &Call) -> &str
+    ensures { result.now ≡ message_of call.now }
+{
+    match call {
+        Call::Event(event, _) => value_in(event.fields.as_slice()),
+        Call::New(_, _) | Call::Clone(_) | Call::Record(_, _) | Call::Close(_, _) => "",
+    }
+}
+
+fn value_in(fields: &[Field]) -> &str
+    ensures { result.now ≡ value_in fields.now }
+{
+    match fields {
+        [field, ..] => field.value.as_str(),
+        [] => "",
+    }
+}
+
+fn has_part(part: &str, text: &str) -> bool
+    ensures { result ≡ has_part part.now text.now }
+{
+    let mut rest = text.as_bytes();
+    while let [_, others @ ..] = rest {
+        if rest.starts_with(part.as_bytes()) {
+            return true;
+        }
+        rest = others;
+    }
+    part.is_empty()
 }

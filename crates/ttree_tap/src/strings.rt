@@ -3,7 +3,7 @@
 ghost use Rattle.std.specs.Prelude.{◌≡◌, ◌++◌, ◌-◌, ◌<◌, IfOk, OnOk, length, option_map, string_bytes};
 ghost use Rattle.std.specs.Str.{all_ascii_digits};
 ghost use Rattle.ttree_source.specs.Marks.{after_mark, begins};
-ghost use Rattle.ttree_tap.specs.Strings.{after_word, before_mark, dashless, end_of_escape, first_part, first_word, is_digits, is_escape, last_escape, past_escape, rest_after, same_word, unescaped, unescaped_char, whole_of, without_end, without_leading, without_margin};
+ghost use Rattle.ttree_tap.specs.Strings.{after_word, before_mark, dashless, end_of_escape, first_part, first_word, has_backslash, is_digits, is_escape, last_escape, past_escape, rest_after, same_word, unescaped, unescaped_char, whole_of, without_end, without_leading, without_margin};
 
 use std::alloc::{AllocError, Global};
 use tracing_tree_base::text::Text;
@@ -129,12 +129,22 @@ fn all_digits(bytes: &[u8]) -> bool
 }
 
 // Returns a string with `\#` replaced by `#`, and `\\` by `\`.
+#[tactic(auto, using(crate::proofs::Unescaped::without_backslash))]
 pub(crate) fn unescaped(alloc: Global, text: &str) -> Result<Text, AllocError>
     ensures { IfOk result (λ made. made ≡ unescaped text.now) }
 {
+    if !has_backslash(text) {
+        return Text::from_str(alloc, text);
+    }
     let mut out = String::new(alloc);
     push_unescaped(&mut out, text)?;
     Ok(Text::from(out))
+}
+
+fn has_backslash(text: &str) -> bool
+    ensures { result ≡ has_backslash text.now }
+{
+    text.as_bytes().contains(&b'\\')
 }
 
 fn push_unescaped(out: &mut String, text: &str) -> Result<(), AllocError>

@@ -14,7 +14,7 @@ mod subtests;
 mod waiting;
 
 use crate::line::{Kind, comment_of, is_count, kind_of};
-use crate::queue::Queue;
+use crate::queue::{Queue, Role};
 use crate::strings::{
     column_of, rest_after, unescaped, without_end, without_leading, without_margin,
 };
@@ -117,8 +117,8 @@ impl Tap {
 
     /// Creates a source like `new` does, that reports only what failed. Results that passed, were
     /// skipped or are TODO are left out, with the lines before them, and so are subtests and files
-    /// in which nothing failed. Lines after a failure belong to it. The last event counts all
-    /// results.
+    /// in which nothing failed. Lines after a failure belong to it, and of those before it the
+    /// output, and the comments from one with its name on. The last event counts all results.
     ///
     /// # Errors
     ///
@@ -320,7 +320,7 @@ impl Tap {
             return Ok(());
         }
         let text = unescaped(self.alloc, comment)?;
-        self.push_line(Level::Info, text.as_str(), self.subtest.span)
+        self.push_line(Role::Comment, text.as_str(), self.subtest.span)
     }
 
     // Returns whether a reporter's summary may come.
@@ -336,7 +336,7 @@ impl Tap {
         ensures { OnOk result (self.new ≡ output_taken text.now self.old) }
     {
         let shown = without_margin(self.subtest.column, text);
-        self.push_line(Level::Info, shown, self.subtest.span)
+        self.push_line(Role::Output, shown, self.subtest.span)
     }
 
     // Ends everything.
@@ -423,6 +423,10 @@ impl Source for Tap {
     ghost ended = { tap_ended };
 
     ghost lacks = { tap_lacks };
+
+    fn reads_values(&self) -> bool {
+        false
+    }
 
     fn take(
         &mut self,

@@ -7,9 +7,9 @@ ghost use Rattle.ttree_tap.specs.Texts.{begins_block, duration_of};
 use super::Tap;
 use super::waiting::Waiting;
 use crate::length::milliseconds;
+use crate::queue::Role;
 use crate::strings::{column_of, first_part, without_leading};
 use std::alloc::AllocError;
-use tracing_tree_base::style::Level;
 use tracing_tree_base::text::Text;
 use ttree_source::length::length_text;
 use ttree_source::marks::after_mark;
@@ -96,7 +96,7 @@ impl Tap {
         ensures { OnOk result (self.new ≡ detail_taken waiting text.now self.old) }
     {
         let waiting = self.with_span(waiting)?;
-        self.push_line(Level::Info, text, waiting.span)?;
+        self.push_line(Role::Output, text, waiting.span)?;
         self.wait(waiting);
         Ok(())
     }

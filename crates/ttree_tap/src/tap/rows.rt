@@ -2,7 +2,7 @@
 
 ghost use Rattle.std.specs.Prelude.{◌≡◌, [], IfOk, OnOk, Some};
 ghost use Rattle.tracing_tree_spans.specs.Registry.Ids.{id_of};
-ghost use Rattle.ttree_tap.specs.Tap.{closed, closed_if, error_told, line_told, opened, row_told, told};
+ghost use Rattle.ttree_tap.specs.Tap.{closed, closed_if, error_told, line_told, lines_claimed, opened, row_told, told};
 
 use super::Tap;
 use crate::queue::Role;
@@ -37,18 +37,25 @@ impl Tap {
         self.push(role, call)
     }
 
-    // Records an event in this span.
+    // Records a line in this span.
     pub(super) fn push_line(
         &mut self,
-        level: Level,
+        role: Role,
         text: &str,
         span: Option<Id>,
     ) -> Result<(), AllocError>
-        ensures { OnOk result (self.new ≡ line_told level text.now span self.old) }
+        ensures { OnOk result (self.new ≡ line_told role text.now span self.old) }
     {
         let fields = Fields::one(self.alloc, message_field(self.alloc, text)?);
-        let call = event_call(self.alloc, self.moment, level, fields, span)?;
-        self.push(Role::Note, call)
+        let call = event_call(self.alloc, self.moment, Level::Info, fields, span)?;
+        self.push(role, call)
+    }
+
+    // Holds the lines before a test of this name that belong to it.
+    pub(super) fn claim_lines(&mut self, name: &str) -> Result<(), AllocError>
+        ensures { OnOk result (self.new ≡ lines_claimed name.now self.old) }
+    {
+        self.queue.claim(name)
     }
 
     // Records a failure that isn't a result.
@@ -66,6 +73,7 @@ impl Tap {
         ensures id { IfOk result (λ id. id ≡ Some (id_of self.old.next)) }
         ensures opened { OnOk result (self.new ≡ opened name.now parent self.old) }
     {
+        self.claim_lines(name)?;
         let fields = Fields::new(self.alloc);
         let call = span_call(self.alloc, self.moment, name, fields, parent)?;
         self.push(Role::Opening, call)?;

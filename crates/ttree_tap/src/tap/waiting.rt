@@ -53,6 +53,7 @@ impl Tap {
             waiting.reason.as_str(),
             waiting.elapsed.as_str(),
         )?;
+        self.claim_lines(waiting.label.as_str())?;
         let at = waiting.span.or(waiting.parent);
         let role = role_of(waiting.verdict, waiting.span);
         self.push_row(role, waiting.verdict.level(), text.as_str(), fields, at)?;
@@ -79,13 +80,17 @@ fn role_in(span: Option<Id>) -> Role
     }
 }
 
+// The bytes of the longest word of a verdict, with a space.
+const LONGEST: usize = 5;
+
 fn end_text(alloc: Global, verdict: Verdict, label: &str) -> Result<Text, AllocError>
     ensures { IfOk result (λ text. text ≡ end_text verdict label.now) }
 {
     if label.is_empty() {
         return Text::from_str(alloc, verdict.word());
     }
-    let mut text = String::from_str(alloc, verdict.word())?;
+    let mut text = String::with_capacity(alloc, label.len().saturating_add(LONGEST))?;
+    text.push_str(verdict.word())?;
     text.push_str(" ")?;
     text.push_str(label)?;
     Ok(Text::from(text))
