@@ -4,3 +4,4 @@ mod Numbers
 mod Places
 mod Worked
 mod Unescaped
+pub mod Failing

@@ -5,3 +5,4 @@ pub mod Tally
 pub mod Queue
 pub mod Texts
 pub mod Tap
+pub mod Failures
