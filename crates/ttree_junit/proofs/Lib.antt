@@ -1,3 +1,4 @@
 mod Steps
 mod Turns
 mod Worked
+pub mod Failing

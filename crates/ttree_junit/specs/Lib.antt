@@ -8,3 +8,4 @@ pub mod Plain
 pub mod Reading
 pub mod Seconds
 pub mod States
+pub mod Outcomes
