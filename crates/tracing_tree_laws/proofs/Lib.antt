@@ -2,3 +2,4 @@ mod AcceptedCalls
 mod FrameColumns
 mod Nearest
 pub mod TestRuns
+mod TapRuns
