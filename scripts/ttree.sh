@@ -1231,7 +1231,7 @@ run_lines() {
     run "$room/lines"
     count 'on line ends in settings and calls' want '' 0
     printf '%s\n' '{}' '{"call":"event","level":"INFO"}' '' '{"call":"event","level":"info"}' > "$room/lines"
-    printf ' INFO \n' > "$room/want"
+    printf ' INFO\n' > "$room/want"
     run "$room/lines"
     count 'on a level in small letters' want "ttree: line 4: $level, found \"info\"" 1
     printf '%s\n' '{}' '{"call":"event"}' > "$room/lines"
@@ -1239,7 +1239,7 @@ run_lines() {
     count 'on a call without a level' none "ttree: line 2: $level" 1
     printf '%s\n' '{}' '{"call":"fork\u001b[2J"}' > "$room/lines"
     run --from lines "$room/lines"
-    count 'on a call of another name' none "ttree: line 2: $name, found \"fork\\u001b[2J\"" 1
+    count 'on a call of another name' none "ttree: line 2: $name, found \"fork\\u{1b}[2J\"" 1
     printf '%s\n' '{}' "{\"call\":\"$(printf 'x%.0s' {1..80})\"}" > "$room/lines"
     run --from lines "$room/lines"
     count 'on a long name of a call' none "ttree: line 2: $name, found \"$(printf 'x%.0s' {1..59})…" 1

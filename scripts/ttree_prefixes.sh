@@ -129,7 +129,6 @@ INFO boot, prefix=api-1
 ┐query 
 ├─ INFO d, prefix=db-1
 INFO e, prefix=api-1
-┐query 
 ├─ INFO f
 END
     reads 'the times of ts' logs "Dec 01 04:18:04 $log" 'Dec 01 04:18:05   a b' 'The quick brown fox' <<END
