@@ -97,33 +97,45 @@ impl Head {
             return Ok(Some(Detected::Gzip));
         }
         let line = without_line_end(line);
-        let prefixed = prefixed_format(alloc, line)?;
-        let detection = detector.take(alloc, line)?;
         if let Some(format) = named {
-            if has_prefixes(format) {
-                self.mark = prefixed.map(|(_, mark): (Format, Mark)| -> Mark { mark });
-                if detection == Detection::Held && prefixed.is_none() {
-                    return Ok(None);
-                }
-            }
+            return self.take_named(alloc, detector, format, line);
+        }
+        let detection = detector.take(alloc, line)?;
+        if let Detection::Determined(format) = detection {
+            self.begin(format, place, number);
             return Ok(Some(Detected::Format(format)));
         }
-        match (detection, prefixed) {
-            (Detection::Determined(format), _) => {
-                self.begin(format, place, number);
-                Ok(Some(Detected::Format(format)))
-            }
+        match (detection, prefixed_format(alloc, line)?) {
             (_, Some((format, mark))) => {
                 self.mark = Some(mark);
                 self.begin(format, place, number);
                 Ok(Some(Detected::Format(format)))
             }
-            (Detection::Full, None) => Ok(Some(Detected::Nothing)),
             (Detection::Held, None) => {
                 self.hold(place, number, line);
                 Ok(None)
             }
+            _ => Ok(Some(Detected::Nothing)),
         }
+    }
+
+    // Takes a line of a format that an option names: it determines whether lines have prefixes.
+    fn take_named(
+        &mut self,
+        alloc: Global,
+        detector: &mut Detector,
+        format: Format,
+        line: &[u8],
+    ) -> Result<Option<Detected>, AllocError> {
+        if has_prefixes(format) {
+            let prefixed = prefixed_format(alloc, line)?;
+            self.mark = prefixed.map(|(_, mark): (Format, Mark)| -> Mark { mark });
+            let is_held = detector.take(alloc, line)? == Detection::Held;
+            if is_held && prefixed.is_none() {
+                return Ok(None);
+            }
+        }
+        Ok(Some(Detected::Format(format)))
     }
 
     // Sets the start of the format's lines, if the line at this place determined it. Lines of
