@@ -2,7 +2,7 @@
 # Writes dist/tracing_tree-VERSION-x86_64-linux.tar.gz, for use without the kit: what `make install`
 # installs, and the library's Rust crate and Go package with the library inside. Builds nothing: if
 # something is missing from bin/ or old, it says what to run, and the status is 2.
-# The same files give the same bytes. Their date is SOURCE_DATE_EPOCH, or that of the last commit.
+# Equal files give equal bytes. Their date is SOURCE_DATE_EPOCH, or that of the last commit.
 set -eu
 cd "$(dirname "$0")/.."
 version=$(sed -n 's/^version = "\(.*\)"/\1/p' bindings/rust/Cargo.toml)

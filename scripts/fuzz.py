@@ -14,7 +14,7 @@ There are four kinds of runs:
 
 The output, the standard error and the status of each run must be those of the model, within a time
 limit. The rows that the reading program writes, drawn again, must be the drawing up to its first
-bad line. A run that fails is written below bin/fuzz as a worked case and can be run again. The same
+bad line. A run that fails is written below bin/fuzz as a worked case and can be run again. Each
 seed gives the same runs. --checked says that the programs were compiled with checks of memory, so
 rows that never fit in memory are left out. The last line is 'fuzz: N of M runs ended as they must'.
 """

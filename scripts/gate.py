@@ -2,7 +2,7 @@
 """Proves and tries everything: gate.py [--sample N] [--anew]
 
 The gate checks what must not compile, every proof, and every edit that the prover must refuse. It
-runs the tests and the programs as they are proved and built, some on random inputs.
+runs the proved tests and programs, some on random inputs.
 
 `rt ci` works on a copy of the repository without its edits. Meanwhile scripts/edits.py tries the
 edits, many in one check and each over the libraries that `rt ci` has just proved. Edits only get

@@ -7,7 +7,7 @@ The program that draws runs on the worked cases. Of those with a status file, wh
 alike, it runs on every Nth. The program that reads runs on some of their drawings, and ttree runs
 on two examples. No run may have a memory error or lose a block, and each must end as without
 valgrind. The memory that a run still holds at its end may not grow with its input: a short input
-and one that is a hundred times as long must leave the same number of bytes. The last line begins
+and a hundred times longer input must leave the same number of bytes. The last line begins
 with 'memcheck: N of M runs ended as they must'.
 """
 import argparse, glob, os, re, shutil, subprocess, sys, tempfile, time

@@ -6,8 +6,8 @@
 # usage: program.sh [--checked] DRAWING_PROGRAM READING_PROGRAM
 #
 # --checked says that the programs were compiled with checks of memory. They reserve terabytes of
-# addresses, so the run with little memory is left out. They are a hundred times as slow, so long
-# inputs are shorter.
+# addresses, so the run with little memory is left out. They are a hundred times as slow.
+# Therefore long inputs are shorter.
 set -u
 is_checked=
 long_lines=50000

@@ -3,7 +3,7 @@
 usage: reading_law.py PROGRAM [RUNS [CALLS [SEED]]]
 
 Each run is an input of random calls with retracing on. The program draws it, and a reader that
-knows nothing of the layer goes through the drawing. For each event, the last open row of each lower
+knows nothing of the layer reads the drawing. For each event, the last open row of each lower
 level must be that of the event's ancestor at that level. The event's message has the path, which
 this script computed.
 """

@@ -35,8 +35,8 @@ def works_of(program):
 
 
 def refuse_all(program, shim, work):
-    """Makes each allocation of a work fail in turn. Returns how many failed, and what went
-    wrong."""
+    """Makes each allocation of a work fail in turn. Returns how many failed, and the
+    errors."""
     refused, wrong, quiet, at = 0, [], 0, 0
     kept = run(program, shim, work)[3]
     while quiet < QUIET:

@@ -102,8 +102,8 @@ def lines(settings, calls):
 
 
 def of_lines(size):
-    """Yields runs in which a line, the nesting of a value, the amount or the wraparound has this
-    size."""
+    """Yields runs for this size of a line, of the nesting of a value, of the amount or of the
+    wraparound."""
     pad, calls = b" " * size, depth(3)
     plain = lines({"indent_lines": True}, calls)
     yield [pad + it + pad for it in plain]

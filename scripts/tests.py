@@ -18,8 +18,7 @@ The programs are compiled in the same way (scripts/unproved.py), and these scrip
 
 scripts/messages.py compares what targets and scripts say if a tool is missing. The docs and the
 viewer are compared with their sources, and each edit of must-fail/ must apply. None of this shows that a function does only
-what its contract says: `make gate` does, and runs tests, cases and programs again as they are
-proved and built.
+what its contract says: `make gate` does, and runs the proved tests, cases and programs.
 
 The library for C has no build without its proofs, which take longer than all the tests. Its tests
 and those of the Rust crate run if a check on this machine has proved the current sources of the

@@ -6,7 +6,7 @@
 # usage: ttree.sh [--checked] TTREE DRAWING_PROGRAM
 #
 # --checked says that the programs were compiled with checks of memory. They are a hundred times as
-# slow, so long inputs are shorter.
+# slow. Therefore long inputs are shorter.
 set -u
 long_spans=100000
 if [ "$1" = --checked ]; then

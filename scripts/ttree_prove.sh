@@ -49,8 +49,8 @@ ERROR passed=3, failed=0, skipped=0, todo=0
 END_OF_LINES
 }
 
-# What prove wrote without -v, with --timer, with both, and with -Q. Its scripts are one that passes,
-# one that fails, one without a plan, one without output and a skipped one.
+# What prove wrote without -v, with --timer, with both, and with -Q. The first script passes,
+# one fails, one has no plan, one has no output, and one is skipped.
 run_tap_more_of_prove() {
     tap_of "on prove's output without -v" 1 << 'END_OF_LINES'
 t/bad.t ....... 
