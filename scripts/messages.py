@@ -25,7 +25,7 @@ VALGRIND = "valgrind is not on the PATH: install it (Debian: apt install valgrin
 LIBRARY = "bin/libtracing_tree.a isn't there: run 'make bindings' first (about 20 minutes)"
 
 # The targets that need the kit, which needs Python, and those that need a C compiler too.
-KIT = ("demo test prove gate edits build service jobs laws stress bench faults fuzz soak memcheck "
+KIT = ("demo test prove gate edits build service workers stress bench faults fuzz soak memcheck "
        "limits counts bindings bindings-test bindings-bench").split()
 COMPILED = "bench faults soak counts bindings bindings-test bindings-bench".split()
 # The missing tool, the command, and the sentence that it must print.
